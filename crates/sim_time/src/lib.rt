@@ -1,0 +1,16 @@
+//! Time, the order of events, and the two formulas that need nothing else: how long a packet
+//! takes to be put on a wire, and a sender's initial window.
+//!
+//! Every quantity is a whole number: nanoseconds, bytes, bits a second.
+#![tactic(auto)]
+
+pub mod key;
+pub mod rate;
+pub mod slow_start;
+
+pub use key::{Key, key_order};
+pub use rate::{Rate, serial_ns};
+pub use slow_start::initial_window;
+
+/// A moment or a span: nanoseconds.
+pub type Time = u64;
