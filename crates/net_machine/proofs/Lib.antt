@@ -1,0 +1,15 @@
+pub mod Places
+pub mod Changes
+pub mod Offered
+pub mod Events
+pub mod PortSteps
+pub mod Least
+pub mod Alarms
+pub mod Steps
+pub mod ReceiverSteps
+pub mod Law
+pub mod OpeningLaw
+pub mod Runs
+pub mod OneSegmentLaw
+pub mod Readiness
+pub mod Nodes

@@ -1,0 +1,16 @@
+pub mod ActList
+pub mod TraceLine
+pub mod Pending
+pub mod Codes
+pub mod Port
+pub mod PortOf
+pub mod Part
+pub mod State
+pub mod Ready
+pub mod PartOf
+pub mod PartsOf
+pub mod NetOf
+pub mod StateCodes
+pub mod Sound
+pub mod Run
+pub mod OneSegment

@@ -1,0 +1,6 @@
+//! Packets.
+#![tactic(auto)]
+
+pub mod packet;
+
+pub use packet::{Kind, Packet, PacketBytes};

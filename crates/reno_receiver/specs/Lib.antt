@@ -1,0 +1,5 @@
+pub mod Received
+pub mod LeastMissing
+pub mod Laws
+pub mod Kept
+pub mod Place

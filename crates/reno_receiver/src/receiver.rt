@@ -1,0 +1,311 @@
+//! The receiver's rule: which segments have come, and when each is acknowledged.
+ghost use Rattle.std.specs.Prelude.{◌≡◌, ℕ, ◌+◌, ◌*◌, ◌%◌, ◌<◌, ◌≤◌, IfOk, OnOk, OnErr, None};
+ghost use Rattle.reno_receiver.specs.declared.reply.Reply.TheVariants.{AckNow, Wait};
+ghost use Rattle.reno_receiver.specs.Received.{opening_receiver, next_of, held_of, may_wait, gaining, data_came, alarm_came, IsReceived, IsWellFormed};
+ghost use Rattle.reno_receiver.specs.LeastMissing.{IsLeastMissing};
+
+use crate::held::{Held, find, run_length};
+use crate::reply::Reply;
+use sim_time::Time;
+use std::alloc::{AllocError, Global};
+use std::marker::Model;
+
+/// The receiver of a flow.
+#[derive(Debug, Drop)]
+pub struct Receiver {
+    mss: u64,
+    delack: Time,
+    next: u64,
+    held: Held,
+    alarm: Option<Time>,
+}
+
+impl Model for Receiver {
+    ghost use Rattle.reno_receiver.specs.Received.{ReceiverState, receiver_code};
+
+    ghost Value = { ReceiverState };
+
+    ghost coded = { receiver_code };
+
+    ghost use Rattle.reno_receiver.specs.Kept.{kept_state, IsKept};
+
+    ghost view = { kept_state };
+
+    ghost invariant = { IsKept };
+}
+
+impl Receiver {
+    /// A receiver that has received nothing, for segments of so many bytes, which delays an
+    /// answer by so many nanoseconds (0: it delays none).
+    pub fn new(alloc: Global, mss: u64, delack: Time) -> Receiver
+        requires mss_least { 1 ≤ mss }
+        requires mss_greatest { mss ≤ 9000 }
+        requires delack_greatest { delack ≤ 500000000 }
+        ensures { result ≡ opening_receiver mss delack }
+    {
+        Receiver {
+            mss,
+            delack,
+            next: 0,
+            held: Held::new(alloc),
+            alarm: None,
+        }
+    }
+
+    /// The number of the first byte that has not come.
+    pub fn next(&self) -> u64
+        ensures value { result ≡ next_of self.now }
+        ensures least { IsLeastMissing self.now result }
+        ensures well_formed { IsWellFormed self.now }
+    {
+        self.next
+    }
+
+    /// The numbers received above the next one, rising.
+    pub fn held(&self) -> &[u64]
+        ensures { result.now ≡ held_of self.now }
+    {
+        self.held.as_slice()
+    }
+
+    /// When a delayed answer is due, in nanoseconds; none if none is.
+    pub fn alarm(&self) -> Option<Time>
+        ensures { result ≡ self.now.alarm }
+    {
+        self.alarm
+    }
+
+    /// Takes a segment that comes at a moment, and says what it is answered with. Memory is
+    /// wanted only for a number that is above the next one and new.
+    pub fn on_data(&mut self, seq: u64, now: Time) -> Result<Reply, AllocError>
+        requires multiple { seq % self.old.mss ≡ 0 }
+        requires greatest { seq ≤ 9000000000000 }
+        requires moment { now ≤ 1000000000000000 }
+        ensures reply { IfOk result (λ reply. reply ≡ (data_came self.old seq now).reply) }
+        ensures state { OnOk result (self.new ≡ (data_came self.old seq now).state) }
+        ensures err { OnErr result (self.new ≡ self.old) }
+        ensures wants_memory { OnErr result ((next_of self.old < seq) × ¬ IsReceived self.old seq) }
+    {
+        if seq > self.next {
+            self.hold(seq)?;
+            return Ok(self.acknowledge());
+        }
+        if seq < self.next {
+            return Ok(self.acknowledge());
+        }
+        let waits = self.waits();
+        self.advance();
+        if waits {
+            let due = now + self.delack;
+            self.alarm = Some(due);
+            Ok(Reply::Wait(due))
+        } else {
+            Ok(self.acknowledge())
+        }
+    }
+
+    /// Answers for a delayed acknowledgement: the number of the first byte that has not come.
+    pub fn on_delack(&mut self) -> u64
+        ensures answer { (alarm_came self.old).reply ≡ AckNow result }
+        ensures state { self.new ≡ (alarm_came self.old).state }
+    {
+        self.alarm = None;
+        self.next
+    }
+
+    /// A receiver in the same state.
+    pub fn copy(&self) -> Result<Receiver, AllocError>
+        ensures { IfOk result (λ copy. copy ≡ self.now) }
+    {
+        let held = self.held.copy()?;
+        Ok(Receiver {
+            mss: self.mss,
+            delack: self.delack,
+            next: self.next,
+            held,
+            alarm: self.alarm,
+        })
+    }
+
+    /// An acknowledgement of the next number; no delayed one is due any more.
+    fn acknowledge(&mut self) -> Reply
+        ensures answer { result ≡ (alarm_came self.old).reply }
+        ensures state { self.new ≡ (alarm_came self.old).state }
+    {
+        Reply::AckNow(self.on_delack())
+    }
+
+    /// Whether the answer to the next number may wait (RFC 5681 section 4.2).
+    fn waits(&self) -> bool
+        ensures { result ≡ may_wait self.now (next_of self.now) }
+    {
+        match self.alarm {
+            None => self.delack > 0 && self.held.as_slice().is_empty(),
+            Some(_) => false,
+        }
+    }
+
+    /// Takes a number above the next one.
+    fn hold(&mut self, seq: u64) -> Result<(), AllocError>
+        requires above { next_of self.old < seq }
+        requires multiple { seq % self.old.mss ≡ 0 }
+        requires greatest { seq ≤ 9000000000000 }
+        ensures ok { OnOk result (self.new ≡ gaining self.old seq) }
+        ensures err { OnErr result (self.new ≡ self.old) }
+        ensures wants_memory { OnErr result (¬ IsReceived self.old seq) }
+    {
+        match find(self.held.as_slice(), seq) {
+            Ok(_) => Ok(()),
+            Err(place) => {
+                self.held.insert(place, seq)?;
+                Ok(())
+            }
+        }
+    }
+
+    /// Takes the next number, and goes past all that is received in order.
+    fn advance(&mut self)
+        requires { next_of self.old ≤ 9000000000000 }
+        ensures { self.new ≡ gaining self.old (next_of self.old) }
+    {
+        let first = self.next + self.mss;
+        let run = run_length(self.held.as_slice(), first, self.mss);
+        self.held.take_front(run);
+        self.next = first + run as u64 * self.mss;
+    }
+}
+
+#[cfg(test)]
+mod tests {
+    use super::*;
+    use std::process::Abort;
+    use std::test::Fail;
+
+    /// A segment of 1,000 bytes comes, whose number was worked out with its answer and what is
+    /// then held. Where memory is refused, nothing has changed, and the segment comes again.
+    fn arrives(
+        rt: &impl Abort,
+        receiver: &mut Receiver,
+        seq: u64,
+        now: Time,
+        answer: Reply,
+        held: &[u64],
+    ) -> Result<(), AllocError>
+        requires segments { receiver.old.mss ≡ 1000 }
+        requires multiple { seq % 1000 ≡ 0 }
+        requires greatest { seq ≤ 9000000000000 }
+        requires moment { now ≤ 1000000000000000 }
+        ensures { receiver.new.mss ≡ 1000 }
+    {
+        let next = receiver.next();
+        let before = receiver.held().len();
+        let alarm = receiver.alarm();
+        let reply = match receiver.on_data(seq, now) {
+            Ok(reply) => reply,
+            Err(_) => {
+                assert_eq!(rt; receiver.next(), next);
+                assert_eq!(rt; receiver.held().len(), before);
+                assert_eq!(rt; receiver.alarm(), alarm);
+                receiver.on_data(seq, now)?
+            }
+        };
+        assert_eq!(rt; reply, answer, "at {seq}");
+        assert_eq!(rt; receiver.held(), held, "at {seq}");
+        Ok(())
+    }
+
+    #[test]
+    fn holes_are_filled_in_any_order(rt: HostRuntime) -> Result<(), Fail> {
+        let mut receiver = Receiver::new(rt.alloc(), 1000, 200_000_000);
+        let ack = Reply::AckNow;
+        arrives(&rt, &mut receiver, 2000, 1, ack(0), &[2000])?;
+        arrives(&rt, &mut receiver, 6000, 2, ack(0), &[2000, 6000])?;
+        arrives(&rt, &mut receiver, 4000, 3, ack(0), &[2000, 4000, 6000])?;
+        arrives(
+            &rt,
+            &mut receiver,
+            3000,
+            4,
+            ack(0),
+            &[2000, 3000, 4000, 6000],
+        )?;
+        arrives(
+            &rt,
+            &mut receiver,
+            5000,
+            5,
+            ack(0),
+            &[2000, 3000, 4000, 5000, 6000],
+        )?;
+        arrives(
+            &rt,
+            &mut receiver,
+            0,
+            6,
+            ack(1000),
+            &[2000, 3000, 4000, 5000, 6000],
+        )?;
+        arrives(
+            &rt,
+            &mut receiver,
+            4000,
+            7,
+            ack(1000),
+            &[2000, 3000, 4000, 5000, 6000],
+        )?;
+        arrives(&rt, &mut receiver, 1000, 8, ack(7000), &[])?;
+        arrives(&rt, &mut receiver, 7000, 9, Reply::Wait(200_000_009), &[])?;
+        arrives(&rt, &mut receiver, 9000, 10, ack(8000), &[9000])?;
+        assert_eq!(rt; receiver.next(), 8000);
+        assert_eq!(rt; receiver.alarm(), None);
+        Ok(())
+    }
+
+    #[test]
+    fn an_answer_waits_for_the_second_segment(rt: HostRuntime) -> Result<(), Fail> {
+        let mut receiver = Receiver::new(rt.alloc(), 1000, 500_000_000);
+        arrives(&rt, &mut receiver, 0, 70, Reply::Wait(500_000_070), &[])?;
+        assert_eq!(rt; receiver.alarm(), Some(500_000_070));
+        arrives(&rt, &mut receiver, 2000, 80, Reply::AckNow(1000), &[2000])?;
+        assert_eq!(rt; receiver.alarm(), None);
+        arrives(&rt, &mut receiver, 1000, 90, Reply::AckNow(3000), &[])?;
+        arrives(&rt, &mut receiver, 0, 95, Reply::AckNow(3000), &[])?;
+        arrives(&rt, &mut receiver, 3000, 100, Reply::Wait(500_000_100), &[])?;
+        arrives(&rt, &mut receiver, 4000, 110, Reply::AckNow(5000), &[])?;
+        assert_eq!(rt; receiver.alarm(), None);
+        Ok(())
+    }
+
+    #[test]
+    fn a_delayed_answer_is_due(rt: HostRuntime) -> Result<(), Fail> {
+        let mut receiver = Receiver::new(rt.alloc(), 1000, 1);
+        arrives(&rt, &mut receiver, 0, 5, Reply::Wait(6), &[])?;
+        assert_eq!(rt; receiver.on_delack(), 1000);
+        assert_eq!(rt; receiver.alarm(), None);
+        arrives(&rt, &mut receiver, 1000, 7, Reply::Wait(8), &[])?;
+        Ok(())
+    }
+
+    #[test]
+    fn without_a_delay_no_answer_waits(rt: HostRuntime) -> Result<(), Fail> {
+        let mut receiver = Receiver::new(rt.alloc(), 1000, 0);
+        arrives(&rt, &mut receiver, 0, 5, Reply::AckNow(1000), &[])?;
+        arrives(&rt, &mut receiver, 1000, 6, Reply::AckNow(2000), &[])?;
+        Ok(())
+    }
+
+    #[test]
+    fn a_copy_goes_its_own_way(rt: HostRuntime) -> Result<(), Fail> {
+        let mut receiver = Receiver::new(rt.alloc(), 1000, 1);
+        arrives(&rt, &mut receiver, 2000, 5, Reply::AckNow(0), &[2000])?;
+        let mut copy = match receiver.copy() {
+            Ok(copy) => copy,
+            Err(_) => receiver.copy()?,
+        };
+        arrives(&rt, &mut copy, 0, 6, Reply::AckNow(1000), &[2000])?;
+        arrives(&rt, &mut copy, 1000, 7, Reply::AckNow(3000), &[])?;
+        assert_eq!(rt; receiver.next(), 0);
+        assert_eq!(rt; receiver.held(), [2000].as_slice());
+        Ok(())
+    }
+}

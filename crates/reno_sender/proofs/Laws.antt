@@ -1,0 +1,70 @@
+-- Every row of the table keeps the facts on fields.
+use Rattle.std.proofs.Common.{◌≡◌, ◌%◌, ◌<◌, ◌≤◌, sym, subst, arith}
+use Rattle.std.proofs.lemmas.Bool.Decides.{nat_tests}
+use Rattle.std.proofs.lemmas.Bool.{false≢true}
+use Rattle.reno_sender.specs.declared.fields.SenderFields.{SenderFields}
+use Rattle.reno_sender.specs.Fields.{IsSound}
+use Rattle.reno_sender.specs.Table.{started}
+use Rattle.reno_sender.specs.Laws.{RowKeeps, opening, by_start, by_acknowledgement, by_timeout, ReachableIsSound, StartKeeps, AcknowledgementKeeps, TimeoutKeeps, OpeningIsSound}
+use Rattle.reno_sender.proofs.Multiples.{multiple_zero}
+use Rattle.reno_sender.proofs.Rows.{same_keeps, fill_keeps, early_duplicate_keeps, third_duplicate_keeps, further_duplicate_keeps, timed_out_row_keeps}
+use Rattle.reno_sender.proofs.RowLaws.{by_rows}
+use Rattle.reno_sender.proofs.Advances.{new_acknowledgement_keeps}
+
+pub opening_sound : OpeningIsSound
+opening_sound mss segments rwnd flow =
+    let zero_whole : 0 % mss ≡ 0 = multiple_zero mss flow.mss_least in
+    record {
+      mss_least = flow.mss_least;
+      mss_most = flow.mss_most;
+      segments_least = flow.segments_least;
+      segments_most = flow.segments_most;
+      rwnd_least = flow.rwnd_least;
+      rwnd_most = flow.rwnd_most;
+      una_nxt = omega arith;
+      nxt_high = omega arith;
+      high_total = omega arith;
+      una_multiple = zero_whole;
+      nxt_multiple = zero_whole;
+      high_multiple = zero_whole;
+      in_window = omega arith;
+      lt_flight = omega arith;
+      recovery_dups = (λ t. absurd (false≢true t), λ l. absurd (omega arith));
+      cwnd_least = grind (arith, nat_tests);
+      cwnd_most = grind (arith, nat_tests);
+      ssthresh_least = flow.rwnd_least;
+      ssthresh_most = omega (arith, flow.rwnd_most);
+      rto_least = omega arith;
+      rto_most = omega arith;
+      deadline_flight = (λ t. absurd (false≢true t), λ l. absurd (omega arith));
+      deadline_most = tt;
+      timed = tt;
+      srtt_most = tt;
+      rttvar_most = omega arith;
+    }
+
+below : (f : SenderFields) → (f.una ≡ f.nxt → ⊥) → f.una ≤ f.nxt → f.una < f.nxt
+below f apart l = omega arith
+
+pub started_keeps : StartKeeps
+unfolding started
+started_keeps f now sound moment = fill_keeps f f now (same_keeps f now sound) moment
+
+pub acknowledged_keeps : AcknowledgementKeeps
+acknowledged_keeps f ack now sound moment is_ack =
+    by_rows (λ p. RowKeeps f p.fields p.sent now) f ack now
+    (λ new. new_acknowledgement_keeps f ack now sound moment is_ack new) (same_keeps f now sound)
+    (λ on. further_duplicate_keeps f now sound moment on) (λ apart _. third_duplicate_keeps f now sound moment (below f apart sound.una_nxt))
+    (λ off not_third. early_duplicate_keeps f now sound moment off not_third)
+
+pub timed_out_keeps : TimeoutKeeps
+timed_out_keeps f now sound moment set = timed_out_row_keeps f now sound moment set
+
+pub reachable_sound : ReachableIsSound
+reachable_sound mss segments rwnd f flow (opening e) = subst IsSound (sym e) (opening_sound mss segments rwnd flow)
+reachable_sound mss segments rwnd g flow (by_start {f} now from moment e) =
+    subst IsSound (sym e) (started_keeps f now (reachable_sound mss segments rwnd f flow from) moment).sound
+reachable_sound mss segments rwnd g flow (by_acknowledgement {f} ack now from moment is_ack e) =
+    subst IsSound (sym e) (acknowledged_keeps f ack now (reachable_sound mss segments rwnd f flow from) moment is_ack).sound
+reachable_sound mss segments rwnd g flow (by_timeout {f} now from moment set e) =
+    subst IsSound (sym e) (timed_out_keeps f now (reachable_sound mss segments rwnd f flow from) moment set).sound

@@ -1,0 +1,163 @@
+-- The laws of single rows: ssthresh, the timing and the rto.
+use Rattle.std.proofs.Common.{◌≡◌, ℕ, zero, suc, ◌+◌, ◌-◌, ◌*◌, ◌<◌, ◌≤◌, ◌⊎◌, inl, inr, Bool, true, false, cond, ◌||◌, ltb, leb, eqb, min, Option, Some, None, List, [], ◌∷◌, length, get_or, refl, sym, ◌∙◌, arith}
+use Rattle.std.specs.Prelude.{find, option_map, IfSome}
+use Rattle.std.specs.List.{list_any}
+use Rattle.std.proofs.lemmas.Bool.{ltb-true, eqb-false, or_parts, or_left, or_right, lt-ltb, lt-leb, le-leb, cases_lt, false≢true}
+use Rattle.reno_sender.specs.declared.fields.SenderFields.{SenderFields}
+use Rattle.reno_sender.specs.declared.fields.Timing.{Timing}
+use Rattle.reno_sender.specs.Fields.{flight_size}
+use Rattle.reno_sender.specs.Timer.{sampled, backed_off}
+use Rattle.reno_sender.specs.Sending.{Planned, sending, timing_of, spaced, fill_count}
+use Rattle.reno_sender.specs.Table.{started, acknowledged, timed_out, new_acknowledgement, nothing_sent, further_duplicate, third_duplicate, early_duplicate, may_send_new, measured_by, with_estimate, advanced, inflated, enlarged, one_more, halved}
+use Rattle.reno_sender.specs.Laws.{ThresholdAtRecovery, ThresholdAtTimeout, ThresholdAtFurtherTimeout, ThresholdStays, NeverTimesResent, StartNeverTimesResent, AcknowledgementNeverTimesResent, TimeoutNeverTimesResent, TimeoutDoublesRto, RtoStaysUntilSample}
+
+-- what holds of each row that an acknowledgement may have
+rows_split : (P : Planned → Type 0) (a b c d : Bool) (f : SenderFields) (ack now : ℕ) →
+    a ≡ ltb f.una ack → b ≡ (ltb ack f.una || eqb f.una f.nxt) → c ≡ f.recovery → d ≡ eqb f.dups 2 →
+    (f.una < ack → P (new_acknowledgement f ack now)) → P (nothing_sent f) → (f.recovery ≡ true → P (further_duplicate f now)) →
+    ((f.una ≡ f.nxt → ⊥) → f.recovery ≡ false → P (third_duplicate f now)) → (f.recovery ≡ false → eqb f.dups 2 ≡ false → P (early_duplicate f now)) →
+    P (cond a (new_acknowledgement f ack now) (cond b (nothing_sent f) (cond c (further_duplicate f now) (cond d (third_duplicate f now) (early_duplicate f now)))))
+rows_split P true b c d f ack now ea eb ec ed new old further third early = new (ltb-true _ _ (sym ea))
+rows_split P false true c d f ack now ea eb ec ed new old further third early = old
+rows_split P false false true d f ack now ea eb ec ed new old further third early = further (sym ec)
+rows_split P false false false true f ack now ea eb ec ed new old further third early = third (eqb-false f.una f.nxt (or_parts _ _ (sym eb)).1) (sym ec)
+rows_split P false false false false f ack now ea eb ec ed new old further third early = early (sym ec) (sym ed)
+
+pub by_rows : (P : Planned → Type 0) (f : SenderFields) (ack now : ℕ) →
+    (f.una < ack → P (new_acknowledgement f ack now)) → P (nothing_sent f) → (f.recovery ≡ true → P (further_duplicate f now)) →
+    ((f.una ≡ f.nxt → ⊥) → f.recovery ≡ false → P (third_duplicate f now)) → (f.recovery ≡ false → eqb f.dups 2 ≡ false → P (early_duplicate f now)) →
+    P (acknowledged f ack now)
+unfolding acknowledged
+by_rows P f ack now = rows_split P (ltb f.una ack) (ltb ack f.una || eqb f.una f.nxt) f.recovery (eqb f.dups 2) f ack now refl refl refl refl
+
+either_row : (P : Planned → Type 0) (b : Bool) (p q : Planned) → P p → P q → P (cond b p q)
+either_row P true p q x y = x
+either_row P false p q x y = y
+
+-- a sample changes the estimates alone
+measured_high : (o : Option Timing) (f : SenderFields) (ack now : ℕ) → (measured_by o f ack now).high ≡ f.high
+measured_high None f ack now = refl
+measured_high (Some t) f ack now = elim (leb t.number ack) as (λ b. (cond b (with_estimate f (sampled f.srtt f.rttvar (now - t.sent_at))) f).high ≡ f.high) [ true ↦ refl | false ↦ refl ]
+
+measured_mss : (o : Option Timing) (f : SenderFields) (ack now : ℕ) → (measured_by o f ack now).mss ≡ f.mss
+measured_mss None f ack now = refl
+measured_mss (Some t) f ack now = elim (leb t.number ack) as (λ b. (cond b (with_estimate f (sampled f.srtt f.rttvar (now - t.sent_at))) f).mss ≡ f.mss) [ true ↦ refl | false ↦ refl ]
+
+measured_ssthresh : (o : Option Timing) (f : SenderFields) (ack now : ℕ) → (measured_by o f ack now).ssthresh ≡ f.ssthresh
+measured_ssthresh None f ack now = refl
+measured_ssthresh (Some t) f ack now = elim (leb t.number ack) as (λ b. (cond b (with_estimate f (sampled f.srtt f.rttvar (now - t.sent_at))) f).ssthresh ≡ f.ssthresh) [ true ↦ refl | false ↦ refl ]
+
+measured_rto : (o : Option Timing) (f : SenderFields) (ack now : ℕ) → IfSome o (λ t. ack < t.number) → (measured_by o f ack now).rto ≡ f.rto
+measured_rto None f ack now l = refl
+measured_rto (Some t) f ack now l = rw (lt-leb t.number ack l) refl
+
+-- ssthresh
+pub threshold_at_recovery : ThresholdAtRecovery
+threshold_at_recovery f ack now =
+    by_rows (λ p. f.recovery ≡ false → p.fields.recovery ≡ true → 2 * f.mss ≤ p.fields.ssthresh) f ack now
+    (λ _ no yes. absurd (false≢true yes)) (λ no yes. absurd (false≢true (sym no ∙ yes)))
+    (λ was no yes. absurd (false≢true (sym no ∙ was))) (λ _ _ no yes. omega arith)
+    (λ _ _. either_row (λ p. f.recovery ≡ false → p.fields.recovery ≡ true → 2 * f.mss ≤ p.fields.ssthresh) _ _ _
+    (λ no yes. absurd (false≢true (sym no ∙ yes))) (λ no yes. absurd (false≢true (sym no ∙ yes))))
+
+pub threshold_at_timeout : ThresholdAtTimeout
+unfolding timed_out
+threshold_at_timeout f now first = rw first (omega arith)
+
+pub threshold_at_further_timeout : ThresholdAtFurtherTimeout
+unfolding timed_out
+threshold_at_further_timeout f now again = rw again refl
+
+pub threshold_stays : ThresholdStays
+threshold_stays f ack now =
+    by_rows (λ p. (f.recovery ≡ true) ⊎ (p.fields.recovery ≡ false) → p.fields.ssthresh ≡ f.ssthresh) f ack now
+    (λ _ _. measured_ssthresh f.timing f ack now) (λ _. refl)
+    (λ _. either_row (λ p. (f.recovery ≡ true) ⊎ (p.fields.recovery ≡ false) → p.fields.ssthresh ≡ f.ssthresh) _ _ _ (λ _. refl) (λ _. refl))
+    (λ _ no either. elim either [ inl on ↦ absurd (false≢true (sym no ∙ on)) | inr ended ↦ absurd (false≢true (sym ended)) ])
+    (λ _ _. either_row (λ p. (f.recovery ≡ true) ⊎ (p.fields.recovery ≡ false) → p.fields.ssthresh ≡ f.ssthresh) _ _ _ (λ _. refl) (λ _. refl))
+
+-- Karn's algorithm
+any_from_contains : (high x : ℕ) (xs : List ℕ) (k : ℕ) → k < length xs → get_or xs k x ≡ x → x < high → list_any (λ y. ltb y high) xs ≡ true
+any_from_contains high x [] k l e m = absurd (omega arith)
+any_from_contains high x (y ∷ ys) zero l e m = or_left _ _ (lt-ltb y high (omega arith))
+any_from_contains high x (y ∷ ys) (suc k) l e m = or_right _ _ (any_from_contains high x ys k (omega arith) e m)
+
+find_reaches : (high : ℕ) (xs : List ℕ) → IfSome (find (λ y. leb high y) xs) (λ y. high ≤ y)
+find_reaches high [] = tt
+find_reaches high (y ∷ ys) =
+    elim (cases_lt y high) [
+      | inl l ↦ rw (lt-leb high y l) (find_reaches high ys)
+      | inr l ↦ rw (le-leb high y l) l
+    ]
+
+timed_from : (high mss now : ℕ) (o : Option ℕ) → 1 ≤ mss → IfSome o (λ y. high ≤ y) → IfSome (option_map (λ y. timing_of (y + mss) now) o) (λ t. (high < t.number) × (t.sent_at ≡ now))
+timed_from high mss now None p l = tt
+timed_from high mss now (Some y) p l = (omega arith, refl)
+
+sending_is_fresh : (f h : SenderFields) (xs : List ℕ) (nxt now : ℕ) → h.high ≡ f.high → h.mss ≡ f.mss → 1 ≤ f.mss → NeverTimesResent f (sending h xs nxt now) now
+sending_is_fresh f h xs nxt now e m p = record {
+  fresh = λ x c l.
+      let any : list_any (λ y. ltb y h.high) xs ≡ true = any_from_contains h.high x xs c.0 c.1 c.2 (omega arith) in
+      rw (any, ← e) (timed_from h.high h.mss now (find (λ y. leb h.high y) xs) (omega arith) (find_reaches h.high xs));
+}
+
+nothing_is_fresh : (f h : SenderFields) (now : ℕ) → NeverTimesResent f (nothing_sent h) now
+nothing_is_fresh f h now = record { fresh = λ x c l. absurd (omega (arith, c.1)) }
+
+pub start_never_times_resent : StartNeverTimesResent
+unfolding started
+start_never_times_resent f now p = sending_is_fresh f f _ _ now refl refl p
+
+early_is_fresh : (f : SenderFields) (now : ℕ) → 1 ≤ f.mss → NeverTimesResent f (early_duplicate f now) now
+early_is_fresh f now p =
+    let sent : SenderFields = record f { dups = one_more f.dups; lt = f.lt + f.mss } in
+    let counted : SenderFields = record f { dups = one_more f.dups } in
+    either_row (λ q. NeverTimesResent f q now) (may_send_new f (f.una + min (f.cwnd + 2 * f.mss) f.rwnd)) (sending sent (f.nxt ∷ []) (f.nxt + f.mss) now) (nothing_sent counted)
+    (sending_is_fresh f sent (f.nxt ∷ []) (f.nxt + f.mss) now refl refl p) (nothing_is_fresh f counted now)
+
+third_is_fresh : (f : SenderFields) (now : ℕ) → 1 ≤ f.mss → NeverTimesResent f (third_duplicate f now) now
+third_is_fresh f now p =
+    let threshold : ℕ = halved (flight_size f - f.lt) f.mss in
+    sending_is_fresh f (record f { dups = 3; ssthresh = threshold; cwnd = threshold + 3 * f.mss; recovery = true }) (f.una ∷ []) f.nxt now refl refl p
+
+further_is_fresh : (f : SenderFields) (now : ℕ) → 1 ≤ f.mss → NeverTimesResent f (further_duplicate f now) now
+further_is_fresh f now p =
+    either_row (λ q. NeverTimesResent f q now) (may_send_new f (f.una + min (enlarged f.cwnd f.mss) f.rwnd)) (sending (inflated f) (f.nxt ∷ []) (f.nxt + f.mss) now) (nothing_sent (inflated f))
+    (sending_is_fresh f (inflated f) (f.nxt ∷ []) (f.nxt + f.mss) now refl refl p) (nothing_is_fresh f (inflated f) now)
+
+new_is_fresh : (f : SenderFields) (ack now : ℕ) → 1 ≤ f.mss → NeverTimesResent f (new_acknowledgement f ack now) now
+new_is_fresh f ack now p =
+    let h : SenderFields = advanced f ack now in
+    sending_is_fresh f h (spaced h.nxt h.mss (fill_count h)) (h.nxt + fill_count h * h.mss) now (measured_high f.timing f ack now) (measured_mss f.timing f ack now) p
+
+pub acknowledgement_never_times_resent : AcknowledgementNeverTimesResent
+acknowledgement_never_times_resent f ack now p =
+    by_rows (λ q. NeverTimesResent f q now) f ack now (λ _. new_is_fresh f ack now p) (nothing_is_fresh f f now)
+    (λ _. further_is_fresh f now p) (λ _ _. third_is_fresh f now p) (λ _ _. early_is_fresh f now p)
+
+pub timeout_never_times_resent : TimeoutNeverTimesResent
+unfolding timed_out
+timeout_never_times_resent f now p =
+    sending_is_fresh f (record f {
+      ssthresh = cond f.resent f.ssthresh (halved (flight_size f) f.mss);
+      cwnd = f.mss;
+      rto = backed_off f.rto;
+      dups = 0;
+      lt = 0;
+      recovery = false;
+      resent = true;
+      timing = None;
+      deadline = Some (now + backed_off f.rto);
+    }) (f.una ∷ []) (f.una + f.mss) now refl refl p
+
+-- the rto
+pub timeout_doubles_rto : TimeoutDoublesRto
+unfolding timed_out
+timeout_doubles_rto f now = refl
+
+pub rto_stays_until_sample : RtoStaysUntilSample
+rto_stays_until_sample f ack now none_ends =
+    by_rows (λ p. p.fields.rto ≡ f.rto) f ack now
+    (λ _. measured_rto f.timing f ack now none_ends) refl
+    (λ _. either_row (λ p. p.fields.rto ≡ f.rto) _ _ _ refl refl) (λ _ _. refl)
+    (λ _ _. either_row (λ p. p.fields.rto ≡ f.rto) _ _ _ refl refl)

@@ -1,0 +1,276 @@
+-- Each row of the table keeps the facts on fields.
+use Rattle.std.proofs.Common.{◌≡◌, ℕ, ◌+◌, ◌-◌, ◌*◌, ◌<◌, ◌≤◌, ◌⊎◌, ◌↔◌, inl, inr, Bool, true, false, cond, ◌&&◌, ltb, leb, eqb, min, max, Option, Some, None, [], ◌∷◌, refl, ap, sym, ◌∙◌, subst, arith}
+use Rattle.std.specs.Prelude.{IfSome, IsSome, IsTrue}
+use Rattle.std.specs.Option.{option_or}
+use Rattle.std.proofs.lemmas.Bool.{le-ltb, lt-ltb, ltb-true, leb-true, lt-leb, eqb-false, cases_lt, and_parts, false≢true}
+use Rattle.std.proofs.Math.Nat.{zero-mul, one-mul, mul-mod_left}
+use Rattle.reno_sender.specs.declared.fields.SenderFields.{SenderFields}
+use Rattle.reno_sender.specs.declared.fields.Timing.{Timing}
+use Rattle.reno_sender.specs.Fields.{IsSound, IsTimedWithin, IsMultiple, total, flight_size}
+use Rattle.reno_sender.specs.Timer.{backed_off}
+use Rattle.reno_sender.specs.Sending.{Planned, spaced, sending, timing_after, filling, fill_count, allowed_end}
+use Rattle.reno_sender.specs.Table.{timed_out, enlarged, one_more, halved, may_send_new, nothing_sent, early_duplicate, third_duplicate, further_duplicate, inflated}
+use Rattle.reno_sender.specs.Laws.{RowKeeps, IsMoment, IsDeadlineSetAt}
+use Rattle.reno_sender.proofs.Multiples.{multiple_next, multiple_below, multiple_max, fits_count}
+use Rattle.reno_sender.specs.PlanView.{IsWellMade}
+use Rattle.reno_sender.proofs.Runs.{length-spaced}
+use Rattle.reno_sender.proofs.Sends.{run_keeps}
+
+-- a change that sends nothing
+pub quiet_keeps : (f h : SenderFields) (now : ℕ) → IsSound h → h.mss ≡ f.mss → h.segments ≡ f.segments → h.rwnd ≡ f.rwnd → f.una ≤ h.una → f.high ≤ h.high →
+    ((h.timing ≡ f.timing) ⊎ IfSome h.timing (λ t. t.sent_at ≤ now)) → ((h.deadline ≡ None) ⊎ ((h.deadline ≡ f.deadline) ⊎ IsDeadlineSetAt now h.deadline)) → RowKeeps f h [] now
+quiet_keeps f h now s m g w u i t d = record {
+  sound = s;
+  mss_same = m;
+  segments_same = g;
+  rwnd_same = w;
+  una_rises = u;
+  high_rises = i;
+  sends = tt;
+  few = omega arith;
+  timing = t;
+  deadline = d;
+}
+
+-- the facts where a row changes the windows, the counts and the timer
+windows_sound : (f : SenderFields) (cwnd ssthresh dups lt rto : ℕ) (recovery resent : Bool) (timing : Option Timing) (deadline : Option ℕ) → IsSound f →
+    lt ≤ flight_size f → (IsTrue recovery ↔ (3 ≤ dups)) → f.mss ≤ cwnd → cwnd ≤ 1099511627776 → f.mss ≤ ssthresh → ssthresh ≤ 1099511627776 →
+    1000000000 ≤ rto → rto ≤ 60000000000 → (IsSome deadline ↔ (f.una < f.nxt)) → IfSome deadline (λ t. t ≤ 2000000000000000) → IfSome timing (IsTimedWithin f.una f.high) →
+    IsSound (record f { cwnd = cwnd; ssthresh = ssthresh; dups = dups; lt = lt; rto = rto; recovery = recovery; resent = resent; timing = timing; deadline = deadline })
+windows_sound f cwnd ssthresh dups lt rto recovery resent timing deadline s l r c c' t t' o o' d d' g = record {
+  mss_least = s.mss_least;
+  mss_most = s.mss_most;
+  segments_least = s.segments_least;
+  segments_most = s.segments_most;
+  rwnd_least = s.rwnd_least;
+  rwnd_most = s.rwnd_most;
+  una_nxt = s.una_nxt;
+  nxt_high = s.nxt_high;
+  high_total = s.high_total;
+  una_multiple = s.una_multiple;
+  nxt_multiple = s.nxt_multiple;
+  high_multiple = s.high_multiple;
+  in_window = s.in_window;
+  lt_flight = l;
+  recovery_dups = r;
+  cwnd_least = c;
+  cwnd_most = c';
+  ssthresh_least = t;
+  ssthresh_most = t';
+  rto_least = o;
+  rto_most = o';
+  deadline_flight = d;
+  deadline_most = d';
+  timed = g;
+  srtt_most = s.srtt_most;
+  rttvar_most = s.rttvar_most;
+}
+
+-- nothing changes
+pub same_keeps : (f : SenderFields) (now : ℕ) → IsSound f → RowKeeps f f [] now
+same_keeps f now s = quiet_keeps f f now s refl refl refl (omega arith) (omega arith) (inl refl) (inr (inl refl))
+
+-- a row that leads to h leads further by filling the window there
+pub fill_keeps : (f h : SenderFields) (now : ℕ) → RowKeeps f h [] now → IsMoment now → RowKeeps f (filling h now).fields (filling h now).sent now
+fill_keeps f h now k moment =
+    let s : IsSound h = k.sound in
+    let n : ℕ = fill_count h in
+    let fits : 0 < n → h.nxt + n * h.mss ≤ allowed_end h = fits_count h.mss h.nxt (allowed_end h) n s.mss_least refl in
+    let none : n ≡ 0 → n * h.mss ≡ 0 = λ e. ap (λ x. x * h.mss) e ∙ zero-mul h.mss in
+    elim (cases_lt 0 n) [
+      | inl l ↦ run_keeps f h n (h.nxt + n * h.mss) now h.lt k moment refl (omega (arith, fits l)) (omega (arith, fits l)) (omega (arith, s.lt_flight))
+      | inr l ↦ (let e : n * h.mss ≡ 0 = none (omega arith) in
+          run_keeps f h n (h.nxt + n * h.mss) now h.lt k moment refl (omega (arith, s.nxt_high, s.high_total)) (omega (arith, s.in_window)) (omega (arith, s.lt_flight)))
+    ]
+
+-- what a plan that sends a run holds, from the row that it is
+pub run_well_made : (f g : SenderFields) (first n now : ℕ) → RowKeeps f g (spaced first g.mss n) now → first + n * g.mss ≡ g.nxt → IsWellMade (record { fields = g; resent = None; first = first; count = n })
+run_well_made f g first n now k ends = record { sound = k.sound; resends_una = tt; run_ends = ends; few = subst (λ x. x ≤ 1073741825) (length-spaced first g.mss n) k.few }
+
+pub fill_in_total : (f : SenderFields) (now : ℕ) → IsSound f → IsMoment now → f.nxt + fill_count f * f.mss ≤ total f
+fill_in_total f now s moment =
+    let k : RowKeeps f (filling f now).fields (filling f now).sent now = fill_keeps f f now (same_keeps f now s) moment in
+    omega (arith, k.sound.nxt_high, k.sound.high_total)
+
+pub fill_well_made : (f : SenderFields) (now : ℕ) → IsSound f → IsMoment now → IsWellMade (record { fields = (filling f now).fields; resent = None; first = f.nxt; count = fill_count f })
+fill_well_made f now s moment = run_well_made f (filling f now).fields f.nxt (fill_count f) now (fill_keeps f f now (same_keeps f now s) moment) refl
+
+-- a row that leads to h leads further by one new segment from there
+pub one_keeps : (f h : SenderFields) (now lt : ℕ) → RowKeeps f h [] now → IsMoment now → h.nxt + h.mss ≤ total h → h.nxt + h.mss ≤ h.una + h.rwnd → lt ≤ h.nxt + h.mss - h.una →
+    RowKeeps f (record (sending h (h.nxt ∷ []) (h.nxt + h.mss) now).fields { lt = lt }) (h.nxt ∷ []) now
+one_keeps f h now lt k moment in_total in_window lt_flight =
+    run_keeps f h 1 (h.nxt + h.mss) now lt k moment (omega (arith, one-mul h.mss)) in_total (omega arith) lt_flight
+
+-- what a plan that sends one segment holds
+pub one_well_made : (h : SenderFields) (now lt : ℕ) → IsSound h → IsMoment now → h.nxt + h.mss ≤ total h → h.nxt + h.mss ≤ h.una + h.rwnd → lt ≤ h.nxt + h.mss - h.una →
+    IsWellMade (record { fields = record (sending h (h.nxt ∷ []) (h.nxt + h.mss) now).fields { lt = lt }; resent = None; first = h.nxt; count = 1 })
+one_well_made h now lt s moment in_total in_window lt_flight =
+    run_well_made h _ h.nxt 1 now (one_keeps h h now lt (same_keeps h now s) moment in_total in_window lt_flight) (omega (arith, one-mul h.mss))
+
+-- sending una again
+timing_again : (h : SenderFields) (now : ℕ) → h.una < h.high → timing_after h (h.una ∷ []) now ≡ None
+timing_again h now l = rw (lt-ltb h.una h.high l, lt-leb h.high h.una l) refl
+
+deadline_again : (d : Option ℕ) (t : ℕ) → IsSome d → option_or d (Some t) ≡ d
+deadline_again None t e = cc
+deadline_again (Some u) t e = refl
+
+pub resend_keeps : (f h : SenderFields) (nxt now : ℕ) → RowKeeps f h [] now → h.una < h.nxt → h.una < nxt → nxt ≤ h.nxt → IsMultiple h.mss nxt → h.lt ≤ nxt - h.una →
+    RowKeeps f (sending h (h.una ∷ []) nxt now).fields (h.una ∷ []) now
+resend_keeps f h nxt now k out out' back whole lt_flight =
+    let s : IsSound h = k.sound in
+    let untimed : timing_after h (h.una ∷ []) now ≡ None = timing_again h now (omega (arith, s.nxt_high)) in
+    let kept : option_or h.deadline (Some (now + h.rto)) ≡ h.deadline = deadline_again h.deadline (now + h.rto) (s.deadline_flight.1 out) in
+    let ends : h.una + h.mss ≤ nxt = multiple_below h.mss h.una nxt s.mss_least s.una_multiple whole out' in
+    record {
+      sound = record {
+        mss_least = s.mss_least;
+        mss_most = s.mss_most;
+        segments_least = s.segments_least;
+        segments_most = s.segments_most;
+        rwnd_least = s.rwnd_least;
+        rwnd_most = s.rwnd_most;
+        una_nxt = omega arith;
+        nxt_high = omega arith;
+        high_total = omega (arith, s.high_total, s.nxt_high);
+        una_multiple = s.una_multiple;
+        nxt_multiple = whole;
+        high_multiple = multiple_max h.mss h.high nxt s.high_multiple whole;
+        in_window = omega (arith, s.in_window);
+        lt_flight = lt_flight;
+        recovery_dups = s.recovery_dups;
+        cwnd_least = s.cwnd_least;
+        cwnd_most = s.cwnd_most;
+        ssthresh_least = s.ssthresh_least;
+        ssthresh_most = s.ssthresh_most;
+        rto_least = s.rto_least;
+        rto_most = s.rto_most;
+        deadline_flight = (λ _. out', λ _. rw kept (s.deadline_flight.1 out));
+        deadline_most = subst (λ (o : Option ℕ). IfSome o (λ t. t ≤ 2000000000000000)) (sym kept) s.deadline_most;
+        timed = subst (λ (o : Option Timing). IfSome o (IsTimedWithin h.una (max h.high nxt))) (sym untimed) tt;
+        srtt_most = s.srtt_most;
+        rttvar_most = s.rttvar_most;
+      };
+      mss_same = k.mss_same;
+      segments_same = k.segments_same;
+      rwnd_same = k.rwnd_same;
+      una_rises = k.una_rises;
+      high_rises = omega (arith, k.high_rises);
+      sends = (record { multiple = s.una_multiple; by_high = omega (arith, s.nxt_high); by_total = omega (arith, s.nxt_high, s.high_total); in_window = omega (arith, s.rwnd_least) }, tt);
+      few = omega arith;
+      timing = inr (subst (λ (o : Option Timing). IfSome o (λ t. t.sent_at ≤ now)) (sym untimed) tt);
+      deadline = subst (λ (o : Option ℕ). (o ≡ None) ⊎ ((o ≡ f.deadline) ⊎ IsDeadlineSetAt now o)) (sym kept) k.deadline;
+    }
+
+-- nobody is in recovery before the third duplicate
+not_three : (f : SenderFields) → IsSound f → f.recovery ≡ false → f.dups < 3
+not_three f s e =
+    elim (cases_lt f.dups 3) [
+      | inl l ↦ l
+      | inr l ↦ absurd (false≢true (sym e ∙ s.recovery_dups.1 l))
+    ]
+
+-- a row that changes only dups, lt stays
+pub counted_keeps : (f : SenderFields) (now : ℕ) → IsSound f → f.recovery ≡ false → (eqb f.dups 2) ≡ false → RowKeeps f (record f { dups = one_more f.dups }) [] now
+counted_keeps f now s e d =
+    let few_dups : f.dups < 3 = not_three f s e in
+    let not_two : f.dups ≡ 2 → ⊥ = eqb-false f.dups 2 d in
+    let below : f.dups < 4294967295 = omega arith in
+    let more : one_more f.dups ≡ f.dups + 1 = rw (lt-ltb f.dups 4294967295 below) refl in
+    let h : SenderFields = record f { dups = one_more f.dups } in
+    let sound_h : IsSound h = windows_sound f f.cwnd f.ssthresh (one_more f.dups) f.lt f.rto f.recovery f.resent f.timing f.deadline s
+    s.lt_flight (λ t. absurd (false≢true (sym e ∙ t)), λ l. absurd (omega (arith, more))) s.cwnd_least s.cwnd_most s.ssthresh_least s.ssthresh_most
+    s.rto_least s.rto_most s.deadline_flight s.deadline_most s.timed in
+    quiet_keeps f h now sound_h refl refl refl (omega arith) (omega arith) (inl refl) (inr (inl refl))
+
+-- what the test for a new segment says
+pub new_ends : (f : SenderFields) (end : ℕ) → IsSound f → may_send_new f end ≡ true → (f.nxt + f.mss ≤ total f) × (f.nxt + f.mss ≤ end)
+new_ends f end s t =
+    let parts : (eqb f.nxt f.high ≡ true) × ((ltb f.nxt (total f) && leb (f.nxt + f.mss) end) ≡ true) = and_parts _ _ t in
+    let more : (ltb f.nxt (total f) ≡ true) × (leb (f.nxt + f.mss) end ≡ true) = and_parts _ _ parts.1 in
+    let whole : IsMultiple f.mss (total f) = mul-mod_left f.segments f.mss in
+    (multiple_below f.mss f.nxt (total f) s.mss_least s.nxt_multiple whole (ltb-true _ _ more.0), leb-true _ _ more.1)
+
+early_split : (b : Bool) (f : SenderFields) (now : ℕ) → IsSound f → RowKeeps f (record f { dups = one_more f.dups }) [] now → IsMoment now →
+    (b ≡ true → (f.nxt + f.mss ≤ total f) × (f.nxt + f.mss ≤ f.una + min (f.cwnd + 2 * f.mss) f.rwnd)) →
+    (p : Planned) → p ≡ cond b (sending (record f { dups = one_more f.dups; lt = f.lt + f.mss }) (f.nxt ∷ []) (f.nxt + f.mss) now) (nothing_sent (record f { dups = one_more f.dups })) →
+    RowKeeps f p.fields p.sent now
+early_split true f now s k moment ends p e =
+    let within : (f.nxt + f.mss ≤ total f) × (f.nxt + f.mss ≤ f.una + min (f.cwnd + 2 * f.mss) f.rwnd) = ends refl in
+    subst (λ (q : Planned). RowKeeps f q.fields q.sent now) (sym e)
+    (one_keeps f (record f { dups = one_more f.dups }) now (f.lt + f.mss) k moment within.0 (omega (arith, within.1)) (omega (arith, s.lt_flight, s.una_nxt)))
+early_split false f now s k moment ends p e = subst (λ (q : Planned). RowKeeps f q.fields q.sent now) (sym e) k
+
+pub early_duplicate_keeps : (f : SenderFields) (now : ℕ) → IsSound f → IsMoment now → f.recovery ≡ false → eqb f.dups 2 ≡ false →
+    RowKeeps f (early_duplicate f now).fields (early_duplicate f now).sent now
+early_duplicate_keeps f now s moment e d =
+    let h : SenderFields = record f { dups = one_more f.dups } in
+    let k : RowKeeps f h [] now = counted_keeps f now s e d in
+    early_split (may_send_new f (f.una + min (f.cwnd + 2 * f.mss) f.rwnd)) f now s k moment (λ t. new_ends f (f.una + min (f.cwnd + 2 * f.mss) f.rwnd) s t) (early_duplicate f now) refl
+
+pub third_duplicate_keeps : (f : SenderFields) (now : ℕ) → IsSound f → IsMoment now → f.una < f.nxt →
+    RowKeeps f (third_duplicate f now).fields (third_duplicate f now).sent now
+third_duplicate_keeps f now s moment out =
+    let threshold : ℕ = halved (flight_size f - f.lt) f.mss in
+    let h : SenderFields = record f { dups = 3; ssthresh = threshold; cwnd = threshold + 3 * f.mss; recovery = true } in
+    let at_most : threshold ≤ 536870912 + 18000 = omega (arith, s.in_window, s.rwnd_most, s.mss_most) in
+    let at_least : f.mss ≤ threshold = omega arith in
+    let sound_h : IsSound h = windows_sound f (threshold + 3 * f.mss) threshold 3 f.lt f.rto true f.resent f.timing f.deadline s
+    s.lt_flight (λ _. omega arith, λ _. refl) (omega arith) (omega (arith, s.mss_most)) at_least (omega arith)
+    s.rto_least s.rto_most s.deadline_flight s.deadline_most s.timed in
+    resend_keeps f h f.nxt now (quiet_keeps f h now sound_h refl refl refl (omega arith) (omega arith) (inl refl) (inr (inl refl))) out out (omega arith) s.nxt_multiple s.lt_flight
+
+at_least_three : (dups : ℕ) → 3 ≤ dups → 3 ≤ one_more dups
+at_least_three dups l =
+    elim (cases_lt dups 4294967295) [
+      | inl m ↦ rw (lt-ltb dups 4294967295 m) (omega arith)
+      | inr m ↦ rw (le-ltb dups 4294967295 m) l
+    ]
+
+pub inflated_sound : (f : SenderFields) → IsSound f → f.recovery ≡ true → IsSound (inflated f)
+inflated_sound f s e =
+    let three : 3 ≤ f.dups = s.recovery_dups.0 e in
+    let still : 3 ≤ one_more f.dups = at_least_three f.dups three in
+    windows_sound f (enlarged f.cwnd f.mss) f.ssthresh (one_more f.dups) f.lt f.rto f.recovery f.resent f.timing f.deadline s
+    s.lt_flight (λ _. still, λ _. e) (omega (arith, s.cwnd_least, s.mss_most)) (omega arith) s.ssthresh_least s.ssthresh_most
+    s.rto_least s.rto_most s.deadline_flight s.deadline_most s.timed
+
+further_split : (b : Bool) (f h : SenderFields) (now : ℕ) → RowKeeps f h [] now → IsMoment now →
+    (b ≡ true → (h.nxt + h.mss ≤ total h) × (h.nxt + h.mss ≤ h.una + min h.cwnd h.rwnd)) →
+    (p : Planned) → p ≡ cond b (sending h (h.nxt ∷ []) (h.nxt + h.mss) now) (nothing_sent h) →
+    RowKeeps f p.fields p.sent now
+further_split true f h now k moment ends p e =
+    let within : (h.nxt + h.mss ≤ total h) × (h.nxt + h.mss ≤ h.una + min h.cwnd h.rwnd) = ends refl in
+    subst (λ (q : Planned). RowKeeps f q.fields q.sent now) (sym e)
+    (one_keeps f h now h.lt k moment within.0 (omega (arith, within.1)) (omega (arith, k.sound.lt_flight, k.sound.una_nxt)))
+further_split false f h now k moment ends p e = subst (λ (q : Planned). RowKeeps f q.fields q.sent now) (sym e) k
+
+pub further_duplicate_keeps : (f : SenderFields) (now : ℕ) → IsSound f → IsMoment now → f.recovery ≡ true →
+    RowKeeps f (further_duplicate f now).fields (further_duplicate f now).sent now
+further_duplicate_keeps f now s moment e =
+    let h : SenderFields = inflated f in
+    let k : RowKeeps f h [] now = quiet_keeps f h now (inflated_sound f s e) refl refl refl (omega arith) (omega arith) (inl refl) (inr (inl refl)) in
+    let end : ℕ = f.una + min (enlarged f.cwnd f.mss) f.rwnd in
+    further_split (may_send_new f end) f h now k moment (λ t. new_ends f end s t) (further_duplicate f now) refl
+
+threshold_bounds : (f : SenderFields) → IsSound f → (b : Bool) → (f.mss ≤ cond b f.ssthresh (halved (flight_size f) f.mss)) × (cond b f.ssthresh (halved (flight_size f) f.mss) ≤ 1099511627776)
+threshold_bounds f s true = (s.ssthresh_least, s.ssthresh_most)
+threshold_bounds f s false = (omega arith, omega (arith, s.in_window, s.rwnd_most, s.mss_most))
+
+pub timed_out_row_keeps : (f : SenderFields) (now : ℕ) → IsSound f → IsMoment now → IsSome f.deadline →
+    RowKeeps f (timed_out f now).fields (timed_out f now).sent now
+unfolding timed_out
+timed_out_row_keeps f now s moment set =
+    let out : f.una < f.nxt = s.deadline_flight.0 set in
+    let threshold : ℕ = cond f.resent f.ssthresh (halved (flight_size f) f.mss) in
+    let later : ℕ = backed_off f.rto in
+    let h : SenderFields = record f { ssthresh = threshold; cwnd = f.mss; rto = later; dups = 0; lt = 0; recovery = false; resent = true; timing = None; deadline = Some (now + later) } in
+    let bounds : (f.mss ≤ threshold) × (threshold ≤ 1099511627776) = threshold_bounds f s f.resent in
+    let least : 1000000000 ≤ later = omega (arith, s.rto_least) in
+    let most : later ≤ 60000000000 = omega arith in
+    let sound_h : IsSound h = windows_sound f f.mss threshold 0 0 later false true None (Some (now + later)) s
+    (omega arith) (λ t. absurd (false≢true t), λ l. absurd (omega arith)) (omega arith) (omega (arith, s.mss_most)) bounds.0 bounds.1
+    least most (λ _. out, λ _. refl) (omega arith) tt in
+    let k : RowKeeps f h [] now = quiet_keeps f h now sound_h refl refl refl (omega arith) (omega arith) (inr tt) (inr (inr (record { after = later; after_least = least; after_most = most; is_then = refl }))) in
+    resend_keeps f h (f.una + f.mss) now k out (omega (arith, s.mss_least)) (multiple_below f.mss f.una f.nxt s.mss_least s.una_multiple s.nxt_multiple out)
+    (multiple_next f.mss f.una s.una_multiple) (omega arith)

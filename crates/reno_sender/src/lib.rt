@@ -1,0 +1,23 @@
+//! The Reno sender.
+#![tactic(auto)]
+
+mod acknowledgement;
+pub mod duplicates;
+pub mod fields;
+mod fill;
+pub mod guarantees;
+pub mod plan;
+pub mod sender;
+mod sending;
+mod soundness;
+mod timeout;
+pub mod timer;
+pub mod window;
+
+pub use fields::{SenderFields, Timing};
+pub use plan::Plan;
+pub use sender::Sender;
+pub use timer::after_sample;
+
+#[cfg(test)]
+mod tests;

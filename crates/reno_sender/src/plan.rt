@@ -1,0 +1,86 @@
+//! What an event makes of a sender, before it is done.
+ghost use Rattle.std.specs.Prelude.{◌≡◌, Option};
+ghost use Rattle.reno_sender.specs.Fields.{IsSound};
+ghost use Rattle.reno_sender.specs.PlanView.{IsWellMade, planned_of, plan_view};
+ghost use Rattle.reno_sender.specs.Table.{nothing_sent};
+
+use crate::fields::SenderFields;
+use std::marker::Model;
+
+/// The new fields of a sender, and the byte numbers to send: at most one that is sent again, and
+/// then a run of consecutive segments. Nothing has happened until the sender commits it.
+#[derive(Clone, Copy, Debug)]
+pub struct Plan {
+    fields: SenderFields,
+    resent: Option<u64>,
+    first: u64,
+    count: u64,
+}
+
+impl Model for Plan {
+    ghost use Rattle.reno_sender.specs.PlanView.{PlanView, IsWellMade, plan_code, plan_view};
+
+    ghost Value = { PlanView };
+
+    ghost coded = { plan_code };
+
+    ghost view = { λ p. plan_view p.fields p.resent p.first p.count };
+
+    ghost invariant = { λ p. IsWellMade (plan_view p.fields p.resent p.first p.count) };
+
+    ghost inverse = { λ v. record { fields = v.fields; resent = v.resent; first = v.first; count = v.count } };
+}
+
+impl Plan {
+    pub(crate) fn of(fields: SenderFields, resent: Option<u64>, first: u64, count: u64) -> Self
+        requires { IsWellMade (plan_view fields resent first count) }
+        ensures { result ≡ plan_view fields resent first count }
+    {
+        Plan {
+            fields,
+            resent,
+            first,
+            count,
+        }
+    }
+
+    /// Sends nothing.
+    pub(crate) fn nothing(fields: SenderFields) -> Self
+        requires { IsSound fields }
+        ensures { planned_of result ≡ nothing_sent fields }
+    {
+        Plan::of(fields, None, fields.nxt, 0)
+    }
+
+    /// What the sender keeps once this is committed.
+    pub fn fields(&self) -> SenderFields
+        ensures value { result ≡ self.now.fields }
+        ensures well_made { IsWellMade self.now }
+    {
+        self.fields
+    }
+
+    /// The byte number that is sent again, before the others.
+    pub fn resent(&self) -> Option<u64>
+        ensures value { result ≡ self.now.resent }
+        ensures well_made { IsWellMade self.now }
+    {
+        self.resent
+    }
+
+    /// The first byte number of the run of new or further segments.
+    pub fn first(&self) -> u64
+        ensures value { result ≡ self.now.first }
+        ensures well_made { IsWellMade self.now }
+    {
+        self.first
+    }
+
+    /// How many segments the run has, each `mss` bytes after the one before.
+    pub fn count(&self) -> u64
+        ensures value { result ≡ self.now.count }
+        ensures well_made { IsWellMade self.now }
+    {
+        self.count
+    }
+}

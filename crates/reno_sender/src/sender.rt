@@ -1,0 +1,127 @@
+//! The sender itself: what it keeps, and the plan that each event makes.
+ghost use Rattle.std.specs.Prelude.{◌≡◌, ◌≤◌, ◌+◌, IsSome, SomeIff};
+ghost use Rattle.reno_sender.specs.Fields.{IsSound};
+ghost use Rattle.reno_sender.specs.Laws.{IsMoment, IsAckFor, IsFlow};
+ghost use Rattle.reno_sender.specs.PlanView.{planned_of, IsPlanOf, IsWellMade};
+ghost use Rattle.reno_sender.specs.Table.{opening_fields, started, acknowledged, timed_out};
+
+use crate::acknowledgement::acknowledged;
+use crate::fields::SenderFields;
+use crate::fill::fill;
+use crate::plan::Plan;
+use crate::soundness::is_sound;
+use crate::timeout::timed_out;
+use crate::timer::LEAST_RTO;
+use sim_time::{Time, initial_window};
+use std::marker::Model;
+
+/// The Reno sender of one flow.
+#[derive(Clone, Copy, Debug, PartialEq, Eq)]
+pub struct Sender {
+    fields: SenderFields,
+}
+
+impl Model for Sender {
+    ghost use Rattle.reno_sender.specs.declared.fields.SenderFields.{SenderFields};
+    ghost use Rattle.reno_sender.specs.Fields.{IsSound, fields_code};
+
+    ghost Value = { SenderFields };
+
+    ghost coded = { fields_code };
+
+    ghost view = { λ s. s.fields };
+
+    ghost invariant = { λ s. IsSound s.fields };
+
+    ghost inverse = { λ f. record { fields = f } };
+}
+
+impl Sender {
+    /// A sender that has sent nothing yet (RFC 5681 section 3.1, RFC 6298 section 2.1).
+    pub fn new(mss: u64, segments: u64, rwnd: u64) -> Self
+        requires { IsFlow mss segments rwnd }
+        ensures { result ≡ opening_fields mss segments rwnd }
+    {
+        Sender {
+            fields: SenderFields {
+                mss,
+                segments,
+                rwnd,
+                una: 0,
+                nxt: 0,
+                high: 0,
+                cwnd: initial_window(mss),
+                ssthresh: rwnd,
+                dups: 0,
+                lt: 0,
+                recovery: false,
+                timing: None,
+                srtt: None,
+                rttvar: 0,
+                rto: LEAST_RTO,
+                deadline: None,
+                resent: false,
+            },
+        }
+    }
+
+    /// The sender that keeps these fields; none where they are those of no sender.
+    pub fn of_fields(fields: SenderFields) -> Option<Sender>
+        ensures { SomeIff result (IsSound fields) fields }
+    {
+        if is_sound(&fields) {
+            Some(Sender { fields })
+        } else {
+            None
+        }
+    }
+
+    /// What the sender keeps.
+    pub fn fields(&self) -> SenderFields
+        ensures value { result ≡ self.now }
+        ensures sound { IsSound self.now }
+    {
+        self.fields
+    }
+
+    /// The flow starts.
+    #[tactic(auto, unfolding(crate::specs::Table::started))]
+    pub fn start(&self, now: Time) -> Plan
+        requires { IsMoment now }
+        ensures planned { planned_of result ≡ started self.now now }
+        ensures made { IsPlanOf self.now result }
+        ensures well_made { IsWellMade result }
+    {
+        fill(self.fields, now)
+    }
+
+    /// An acknowledgement has come, up to but not with the byte `ack`.
+    pub fn on_ack(&self, ack: u64, now: Time) -> Plan
+        requires moment { IsMoment now }
+        requires ack { IsAckFor self.now ack now }
+        ensures planned { planned_of result ≡ acknowledged self.now ack now }
+        ensures made { IsPlanOf self.now result }
+        ensures well_made { IsWellMade result }
+    {
+        acknowledged(self.fields, ack, now)
+    }
+
+    /// The deadline has come.
+    pub fn on_rto(&self, now: Time) -> Plan
+        requires moment { IsMoment now }
+        requires set { IsSome self.now.deadline }
+        ensures planned { planned_of result ≡ timed_out self.now now }
+        ensures made { IsPlanOf self.now result }
+        ensures well_made { IsWellMade result }
+    {
+        timed_out(self.fields, now)
+    }
+
+    /// Does what was planned.
+    pub fn commit(&mut self, plan: Plan)
+        requires { IsPlanOf self.old plan }
+        ensures { self.new ≡ plan.fields }
+    {
+        self.fields = plan.fields();
+    }
+}

@@ -1,0 +1,120 @@
+//! The facts that hold of a sender's fields in every reachable state, as tests.
+ghost use Rattle.std.specs.Prelude.{◌≡◌, ◌≤◌, ◌<◌, ◌-◌, ◌*◌, ◌↔◌, IsTrue, IsSome, IfSome};
+ghost use Rattle.reno_sender.specs.Fields.{IsSound, IsMultiple, IsTimedWithin, total, flight_size};
+
+use crate::fields::SenderFields;
+use crate::timer::{GREATEST_RTO, LEAST_RTO};
+use crate::window::MOST_CWND;
+
+/// The latest time that a sender keeps, in nanoseconds.
+const LATEST: u64 = 2_000_000_000_000_000;
+
+/// The ranges of the flow.
+fn sizes_are_sound(fields: &SenderFields) -> bool
+    ensures { IsTrue result
+        ↔ ((1 ≤ fields.now.mss)
+        × (fields.now.mss ≤ 9000)
+        × (1 ≤ fields.now.segments)
+        × (fields.now.segments ≤ 1000000000)
+        × (fields.now.mss ≤ fields.now.rwnd)
+        × (fields.now.rwnd ≤ 1073741824)) }
+{
+    1 <= fields.mss
+        && fields.mss <= 9_000
+        && 1 <= fields.segments
+        && fields.segments <= 1_000_000_000
+        && fields.mss <= fields.rwnd
+        && fields.rwnd <= 1_073_741_824
+}
+
+/// The order of the byte numbers.
+fn numbers_are_ordered(fields: &SenderFields) -> bool
+    requires mss { fields.now.mss ≤ 9000 }
+    requires segments { fields.now.segments ≤ 1000000000 }
+    ensures { IsTrue result
+        ↔ ((fields.now.una ≤ fields.now.nxt)
+        × (fields.now.nxt ≤ fields.now.high)
+        × (fields.now.high ≤ total fields.now)
+        × (flight_size fields.now ≤ fields.now.rwnd)
+        × (fields.now.lt ≤ flight_size fields.now)) }
+{
+    fields.una <= fields.nxt
+        && fields.nxt <= fields.high
+        && fields.high <= fields.segments * fields.mss
+        && fields.nxt - fields.una <= fields.rwnd
+        && fields.lt <= fields.nxt - fields.una
+}
+
+/// Whole segments.
+fn numbers_are_whole(fields: &SenderFields) -> bool
+    requires { 1 ≤ fields.now.mss }
+    ensures { IsTrue result
+        ↔ (IsMultiple fields.now.mss fields.now.una
+        × IsMultiple fields.now.mss fields.now.nxt
+        × IsMultiple fields.now.mss fields.now.high) }
+{
+    fields.una % fields.mss == 0 && fields.nxt % fields.mss == 0 && fields.high % fields.mss == 0
+}
+
+/// The windows, and recovery from the third duplicate on.
+fn windows_are_sound(fields: &SenderFields) -> bool
+    ensures { IsTrue result
+        ↔ ((IsTrue fields.now.recovery ↔ (3 ≤ fields.now.dups))
+        × (fields.now.mss ≤ fields.now.cwnd)
+        × (fields.now.cwnd ≤ 1099511627776)
+        × (fields.now.mss ≤ fields.now.ssthresh)
+        × (fields.now.ssthresh ≤ 1099511627776)) }
+{
+    fields.recovery == (fields.dups >= 3)
+        && fields.mss <= fields.cwnd
+        && fields.cwnd <= MOST_CWND
+        && fields.mss <= fields.ssthresh
+        && fields.ssthresh <= MOST_CWND
+}
+
+/// The timer runs while something is in flight.
+fn deadline_is_sound(fields: &SenderFields) -> bool
+    ensures { IsTrue result
+        ↔ ((1000000000 ≤ fields.now.rto)
+        × (fields.now.rto ≤ 60000000000)
+        × (IsSome fields.now.deadline ↔ (fields.now.una < fields.now.nxt))
+        × IfSome fields.now.deadline (λ t. t ≤ 2000000000000000)) }
+{
+    let deadline_fits = match fields.deadline {
+        Some(deadline) => fields.una < fields.nxt && deadline <= LATEST,
+        None => fields.una >= fields.nxt,
+    };
+    LEAST_RTO <= fields.rto && fields.rto <= GREATEST_RTO && deadline_fits
+}
+
+/// What is timed and what was measured.
+fn times_are_sound(fields: &SenderFields) -> bool
+    ensures { IsTrue result
+        ↔ (IfSome fields.now.timing (IsTimedWithin fields.now.una fields.now.high)
+        × IfSome fields.now.srtt (λ s. s ≤ 2000000000000000)
+        × (fields.now.rttvar ≤ 2000000000000000)) }
+{
+    let timing_fits = match fields.timing {
+        Some(timing) => {
+            fields.una < timing.number && timing.number <= fields.high && timing.sent_at <= LATEST
+        }
+        None => true,
+    };
+    let srtt_fits = match fields.srtt {
+        Some(srtt) => srtt <= LATEST,
+        None => true,
+    };
+    timing_fits && srtt_fits && fields.rttvar <= LATEST
+}
+
+/// Whether all facts hold.
+pub(crate) fn is_sound(fields: &SenderFields) -> bool
+    ensures { IsTrue result ↔ IsSound fields.now }
+{
+    sizes_are_sound(fields)
+        && numbers_are_ordered(fields)
+        && numbers_are_whole(fields)
+        && windows_are_sound(fields)
+        && deadline_is_sound(fields)
+        && times_are_sound(fields)
+}

@@ -1,0 +1,12 @@
+pub mod Range
+pub mod LinkLimits
+pub mod FlowLimits
+pub mod RouteLimits
+pub mod Limits
+pub mod Ends
+pub mod OneFlow
+pub mod OneSegment
+pub mod Scenario
+pub mod Shape
+pub mod Fault
+pub use Rattle.sim_time.specs.Serial

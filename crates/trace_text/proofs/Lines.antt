@@ -1,0 +1,34 @@
+-- A line in the parts in which it is appended, and what of it is cut off again.
+use Rattle.std.proofs.Common.{◌≡◌, ◌≤◌, ℕ, List, ◌∷◌, ◌++◌, length, take, codes, arith, append_assoc, map, decimal, sym, ◌∙◌, ap, length-append}
+use Rattle.std.proofs.Math.Seq.{take-append_seam}
+use Rattle.std.proofs.lemmas.List.{take-take}
+use Rattle.std.proofs.lemmas.List.Concat.{flat_map-append}
+use Rattle.net_machine.specs.TraceLine.{TraceLine}
+use Rattle.trace_text.specs.Words.{line_of, spaced}
+use Rattle.trace_text.specs.Line.{line_bytes, key_words, event_words, after_words, act_word}
+
+spaced-append : (a b : List (List ℕ)) → spaced (a ++ b) ≡ spaced a ++ spaced b
+spaced-append a b = flat_map-append (λ word. codes " " ++ word) a b
+
+line_of_parts : (n : List ℕ) (key event after acts : List (List ℕ))
+    → line_of (n ∷ key ++ event ++ after ++ acts)
+    ≡ n ++ spaced key ++ spaced event ++ spaced after ++ spaced acts ++ codes "\n"
+line_of_parts n key event after acts =
+    rw (spaced-append (key ++ event ++ after) acts, spaced-append (key ++ event) after, spaced-append key event)
+    (simp append_assoc)
+
+-- what stands before the acts, then the acts, then LF
+pub line_appended : (n : ℕ) (t : TraceLine) (old head told now : List ℕ)
+    → head ≡ old ++ (decimal n ++ spaced (key_words t.key) ++ spaced (event_words t.event) ++ spaced (after_words t.after))
+    → told ≡ head ++ spaced (map act_word t.acts) → now ≡ told ++ codes "\n"
+    → now ≡ old ++ line_bytes n t
+line_appended n t old head told now h w l =
+    rw (line_of_parts (decimal n) (key_words t.key) (event_words t.event) (after_words t.after) (map act_word t.acts), l, w, h)
+    (simp append_assoc)
+
+-- what begins with `old ++ more` begins with `old`
+pub take_shorter : (old more was now : List ℕ) → was ≡ old ++ more → take (length was) now ≡ was → take (length old) now ≡ old
+take_shorter old more was now e kept =
+    let within : length old ≤ length was = omega (arith, length-append old more, ap length e) in
+    sym (take-take (length old) (length was) now within)
+    ∙ ap (take (length old)) (kept ∙ e) ∙ take-append_seam old more
