@@ -1,22 +1,21 @@
-//! The network, one event at a time.
+//! The network, one event at a time: the pending events, the nodes with their rows, and the step.
 #![tactic(auto)]
 
 pub mod acts;
-pub mod agenda;
+mod agenda;
 pub mod event;
 pub mod line;
 pub mod net;
-pub mod offer;
+mod offer;
 mod opening;
-pub mod part;
-pub mod port;
-pub mod receiver_node;
-pub mod role;
-pub mod room;
-pub mod sender_node;
+mod part;
+mod port;
+mod receiver_node;
+mod role;
+mod room;
+mod sender_node;
 
 pub use acts::{Act, Acts, DropReason};
 pub use event::Event;
 pub use line::{After, Line};
 pub use net::{Net, StepFault};
-pub use role::Role;

@@ -1,1 +1,5 @@
+pub mod Counted
+pub mod Held
+pub mod Links
+pub mod Ownership
 pub mod PacketBytes

@@ -1,0 +1,5 @@
+pub mod Bytes
+pub mod Crossing
+pub mod Linked
+pub mod Sharing
+pub mod Steps

@@ -1,0 +1,119 @@
+//! The raw pointers: nodes that lie in blocks of their own, each leading to the one behind it.
+ghost use Rattle.std.specs.Prelude.{◌≡◌, ◌<◌, List, [], ◌∷◌, ◌++◌, drop, length, slice_get, Some};
+ghost use Rattle.packet_chain.specs.Links.{Link, IsLinked, held_of, place_of};
+ghost use Rattle.packet_chain.specs.Ownership.{nodes_own, nodes_lent};
+
+use crate::cell::PacketCell;
+use crate::loose::Loose;
+use crate::node::{Node, Place};
+use std::alloc::Global;
+use std::marker::{Model, Send, Sync};
+use std::ptr;
+
+/// The nodes from `head` to `tail`. With none, both are null.
+pub struct Nodes {
+    head: *mut Node,
+    tail: *mut Node,
+    pub(crate) ghost links: { List Link },
+    ghost linked: { ∥ IsLinked head tail links ∥₁ },
+}
+
+impl Model for Nodes {
+    ghost also_owns = { λ n. nodes_own n.links };
+
+    ghost also_shares = { λ n _ κ. nodes_lent n.links κ };
+}
+
+// It frees nothing, so each node is taken out first.
+impl Drop for Nodes {
+    fn drop(self)
+        requires { self.links ≡ [] }
+    {
+        let Nodes { head: _, tail: _ } = self;
+    }
+}
+
+unsafe impl Send for Nodes {}
+
+unsafe impl Sync for Nodes {}
+
+impl Nodes {
+    pub(crate) fn new() -> Nodes
+        ensures { result.links ≡ [] }
+    {
+        Nodes {
+            head: ptr::null_mut(),
+            tail: ptr::null_mut(),
+        }
+    }
+
+    /// The node alone.
+    pub(crate) fn one(node: Loose) -> Nodes
+        ensures { result.links ≡ (node.at, node.node) ∷ [] }
+    {
+        let Loose { at, alloc: _ } = node;
+        Nodes { head: at, tail: at }
+    }
+
+    /// Links the other's nodes in behind the last.
+    pub(crate) fn join(self, other: Nodes) -> Nodes
+        requires { (0 < length self.links) × (0 < length other.links) }
+        ensures { held_of result.links ≡ held_of self.links ++ held_of other.links }
+    {
+        let Nodes { head, tail } = self;
+        let Nodes {
+            head: behind,
+            tail: end,
+        } = other;
+        unsafe {
+            (*tail).next = behind;
+        }
+        Nodes { head, tail: end }
+    }
+
+    /// Takes the first of several nodes out, and gives it and the others.
+    pub(crate) fn cut_front(self, alloc: Global) -> (Loose, Nodes)
+        requires { 1 < length self.links }
+        ensures { self.links ≡ (result.0.at, result.0.node) ∷ result.1.links }
+    {
+        let Nodes { head, tail } = self;
+        let next = unsafe { (*head).next };
+        (Loose { at: head, alloc }, Nodes { head: next, tail })
+    }
+
+    /// The only node.
+    pub(crate) fn into_only(self, alloc: Global) -> Loose
+        requires { length self.links ≡ 1 }
+        ensures { self.links ≡ (result.at, result.node) ∷ [] }
+    {
+        let Nodes { head, tail: _ } = self;
+        Loose { at: head, alloc }
+    }
+
+    pub(crate) fn head(&self) -> Place
+        ensures { result.at ≡ place_of self.now.links 0 }
+    {
+        Place { at: self.head }
+    }
+
+    /// The node at a place, which is that of the `i`-th. Only the proof needs `i`.
+    pub(crate) fn node(&self, place: Place, i: usize) -> &Node
+        requires { (i < length self.now.links) × (place.at ≡ place_of self.now.links i) }
+        ensures { slice_get self.now.links i ≡ Some (place.at, result.now) }
+    {
+        unsafe { &*place.at }
+    }
+
+    /// Takes the first of `len` nodes out, as a cell, and gives the others.
+    pub(crate) fn pop(self, len: usize, alloc: Global) -> (PacketCell, Nodes)
+        requires { (len ≡ length self.links) × (0 < len) }
+        ensures { held_of self.links ≡ result.0 ∷ held_of result.1.links }
+    {
+        if len == 1 {
+            let front = self.into_only(alloc);
+            return (PacketCell { node: front }, Nodes::new());
+        }
+        let (front, behind) = self.cut_front(alloc);
+        (PacketCell { node: front }, behind)
+    }
+}

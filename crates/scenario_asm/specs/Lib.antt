@@ -1,0 +1,12 @@
+pub mod Faults
+pub mod Lines
+pub mod Numbers
+pub mod Reading
+pub mod Names
+pub mod Statements
+pub mod Stage
+pub mod Text
+pub mod Draft
+pub mod Meaning
+pub use Rattle.scenario_image.specs.Limits
+pub use Rattle.scenario_image.specs.Ends

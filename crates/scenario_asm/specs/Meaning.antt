@@ -1,0 +1,68 @@
+-- What a text means: a scenario, or its first fault.
+use Rattle.std.specs.Prelude.{◌≡◌, ◌⊎◌, ℕ, ◌+◌, ◌<◌, List, [], ◌∷◌, ◌++◌, length, take, Option, None, Ok, Err}
+use Rattle.std.specs.List.{filter_map, slice_index_or}
+use Rattle.scenario_image.specs.Limits.{IsInLimits}
+use Rattle.scenario_image.specs.Ends.{HasItsEnds}
+use Rattle.scenario_image.specs.declared.parts.ScenarioParts.{ScenarioParts}
+use Rattle.scenario_asm.specs.declared.fault.Fault.{Fault}
+use Rattle.scenario_asm.specs.declared.fault.Fault.TheVariants.{E10, L3, L5}
+use Rattle.scenario_asm.specs.declared.statement.Statement.{Statement}
+use Rattle.scenario_asm.specs.Lines.{lines_of}
+use Rattle.scenario_asm.specs.Statements.{line_at}
+use Rattle.scenario_asm.specs.Text.{said_end, known_of, parts_of}
+
+-- the statements among what lines say
+abbrev pub statements_of : List (Option Statement) → List Statement
+statements_of said = filter_map (λ statement. statement) said
+
+-- each line says this, by what the lines above it declare
+pub record AreRead (lines : List (List ℕ)) (said : List (Option Statement)) : Type 0 where
+  pub as_many : length said ≡ length lines
+  pub each : (k : ℕ) → k < length lines → line_at (known_of (statements_of (take k said))) (slice_index_or lines k []) ≡ Ok (slice_index_or said k None)
+
+-- the lines above this line are read, and this line has this as its first fault
+pub record IsFirstFault (text : List ℕ) (number : ℕ) (fault : Fault) : Type 0 where
+  pub above : List (List ℕ)
+  pub line : List ℕ
+  pub below : List (List ℕ)
+  pub said : List (Option Statement)
+  pub lines : lines_of text ≡ above ++ line ∷ below
+  pub counted : number ≡ length above + 1
+  pub above_read : AreRead above said
+  pub faulty : line_at (known_of (statements_of said)) line ≡ Err fault
+
+-- the statements have one end, and no other
+pub record HaveEnd (statements : List Statement) (end : ℕ) : Type 0 where
+  pub one_end : filter_map said_end statements ≡ end ∷ []
+
+-- what is wrong with all statements together: not one end; a number out of its range; an end without its link or flow
+abbrev pub IsWholeFault : List Statement → Fault → Type 0
+IsWholeFault statements E10 = (end : ℕ) → HaveEnd statements end → ⊥
+IsWholeFault statements L3 = (end : ℕ) × HaveEnd statements end × ¬ IsInLimits (parts_of end statements)
+IsWholeFault statements L5 = (end : ℕ) × HaveEnd statements end × IsInLimits (parts_of end statements) × ¬ HasItsEnds (parts_of end statements)
+IsWholeFault statements _ = ⊥
+
+-- all lines are read, and what they say together has this fault
+pub record IsTextFault (text : List ℕ) (number : ℕ) (fault : Fault) : Type 0 where
+  pub said : List (Option Statement)
+  pub all_read : AreRead (lines_of text) said
+  pub no_line : number ≡ 0
+  pub faulty : IsWholeFault (statements_of said) fault
+
+-- the text's fault: that of the first faulty line, or with no faulty line that of the whole
+abbrev pub MeansFault : List ℕ → ℕ → Fault → Type 0
+MeansFault text number fault = IsFirstFault text number fault ⊎ IsTextFault text number fault
+
+-- the statements are those of this scenario
+pub record MakeScenario (statements : List Statement) (parts : ScenarioParts) : Type 0 where
+  pub end : ℕ
+  pub one_end : HaveEnd statements end
+  pub parts_are : parts ≡ parts_of end statements
+  pub in_limits : IsInLimits parts
+  pub ends : HasItsEnds parts
+
+-- all lines are read, and together they say this scenario
+pub record MeansScenario (text : List ℕ) (parts : ScenarioParts) : Type 0 where
+  pub said : List (Option Statement)
+  pub all_read : AreRead (lines_of text) said
+  pub made : MakeScenario (statements_of said) parts

@@ -1,0 +1,130 @@
+//! What is wrong with a text.
+ghost use Rattle.std.specs.Prelude.{◌≡◌};
+ghost use Rattle.scenario_asm.specs.Faults.{code_of};
+
+use scenario_image::LoadFault;
+use std::alloc::{AllocError, AllocFailed};
+use std::fmt;
+use thiserror::Error;
+
+/// What is wrong with a line, or with the text as a whole.
+#[derive(Clone, Copy, Debug, PartialEq, Eq)]
+pub enum Fault {
+    /// A byte outside 0x20 to 0x7E.
+    E1,
+    /// The first word is no statement.
+    E2,
+    /// The statement has another number of words.
+    E3,
+    /// A word of the wrong form: no number, no name or none of the fixed words, where one is asked.
+    E4,
+    /// A number out of its range.
+    E5,
+    /// A declared name is taken.
+    E6,
+    /// A used name is unknown.
+    E7,
+    /// A used name is that of something else than what is asked.
+    E8,
+    /// Too many nodes, links or flows.
+    E9,
+    /// Not exactly one `sim`.
+    E10,
+    /// A number out of its range once the whole text is known: a flow that starts at the end or
+    /// later, fewer than two nodes, no link or no flow.
+    L3,
+    /// A sender or receiver without exactly one flow, or without exactly one outgoing link.
+    L5,
+    /// Something that is not simulated yet.
+    S1,
+}
+
+impl Fault {
+    /// The code by which the program names the fault.
+    pub fn code(self) -> &'static str
+        ensures { result.now ≡ code_of self }
+    {
+        match self {
+            Fault::E1 => "E1",
+            Fault::E2 => "E2",
+            Fault::E3 => "E3",
+            Fault::E4 => "E4",
+            Fault::E5 => "E5",
+            Fault::E6 => "E6",
+            Fault::E7 => "E7",
+            Fault::E8 => "E8",
+            Fault::E9 => "E9",
+            Fault::E10 => "E10",
+            Fault::L3 => "L3",
+            Fault::L5 => "L5",
+            Fault::S1 => "S1",
+        }
+    }
+}
+
+impl fmt::Display for Fault {
+    ghost use Rattle.std.specs.Prelude.{Some};
+    ghost use Rattle.scenario_asm.specs.Faults.{code_of};
+
+    ghost output = { λ fault. Some (code_of fault) };
+
+    fn fmt<W: fmt::Write>(&self, f: &mut fmt::Formatter<W>) -> fmt::Result {
+        f.write_str(self.code())
+    }
+}
+
+/// Why a text gives no scenario.
+#[derive(Debug, Drop, Error)]
+pub enum AsmFault {
+    /// The text's first fault.
+    #[error("refused {fault} line {line}")]
+    At {
+        /// The line, counted from 1; 0 for a fault of the text as a whole.
+        line: u64,
+        /// What is wrong there.
+        fault: Fault,
+    },
+    /// Memory ran out.
+    #[error("no memory")]
+    NoMemory,
+}
+
+impl From<AllocError> for AsmFault {
+    ghost use Rattle.scenario_asm.specs.declared.fault.AsmFault.TheVariants.{NoMemory};
+
+    ghost from_gives = { λ _ e. e ≡ NoMemory };
+
+    fn from(_error: AllocError) -> AsmFault {
+        AsmFault::NoMemory
+    }
+}
+
+impl<T: Drop> From<AllocFailed<T>> for AsmFault {
+    ghost use Rattle.scenario_asm.specs.declared.fault.AsmFault.TheVariants.{NoMemory};
+
+    ghost from_gives = { λ _ e. e ≡ NoMemory };
+
+    fn from(_error: AllocFailed<T>) -> AsmFault {
+        AsmFault::NoMemory
+    }
+}
+
+impl From<LoadFault> for AsmFault {
+    ghost use Rattle.scenario_asm.specs.Faults.{fault_of_whole};
+
+    ghost from_gives = { λ fault e. e ≡ fault_of_whole fault };
+
+    fn from(fault: LoadFault) -> AsmFault {
+        match fault {
+            LoadFault::L3 => AsmFault::At {
+                line: 0,
+                fault: Fault::L3,
+            },
+            LoadFault::L5 => AsmFault::At {
+                line: 0,
+                fault: Fault::L5,
+            },
+            LoadFault::NoMemory => AsmFault::NoMemory,
+        }
+    }
+}

@@ -1,0 +1,121 @@
+//! Lines, comments and words.
+ghost use Rattle.std.specs.Prelude.{◌≡◌, ◌==◌, IfOk};
+ghost use Rattle.std.specs.Iterator.{YieldsFirstRef, item_count};
+ghost use Rattle.std.specs.List.{before_first, after_first, list_all, position};
+ghost use Rattle.std.specs.Str.{bytes_eq};
+ghost use Rattle.scenario_asm.specs.Lines.{pieces, words_of, without_comment, is_printable, is_word};
+
+use std::alloc::{AllocError, Global};
+use std::marker::Model;
+
+/// Where a byte first stands.
+fn place_of(bytes: &[u8], byte: u8) -> Option<usize>
+    ensures { result ≡ position (λ b. b == byte) bytes.now }
+{
+    bytes.iter().position(|other| *other == byte)
+}
+
+/// What stands before the first such byte, and what stands after it.
+fn cut(bytes: &[u8], byte: u8) -> (&[u8], &[u8])
+    ensures before { result.0.now ≡ before_first (λ b. b == byte) bytes.now }
+    ensures after { result.1.now ≡ after_first (λ b. b == byte) bytes.now }
+{
+    match place_of(bytes, byte) {
+        Some(place) => (&bytes[..place], &bytes[place + 1..]),
+        None => (bytes, &[]),
+    }
+}
+
+/// The pieces that a byte ends. The last piece may lack it.
+#[derive(Drop)]
+pub struct Pieces<'a> {
+    rest: &'a [u8],
+    end: u8,
+}
+
+impl<'a> Model for Pieces<'a> {
+    ghost use Rattle.std.specs.Prelude.{ℕ, List};
+    ghost use Rattle.scenario_asm.specs.Lines.{pieces};
+
+    ghost Value = { List (List ℕ) };
+
+    ghost view = { λ p. pieces p.end p.rest.now };
+}
+
+impl<'a> Pieces<'a> {
+    /// The pieces of these bytes.
+    pub fn new(bytes: &'a [u8], end: u8) -> Pieces<'a>
+        ensures { result ≡ pieces end bytes.now }
+    {
+        Pieces { rest: bytes, end }
+    }
+}
+
+impl<'a> Iterator for Pieces<'a> {
+    type Item = &'a [u8];
+
+    ghost next_gives = { YieldsFirstRef (λ s. s) };
+
+    ghost remaining = { item_count (λ s. s) };
+
+    #[tactic(auto, using(crate::proofs::Pieces::pieces_first, crate::proofs::Pieces::pieces_none))]
+    fn next(&mut self) -> Option<&'a [u8]> {
+        if self.rest.is_empty() {
+            return None;
+        }
+        let (piece, rest) = cut(self.rest, self.end);
+        self.rest = rest;
+        Some(piece)
+    }
+}
+
+/// A word of a line.
+#[derive(Drop)]
+pub struct Word<'a> {
+    bytes: &'a [u8],
+}
+
+impl<'a> Model for Word<'a> {
+    ghost use Rattle.std.specs.Prelude.{ℕ, List};
+
+    ghost Value = { List ℕ };
+
+    ghost view = { λ w. w.bytes.now };
+}
+
+impl<'a> Word<'a> {
+    /// The word's bytes.
+    pub fn bytes(&self) -> &'a [u8]
+        ensures { result.now ≡ self.now }
+    {
+        self.bytes
+    }
+
+    /// Whether the word is this one.
+    pub fn is(&self, other: &[u8]) -> bool
+        ensures { result ≡ bytes_eq self.now other.now }
+    {
+        self.bytes == other
+    }
+}
+
+/// Whether every byte of a line is printable ASCII.
+pub fn is_clean(line: &[u8]) -> bool
+    ensures { result ≡ list_all is_printable line.now }
+{
+    line.iter().all(|byte| matches!(*byte, 0x20..=0x7e))
+}
+
+/// The words of a line, its comment left out.
+pub fn words<'a>(alloc: Global, line: &'a [u8]) -> Result<Vec<Word<'a>>, AllocError>
+    ensures { IfOk result (λ v. v.items ≡ words_of line.now) }
+{
+    let (content, _comment) = cut(line, b'#');
+    let mut words = Vec::new(alloc);
+    for bytes in Pieces::new(content, b' ') {
+        if !bytes.is_empty() {
+            words.push(Word { bytes })?;
+        }
+    }
+    Ok(words)
+}
