@@ -1,0 +1,177 @@
+-- The lines that a net has made.
+use Rattle.std.proofs.Common.{◌≡◌, ℕ, ◌+◌, suc, List, [], ◌∷◌, ◌++◌, length, refl, sym, ◌∙◌, ap, subst, append_assoc, arith, length-append, Option, None, Some, inl, inr, Result, Ok, Err, OnOk, IfErr}
+use Rattle.std.proofs.lemmas.List.{append-nil}
+use Rattle.std.proofs.lemmas.Grind.{flat_map-append}
+use Rattle.std.specs.List.{flat_map, enumerate_from}
+use Rattle.std.specs.Option.{option_map, option_and_then}
+use Rattle.std.specs.Io.KnownBytes.{Appends}
+use Rattle.net_machine.specs.State.{State, run, step, one_more}
+use Rattle.net_machine.specs.Run.{Reached, Stepped}
+use Rattle.net_machine.specs.TraceLine.{TraceLine, shown}
+use Rattle.net_machine.specs.declared.line.Line.{Line}
+use Rattle.trace_text.specs.Line.{line_bytes}
+use Rattle.trace_text.specs.End.{end_bytes}
+use Rattle.tcpsim.specs.Trace.{lines_bytes, IsTrace, IsTraceStart, IsTraceOrStart}
+use Rattle.tcpsim.specs.declared.fault.SessionFault.{SessionFault}
+use Rattle.tcpsim.specs.declared.fault.SessionFault.TheVariants.{TooLong, Refused, CommandLine, WordsNotUtf8, ReadFailed, WriteFailed, NoMemory, CountFull}
+use Rattle.tcpsim.specs.Session.{IsRunFault, IsShortOfRoom}
+use Rattle.tcpsim.specs.Written.{Writes, WritesBefore, IsBeginningOf}
+use Rattle.tcpsim.proofs.Bytes.{appends_nothing, appends_more}
+
+-- a net that started in this state has made these bytes
+pub record IsAt (s : State) (net : Reached) (made : List ℕ) : Type 0 where
+  pub lines : List TraceLine
+  pub is_run : run s net.position ≡ Some (lines, net.state)
+  pub as_many : length lines ≡ net.position
+  pub made_are : made ≡ lines_bytes lines
+
+pub at_start : (net : Reached) → net.position ≡ 0 → IsAt net.state net []
+at_start net h =
+    record { lines = []; is_run = let P : ℕ → Type 0 = λ n. run net.state n ≡ Some ([], net.state) in subst P (sym h) refl; as_many = sym h; made_are = refl }
+
+enumerate_from-append : (k : ℕ) (xs : List TraceLine) (x : TraceLine) → enumerate_from k (xs ++ x ∷ []) ≡ enumerate_from k xs ++ (k + length xs, x) ∷ []
+enumerate_from-append k [] x = let e : k ≡ k + 0 = omega arith in ap (λ n. (n, x) ∷ []) e
+enumerate_from-append k (y ∷ ys) x =
+    let e : k + 1 + length ys ≡ k + suc (length ys) = omega arith in
+    ap (λ zs. (k, y) ∷ zs) (enumerate_from-append (k + 1) ys x ∙ ap (λ n. enumerate_from (k + 1) ys ++ (n, x) ∷ []) e)
+
+-- one line more has the next number
+pub lines_bytes-more : (xs : List TraceLine) (x : TraceLine) (n : ℕ) → n ≡ length xs + 1 → lines_bytes (xs ++ x ∷ []) ≡ lines_bytes xs ++ line_bytes n x
+lines_bytes-more xs x n h =
+    let f : ℕ × TraceLine → List ℕ = λ p. line_bytes p.0 p.1 in
+    let e : 1 + length xs ≡ n = omega (arith, h) in
+    ap (flat_map f) (enumerate_from-append 1 xs x) ∙ flat_map-append f (enumerate_from 1 xs) ((1 + length xs, x) ∷ [])
+    ∙ ap (λ k. flat_map f (enumerate_from 1 xs) ++ (line_bytes k x ++ [])) e ∙ ap (λ l. flat_map f (enumerate_from 1 xs) ++ l) (append-nil (line_bytes n x))
+
+-- the run, one event on
+run-suc : (s t u : State) (n : ℕ) (lines : List TraceLine) (x : TraceLine) → run s n ≡ Some (lines, t) → step t ≡ Some (x, u) → run s (suc n) ≡ Some (lines ++ x ∷ [], u)
+run-suc s t u n lines x h k =
+    ap (option_and_then one_more) h ∙ ap (option_map (λ (next : TraceLine × State). (lines ++ next.0 ∷ [], next.1))) k
+
+-- the net made a step, and its line was added
+pub at_next : (s : State) (old new : Reached) (made : List ℕ) (x : TraceLine) → IsAt s old made → Stepped old (Some x) new → IsAt s new (made ++ line_bytes new.position x)
+at_next s old new made x at h =
+    let e : new.position ≡ suc old.position = omega (arith, h.1) in
+    record {
+      lines = at.lines ++ x ∷ [];
+      is_run = let P : ℕ → Type 0 = λ n. run s n ≡ Some (at.lines ++ x ∷ [], new.state) in subst P (sym e) (run-suc s old.state new.state old.position at.lines x at.is_run h.0);
+      as_many = length-append at.lines (x ∷ []) ∙ omega (arith, at.as_many, h.1);
+      made_are = ap (λ l. l ++ line_bytes new.position x) at.made_are ∙ sym (lines_bytes-more at.lines x new.position (omega (arith, at.as_many, h.1)));
+    }
+
+pub start_of : (s : State) (net : Reached) (made : List ℕ) → IsAt s net made → IsTraceStart s made
+start_of s net made at = record { n = net.position; lines = at.lines; last = net.state; is_run = at.is_run; bytes_are = at.made_are }
+
+pub trace_of : (s : State) (net : Reached) (made : List ℕ) → IsAt s net made → step net.state ≡ None → IsTrace s (made ++ end_bytes net.position)
+trace_of s net made at last =
+    record { n = net.position; lines = at.lines; last = net.state; is_run = at.is_run; final = last; bytes_are = ap (λ l. l ++ end_bytes net.position) at.made_are }
+
+-- what a net has made was written, or waits
+abbrev pub Made : State → Reached → List ℕ → Option (List ℕ) → Option (List ℕ) → Type 0
+Made s net page old new = WritesBefore page (IsAt s net) old new
+
+pub made_start : (net : Reached) (page : List ℕ) (known : Option (List ℕ)) → net.position ≡ 0 → page ≡ [] → Made net.state net page known known
+made_start net page known h empty =
+    let P : List ℕ → Type 0 = λ l. Made net.state net l known known in
+    subst P (sym empty) ([], appends_nothing known, at_start net h)
+
+pub made_line : (s : State) (old new : Reached) (page page' : List ℕ) (x : TraceLine) (a b : Option (List ℕ)) → Made s old page a b → Stepped old (Some x) new
+    → page' ≡ page ++ line_bytes new.position x → Made s new page' a b
+made_line s old new page page' x a b made h e =
+    let P : List ℕ → Type 0 = IsAt s new in
+    let same : (made.0 ++ page) ++ line_bytes new.position x ≡ made.0 ++ page' = append_assoc made.0 page (line_bytes new.position x) ∙ ap (λ l. made.0 ++ l) (sym e) in
+    (made.0, made.1, subst P same (at_next s old new (made.0 ++ page) x made.2 h))
+
+-- a part of the page was written
+pub made_moved : (s : State) (net : Reached) (page page' : List ℕ) (a b c : Option (List ℕ)) → Made s net page a b → WritesBefore page' (λ all. all ≡ page) b c → Made s net page' a c
+made_moved s net page page' a b c made moved =
+    let P : List ℕ → Type 0 = IsAt s net in
+    let same : made.0 ++ page ≡ (made.0 ++ moved.0) ++ page' = ap (λ l. made.0 ++ l) (sym moved.2) ∙ sym (append_assoc made.0 moved.0 page') in
+    (made.0 ++ moved.0, appends_more a b c made.0 moved.0 made.1 moved.1, subst P same made.2)
+
+-- the lines so far are the trace's first ones
+pub made_so_far : (s : State) (net : Reached) (page page' : List ℕ) (a b : Option (List ℕ)) → Made s net page a b → page' ≡ page → WritesBefore page' (IsTraceStart s) a b
+made_so_far s net page page' a b made e =
+    let P : List ℕ → Type 0 = λ l. WritesBefore l (IsTraceStart s) a b in
+    subst P (sym e) (made.0, made.1, start_of s net (made.0 ++ page) made.2)
+
+-- no event is due, and the last line was added
+pub made_all : (s : State) (net : Reached) (page page' : List ℕ) (a b : Option (List ℕ)) → Made s net page a b → step net.state ≡ None → page' ≡ page ++ end_bytes net.position
+    → WritesBefore page' (IsTrace s) a b
+made_all s net page page' a b made h e =
+    let P : List ℕ → Type 0 = IsTrace s in
+    let same : (made.0 ++ page) ++ end_bytes net.position ≡ made.0 ++ page' = append_assoc made.0 page (end_bytes net.position) ∙ ap (λ l. made.0 ++ l) (sym e) in
+    (made.0, made.1, subst P same (trace_of s net (made.0 ++ page) made.2 h))
+
+-- bytes of this kind were to be written, and the writer failed
+pub begun : (P Q : List ℕ → Type 0) (page : List ℕ) (a b c : Option (List ℕ)) → ((l : List ℕ) → P l → Q l) → WritesBefore page P a b → Writes (IsBeginningOf (λ all. all ≡ page)) b c
+    → Writes (IsBeginningOf Q) a c
+begun P Q page a b c weaken made part =
+    let same : made.0 ++ page ≡ (made.0 ++ part.0) ++ part.2.0 = ap (λ l. made.0 ++ l) (sym part.2.1) ∙ sym (append_assoc made.0 part.0 part.2.0) in
+    (made.0 ++ part.0, appends_more a b c made.0 part.0 made.1 part.1, (part.2.0, subst Q same (weaken (made.0 ++ page) made.2)))
+
+-- all was written
+pub written : (P : List ℕ → Type 0) (page : List ℕ) (a b c : Option (List ℕ)) → WritesBefore page P a b → Appends b c page → Writes P a c
+written P page a b c made h = (made.0 ++ page, appends_more a b c made.0 page made.1 h, made.2)
+
+-- before the first event
+pub nothing_yet : (s : State) (known : Option (List ℕ)) → Writes (IsTraceStart s) known known
+nothing_yet s known = ([], appends_nothing known, record { n = 0; lines = []; last = s; is_run = refl; bytes_are = refl })
+
+-- the lines so far were written
+pub stopped : (r : Result (Unit {0}) SessionFault) (s : State) (page : List ℕ) (a b : Option (List ℕ)) → WritesBefore page (IsTraceStart s) a b
+    → IfErr r (λ fault. IsShortOfRoom fault → WritesBefore page (IsTraceStart s) a b)
+stopped (Ok u) s page a b h = tt
+stopped (Err fault) s page a b h = λ _. h
+
+pub stopped_first : (r : Result (Unit {0}) SessionFault) (s : State) (a : Option (List ℕ)) → IfErr r (λ fault. IsShortOfRoom fault → Writes (IsTraceStart s) a a)
+stopped_first (Ok u) s a = tt
+stopped_first (Err fault) s a = λ _. nothing_yet s a
+
+-- the line could not be added
+pub line_written : (s : State) (net : Reached) (page : List ℕ) (a b c : Option (List ℕ)) → Made s net page a b → Writes (IsBeginningOf (λ all. all ≡ page)) b c → Writes (IsBeginningOf (IsTraceOrStart s)) a c
+line_written s net page a b c made part = begun (IsAt s net) (IsTraceOrStart s) page a b c (λ l at. inr (start_of s net l at)) made part
+
+-- the run ended, and the page was written
+pub all_done : (r : Result (Unit {0}) SessionFault) (s : State) (page : List ℕ) (a b c : Option (List ℕ)) → OnOk r (WritesBefore page (IsTrace s) a b) → Appends b c page → OnOk r (Writes (IsTrace s) a c)
+all_done (Ok u) s page a b c h k = written (IsTrace s) page a b c h k
+all_done (Err fault) s page a b c h k = tt
+
+pub all_stopped : (r : Result (Unit {0}) SessionFault) (s : State) (page : List ℕ) (a b c : Option (List ℕ)) → IfErr r (λ fault. IsShortOfRoom fault → WritesBefore page (IsTraceStart s) a b) → Appends b c page
+    → IfErr r (λ fault. IsShortOfRoom fault → Writes (IsTraceStart s) a c)
+all_stopped (Ok u) s page a b c h k = tt
+all_stopped (Err fault) s page a b c h k = λ short. written (IsTraceStart s) page a b c (h short) k
+
+-- the run ended, and the writer failed at the page
+pub all_failed : (r : Result (Unit {0}) SessionFault) (s : State) (page : List ℕ) (a b c : Option (List ℕ)) → (r ≡ Err WriteFailed → ⊥) → OnOk r (WritesBefore page (IsTrace s) a b)
+    → IfErr r (λ fault. IsShortOfRoom fault → WritesBefore page (IsTraceStart s) a b) → IfErr r IsRunFault → Writes (IsBeginningOf (λ all. all ≡ page)) b c → Writes (IsBeginningOf (IsTraceOrStart s)) a c
+all_failed (Ok u) s page a b c other done short faults part = begun (IsTrace s) (IsTraceOrStart s) page a b c (λ l h. inl h) done part
+all_failed (Err NoMemory) s page a b c other done short faults part = begun (IsTraceStart s) (IsTraceOrStart s) page a b c (λ l h. inr h) (short tt) part
+all_failed (Err CountFull) s page a b c other done short faults part = begun (IsTraceStart s) (IsTraceOrStart s) page a b c (λ l h. inr h) (short tt) part
+all_failed (Err WriteFailed) s page a b c other done short faults part = absurd (other refl)
+all_failed (Err TooLong) s page a b c other done short faults part = absurd faults
+all_failed (Err (Refused line fault)) s page a b c other done short faults part = absurd faults
+all_failed (Err (CommandLine error)) s page a b c other done short faults part = absurd faults
+all_failed (Err WordsNotUtf8) s page a b c other done short faults part = absurd faults
+all_failed (Err ReadFailed) s page a b c other done short faults part = absurd faults
+
+-- what a step answered
+pub stepped_some : (old new : Reached) (o : Option Line) (line : Line) → o ≡ Some line → Stepped old (option_map shown o) new → Stepped old (Some (shown line)) new
+stepped_some old new o line e h = let P : Option Line → Type 0 = λ x. Stepped old (option_map shown x) new in subst P e h
+
+pub stepped_none : (old new : Reached) (o : Option Line) → o ≡ None → Stepped old (option_map shown o) new → Stepped old None new
+stepped_none old new o e h = let P : Option Line → Type 0 = λ x. Stepped old (option_map shown x) new in subst P e h
+
+-- a line more, with its number as the code has it
+pub made_line_at : (s : State) (old new : Reached) (page page' : List ℕ) (o : Option Line) (line : Line) (n : ℕ) (a b : Option (List ℕ)) → Made s old page a b → o ≡ Some line
+    → Stepped old (option_map shown o) new → n ≡ new.position → page' ≡ page ++ line_bytes n (shown line) → Made s new page' a b
+made_line_at s old new page page' o line n a b made is h count e =
+    made_line s old new page page' (shown line) a b made (stepped_some old new o line is h) (e ∙ ap (λ k. page ++ line_bytes k (shown line)) count)
+
+-- the end, with the number as the code has it
+pub made_end : (s : State) (old new : Reached) (page page' : List ℕ) (o : Option Line) (n : ℕ) (a b : Option (List ℕ)) → Made s old page a b → o ≡ None → Stepped old (option_map shown o) new
+    → n ≡ new.position → page' ≡ page ++ end_bytes n → WritesBefore page' (IsTrace s) a b
+made_end s old new page page' o n a b made is h count e =
+    let last = stepped_none old new o is h in
+    let same : n ≡ old.position = count ∙ ap (λ (r : Reached). r.position) last.1 in
+    made_all s old page page' a b made last.0 (e ∙ ap (λ k. page ++ end_bytes k) same)

@@ -1,0 +1,10 @@
+-- all that the net has made was written, or waits in the page
+use Rattle.std.proofs.Common.{◌-◌}
+use Rattle.tcpsim.proofs.Lines.{Made}
+use Rattle.tcpsim.proofs.trace.put_lines.Given as goal
+
+abbrev pub invariant-loop-line : goal.invariant-loop-line
+invariant-loop-line g l = Made l.fn.net.state l.net l.page.items (g.W.Write.contents l.fn.writer) (g.W.Write.contents l.writer)
+
+abbrev pub decreases-loop-line : goal.decreases-loop-line
+decreases-loop-line g l = 1000000000000000 - l.net.position

@@ -1,0 +1,39 @@
+-- The status and the note of each way to end.
+use Rattle.std.specs.Prelude.{ℕ, List, ◌++◌, codes, decimal, Option, None, Some}
+use Rattle.net_machine.specs.declared.net.StepFault.{StepFault}
+use Rattle.net_machine.specs.declared.net.StepFault.TheVariants.{NoMemory as step_NoMemory, CountFull as step_CountFull}
+use Rattle.scenario_asm.specs.Faults.{code_of}
+use Rattle.scenario_asm.specs.declared.fault.AsmFault.{AsmFault}
+use Rattle.scenario_asm.specs.declared.fault.AsmFault.TheVariants.{At, NoMemory as text_NoMemory}
+use Rattle.tcpsim.specs.declared.fault.SessionFault.{SessionFault}
+use Rattle.tcpsim.specs.declared.fault.SessionFault.TheVariants.{TooLong, Refused, CommandLine, WordsNotUtf8, ReadFailed, WriteFailed, NoMemory, CountFull}
+
+-- input refused; command line refused; reading or writing failed; no room to go on
+abbrev pub status_of : SessionFault → ℕ
+status_of TooLong = 1
+status_of (Refused line fault) = 1
+status_of (CommandLine error) = 2
+status_of WordsNotUtf8 = 2
+status_of ReadFailed = 3
+status_of WriteFailed = 3
+status_of NoMemory = 4
+status_of CountFull = 4
+
+-- what stands on standard error, the text on the command line left open
+abbrev pub note_of : SessionFault → Option (List ℕ)
+note_of TooLong = Some (codes "refused I1\n")
+note_of (Refused line fault) = Some (codes "refused " ++ code_of fault ++ codes " line " ++ decimal line ++ codes "\n")
+note_of (CommandLine error) = None
+note_of WordsNotUtf8 = Some (codes "error: a word is not valid UTF-8\n")
+note_of ReadFailed = Some (codes "read failed\n")
+note_of WriteFailed = Some (codes "write failed\n")
+note_of NoMemory = Some (codes "no memory\n")
+note_of CountFull = Some (codes "count full\n")
+
+abbrev pub of_step : StepFault → SessionFault
+of_step step_NoMemory = NoMemory
+of_step step_CountFull = CountFull
+
+abbrev pub of_text : AsmFault → SessionFault
+of_text (At line fault) = Refused line fault
+of_text text_NoMemory = NoMemory

@@ -1,0 +1,5 @@
+pub mod Written
+pub mod Faults
+pub mod Trace
+pub mod Session
+pub mod Meaning

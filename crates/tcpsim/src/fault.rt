@@ -1,0 +1,109 @@
+//! How a session can end otherwise than done.
+ghost use Rattle.std.specs.Prelude.{◌≡◌};
+ghost use Rattle.tcpsim.specs.Faults.{status_of};
+
+use net_machine::StepFault;
+use scenario_asm::{AsmFault, Fault};
+use std::alloc::{AllocError, AllocFailed};
+use std::error::Error;
+use std::fmt;
+
+/// Why a session is not done. Its `Display` is the note for standard error, ended by LF.
+#[derive(Debug, Drop)]
+pub enum SessionFault {
+    /// The input has more bytes than a text may have.
+    TooLong,
+    /// The text's first fault.
+    Refused {
+        /// The line, counted from 1; 0 for a fault of the text as a whole.
+        line: u64,
+        /// What is wrong there.
+        fault: Fault,
+    },
+    /// The command line is not one of this program.
+    CommandLine(clap::Error),
+    /// A word of the command line is not UTF-8.
+    WordsNotUtf8,
+    /// The input could not be read.
+    ReadFailed,
+    /// The output could not be written.
+    WriteFailed,
+    /// Memory ran out.
+    NoMemory,
+    /// As many events were run as there may be, and one more is due.
+    CountFull,
+}
+
+impl SessionFault {
+    /// The status with which the program ends.
+    pub fn status(&self) -> u8
+        ensures { result ≡ status_of self.now }
+    {
+        match self {
+            SessionFault::TooLong | SessionFault::Refused { .. } => 1,
+            SessionFault::CommandLine(_) | SessionFault::WordsNotUtf8 => 2,
+            SessionFault::ReadFailed | SessionFault::WriteFailed => 3,
+            SessionFault::NoMemory | SessionFault::CountFull => 4,
+        }
+    }
+}
+
+impl fmt::Display for SessionFault {
+    ghost use Rattle.tcpsim.specs.Faults.{note_of};
+
+    ghost output = { note_of };
+
+    fn fmt<W: fmt::Write>(&self, f: &mut fmt::Formatter<W>) -> fmt::Result {
+        match self {
+            SessionFault::TooLong => f.write_str("refused I1\n"),
+            SessionFault::Refused { line, fault } => {
+                let code = fault.code();
+                write!(f, "refused {code} line {line}\n")
+            }
+            SessionFault::CommandLine(error) => write!(f, "{error}"),
+            SessionFault::WordsNotUtf8 => f.write_str("error: a word is not valid UTF-8\n"),
+            SessionFault::ReadFailed => f.write_str("read failed\n"),
+            SessionFault::WriteFailed => f.write_str("write failed\n"),
+            SessionFault::NoMemory => f.write_str("no memory\n"),
+            SessionFault::CountFull => f.write_str("count full\n"),
+        }
+    }
+}
+
+impl Error for SessionFault {}
+
+impl From<AllocError> for SessionFault {
+    ghost use Rattle.tcpsim.specs.declared.fault.SessionFault.TheVariants.{NoMemory};
+
+    ghost from_gives = { λ _ e. e ≡ NoMemory };
+
+    fn from(_error: AllocError) -> SessionFault {
+        SessionFault::NoMemory
+    }
+}
+
+impl From<StepFault> for SessionFault {
+    ghost use Rattle.tcpsim.specs.Faults.{of_step};
+
+    ghost from_gives = { λ fault e. e ≡ of_step fault };
+
+    fn from(fault: StepFault) -> SessionFault {
+        match fault {
+            StepFault::NoMemory => SessionFault::NoMemory,
+            StepFault::CountFull => SessionFault::CountFull,
+        }
+    }
+}
+
+impl From<AsmFault> for SessionFault {
+    ghost use Rattle.tcpsim.specs.Faults.{of_text};
+
+    ghost from_gives = { λ fault e. e ≡ of_text fault };
+
+    fn from(fault: AsmFault) -> SessionFault {
+        match fault {
+            AsmFault::At { line, fault } => SessionFault::Refused { line, fault },
+            AsmFault::NoMemory => SessionFault::NoMemory,
+        }
+    }
+}
