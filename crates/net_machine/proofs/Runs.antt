@@ -12,7 +12,7 @@ use Rattle.net_machine.specs.declared.event.Event.{Event}
 use Rattle.net_machine.specs.Pending.{Change}
 use Rattle.net_machine.specs.State.{State, opening, due, effect_of, stepped, step_at, step, one_more, run}
 use Rattle.net_machine.specs.TraceLine.{TraceLine}
-use Rattle.net_machine.specs.Run.{Reached, IsRun, IsSoundRun, RunsAreSound, KeysRise}
+use Rattle.net_machine.specs.Run.{Reached, IsRun, IsSoundRun, RunsAreSound, KeysRise, IsDueSoon, EffectsAreSoon}
 use Rattle.net_machine.proofs.Events.{not_some, same_some, each_remove, each_apply, each_map}
 use Rattle.net_machine.proofs.PortSteps.{all_map, IsSoon}
 use Rattle.net_machine.proofs.Least.{is_due}
@@ -103,3 +103,13 @@ run_step r line new is_run fits is = record {
   is = subst (λ n. run (opening is_run.scenario) n ≡ Some (is_run.lines ++ line ∷ [], new)) {x = suc r.position} {y = r.position + 1} (omega arith)
       (ap (option_and_then one_more) is_run.is ∙ ap (option_map {U = List TraceLine × State} (λ (next : TraceLine × State). (is_run.lines ++ next.0 ∷ [], next.1))) is);
 }
+
+-- all that an event makes is due soon after it
+pub effects_are_soon : EffectsAreSoon
+effects_are_soon p n lines s is_scenario e k v is =
+    all_map (λ (c : Change). IfSome c.1 (λ _. IsSoon k.time c.0)) (λ (c : Change). IfSome c.1 (λ _. IsDueSoon k.time c.0)) (λ c h. at c.0 c.1 h) (effect_of s (k, v)).changes
+    (kept_by p n s k v (sound_run p n lines s is_scenario e) is).soon
+  where
+    at : (q : Key) (o : Option Event) → IfSome o (λ _. IsSoon k.time q) → IfSome o (λ _. IsDueSoon k.time q)
+    at q None h = h
+    at q (Some w) h = (h.later, h.bounded)

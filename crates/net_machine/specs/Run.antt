@@ -1,5 +1,6 @@
 -- Which states a net can be in, and what is said of all of them.
-use Rattle.std.specs.Prelude.{◌≡◌, ◌≢◌, ℕ, ◌+◌, ◌<◌, ◌≤◌, List, [], ◌∷◌, Option, None, Some}
+use Rattle.std.specs.Prelude.{◌≡◌, ◌≢◌, ℕ, ◌+◌, ◌<◌, ◌≤◌, List, [], ◌∷◌, Option, None, Some, IfSome}
+use Rattle.std.specs.List.{AllByRecursion}
 use Rattle.std.specs.declared.cmp.Ordering.TheVariants.{Less}
 use Rattle.sim_time.specs.declared.key.Key.{Key}
 use Rattle.sim_time.specs.Keys.{key_cmp}
@@ -7,6 +8,7 @@ use Rattle.scenario_image.specs.declared.parts.FlowPart.{FlowPart}
 use Rattle.scenario_image.specs.declared.parts.ScenarioParts.{ScenarioParts}
 use Rattle.scenario_image.specs.Scenario.{IsScenario}
 use Rattle.net_machine.specs.declared.event.Event.{Event}
+use Rattle.net_machine.specs.Pending.{Change}
 use Rattle.net_machine.specs.State.{State, opening, due, effect_of, stepped, step, run}
 use Rattle.net_machine.specs.TraceLine.{TraceLine}
 use Rattle.net_machine.specs.Sound.{Ends, IsSoundAt}
@@ -48,3 +50,12 @@ RunsAreSound = (p : ScenarioParts) (n : ℕ) (lines : List TraceLine) (s : State
 abbrev pub KeysRise : Type 0
 KeysRise = (p : ScenarioParts) (n : ℕ) (lines : List TraceLine) (s : State) → IsScenario p → run (opening p) n ≡ Some (lines, s)
     → (k next : Key) (v w : Event) → due s ≡ Some (k, v) → due (stepped s k (effect_of s (k, v))) ≡ Some (next, w) → key_cmp k next ≡ Less
+
+-- later than a moment, by at most 100 seconds
+abbrev pub IsDueSoon : ℕ → Key → Type 0
+IsDueSoon now k = (now < k.time) × (k.time ≤ now + 100000000000)
+
+-- in every run all that an event sets or sends is due soon after it
+abbrev pub EffectsAreSoon : Type 0
+EffectsAreSoon = (p : ScenarioParts) (n : ℕ) (lines : List TraceLine) (s : State) → IsScenario p → run (opening p) n ≡ Some (lines, s)
+    → (k : Key) (v : Event) → due s ≡ Some (k, v) → AllByRecursion (λ (c : Change). IfSome c.1 (λ _. IsDueSoon k.time c.0)) (effect_of s (k, v)).changes

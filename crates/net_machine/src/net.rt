@@ -9,7 +9,7 @@ ghost use Rattle.net_machine.specs.State.{opening, due, no_part};
 ghost use Rattle.net_machine.specs.Ready.{IsReady, RoleCan, IsFirstPort, PortCan};
 ghost use Rattle.net_machine.specs.TraceLine.{shown};
 ghost use Rattle.net_machine.specs.OneSegment.{RunsHaveOneSegment};
-ghost use Rattle.net_machine.specs.Run.{IsRun, Stepped, RunsAreSound, KeysRise};
+ghost use Rattle.net_machine.specs.Run.{IsRun, Stepped, RunsAreSound, KeysRise, EffectsAreSoon};
 
 use crate::acts::Acts;
 use crate::agenda::{Agenda, alarm_key};
@@ -160,7 +160,7 @@ impl Net {
 /// In every run of every scenario each packet, each acknowledgement and each alarm is as its flow
 /// has it: data numbers are whole segments below the sender's greatest byte sent, acknowledgement
 /// numbers are at most the receiver's next byte, which is at most that, each alarm is the one
-/// that its node has set, and the counts and the times are bounded by the events run.
+/// that its node has set, nothing pending is past, and the counts are bounded by the events run.
 pub fn every_run_is_sound()
     ensures { RunsAreSound }
 {}
@@ -169,6 +169,12 @@ pub fn every_run_is_sound()
 /// acknowledgement is for the byte after that segment, and the greatest byte sent is one of these.
 pub fn one_segment_runs()
     ensures { RunsHaveOneSegment }
+{}
+
+/// In every run of every scenario all that an event sets or sends is due after it, by at most 100
+/// seconds.
+pub fn effects_are_soon()
+    ensures { EffectsAreSoon }
 {}
 
 /// In every run of every scenario the keys of the events strictly rise.
