@@ -1,3 +1,4 @@
 pub mod Keys
 pub mod Serial
 pub mod InitialWindow
+pub mod ControlLaw

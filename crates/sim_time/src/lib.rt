@@ -1,13 +1,15 @@
-//! Time, the order of events, and the two formulas that need nothing else: how long a packet
-//! takes to be put on a wire, and a sender's initial window.
+//! Time, the order of events, and the three formulas that need nothing else: how long a packet
+//! takes to be put on a wire, a sender's initial window, and how far apart CoDel's drops are.
 //!
 //! Every quantity is a whole number: nanoseconds, bytes, bits a second.
 #![tactic(auto)]
 
+pub mod control_law;
 pub mod key;
 pub mod rate;
 pub mod slow_start;
 
+pub use control_law::{gap, gaps_shrink};
 pub use key::{Key, key_order};
 pub use rate::{Rate, serial_ns};
 pub use slow_start::initial_window;
