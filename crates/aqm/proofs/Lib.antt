@@ -1,0 +1,4 @@
+pub mod TakenCases
+pub mod Front
+pub mod SoFar
+pub mod Schedule

@@ -1,0 +1,62 @@
+-- What every take keeps to, whatever waits and whenever it comes.
+use Rattle.std.specs.Prelude.{◌≡◌, ◌↔◌, ◌+◌, ◌-◌, ◌<◌, ◌≤◌, ◌++◌, ℕ, true, false, List, [], ◌∷◌, drop, slice_get, Option, Some, None, IfSome}
+use Rattle.packet_chain.specs.Held.{Held, bytes_of}
+use Rattle.aqm.specs.DropTail.{DropTailState}
+use Rattle.aqm.specs.Codel.{CodelState, IsCodel}
+use Rattle.aqm.specs.Drops.{stops, due, drops}
+use Rattle.aqm.specs.Taken.{codel_taken}
+use Rattle.aqm.specs.Queue.{taken_from, held_by}
+use Rattle.aqm.specs.declared.queue.Queue.{Queue}
+use Rattle.aqm.specs.declared.queue.Queue.TheVariants.{DropTail}
+
+-- the packet that was given, if there was one
+abbrev pub listed : Option Held → List Held
+listed None = []
+listed (Some packet) = packet ∷ []
+
+-- what is dropped is the front of the queue, in order; what is given is next, and the rest stays
+abbrev pub TakesTheFront : Type 0
+TakesTheFront = (q : Queue) (now : ℕ) → let t = taken_from q now in t.dropped ++ listed t.given ++ held_by t.queue ≡ held_by q
+
+-- nothing is given exactly where nothing waits
+abbrev pub GivesWhatWaits : Type 0
+GivesWhatWaits = (q : Queue) (now : ℕ) → ((taken_from q now).given ≡ None) ↔ (held_by q ≡ [])
+
+abbrev pub DropTailKeepsWhatEntered : Type 0
+DropTailKeepsWhatEntered = (s : DropTailState) (now : ℕ) → (taken_from (DropTail s) now).dropped ≡ []
+
+-- where the packet at the head has waited for less than the target, nothing is dropped
+abbrev pub NothingIsDroppedBelowTarget : Type 0
+NothingIsDroppedBelowTarget =
+    (s : CodelState) (now : ℕ) → IfSome (slice_get s.line.held 0) (λ head. now - head.1 < s.target) → (codel_taken s now).dropped ≡ []
+
+-- before packets have been above target for an interval, nothing is dropped
+abbrev pub NothingIsDroppedWithinAnInterval : Type 0
+NothingIsDroppedWithinAnInterval = (s : CodelState) (now : ℕ) → IfSome s.first_above (λ t. now < t) → (codel_taken s now).dropped ≡ []
+
+-- with at most maxpacket bytes behind the packet at the head, nothing is dropped
+abbrev pub NothingIsDroppedNearTheEnd : Type 0
+NothingIsDroppedNearTheEnd = (s : CodelState) (now : ℕ) → bytes_of (drop 1 s.line.held) ≤ s.maxpacket → (codel_taken s now).dropped ≡ []
+
+-- after so many drops there is no further one, and after fewer there is
+pub record IsLeastStop (s : CodelState) (now k : ℕ) : Type 0 where
+  pub stops_here : stops s now k ≡ true
+  pub goes_on_before : (j : ℕ) → j < k → stops s now j ≡ false
+
+abbrev pub DropsStopAtTheFirstStop : Type 0
+DropsStopAtTheFirstStop = (s : CodelState) (now : ℕ) → IsLeastStop s now (drops s now)
+
+-- in one drop state the wait from a drop to the next is no longer than the one before
+abbrev pub DropsComeCloser : Type 0
+DropsComeCloser = (s : CodelState) (j : ℕ) → due s (j + 2) - due s (j + 1) ≤ due s (j + 1) - due s j
+
+-- the wait after the first drop of a drop state is no shorter than the next
+abbrev pub FirstWaitIsLongest : Type 0
+FirstWaitIsLongest =
+    (s : CodelState) (now : ℕ) → IsCodel s → s.dropping ≡ false → (codel_taken s now).queue.dropping ≡ true →
+    let q = (codel_taken s now).queue in due q 1 - due q 0 ≤ due q 0 - now
+
+-- while drop state lasts, what is due after a take is what was due before, but for the drops made
+abbrev pub ScheduleStays : Type 0
+ScheduleStays =
+    (s : CodelState) (now j : ℕ) → s.dropping ≡ true → (codel_taken s now).queue.dropping ≡ true → due (codel_taken s now).queue j ≡ due s (drops s now + j)

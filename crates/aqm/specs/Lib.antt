@@ -1,0 +1,11 @@
+pub mod DropTail
+pub mod Codel
+pub mod CodelOf
+pub mod Judgement
+pub mod Drops
+pub mod OneDrop
+pub mod Taken
+pub mod Queue
+pub mod Laws
+pub use Rattle.packet_chain.specs.Held
+pub use Rattle.sim_time.specs.ControlLaw

@@ -1,0 +1,22 @@
+//! The two queues of a link: drop-tail, and CoDel with its control law (RFC 8289).
+//!
+//! A queue is seen as the list of the packets that wait, each with the moment at which it
+//! entered. Packets move in their cells: nothing here takes memory but a copy.
+#![tactic(auto)]
+
+pub mod codel;
+pub mod drop_tail;
+pub mod guarantees;
+pub mod offered;
+pub mod queue;
+#[cfg(test)]
+mod tests;
+
+pub use codel::Codel;
+pub use drop_tail::DropTail;
+pub use guarantees::{
+    drop_tail_keeps_what_entered, drops_come_closer, drops_stop_at_the_first_stop,
+    gives_what_waits, nothing_is_dropped_without_cause, takes_the_front,
+};
+pub use offered::Offered;
+pub use queue::Queue;

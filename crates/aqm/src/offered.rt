@@ -1,0 +1,11 @@
+//! What a queue answers to a packet.
+use packet_chain::PacketCell;
+
+/// What a queue answers to a packet that is offered.
+#[derive(Drop)]
+pub enum Offered {
+    /// The packet is the last of the queue now, stamped with the moment.
+    Entered,
+    /// The queue holds its capacity: here is the packet, as it came.
+    Full(PacketCell),
+}
