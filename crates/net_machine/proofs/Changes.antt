@@ -1,6 +1,6 @@
 -- What each edit of the list does to the map.
 use Rattle.std.specs.declared.cmp.Ordering.TheVariants.{Equal}
-use Rattle.std.proofs.Common.{◌≡◌, ℕ, Bool, true, false, cond, not, List, [], ◌∷◌, length, get_or, set, ◌<◌, IsSome, Ok, Err, arith, refl, sym, ap, subst, ◌∙◌, Some, None}
+use Rattle.std.proofs.Common.{◌≡◌, ℕ, Bool, true, false, cond, not, List, [], ◌∷◌, length, set, drop, is_some, Ok, Err, refl, sym, ap, subst, ◌∙◌, Some, None}
 use Rattle.std.specs.FinMap as map
 use Rattle.std.specs.FinMap.{put, entries, same_entries_map, same_map, entries-from_sorted, entries-insert, get-from_sorted, get-retain_keys, get-remove, len-entries, empty_of_len}
 use Rattle.std.specs.FinMap.Entries.{where_key, is_sorted-put, is_sorted-where_key, find-where_key}
@@ -8,9 +8,10 @@ use Rattle.std.specs.Ordering.{eq_by_cmp}
 use Rattle.sim_time.specs.declared.key.Key.{Key}
 use Rattle.net_machine.specs.declared.event.Event.{Event}
 use Rattle.sim_time.specs.Keys.{key_cmp}
-use Rattle.net_machine.specs.Pending.{Events, IsInOrder, pending_of, least}
+use Rattle.net_machine.specs.Pending.{Events, IsInOrder, pending_of, least, next_key}
 use Rattle.std.specs.List as list
 use Rattle.std.specs.List.{slice_get}
+use Rattle.std.specs.Option.{option_map, unwrap_or}
 use Rattle.std.specs.List.Sorted.{IsBinarySearchResult, IsSearchInRange}
 use Rattle.net_machine.proofs.Places.{both_of, put_in_gap, put_over, remove_over, none_over, searchable, tail_stays}
 use Rattle.std.specs.Cmp.{eq_by_cmp_equiv}
@@ -49,23 +50,16 @@ retains_others m k = same_map keys_total exact_keys _ _ (λ q.
 rest_removes : (e : Key × Event) (es : List (Key × Event)) → IsInOrder (e ∷ es) → pending_of es ≡ map.remove (pending_of (e ∷ es)) e.0
 rest_removes e es h = ap pending_of (sym (tail_stays keys_total e es h)) ∙ where_retains (e ∷ es) (λ k. not (eq_by_cmp key_cmp e.0 k)) h ∙ retains_others (pending_of (e ∷ es)) e.0
 
--- the first entry x leaves
-pub record Taken (es : List (Key × Event)) (x : Key × Event) : Type 0 where
-  pub is_least : least (pending_of es) ≡ Some x
-  pub rest : pending_of (list.remove es 0) ≡ map.remove (pending_of es) x.0
-  pub in_order : IsInOrder (list.remove es 0)
+-- the first entry leaves, which is under this key
+pub record Taken (es : List (Key × Event)) (k : Key) : Type 0 where
+  pub rest : pending_of (drop 1 es) ≡ map.remove (pending_of es) k
+  pub in_order : IsInOrder (drop 1 es)
 
-pub not_empty : (es : List (Key × Event)) → IsInOrder es → IsSome (least (pending_of es)) → 0 < length es
-not_empty [] h some = absurd (false≢true (subst IsSome (sym (first_is_least [] h)) some))
-not_empty (e ∷ es) h some = omega arith
-
-pub taken : (es : List (Key × Event)) (x : Key × Event) → IsInOrder es → 0 < length es → x ≡ get_or es 0 x → Taken es x
-taken [] x h within is = absurd (omega (arith, within))
-taken (e ∷ es) x h within is = record {
-  is_least = sym (first_is_least (e ∷ es) h) ∙ ap (λ y. Some y) (sym is);
-  rest = rest_removes e es h ∙ ap (λ (y : Key × Event). map.remove (pending_of (e ∷ es)) y.0) (sym is);
-  in_order = (both_of _ _ h).1;
-}
+pub taken : (es : List (Key × Event)) (k : Key) → IsInOrder es → next_key (pending_of es) ≡ Some k → Taken es k
+taken [] k h is = absurd (false≢true (ap is_some (ap (option_map (λ (e : Key × Event). e.0)) (first_is_least [] h) ∙ is)))
+taken (e ∷ es) k h is =
+    let same : e.0 ≡ k = ap (λ o. unwrap_or o e.0) (ap (option_map (λ (x : Key × Event). x.0)) (first_is_least (e ∷ es) h) ∙ is) in
+    record { rest = rest_removes e es h ∙ ap (map.remove (pending_of (e ∷ es))) same; in_order = (both_of _ _ h).1 }
 
 -- an entry that an edit put there
 pub record Put (es : List (Key × Event)) (k : Key) (v : Event) (new : List (Key × Event)) : Type 0 where

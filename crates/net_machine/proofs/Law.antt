@@ -3,7 +3,9 @@ use Rattle.std.proofs.Common.{◌≡◌, ◌≢◌, ℕ, ◌+◌, ◌-◌, ◌*�
 use Rattle.std.proofs.lemmas.Nat.{mul-le}
 use Rattle.std.proofs.lemmas.Bool.{cases_lt, cases_eq}
 use Rattle.std.proofs.Math.Nat.{mod-eq_of_lt}
+use Rattle.std.specs.List.{AllByRecursion}
 use Rattle.std.specs.Option.{IfSome}
+use Rattle.std.specs.FinMap as map
 use Rattle.sim_time.specs.declared.key.Key.{Key}
 use Rattle.packet_chain.specs.declared.packet.Packet.{Packet}
 use Rattle.packet_chain.specs.declared.packet.Kind.{Kind}
@@ -12,6 +14,7 @@ use Rattle.reno_sender.specs.Laws.{IsAckFor}
 use Rattle.reno_sender.specs.Fields.{IsSound}
 use Rattle.reno_sender.specs.declared.fields.SenderFields.{SenderFields}
 use Rattle.reno_sender.specs.Table.{started, acknowledged, timed_out}
+use Rattle.reno_sender.specs.Timer.{backed_off}
 use Rattle.reno_sender.proofs.Laws.{started_keeps, acknowledged_keeps, timed_out_keeps}
 use Rattle.reno_receiver.specs.declared.reply.Reply.{Reply}
 use Rattle.reno_receiver.specs.declared.reply.Reply.TheVariants.{AckNow, Wait}
@@ -22,15 +25,17 @@ use Rattle.net_machine.specs.declared.event.Event.{Event}
 use Rattle.net_machine.specs.declared.event.Event.TheVariants.{Start, Rto, DelAck, Free, Arrive}
 use Rattle.net_machine.specs.declared.port.Place.{Place}
 use Rattle.net_machine.specs.declared.role.Role.TheVariants.{Sends, Receives}
-use Rattle.net_machine.specs.Pending.{Change}
+use Rattle.net_machine.specs.Pending.{Change, apply}
 use Rattle.net_machine.specs.Port.{PortState, taken, taken_from}
 use Rattle.net_machine.specs.Part.{PartState, alarm_key, free_row, row, arrival_row}
 use Rattle.net_machine.specs.State.{State, part_at}
-use Rattle.net_machine.specs.Sound.{IsSent, IsAnswerable, IsGiven, Ends, Parts, Belongs, IsSoundAt}
+use Rattle.net_machine.specs.Sound.{IsSent, IsAnswerable, IsGiven, Ends, Parts, Belongs, IsPendingWhereSet, IsSoundAt}
+use Rattle.net_machine.specs.Rising.{RoleRises}
 use Rattle.net_machine.proofs.Events.{not_some, same_some, each_remove, each_apply, each_map}
 use Rattle.net_machine.proofs.PortSteps.{all_map, AreSized, IsMade, taken_moves}
 use Rattle.net_machine.proofs.Least.{IsDue}
-use Rattle.net_machine.proofs.Steps.{ArePair, AreSoon, Kept, sender_changes, receiver_changes, same_length, moved_port, later_port, link_of, made_soon, soon_after, sender_kept}
+use Rattle.net_machine.proofs.SetAlarms.{set_stays, set_kept, IsOfPort, taken_alarm, not_of_port}
+use Rattle.net_machine.proofs.Steps.{ArePair, AreSoon, Kept, IsSenderEvent, sender_changes, receiver_changes, same_length, moved_port, later_port, link_of, made_soon, soon_after, sender_kept}
 use Rattle.net_machine.proofs.ReceiverSteps.{AnswerKeeps, receiver_kept}
 
 -- a sender's high lies within the greatest flow
@@ -93,6 +98,33 @@ high_above_next e pair n now s S =
     (next_holds S.p.received S.well_formed).bounded S.p.fields.high (subst (λ m. S.p.fields.high % m ≡ 0) (sym same) S.sound.high_multiple)
     (λ x is. let most = S.received_sent x is in omega (arith, most, S.sound.mss_least))
 
+-- a timeout sets the timer anew, later than now
+timeout_moves : (f : SenderFields) (now : ℕ) → IsSound f → (timed_out f now).fields.deadline ≢ Some now
+unfolding timed_out
+timeout_moves f now sound e = let same = same_some (now + backed_off f.rto) now e in omega (arith, same, sound.rto_least)
+
+delayed_isnt_free : (flow link : ℕ) → DelAck flow ≡ Free link → ⊥
+delayed_isnt_free flow link e = cc
+
+delayed_isnt_rto : (flow other : ℕ) → DelAck flow ≡ Rto other → ⊥
+delayed_isnt_rto flow other e = cc
+
+arrival_isnt_free : (x : Packet) (link : ℕ) → Arrive x ≡ Free link → ⊥
+arrival_isnt_free x link e = cc
+
+arrival_isnt_rto : (x : Packet) (flow : ℕ) → Arrive x ≡ Rto flow → ⊥
+arrival_isnt_rto x flow e = cc
+
+-- the sender's events
+of_start : (flow : ℕ) {v : Event} {now : ℕ} → v ≡ Start flow → (deadline : Option ℕ) → IsSenderEvent v now deadline
+of_start flow {v} {now} is deadline = record { not_free = λ link e. cc; not_delack = λ other e. cc; timer_moves = λ other e. absurd (cc) }
+
+of_rto : (flow : ℕ) {v : Event} {now : ℕ} → v ≡ Rto flow → (deadline : Option ℕ) → deadline ≢ Some now → IsSenderEvent v now deadline
+of_rto flow {v} {now} is deadline moves = record { not_free = λ link e. cc; not_delack = λ other e. cc; timer_moves = λ other e. moves }
+
+of_arrival : (x : Packet) {v : Event} {now : ℕ} → v ≡ Arrive x → (deadline : Option ℕ) → IsSenderEvent v now deadline
+of_arrival x {v} {now} is deadline = record { not_free = λ link e. cc; not_delack = λ other e. cc; timer_moves = λ other e. absurd (cc) }
+
 module _ (e : Ends) (pair : ArePair e) (n now : ℕ) (s : State) (k : Key) (v : Event) (S : IsSoundAt e n now s) (due : IsDue s k v) where
   abbrev p : Parts
   p = S.p
@@ -103,6 +135,13 @@ module _ (e : Ends) (pair : ArePair e) (n now : ℕ) (s : State) (k : Key) (v : 
 
   not_again : (node : ℕ) (j : Key) (o : Option ℕ) → k ≡ alarm_key node 3 k.time → o ≡ Some k.time → j ≡ alarm_key node 3 j.time → o ≡ Some j.time → j ≡ k
   not_again node j o k_is at j_is at' = j_is ∙ ap (alarm_key node 3) (same_some j.time k.time (sym at' ∙ at)) ∙ sym k_is
+
+  -- an alarm other than a link's, that has come, stays
+  after_free : (node number : ℕ) (event : Event) (set : Option ℕ) (cs : List Change) → (node ≡ k.node → number ≢ 3) → AllByRecursion (λ (c : Change). IsOfPort (record { node = k.node; index = 0 }) c.0) cs → k.number ≡ 3
+      → IsPendingWhereSet s.pending (alarm_key node number) event set → IsPendingWhereSet (apply cs (map.remove s.pending k)) (alarm_key node number) event set
+  after_free node number event set cs apart keys three pending =
+      set_stays (alarm_key node number) event set cs (map.remove s.pending k) (not_of_port (record { node = k.node; index = 0 }) node number cs apart keys)
+      (set_kept (alarm_key node number) event set k v s.pending due.pending (λ _ t _ same. apart (ap (λ (j : Key). j.node) same) (ap (λ (j : Key). j.number) same ∙ three)) pending)
 
   -- the sender's link has sent a packet
   free_at_sender : (k ≡ alarm_key e.sender 3 k.time) × (p.forward.next_free ≡ Some k.time) → Kept e n s k (free_row (record { role = Sends 0 p.fields; ports = p.forward ∷ [] }) k 0)
@@ -117,8 +156,11 @@ module _ (e : Ends) (pair : ArePair e) (n now : ℕ) (s : State) (k : Key) (v : 
       let effect = free_row (record { role = Sends 0 p.fields; ports = p.forward ∷ [] }) k 0 in
       let soon : AreSoon k.time effect.changes = made_soon D place k.time sending.port sending.changes moves.made in
       let parts = sender_changes e pair n now s k v S due effect at in
+      let three : k.number ≡ 3 = ap (λ (j : Key). j.number) here.0 in
+      let alarm = taken_alarm place k.time (record p.forward { next_free = None }) p.forward p.forward.queue in
       record {
         soon = soon;
+        rises = subst (λ (part : PartState). RoleRises part.role (Sends 0 p.fields)) (sym (ap (part_at s) at ∙ S.sender_part)) (refl, record { una_rises = omega arith; high_rises = omega arith });
         sound = record {
           p = q;
           two_parts = same_length e pair n now s k v S due effect;
@@ -136,6 +178,12 @@ module _ (e : Ends) (pair : ArePair e) (n now : ℕ) (s : State) (k : Key) (v : 
           belongs = each_apply (Belongs e q) sending.changes _
               (all_map (λ (c : Change). IfSome c.1 (IsMade D place k.time sending.port c.0)) (λ (c : Change). IfSome c.1 (Belongs e q c.0)) (λ c h. made_some c.0 c.1 sending.port at (moves.same_to ∙ S.forward_port.ends_at) h) sending.changes moves.made)
               (each_map (λ j w. Belongs e p j w × (j ≢ k)) (Belongs e q) _ (each_remove (Belongs e p) s.pending k S.belongs) (λ j w h. stays sending.port j w h.0 h.1));
+          alarms = record {
+            timer = after_free e.sender 1 (Rto 0) p.fields.deadline sending.changes (λ _ three. omega (arith, three)) alarm.keys three S.alarms.timer;
+            delayed = after_free e.receiver 2 (DelAck 0) p.received.alarm sending.changes (λ _ three. omega (arith, three)) alarm.keys three S.alarms.delayed;
+            forward_busy = subst (λ i. IsPendingWhereSet (apply sending.changes (map.remove s.pending k)) (alarm_key i 3) (Free sending.port.link) sending.port.next_free) at (alarm.pending (map.remove s.pending k) tt);
+            back_busy = after_free e.receiver 3 (Free p.back.link) p.back.next_free sending.changes (λ other. absurd (pair.differ (sym (other ∙ at)))) alarm.keys three S.alarms.back_busy;
+          };
           not_past = soon_after s k v effect.changes due soon;
           answer_waits = S.answer_waits;
           timed_before = timed_later p.fields.timing S.timed_before;
@@ -177,8 +225,11 @@ module _ (e : Ends) (pair : ArePair e) (n now : ℕ) (s : State) (k : Key) (v : 
       let effect = free_row (record { role = Receives 0 p.received; ports = p.back ∷ [] }) k 0 in
       let soon : AreSoon k.time effect.changes = made_soon D place k.time sending.port sending.changes moves.made in
       let parts = receiver_changes e pair n now s k v S due effect at in
+      let three : k.number ≡ 3 = ap (λ (j : Key). j.number) here.0 in
+      let alarm = taken_alarm place k.time (record p.back { next_free = None }) p.back p.back.queue in
       record {
         soon = soon;
+        rises = subst (λ (part : PartState). RoleRises part.role (Receives 0 p.received)) (sym (ap (part_at s) at ∙ S.receiver_part)) (refl, omega arith);
         sound = record {
           p = q;
           two_parts = same_length e pair n now s k v S due effect;
@@ -196,6 +247,12 @@ module _ (e : Ends) (pair : ArePair e) (n now : ℕ) (s : State) (k : Key) (v : 
           belongs = each_apply (Belongs e q) sending.changes _
               (all_map (λ (c : Change). IfSome c.1 (IsMade D place k.time sending.port c.0)) (λ (c : Change). IfSome c.1 (Belongs e q c.0)) (λ c h. made_some c.0 c.1 sending.port at (moves.same_to ∙ S.back_port.ends_at) h) sending.changes moves.made)
               (each_map (λ j w. Belongs e p j w × (j ≢ k)) (Belongs e q) _ (each_remove (Belongs e p) s.pending k S.belongs) (λ j w h. stays sending.port j w h.0 h.1));
+          alarms = record {
+            timer = after_free e.sender 1 (Rto 0) p.fields.deadline sending.changes (λ _ three. omega (arith, three)) alarm.keys three S.alarms.timer;
+            delayed = after_free e.receiver 2 (DelAck 0) p.received.alarm sending.changes (λ _ three. omega (arith, three)) alarm.keys three S.alarms.delayed;
+            forward_busy = after_free e.sender 3 (Free p.forward.link) p.forward.next_free sending.changes (λ other. absurd (pair.differ (other ∙ at))) alarm.keys three S.alarms.forward_busy;
+            back_busy = subst (λ i. IsPendingWhereSet (apply sending.changes (map.remove s.pending k)) (alarm_key i 3) (Free sending.port.link) sending.port.next_free) at (alarm.pending (map.remove s.pending k) tt);
+          };
           not_past = soon_after s k v effect.changes due soon;
           answer_waits = S.answer_waits;
           timed_before = timed_later p.fields.timing S.timed_before;
@@ -245,7 +302,7 @@ module _ (e : Ends) (pair : ArePair e) (n now : ℕ) (s : State) (k : Key) (v : 
   data_fits x sent = (subst (λ m. x.number % m ≡ 0) (sym S.same_mss) sent.multiple, omega (arith, sent.by_high, high_fits p.fields S.sound))
 
   pub every_event_keeps : k.time ≤ 1000000000000000 → Belongs e p k v → Kept e n s k (row (part_at s k.node) k v)
-  every_event_keeps moment here = by v here
+  every_event_keeps moment here = by v refl here
     where
       number_is : (node : ℕ) → k ≡ alarm_key node 3 k.time → k.number - 3 ≡ 0
       number_is node is = let three : k.number ≡ 3 = ap (λ (j : Key). j.number) is in omega (arith, three)
@@ -253,24 +310,24 @@ module _ (e : Ends) (pair : ArePair e) (n now : ℕ) (s : State) (k : Key) (v : 
       kind_is : (x : Packet) (kind : Kind) (part : PartState) → x.kind ≡ kind → Kept e n s k (arrival_row part k kind x.number) → Kept e n s k (row part k (Arrive x))
       kind_is x kind part is kept = subst (λ (c : Kind). Kept e n s k (arrival_row part k c x.number)) (sym is) kept
 
-      by : (w : Event) → Belongs e p k w → Kept e n s k (row (part_at s k.node) k w)
-      by (Start flow) at = moved_to (record { role = Sends 0 p.fields; ports = p.forward ∷ [] }) (Start flow) (at_sender at) (sender_kept e pair n now s k v S due (started p.fields k.time) at (started_keeps p.fields k.time S.sound moment))
-      by (Rto flow) h =
+      by : (w : Event) → v ≡ w → Belongs e p k w → Kept e n s k (row (part_at s k.node) k w)
+      by (Start flow) v_is at = moved_to (record { role = Sends 0 p.fields; ports = p.forward ∷ [] }) (Start flow) (at_sender at) (sender_kept e pair n now s k v S due (started p.fields k.time) at (started_keeps p.fields k.time S.sound moment) (of_start flow v_is (started p.fields k.time).fields.deadline))
+      by (Rto flow) v_is h =
           let at : k.node ≡ e.sender = ap (λ (j : Key). j.node) h.0 in
-          moved_to (record { role = Sends 0 p.fields; ports = p.forward ∷ [] }) (Rto flow) (at_sender at) (sender_kept e pair n now s k v S due (timed_out p.fields k.time) at (timed_out_keeps p.fields k.time S.sound moment (subst (λ (o : Option ℕ). IsSome o) (sym h.1) refl)))
-      by (DelAck flow) h =
+          moved_to (record { role = Sends 0 p.fields; ports = p.forward ∷ [] }) (Rto flow) (at_sender at) (sender_kept e pair n now s k v S due (timed_out p.fields k.time) at (timed_out_keeps p.fields k.time S.sound moment (subst (λ (o : Option ℕ). IsSome o) (sym h.1) refl)) (of_rto flow v_is (timed_out p.fields k.time).fields.deadline (timeout_moves p.fields k.time S.sound)))
+      by (DelAck flow) v_is h =
           let at : k.node ≡ e.receiver = ap (λ (j : Key). j.node) h.0 in
           moved_to (record { role = Receives 0 p.received; ports = p.back ∷ [] }) (DelAck flow) (at_receiver at)
           (receiver_kept e pair n now s k v S due (alarm_came p.received) at
-          (alarm_answer p.received k.time p.fields.high (alarm_came p.received) (next_holds p.received S.well_formed).least.multiple (subst (λ m. IsAnswerable m p.fields.high (next_of p.received)) (sym S.same_mss) (subst (λ (o : Option ℕ). IfSome o (λ _. IsAnswerable p.fields.mss p.fields.high (next_of p.received))) h.1 S.answer_waits)) (alarm_keeps p.received S.well_formed) (λ x is. subst (λ m. x + m ≤ p.fields.high) (sym S.same_mss) (S.received_sent x is))))
-      by (Free link) h =
+          (alarm_answer p.received k.time p.fields.high (alarm_came p.received) (next_holds p.received S.well_formed).least.multiple (subst (λ m. IsAnswerable m p.fields.high (next_of p.received)) (sym S.same_mss) (subst (λ (o : Option ℕ). IfSome o (λ _. IsAnswerable p.fields.mss p.fields.high (next_of p.received))) h.1 S.answer_waits)) (alarm_keeps p.received S.well_formed) (λ x is. subst (λ m. x + m ≤ p.fields.high) (sym S.same_mss) (S.received_sent x is))) (λ link e. delayed_isnt_free flow link (sym v_is ∙ e)) (λ other e. delayed_isnt_rto flow other (sym v_is ∙ e)))
+      by (Free link) v_is h =
           ⊎_elim
           (λ (l : (k ≡ alarm_key e.sender 3 k.time) × (p.forward.next_free ≡ Some k.time)).
           moved_to (record { role = Sends 0 p.fields; ports = p.forward ∷ [] }) (Free link) (at_sender (ap (λ (j : Key). j.node) l.0)) (subst (λ i. Kept e n s k (free_row (record { role = Sends 0 p.fields; ports = p.forward ∷ [] }) k i)) (sym (number_is e.sender l.0)) (free_at_sender l)))
           (λ (r : (k ≡ alarm_key e.receiver 3 k.time) × (p.back.next_free ≡ Some k.time)).
           moved_to (record { role = Receives 0 p.received; ports = p.back ∷ [] }) (Free link) (at_receiver (ap (λ (j : Key). j.node) r.0)) (subst (λ i. Kept e n s k (free_row (record { role = Receives 0 p.received; ports = p.back ∷ [] }) k i)) (sym (number_is e.receiver r.0)) (free_at_receiver r)))
           h
-      by (Arrive x) h =
+      by (Arrive x) v_is h =
           ⊎_elim
           (λ (l : (k.node ≡ e.receiver) × IsSent p.fields.mss p.fields.high x).
           moved_to (record { role = Receives 0 p.received; ports = p.back ∷ [] }) (Arrive x) (at_receiver l.0)
@@ -279,8 +336,8 @@ module _ (e : Ends) (pair : ArePair e) (n now : ℕ) (s : State) (k : Key) (v : 
           (data_answer p.received x.number k.time p.fields.high (data_came p.received x.number k.time) S.well_formed.mss_least S.well_formed.delack_greatest (data_fits x l.1).0
           (data_keeps p.received x.number k.time S.well_formed (data_fits x l.1).0 (data_fits x l.1).1 moment)
           (subst (λ m. x.number + m ≤ p.fields.high) (sym S.same_mss) l.1.by_high)
-          (λ y is. subst (λ m. y + m ≤ p.fields.high) (sym S.same_mss) (S.received_sent y is))))))
+          (λ y is. subst (λ m. y + m ≤ p.fields.high) (sym S.same_mss) (S.received_sent y is))) (λ link e. arrival_isnt_free x link (sym v_is ∙ e)) (λ other e. arrival_isnt_rto x other (sym v_is ∙ e)))))
           (λ (r : (k.node ≡ e.sender) × IsGiven p.fields.mss p.fields.high (next_of p.received) x).
           moved_to (record { role = Sends 0 p.fields; ports = p.forward ∷ [] }) (Arrive x) (at_sender r.0)
-          (kind_is x Ack (record { role = Sends 0 p.fields; ports = p.forward ∷ [] }) r.1.is_ack (sender_kept e pair n now s k v S due (acknowledged p.fields x.number k.time) r.0 (acknowledged_keeps p.fields x.number k.time S.sound moment (ack_fits x r.1)))))
+          (kind_is x Ack (record { role = Sends 0 p.fields; ports = p.forward ∷ [] }) r.1.is_ack (sender_kept e pair n now s k v S due (acknowledged p.fields x.number k.time) r.0 (acknowledged_keeps p.fields x.number k.time S.sound moment (ack_fits x r.1)) (of_arrival x v_is (acknowledged p.fields x.number k.time).fields.deadline))))
           h

@@ -1,5 +1,5 @@
 -- The nodes that the code keeps, and those of the states.
-use Rattle.std.proofs.Common.{◌≡◌, ◌≢◌, ℕ, zero, suc, ◌<◌, List, [], ◌∷◌, length, get_or, set, refl, sym, ap, subst, ◌∙◌, Some, arith, Result, Ok, Err, OnOk, OnErr, IfOk, Bool, true, false, cond, ◌==◌, eqb-true, eq-eqb, true≢false}
+use Rattle.std.proofs.Common.{◌≡◌, ◌≢◌, ℕ, zero, suc, ◌<◌, List, [], ◌∷◌, length, get_or, set, refl, sym, ap, subst, ◌∙◌, Some, arith, Result, Ok, Err, OnErr, IfOk, Bool, true, false, cond, ◌==◌, eqb-true, eq-eqb, true≢false}
 use Rattle.std.proofs.lemmas.List.{map-set, get_or-map, length-map}
 use Rattle.std.proofs.lemmas.List.FromFn.{length-enumerate_from}
 use Rattle.std.proofs.lemmas.Option.{slice_get_within, get_or_from_slice_get}
@@ -16,14 +16,10 @@ use Rattle.net_machine.specs.PartsOf.{parts_state}
 use Rattle.net_machine.specs.State.{opening, part_of, no_part, port_of, sends, receives}
 use Rattle.net_machine.proofs.OpeningLaw.{opened_sender, opened_receiver}
 
--- what holds on a result's Ok or Err
-pub on_ok : {T E P Q : Type 0} (r : Result T E) → (P → Q) → OnOk r P → OnOk r Q
-on_ok (Ok x) f h = f h
-on_ok (Err x) f h = h
-
-pub on_err : {T E P Q : Type 0} (r : Result T E) → (P → Q) → OnErr r P → OnErr r Q
-on_err (Ok x) f h = h
-on_err (Err x) f h = f h
+-- what holds at all holds on an Err
+pub on_err : {T E P : Type 0} (r : Result T E) → P → OnErr r P
+on_err (Ok x) h = tt
+on_err (Err x) h = h
 
 -- a node is replaced
 pub node_changed : (parts : List Part) (at node : ℕ) (old new : Part) (f : PartState → PartState) → at ≡ node → node < length (parts_state parts) → old ≡ get_or parts at old → part_state new ≡ f (part_state old)

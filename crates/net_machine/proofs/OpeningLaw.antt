@@ -161,6 +161,7 @@ opening_is_sound p is = shaped (shape_of p is)
             acks_queued = tt;
             received_sent = λ seq got. absurd (opened.empty seq got);
             belongs = subst (EachEvent (Belongs e q)) (sym pending_is) (each_insert (Belongs e q) map.empty start_key (Start 0) (each_empty (Belongs e q)) refl);
+            alarms = record { timer = tt; delayed = tt; forward_busy = tt; back_busy = tt };
             not_past = λ k v there. omega arith;
             answer_waits = tt;
             timed_before = tt;

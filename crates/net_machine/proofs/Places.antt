@@ -10,6 +10,7 @@ use Rattle.std.specs.Cmp.{IsTotalOrder}
 use Rattle.std.specs.FinMap.{put, is_sorted, IsAntisymmetric}
 use Rattle.std.specs.FinMap.Entries.{below_all, by_order, where_key}
 use Rattle.std.proofs.lemmas.List.Sorted.{searchable_from_sorted}
+use Rattle.std.proofs.lemmas.List.{get_or_default}
 
 pub both_of : (a b : Bool) → T (a && b) → T a × T b
 both_of true true h = (tt, tt)
@@ -23,6 +24,41 @@ is_less Greater h = absurd h
 
 turned : {K : Type 0} {R : K → K → Ordering} → IsTotalOrder R → (a b : K) (r : Ordering) → R a b ≡ r → R b a ≡ ordering_reverse r
 turned o a b r e = o.antisymm b a ∙ ap ordering_reverse e
+
+ends_less : (r : Ordering) → ordering_index r ≤ 0 → r ≡ Less
+ends_less Less h = refl
+ends_less Equal h = absurd (omega (arith, h))
+ends_less Greater h = absurd (omega (arith, h))
+
+ends_greater : (r : Ordering) → 2 ≤ ordering_index r → r ≡ Greater
+ends_greater Less h = absurd (omega (arith, h))
+ends_greater Equal h = absurd (omega (arith, h))
+ends_greater Greater h = refl
+
+module _ {X : Type 0} (ord : X → Ordering) (xs : List X) where
+  -- an element reads the same whatever stands for those past the end
+  pub read : (at : ℕ) (x d : X) → at < length xs → x ≡ get_or xs at x → get_or xs at d ≡ x
+  read at x d within is = get_or_default xs at d x within ∙ sym is
+
+  -- all before are less, and this one is greater: here is the gap
+  pub gap_before : (at : ℕ) (x : X) → at < length xs → x ≡ get_or xs at x → ord x ≡ Greater → ((k : ℕ) (d : X) → k < at → ord (get_or xs k d) ≡ Less) → IsNonDecreasingBy (λ y. ordering_index (ord y)) xs
+      → IsPartitionPoint (λ y. ord y ≡ Less) (λ y. ord y ≡ Greater) xs at
+  gap_before at x within is greater before rising = (
+    λ k d _ under. before k d under,
+    λ k d from under.
+        let here : ordering_index (ord (get_or xs at d)) ≡ 2 = ap (λ y. ordering_index (ord y)) (read at x d within is) ∙ ap ordering_index greater in
+        ends_greater (ord (get_or xs k d)) (omega (arith, rising at k d from under, here)),
+  )
+
+  -- this one is less, and all after are greater: the gap is behind it
+  pub gap_after : (at : ℕ) (x : X) → at < length xs → x ≡ get_or xs at x → ord x ≡ Less → ((k : ℕ) (d : X) → at < k → k < length xs → ord (get_or xs k d) ≡ Greater) → IsNonDecreasingBy (λ y. ordering_index (ord y)) xs
+      → IsPartitionPoint (λ y. ord y ≡ Less) (λ y. ord y ≡ Greater) xs (at + 1)
+  gap_after at x within is less after rising = (
+    λ k d _ under.
+        let here : ordering_index (ord (get_or xs at d)) ≡ 0 = ap (λ y. ordering_index (ord y)) (read at x d within is) ∙ ap ordering_index less in
+        ends_less (ord (get_or xs k d)) (omega (arith, rising k at d (omega (arith, under)) within, here)),
+    λ k d from under. after k d (omega (arith, from)) under,
+  )
 
 module _ {K X : Type 0} {R : K → K → Ordering} (o : IsTotalOrder R) where
   -- a key below all is below each

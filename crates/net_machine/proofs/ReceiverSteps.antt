@@ -12,15 +12,17 @@ use Rattle.net_machine.specs.declared.event.Event.{Event}
 use Rattle.net_machine.specs.declared.event.Event.TheVariants.{Start, Rto, DelAck, Free, Arrive}
 use Rattle.net_machine.specs.declared.port.Place.{Place}
 use Rattle.net_machine.specs.declared.role.Role.TheVariants.{Receives}
-use Rattle.net_machine.specs.Pending.{Change}
+use Rattle.net_machine.specs.Pending.{Events, Change, apply}
 use Rattle.net_machine.specs.Port.{PortState, offered_all}
-use Rattle.net_machine.specs.Part.{alarm_key, alarm_moved, ack_of, receiver_row}
-use Rattle.net_machine.specs.State.{State}
-use Rattle.net_machine.specs.Sound.{EachEvent, IsSent, IsAnswerable, IsGiven, Ends, Parts, Belongs, IsSoundAt}
+use Rattle.net_machine.specs.Part.{PartState, alarm_key, alarm_moved, ack_of, receiver_row}
+use Rattle.net_machine.specs.State.{State, part_at}
+use Rattle.net_machine.specs.Sound.{EachEvent, IsSent, IsAnswerable, IsGiven, Ends, Parts, Belongs, IsPendingWhereSet, IsSoundAt}
+use Rattle.net_machine.specs.Rising.{RoleRises}
 use Rattle.net_machine.proofs.Offered.{apply-append}
 use Rattle.net_machine.proofs.Events.{each_remove, each_apply}
 use Rattle.net_machine.proofs.PortSteps.{all_append, all_map, IsSoon, AreSized, IsMade, all_offers}
 use Rattle.net_machine.proofs.Alarms.{moved_events, moved_changes}
+use Rattle.net_machine.proofs.SetAlarms.{set_kept, row_alarms, all_alarm}
 use Rattle.net_machine.proofs.Least.{IsDue}
 use Rattle.net_machine.proofs.Steps.{ArePair, AreSoon, Kept, IsDelAck, is_delack, receiver_changes, same_length, moved_port, later_port, link_of, made_soon, soon_after}
 
@@ -40,9 +42,9 @@ module _ (e : Ends) (pair : ArePair e) (n now : ℕ) (s : State) (k : Key) (v : 
   p = S.p
 
   -- a row of the receiver's table
-  pub receiver_kept : (a : Answered) → k.node ≡ e.receiver → AnswerKeeps p.received p.fields.high k.time a
+  pub receiver_kept : (a : Answered) → k.node ≡ e.receiver → AnswerKeeps p.received p.fields.high k.time a → ((link : ℕ) → v ≢ Free link) → ((flow : ℕ) → v ≢ Rto flow)
       → Kept e n s k (receiver_row (record { role = Receives 0 p.received; ports = p.back ∷ [] }) k 0 p.received a)
-  receiver_kept a at keeps =
+  receiver_kept a at keeps not_free not_rto =
       let f = p.fields in
       let D : Packet → Type 0 = IsGiven f.mss f.high (next_of a.state) in
       let place : Place = record { node = k.node; index = 0 } in
@@ -58,8 +60,13 @@ module _ (e : Ends) (pair : ArePair e) (n now : ℕ) (s : State) (k : Key) (v : 
       let moved_soon : AreSoon k.time moved = moved_changes (IsSoon k.time) (alarm_key k.node 2) (DelAck 0) p.received.alarm a.state.alarm (λ t is. inr (record { later = (keeps.alarm_soon t is).0; bounded = omega (arith, (keeps.alarm_soon t is).1) })) in
       let soon : AreSoon k.time effect.changes = all_append (λ (c : Change). IfSome c.1 (λ _. IsSoon k.time c.0)) moved sending.changes moved_soon (made_soon D place k.time sending.port sending.changes offers.moves.made) in
       let parts = receiver_changes e pair n now s k v S due effect at in
+      let rest : Events = map.remove s.pending k in
+      let alarms = row_alarms place 2 (DelAck 0) p.received.alarm a.state.alarm p.back sending.port sending.changes rest (λ two. omega (arith, two)) (all_alarm place k.time p.back packets)
+      (λ same. delayed_stays a.state.alarm (subst (λ (o : Option ℕ). IsPendingWhereSet s.pending (alarm_key e.receiver 2) (DelAck 0) o) (sym same) S.alarms.delayed) (λ t is. (keeps.alarm_soon t is).0) at)
+      (subst (λ i. IsPendingWhereSet rest (alarm_key i 3) (Free p.back.link) p.back.next_free) (sym at) (set_kept (alarm_key e.receiver 3) (Free p.back.link) p.back.next_free k v s.pending due.pending (λ same. absurd (not_free p.back.link same)) S.alarms.back_busy)) in
       record {
         soon = soon;
+        rises = subst (λ (part : PartState). RoleRises part.role (Receives 0 a.state)) (sym (ap (part_at s) at ∙ S.receiver_part)) (refl, keeps.next_rises);
         sound = record {
           p = q;
           two_parts = same_length e pair n now s k v S due effect;
@@ -84,12 +91,27 @@ module _ (e : Ends) (pair : ArePair e) (n now : ℕ) (s : State) (k : Key) (v : 
               (λ j w h is. was_delack j w h.0 is at)
               (λ j w key_is is given. now_delack q j w is (key_is ∙ ap (λ i. alarm_key i 2 j.time) at) given)
               _ (each_remove (Belongs e p) s.pending k S.belongs)));
+          alarms = record {
+            timer =
+                alarms.others e.sender 1 (Rto 0) f.deadline (λ here. absurd (pair.differ (here ∙ at)))
+                (set_kept (alarm_key e.sender 1) (Rto 0) f.deadline k v s.pending due.pending (λ same. absurd (not_rto 0 same)) S.alarms.timer);
+            delayed = subst (λ i. IsPendingWhereSet (apply effect.changes rest) (alarm_key i 2) (DelAck 0) a.state.alarm) at alarms.own_alarm;
+            forward_busy =
+                alarms.others e.sender 3 (Free p.forward.link) p.forward.next_free (λ here. absurd (pair.differ (here ∙ at)))
+                (set_kept (alarm_key e.sender 3) (Free p.forward.link) p.forward.next_free k v s.pending due.pending (λ same. absurd (not_free p.forward.link same)) S.alarms.forward_busy);
+            back_busy = subst (λ i. IsPendingWhereSet (apply effect.changes rest) (alarm_key i 3) (Free sending.port.link) sending.port.next_free) at alarms.busy;
+          };
           not_past = soon_after s k v effect.changes due soon;
           answer_waits = answer_waits a.state.alarm (subst (λ z. IsAnswerable z p.fields.high (next_of a.state)) S.same_mss keeps.answerable);
           timed_before = timed_later f.timing S.timed_before;
         };
       }
     where
+      delayed_stays : (o : Option ℕ) → IsPendingWhereSet s.pending (alarm_key e.receiver 2) (DelAck 0) o → ((t : ℕ) → o ≡ Some t → k.time < t) → k.node ≡ e.receiver → IsPendingWhereSet (map.remove s.pending k) (alarm_key k.node 2) (DelAck 0) o
+      delayed_stays o pending later here =
+          subst (λ i. IsPendingWhereSet (map.remove s.pending k) (alarm_key i 2) (DelAck 0) o) (sym here)
+          (set_kept (alarm_key e.receiver 2) (DelAck 0) o k v s.pending due.pending (λ is t set same. let now_is : t ≡ k.time = ap (λ (q : Key). q.time) same in omega (arith, later t set, now_is)) pending)
+
       raised : (x : Packet) → next_of p.received ≤ next_of a.state → IsGiven p.fields.mss p.fields.high (next_of p.received) x → IsGiven p.fields.mss p.fields.high (next_of a.state) x
       raised x rises h = record { is_ack = h.is_ack; bytes_are = h.bytes_are; multiple = h.multiple; by_next = omega (arith, h.by_next, rises); early = h.early }
 

@@ -52,7 +52,7 @@ of_step {G} s line new e from = go (due s) refl e
 sound_step : (p : ScenarioParts) (n : ℕ) (s : State) (line : TraceLine) (new : State) → IsSoundRun p n s → step s ≡ Some (line, new) → IsSoundRun p (n + 1) new
 sound_step p n s line new sound e = of_step s line new e (λ k v is new_is. subst (IsSoundRun p (n + 1)) (sym new_is) (sound_after p n s k v sound is))
 
-of_one_more : {G : Type 0} (so_far : List TraceLine × State) (lines : List TraceLine) (s : State) → one_more so_far ≡ Some (lines, s) → ((line : TraceLine) → step so_far.1 ≡ Some (line, s) → G) → G
+pub of_one_more : {G : Type 0} (so_far : List TraceLine × State) (lines : List TraceLine) (s : State) → one_more so_far ≡ Some (lines, s) → ((line : TraceLine) → step so_far.1 ≡ Some (line, s) → G) → G
 of_one_more {G} so_far lines s e from = go (step so_far.1) refl e
   where
     go : (d : Option (TraceLine × State)) → step so_far.1 ≡ d → option_map {U = List TraceLine × State} (λ next. (so_far.0 ++ next.0 ∷ [], next.1)) d ≡ Some (lines, s) → G
@@ -89,6 +89,30 @@ keys_rise p n lines s is_scenario e k next v w is next_is =
     at : (k q : Key) (o : Option Event) → IfSome o (λ _. IsSoon k.time q) → IfSome o (λ _. key_cmp k q ≡ Less)
     at k q None h = h
     at k q (Some u) h = earlier_less k q h.later
+
+-- the run of one step more, from its first step on
+pub first_step : (s : State) (n : ℕ) → run s (suc n) ≡ option_and_then (λ (x : TraceLine × State). option_map {U = List TraceLine × State} (λ (rest : List TraceLine × State). (x.0 ∷ rest.0, rest.1)) (run x.1 n)) (step s)
+first_step s zero = one (step s)
+  where
+    one : (o : Option (TraceLine × State)) → option_map {U = List TraceLine × State} (λ next. ([] ++ next.0 ∷ [], next.1)) o ≡ option_and_then (λ (x : TraceLine × State). option_map {U = List TraceLine × State} (λ (rest : List TraceLine × State). (x.0 ∷ rest.0, rest.1)) (Some ([], x.1))) o
+    one None = refl
+    one (Some x) = refl
+first_step s (suc n) = ap (option_and_then one_more) (first_step s n) ∙ more (step s)
+  where
+    last : (line : TraceLine) (lines : List TraceLine) (o : Option (TraceLine × State)) → option_map {U = List TraceLine × State} (λ (next : TraceLine × State). ((line ∷ lines) ++ next.0 ∷ [], next.1)) o
+        ≡ option_map {U = List TraceLine × State} (λ (rest : List TraceLine × State). (line ∷ rest.0, rest.1)) (option_map {U = List TraceLine × State} (λ (next : TraceLine × State). (lines ++ next.0 ∷ [], next.1)) o)
+    last line lines None = refl
+    last line lines (Some next) = refl
+
+    then : (line : TraceLine) (o : Option (List TraceLine × State)) → option_and_then one_more (option_map {U = List TraceLine × State} (λ (rest : List TraceLine × State). (line ∷ rest.0, rest.1)) o)
+        ≡ option_map {U = List TraceLine × State} (λ (rest : List TraceLine × State). (line ∷ rest.0, rest.1)) (option_and_then one_more o)
+    then line None = refl
+    then line (Some so_far) = last line so_far.0 (step so_far.1)
+
+    more : (o : Option (TraceLine × State)) → option_and_then one_more (option_and_then (λ (x : TraceLine × State). option_map {U = List TraceLine × State} (λ (rest : List TraceLine × State). (x.0 ∷ rest.0, rest.1)) (run x.1 n)) o)
+        ≡ option_and_then (λ (x : TraceLine × State). option_map {U = List TraceLine × State} (λ (rest : List TraceLine × State). (x.0 ∷ rest.0, rest.1)) (run x.1 (suc n))) o
+    more None = refl
+    more (Some x) = then x.0 (run x.1 n)
 
 end_stays : (s : State) (line : TraceLine) (new : State) → step s ≡ Some (line, new) → s.end ≡ new.end
 end_stays s line new e = of_step s line new e (λ k v is new_is. sym (ap (λ (t : State). t.end) new_is))

@@ -14,15 +14,17 @@ use Rattle.net_machine.specs.declared.event.Event.{Event}
 use Rattle.net_machine.specs.declared.event.Event.TheVariants.{Start, Rto, DelAck, Free, Arrive}
 use Rattle.net_machine.specs.declared.port.Place.{Place}
 use Rattle.net_machine.specs.declared.role.Role.TheVariants.{Sends}
-use Rattle.net_machine.specs.Pending.{Change, apply}
+use Rattle.net_machine.specs.Pending.{Events, Change, apply}
 use Rattle.net_machine.specs.Port.{PortState, offered_all}
-use Rattle.net_machine.specs.Part.{Effect, alarm_key, alarm_moved, data_packet, sender_row}
+use Rattle.net_machine.specs.Part.{PartState, Effect, alarm_key, alarm_moved, data_packet, sender_row}
 use Rattle.net_machine.specs.State.{State, part_at, no_part, stepped}
-use Rattle.net_machine.specs.Sound.{EachEvent, IsSent, IsAnswerable, IsGiven, Ends, Parts, Belongs, IsPortTo, IsSoundAt}
+use Rattle.net_machine.specs.Sound.{EachEvent, IsSent, IsAnswerable, IsGiven, Ends, Parts, Belongs, IsPendingWhereSet, IsPortTo, IsSoundAt}
+use Rattle.net_machine.specs.Rising.{RoleRises}
 use Rattle.net_machine.proofs.Offered.{apply-append}
 use Rattle.net_machine.proofs.Events.{not_some, same_some, each_remove, each_apply, each_map}
 use Rattle.net_machine.proofs.PortSteps.{all_append, all_map, IsSoon, IsLink, AreSized, IsMade, PortMoves, all_offers}
 use Rattle.net_machine.proofs.Alarms.{moved_events, moved_changes}
+use Rattle.net_machine.proofs.SetAlarms.{set_kept, row_alarms, all_alarm}
 use Rattle.net_machine.proofs.Least.{IsDue}
 
 -- two nodes, and they differ
@@ -117,6 +119,13 @@ is_delack (Arrive x) = inr (λ h. h)
 pub record Kept (e : Ends) (n : ℕ) (s : State) (k : Key) (effect : Effect) : Type 0 where
   pub sound : IsSoundAt e (n + 1) k.time (stepped s k effect)
   pub soon : AreSoon k.time effect.changes
+  pub rises : RoleRises (part_at s k.node).role effect.part.role
+
+-- an event of a sender, but for its link's: a timer's end leaves no timer set at its own moment
+pub record IsSenderEvent (v : Event) (now : ℕ) (deadline : Option ℕ) : Type 0 where
+  pub not_free : (link : ℕ) → v ≢ Free link
+  pub not_delack : (flow : ℕ) → v ≢ DelAck flow
+  pub timer_moves : (flow : ℕ) → v ≡ Rto flow → deadline ≢ Some now
 
 module _ (e : Ends) (pair : ArePair e) (n now : ℕ) (s : State) (k : Key) (v : Event) (S : IsSoundAt e n now s) (due : IsDue s k v) where
   abbrev p : Parts
@@ -145,9 +154,9 @@ module _ (e : Ends) (pair : ArePair e) (n now : ℕ) (s : State) (k : Key) (v : 
   same_length effect = length-set s.parts k.node effect.part ∙ S.two_parts
 
   -- a row of the sender's table
-  pub sender_kept : (planned : Planned) → k.node ≡ e.sender → RowKeeps p.fields planned.fields planned.sent k.time
+  pub sender_kept : (planned : Planned) → k.node ≡ e.sender → RowKeeps p.fields planned.fields planned.sent k.time → IsSenderEvent v k.time planned.fields.deadline
       → Kept e n s k (sender_row (record { role = Sends 0 p.fields; ports = p.forward ∷ [] }) k 0 p.fields planned)
-  sender_kept planned at keeps =
+  sender_kept planned at keeps of_sender =
       let f = p.fields in
       let g = planned.fields in
       let D : Packet → Type 0 = IsSent g.mss g.high in
@@ -164,8 +173,13 @@ module _ (e : Ends) (pair : ArePair e) (n now : ℕ) (s : State) (k : Key) (v : 
       let moved_soon : AreSoon k.time moved = moved_changes (IsSoon k.time) (alarm_key k.node 1) (Rto 0) f.deadline g.deadline (λ t is. deadline_soon t f.deadline g.deadline keeps.deadline is) in
       let soon : AreSoon k.time effect.changes = all_append (λ (c : Change). IfSome c.1 (λ _. IsSoon k.time c.0)) moved sending.changes moved_soon (made_soon D place k.time sending.port sending.changes offers.moves.made) in
       let parts = sender_changes effect at in
+      let rest : Events = map.remove s.pending k in
+      let alarms = row_alarms place 1 (Rto 0) f.deadline g.deadline p.forward sending.port sending.changes rest (λ one. omega (arith, one)) (all_alarm place k.time p.forward packets)
+      (λ same. timer_stays g.deadline (subst (λ (o : Option ℕ). IsPendingWhereSet s.pending (alarm_key e.sender 1) (Rto 0) o) (sym same) S.alarms.timer) of_sender.timer_moves at)
+      (subst (λ i. IsPendingWhereSet rest (alarm_key i 3) (Free p.forward.link) p.forward.next_free) (sym at) (set_kept (alarm_key e.sender 3) (Free p.forward.link) p.forward.next_free k v s.pending due.pending (λ same. absurd (of_sender.not_free p.forward.link same)) S.alarms.forward_busy)) in
       record {
         soon = soon;
+        rises = subst (λ (part : PartState). RoleRises part.role (Sends 0 g)) (sym (ap (part_at s) at ∙ S.sender_part)) (refl, record { una_rises = keeps.una_rises; high_rises = keeps.high_rises });
         sound = record {
           p = q;
           two_parts = same_length effect;
@@ -190,12 +204,27 @@ module _ (e : Ends) (pair : ArePair e) (n now : ℕ) (s : State) (k : Key) (v : 
               (λ j w h is. was_rto j w h.0 is at)
               (λ j w key_is is given. now_rto q j w is (key_is ∙ ap (λ i. alarm_key i 1 j.time) at) given)
               _ (each_remove (Belongs e p) s.pending k S.belongs)));
+          alarms = record {
+            timer = subst (λ i. IsPendingWhereSet (apply effect.changes rest) (alarm_key i 1) (Rto 0) g.deadline) at alarms.own_alarm;
+            delayed =
+                alarms.others e.receiver 2 (DelAck 0) p.received.alarm (λ here. absurd (pair.differ (sym (here ∙ at))))
+                (set_kept (alarm_key e.receiver 2) (DelAck 0) p.received.alarm k v s.pending due.pending (λ same. absurd (of_sender.not_delack 0 same)) S.alarms.delayed);
+            forward_busy = subst (λ i. IsPendingWhereSet (apply effect.changes rest) (alarm_key i 3) (Free sending.port.link) sending.port.next_free) at alarms.busy;
+            back_busy =
+                alarms.others e.receiver 3 (Free p.back.link) p.back.next_free (λ here. absurd (pair.differ (sym (here ∙ at))))
+                (set_kept (alarm_key e.receiver 3) (Free p.back.link) p.back.next_free k v s.pending due.pending (λ same. absurd (of_sender.not_free p.back.link same)) S.alarms.back_busy);
+          };
           not_past = soon_after s k v effect.changes due soon;
           answer_waits = answer_waits p.received.alarm keeps.mss_same keeps.high_rises S.answer_waits;
           timed_before = timed_later f.timing g.timing keeps.timing S.timed_before;
         };
       }
     where
+      timer_stays : (o : Option ℕ) → IsPendingWhereSet s.pending (alarm_key e.sender 1) (Rto 0) o → ((flow : ℕ) → v ≡ Rto flow → o ≢ Some k.time) → k.node ≡ e.sender → IsPendingWhereSet (map.remove s.pending k) (alarm_key k.node 1) (Rto 0) o
+      timer_stays o pending moves here =
+          subst (λ i. IsPendingWhereSet (map.remove s.pending k) (alarm_key i 1) (Rto 0) o) (sym here)
+          (set_kept (alarm_key e.sender 1) (Rto 0) o k v s.pending due.pending (λ is t set same. moves 0 is (set ∙ ap (λ (q : Key). Some q.time) same)) pending)
+
       raised : (x : Packet) → planned.fields.mss ≡ p.fields.mss → p.fields.high ≤ planned.fields.high → IsSent p.fields.mss p.fields.high x → IsSent planned.fields.mss planned.fields.high x
       raised x same rises h = record {
         is_data = h.is_data;

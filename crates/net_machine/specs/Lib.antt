@@ -13,4 +13,4 @@ pub mod NetOf
 pub mod StateCodes
 pub mod Sound
 pub mod Run
-pub mod OneSegment
+pub mod Rising

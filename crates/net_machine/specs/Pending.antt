@@ -1,11 +1,9 @@
 -- The pending events: one finite map from keys to events, and the changes that an event makes to it.
-use Rattle.std.specs.Prelude.{ℕ, ◌-◌, T, List, [], ◌∷◌, Option, None, Some}
+use Rattle.std.specs.Prelude.{ℕ, T, List, [], ◌∷◌, Option, None, Some}
 use Rattle.std.specs.List.{slice_get}
 use Rattle.std.specs.Option.{option_map}
 use Rattle.std.specs.FinMap as map
 use Rattle.std.specs.FinMap.{FinMap}
-use Rattle.std.specs.Global.{Vec}
-use Rattle.std.specs.Vec.{vec_len, vec_capacity}
 use Rattle.sim_time.specs.declared.key.Key.{Key}
 use Rattle.sim_time.specs.Keys.{key_cmp}
 use Rattle.net_machine.specs.declared.event.Event.{Event}
@@ -45,7 +43,3 @@ IsInOrder entries = T (map.is_sorted key_cmp entries)
 
 abbrev pub pending_of : List (Key × Event) → Events
 pending_of entries = map.from_sorted entries
-
--- how many more entries there is memory for
-abbrev pub room_of : Vec (Key × Event) → ℕ
-room_of entries = vec_capacity entries - vec_len entries

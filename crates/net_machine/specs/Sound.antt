@@ -1,5 +1,5 @@
 -- What every state of every run of one flow keeps.
-use Rattle.std.specs.Prelude.{◌≡◌, ℕ, ◌+◌, ◌*◌, ◌%◌, ◌<◌, ◌≤◌, ◌⊎◌, [], ◌∷◌, length, Some, IfSome}
+use Rattle.std.specs.Prelude.{◌≡◌, ℕ, ◌+◌, ◌*◌, ◌%◌, ◌<◌, ◌≤◌, ◌⊎◌, [], ◌∷◌, length, Option, Some, IfSome}
 use Rattle.std.specs.List.{AllByRecursion}
 use Rattle.std.specs.FinMap as map
 use Rattle.sim_time.specs.declared.key.Key.{Key}
@@ -62,6 +62,17 @@ Belongs e p k (Free link) = ((k ≡ alarm_key e.sender 3 k.time) × (p.forward.n
 Belongs e p k (Arrive x) =
     ((k.node ≡ e.receiver) × IsSent p.fields.mss p.fields.high x) ⊎ ((k.node ≡ e.sender) × IsGiven p.fields.mss p.fields.high (next_of p.received) x)
 
+-- an alarm that is set is pending under the key of its moment
+abbrev pub IsPendingWhereSet : Events → (ℕ → Key) → Event → Option ℕ → Type 0
+IsPendingWhereSet events key_at event set = IfSome set (λ t. map.get events (key_at t) ≡ Some event)
+
+-- each alarm that a node has set is pending
+pub record AlarmsArePending (e : Ends) (p : Parts) (events : Events) : Type 0 where
+  pub timer : IsPendingWhereSet events (alarm_key e.sender 1) (Rto 0) p.fields.deadline
+  pub delayed : IsPendingWhereSet events (alarm_key e.receiver 2) (DelAck 0) p.received.alarm
+  pub forward_busy : IsPendingWhereSet events (alarm_key e.sender 3) (Free p.forward.link) p.forward.next_free
+  pub back_busy : IsPendingWhereSet events (alarm_key e.receiver 3) (Free p.back.link) p.back.next_free
+
 -- a link of a scenario, to this node; it has begun no more sendings than there were events
 pub record IsPortTo (node n : ℕ) (port : PortState) : Type 0 where
   pub ends_at : port.to ≡ node
@@ -88,6 +99,7 @@ pub record IsSoundAt (e : Ends) (n now : ℕ) (s : State) : Type 0 where
   pub acks_queued : AllByRecursion (λ x. IsGiven p.fields.mss p.fields.high (next_of p.received) x.0) p.back.queue
   pub received_sent : (seq : ℕ) → IsReceived p.received seq → seq + p.fields.mss ≤ p.fields.high
   pub belongs : EachEvent (Belongs e p) s.pending
+  pub alarms : AlarmsArePending e p s.pending
   pub not_past : EachEvent (λ k v. now ≤ k.time) s.pending
   pub answer_waits : IfSome p.received.alarm (λ _. IsAnswerable p.fields.mss p.fields.high (next_of p.received))
   pub timed_before : IfSome p.fields.timing (λ t. t.sent_at ≤ now)

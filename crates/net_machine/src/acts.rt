@@ -44,7 +44,7 @@ impl Default for Act {
 /// What one event did, in the order done. Few acts need no memory of their own.
 #[derive(Debug, Drop)]
 pub struct Acts {
-    items: SmallVec<Act, 8>,
+    items: SmallVec<Act, 4>,
 }
 
 impl Model for Acts {

@@ -8,7 +8,7 @@ ghost use Rattle.net_machine.specs.PartsOf.{parts_state};
 ghost use Rattle.net_machine.specs.State.{opening, due, no_part};
 ghost use Rattle.net_machine.specs.Ready.{IsReady, RoleCan, IsFirstPort, PortCan};
 ghost use Rattle.net_machine.specs.TraceLine.{shown};
-ghost use Rattle.net_machine.specs.OneSegment.{RunsHaveOneSegment};
+ghost use Rattle.net_machine.specs.Rising.{NumbersNeverFall};
 ghost use Rattle.net_machine.specs.Run.{IsRun, Stepped, RunsAreSound, KeysRise, EffectsAreSoon};
 
 use crate::acts::Acts;
@@ -61,14 +61,14 @@ impl Model for Net {
     ghost invariant = { λ net. IsRun (reached_of net) };
 }
 
-// Runs an event at its node.
+// Runs an event at its node. Its line gets what it did, and the node's state after it.
 fn fire_at(
     parts: &mut Vec<Part>,
     key: Key,
     event: &Event,
     pending: &mut Agenda,
-    acts: &mut Acts,
-) -> Result<After, AllocError>
+    line: &mut Line,
+) -> Result<(), AllocError>
     requires time { key.time ≤ 1000000000000000 }
     requires within { key.node < length (parts_state parts.old.items) }
     requires due { next_key pending.old.events ≡ Some key }
@@ -77,12 +77,17 @@ fn fire_at(
     requires port { PortCan (port_at (slice_index_or (parts_state parts.old.items) key.node no_part) 0) }
     ensures parts { OnOk result (parts_state parts.new.items ≡ slice_set (parts_state parts.old.items) key.node (row (slice_index_or (parts_state parts.old.items) key.node no_part) key event.now).part) }
     ensures events { OnOk result (pending.new.events ≡ apply (row (slice_index_or (parts_state parts.old.items) key.node no_part) key event.now).changes (map.remove pending.old.events key)) }
-    ensures acts { OnOk result (acts.new.acts ≡ acts.old.acts ++ (row (slice_index_or (parts_state parts.old.items) key.node no_part) key event.now).acts) }
-    ensures after { IfOk result (λ after. after ≡ (row (slice_index_or (parts_state parts.old.items) key.node no_part) key event.now).after) }
+    ensures acts { OnOk result (line.new.acts.acts ≡ line.old.acts.acts ++ (row (slice_index_or (parts_state parts.old.items) key.node no_part) key event.now).acts) }
+    ensures after { OnOk result (line.new.after ≡ (row (slice_index_or (parts_state parts.old.items) key.node no_part) key event.now).after) }
+    ensures key { line.new.key ≡ line.old.key }
+    ensures event { line.new.event ≡ line.old.event }
     ensures same_parts { OnErr result (parts_state parts.new.items ≡ parts_state parts.old.items) }
     ensures same_events { OnErr result (pending.new.events ≡ pending.old.events) }
 {
-    parts[usize::from(key.node)].fire(key, event, pending, acts)
+    let part = &mut parts[usize::from(key.node)];
+    part.fire(key, event, pending, &mut line.acts)?;
+    line.after = part.after();
+    Ok(())
 }
 
 impl Net {
@@ -141,16 +146,16 @@ impl Net {
         if self.position == MOST_EVENTS {
             return Err(StepFault::CountFull);
         }
-        let mut acts = Acts::new(self.alloc);
-        match fire_at(&mut self.parts, key, &event, &mut self.pending, &mut acts) {
-            Ok(after) => {
+        let mut line = Line {
+            key,
+            event,
+            after: After::AtRouter,
+            acts: Acts::new(self.alloc),
+        };
+        match fire_at(&mut self.parts, key, &event, &mut self.pending, &mut line) {
+            Ok(()) => {
                 self.position += 1;
-                Ok(Some(Line {
-                    key,
-                    event,
-                    after,
-                    acts,
-                }))
+                Ok(Some(line))
             }
             Err(_) => Err(StepFault::NoMemory),
         }
@@ -159,16 +164,10 @@ impl Net {
 
 /// In every run of every scenario each packet, each acknowledgement and each alarm is as its flow
 /// has it: data numbers are whole segments below the sender's greatest byte sent, acknowledgement
-/// numbers are at most the receiver's next byte, which is at most that, each alarm is the one
-/// that its node has set, nothing pending is past, and the counts are bounded by the events run.
+/// numbers are at most the receiver's next byte, which is at most that, an alarm is pending exactly
+/// where its node has set it, nothing pending is past, and the counts are bounded by the events run.
 pub fn every_run_is_sound()
     ensures { RunsAreSound }
-{}
-
-/// In every run of a flow of one segment each segment under way or queued starts with byte 0, each
-/// acknowledgement is for the byte after that segment, and the greatest byte sent is one of these.
-pub fn one_segment_runs()
-    ensures { RunsHaveOneSegment }
 {}
 
 /// In every run of every scenario all that an event sets or sends is due after it, by at most 100
@@ -180,4 +179,10 @@ pub fn effects_are_soon()
 /// In every run of every scenario the keys of the events strictly rise.
 pub fn keys_rise()
     ensures { KeysRise }
+{}
+
+/// Along every run of every scenario no number of a flow falls: neither the bytes acknowledged
+/// and sent of its sender nor the next byte of its receiver.
+pub fn numbers_never_fall()
+    ensures { NumbersNeverFall }
 {}

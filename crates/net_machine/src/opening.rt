@@ -1,5 +1,6 @@
 //! The nodes of a scenario, before anything is sent.
 ghost use Rattle.std.specs.Prelude.{if◌then◌else◌, IsTrue, ◌-◌, ◌≡◌, ◌≤◌, ◌<◌, IfOk, OnOk, Some, length, [], ◌∷◌};
+ghost use Rattle.std.specs.List.Sorted.{IsStrictlyIncreasing};
 ghost use Rattle.sim_time.specs.Serial.{IsRate};
 ghost use Rattle.scenario_image.specs.Scenario.{IsScenario};
 ghost use Rattle.scenario_image.specs.FlowLimits.{IsFlowInLimits};
@@ -28,6 +29,7 @@ fn sender_part(
     requires number { number < 1024 }
     requires rate { IsRate link.now.rate }
     requires delay { link.now.delay ≤ 10000000000 }
+    requires lose { IsStrictlyIncreasing link.now.lose }
     ensures { IfOk result (λ part. part_state part ≡ record { role = sends (0, flow); ports = port_of (number, link.now) ∷ [] }) }
 {
     let sender = Sender::new(
@@ -54,6 +56,7 @@ fn receiver_part(
     requires number { number < 1024 }
     requires rate { IsRate link.now.rate }
     requires delay { link.now.delay ≤ 10000000000 }
+    requires lose { IsStrictlyIncreasing link.now.lose }
     ensures { IfOk result (λ part. part_state part ≡ record { role = receives (0, flow); ports = port_of (number, link.now) ∷ [] }) }
 {
     let receiver = Receiver::new(alloc, u64::from(flow.mss), u64::from(flow.delack));

@@ -1,9 +1,9 @@
 //! One node: what its events do.
-ghost use Rattle.std.specs.Prelude.{◌≡◌, ◌≤◌, ◌++◌, Some, IfOk, OnOk, OnErr};
+ghost use Rattle.std.specs.Prelude.{◌≡◌, ◌≤◌, ◌++◌, Some, OnOk, OnErr};
 ghost use Rattle.std.specs.FinMap as map;
 ghost use Rattle.net_machine.specs.Pending.{next_key, apply};
 ghost use Rattle.net_machine.specs.PortOf.{port_state};
-ghost use Rattle.net_machine.specs.Part.{row};
+ghost use Rattle.net_machine.specs.Part.{row, after_of};
 ghost use Rattle.net_machine.specs.Ready.{PortCan, RoleCan, IsFirstPort};
 
 use crate::acts::Acts;
@@ -38,7 +38,7 @@ impl Part {
         event: &Event,
         pending: &mut Agenda,
         acts: &mut Acts,
-    ) -> Result<After, AllocError>
+    ) -> Result<(), AllocError>
         requires time { key.time ≤ 1000000000000000 }
         requires due { next_key pending.old.events ≡ Some key }
         requires can { RoleCan self.old.role key.time event.now }
@@ -47,7 +47,6 @@ impl Part {
         ensures part { OnOk result (part_state self.new ≡ (row (part_state self.old) key event.now).part) }
         ensures events { OnOk result (pending.new.events ≡ apply (row (part_state self.old) key event.now).changes (map.remove pending.old.events key)) }
         ensures acts { OnOk result (acts.new.acts ≡ acts.old.acts ++ (row (part_state self.old) key event.now).acts) }
-        ensures after { IfOk result (λ after. after ≡ (row (part_state self.old) key event.now).after) }
         ensures same_part { OnErr result (part_state self.new ≡ part_state self.old) }
         ensures same_events { OnErr result (pending.new.events ≡ pending.old.events) }
     {
@@ -64,8 +63,19 @@ impl Part {
                 } else {
                     leave(key, pending);
                 }
-                Ok(After::AtRouter)
+                Ok(())
             }
+        }
+    }
+
+    /// What a line shows of the node.
+    pub fn after(&self) -> After
+        ensures { result ≡ after_of (part_state self.now).role }
+    {
+        match &self.role {
+            Role::Sends(_, sender) => After::AtSender(sender.fields()),
+            Role::Receives(_, receiver) => After::AtReceiver(receiver.next()),
+            Role::Routes => After::AtRouter,
         }
     }
 }

@@ -1,5 +1,6 @@
 //! A link's sending side: its queue, and what is offered to it, sent and dropped.
 ghost use Rattle.std.specs.Prelude.{◌≡◌, ◌+◌, ◌^◌, ◌<◌, ◌≤◌, ◌++◌, [], length, min, IsNone, IfOk, OnOk, OnErr, None};
+ghost use Rattle.std.specs.List.Sorted.{IsStrictlyIncreasing};
 ghost use Rattle.sim_time.specs.Serial.{serial, IsRate};
 ghost use Rattle.net_machine.specs.Pending.{apply};
 ghost use Rattle.net_machine.specs.Port.{offered_one, taken, begun, entered, is_lost};
@@ -35,7 +36,7 @@ pub struct Port {
     pub delay: Time,
     /// The most packets that wait.
     pub capacity: u16,
-    /// Which of the packets offered are lost, counted from 1.
+    /// Which of the packets offered are lost, counted from 1, rising.
     pub lose: Records<u32>,
     /// How many packets were offered.
     pub offered: u128,
@@ -47,6 +48,7 @@ pub struct Port {
     pub queue: VecDeque<(Packet, Time)>,
     ghost link_number: { link < 1024 },
     ghost short_delay: { delay ≤ 10000000000 },
+    ghost lose_rises: { IsStrictlyIncreasing lose },
 }
 
 // How long a link of this rate takes to send a packet, in nanoseconds.
@@ -58,6 +60,16 @@ fn packet_time(packet: &Packet, rate: Rate) -> Time
     serial_ns(u64::from(packet.bytes.get()), rate)
 }
 
+// Whether a number is in a rising list.
+fn is_in(numbers: &[u32], number: u128) -> bool
+    requires { IsStrictlyIncreasing numbers.now }
+    ensures { result ≡ is_lost numbers.now number }
+{
+    numbers
+        .binary_search_by_key(&number, |known| u128::from(*known))
+        .is_ok()
+}
+
 impl Port {
     ghost use Rattle.net_machine.specs.PortOf.{port_state, queue_space};
     ghost use Rattle.net_machine.specs.State.{port_of};
@@ -67,6 +79,7 @@ impl Port {
         requires number { number < 1024 }
         requires rate { IsRate link.now.rate }
         requires delay { link.now.delay ≤ 10000000000 }
+        requires lose { IsStrictlyIncreasing link.now.lose }
         ensures { IfOk result (λ port. port_state port ≡ port_of (number, link.now)) }
     {
         let lose = Vec::from_slice(alloc, link.lose.as_slice())?;
@@ -157,10 +170,7 @@ impl Port {
     fn loses(&self, number: u128) -> bool
         ensures { result ≡ is_lost (port_state self.now).lose number }
     {
-        self.lose
-            .as_slice()
-            .iter()
-            .any(|lost| u128::from(*lost) == number)
+        is_in(self.lose.as_slice(), number)
     }
 
     /// Offers a packet to the link: it is lost, dropped as the queue is full, or enters, and is

@@ -12,7 +12,6 @@ ghost use Rattle.net_machine.specs.Ready.{PortCan, ReceiverCan, IsFirstPort};
 use crate::acts::Acts;
 use crate::agenda::Agenda;
 use crate::event::Event;
-use crate::line::After;
 use crate::offer::acknowledgement;
 use crate::port::Port;
 use crate::room::{DELACK_ALARM, first_port, free_port, leave, make_room};
@@ -71,7 +70,7 @@ pub fn fire_receiver(
     event: &Event,
     pending: &mut Agenda,
     acts: &mut Acts,
-) -> Result<After, AllocError>
+) -> Result<(), AllocError>
     requires time { key.time ≤ 1000000000000000 }
     requires due { next_key pending.old.events ≡ Some key }
     requires can { ReceiverCan receiver.old event.now }
@@ -80,7 +79,6 @@ pub fn fire_receiver(
     ensures part { OnOk result ((record { role = Receives flow receiver.new; ports = port_state port.new ∷ [] }) ≡ (row (record { role = Receives flow receiver.old; ports = port_state port.old ∷ [] }) key event.now).part) }
     ensures events { OnOk result (pending.new.events ≡ apply (row (record { role = Receives flow receiver.old; ports = port_state port.old ∷ [] }) key event.now).changes (map.remove pending.old.events key)) }
     ensures acts { OnOk result (acts.new.acts ≡ acts.old.acts ++ (row (record { role = Receives flow receiver.old; ports = port_state port.old ∷ [] }) key event.now).acts) }
-    ensures after { IfOk result (λ after. after ≡ (row (record { role = Receives flow receiver.old; ports = port_state port.old ∷ [] }) key event.now).after) }
     ensures same_receiver { OnErr result (receiver.new ≡ receiver.old) }
     ensures same_port { OnErr result (port_state port.new ≡ port_state port.old) }
     ensures same_events { OnErr result (pending.new.events ≡ pending.old.events) }
@@ -104,5 +102,5 @@ pub fn fire_receiver(
             Kind::Ack => leave(key, pending),
         },
     }
-    Ok(After::AtReceiver(receiver.next()))
+    Ok(())
 }

@@ -1,5 +1,5 @@
 //! The events of a sender's node.
-ghost use Rattle.std.specs.Prelude.{◌≡◌, ◌+◌, ◌≤◌, ◌++◌, [], ◌∷◌, Some, IfOk, OnOk, OnErr};
+ghost use Rattle.std.specs.Prelude.{◌≡◌, ◌+◌, ◌≤◌, ◌++◌, [], ◌∷◌, Some, OnOk, OnErr};
 ghost use Rattle.std.specs.FinMap as map;
 ghost use Rattle.reno_sender.specs.PlanView.{planned_of, IsPlanOf};
 ghost use Rattle.net_machine.specs.Pending.{next_key, apply};
@@ -11,7 +11,6 @@ ghost use Rattle.net_machine.specs.Ready.{PortCan, SenderCan, IsFirstPort};
 use crate::acts::Acts;
 use crate::agenda::Agenda;
 use crate::event::Event;
-use crate::line::After;
 use crate::offer::{Segments, offer_segments};
 use crate::port::Port;
 use crate::room::{RTO_ALARM, first_port, free_port, leave, make_room};
@@ -29,7 +28,7 @@ fn run_plan(
     key: Key,
     pending: &mut Agenda,
     acts: &mut Acts,
-) -> Result<After, AllocError>
+) -> Result<(), AllocError>
     requires time { key.time ≤ 1000000000000000 }
     requires due { next_key pending.old.events ≡ Some key }
     requires made { IsPlanOf sender.old plan }
@@ -38,20 +37,19 @@ fn run_plan(
     ensures port { OnOk result ((port_state port.new ∷ []) ≡ (sender_row (record { role = Sends flow sender.old; ports = port_state port.old ∷ [] }) key flow sender.old (planned_of plan)).part.ports) }
     ensures events { OnOk result (pending.new.events ≡ apply (sender_row (record { role = Sends flow sender.old; ports = port_state port.old ∷ [] }) key flow sender.old (planned_of plan)).changes (map.remove pending.old.events key)) }
     ensures acts { OnOk result (acts.new.acts ≡ acts.old.acts ++ (sender_row (record { role = Sends flow sender.old; ports = port_state port.old ∷ [] }) key flow sender.old (planned_of plan)).acts) }
-    ensures after { IfOk result (λ after. after ≡ After.AtSender plan.fields) }
     ensures same_sender { OnErr result (sender.new ≡ sender.old) }
     ensures same_port { OnErr result (port_state port.new ≡ port_state port.old) }
     ensures same_events { OnErr result (pending.new.events ≡ pending.old.events) }
 {
-    let fields = plan.fields();
+    let deadline = plan.fields().deadline;
     let count = plan.count();
     make_room(port, pending, acts, count + 1)?;
     pending.take(key);
     let was = sender.fields().deadline;
-    pending.move_alarm(key.node, RTO_ALARM, Event::Rto(flow), was, fields.deadline);
+    pending.move_alarm(key.node, RTO_ALARM, Event::Rto(flow), was, deadline);
     let segments = Segments {
         flow,
-        mss: fields.mss,
+        mss: plan.fields().mss,
     };
     offer_segments(
         port,
@@ -65,7 +63,7 @@ fn run_plan(
         acts,
     );
     sender.commit(plan);
-    Ok(After::AtSender(fields))
+    Ok(())
 }
 
 /// Runs an event at a sender's node.
@@ -77,7 +75,7 @@ pub fn fire_sender(
     event: &Event,
     pending: &mut Agenda,
     acts: &mut Acts,
-) -> Result<After, AllocError>
+) -> Result<(), AllocError>
     requires time { key.time ≤ 1000000000000000 }
     requires due { next_key pending.old.events ≡ Some key }
     requires can { SenderCan sender.old key.time event.now }
@@ -86,7 +84,6 @@ pub fn fire_sender(
     ensures part { OnOk result ((record { role = Sends flow sender.new; ports = port_state port.new ∷ [] }) ≡ (row (record { role = Sends flow sender.old; ports = port_state port.old ∷ [] }) key event.now).part) }
     ensures events { OnOk result (pending.new.events ≡ apply (row (record { role = Sends flow sender.old; ports = port_state port.old ∷ [] }) key event.now).changes (map.remove pending.old.events key)) }
     ensures acts { OnOk result (acts.new.acts ≡ acts.old.acts ++ (row (record { role = Sends flow sender.old; ports = port_state port.old ∷ [] }) key event.now).acts) }
-    ensures after { IfOk result (λ after. after ≡ (row (record { role = Sends flow sender.old; ports = port_state port.old ∷ [] }) key event.now).after) }
     ensures same_sender { OnErr result (sender.new ≡ sender.old) }
     ensures same_port { OnErr result (port_state port.new ≡ port_state port.old) }
     ensures same_events { OnErr result (pending.new.events ≡ pending.old.events) }
@@ -103,12 +100,9 @@ pub fn fire_sender(
         }
         Event::DelAck(_) => {
             leave(key, pending);
-            Ok(After::AtSender(sender.fields()))
+            Ok(())
         }
-        Event::Free(_) => {
-            free_port(port, key, pending, acts)?;
-            Ok(After::AtSender(sender.fields()))
-        }
+        Event::Free(_) => free_port(port, key, pending, acts),
         Event::Arrive(packet) => match packet.kind {
             Kind::Ack => {
                 let plan = sender.on_ack(packet.number, now);
@@ -116,7 +110,7 @@ pub fn fire_sender(
             }
             Kind::Data => {
                 leave(key, pending);
-                Ok(After::AtSender(sender.fields()))
+                Ok(())
             }
         },
     }

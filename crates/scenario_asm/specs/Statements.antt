@@ -1,5 +1,5 @@
 -- The statements, and the first fault of a line.
-use Rattle.std.specs.Prelude.{ℕ, ◌-◌, ◌^◌, Bool, ◌&&◌, ◌||◌, not, ◌==◌, nat_le, nat_lt, List, [], length, codes, Option, Some, None, Result, Ok, Err, if◌then◌else◌}
+use Rattle.std.specs.Prelude.{ℕ, ◌-◌, ◌^◌, Bool, ◌&&◌, ◌||◌, not, ◌==◌, nat_le, List, [], length, codes, Option, Some, None, Result, Ok, Err, if◌then◌else◌}
 use Rattle.std.specs.List.{slice_index_or, list_all}
 use Rattle.std.specs.Str.{bytes_eq}
 use Rattle.scenario_image.specs.declared.parts.NodeKind.{NodeKind}
@@ -8,13 +8,13 @@ use Rattle.scenario_image.specs.declared.parts.QueueKind.{QueueKind}
 use Rattle.scenario_image.specs.declared.parts.QueueKind.TheVariants.{DropTail}
 use Rattle.scenario_image.specs.declared.parts.FlowPart.{FlowPart}
 use Rattle.scenario_asm.specs.declared.fault.Fault.{Fault}
-use Rattle.scenario_asm.specs.declared.fault.Fault.TheVariants.{E1, E2, E3, E4, S1}
+use Rattle.scenario_asm.specs.declared.fault.Fault.TheVariants.{E1, E2, E3, E4, E9, S1}
 use Rattle.scenario_asm.specs.declared.statement.LinkLine.{LinkLine}
 use Rattle.scenario_asm.specs.declared.statement.Statement.{Statement}
-use Rattle.scenario_asm.specs.declared.statement.Statement.TheVariants.{Sim, Node, Link, Flow}
+use Rattle.scenario_asm.specs.declared.statement.Statement.TheVariants.{Sim, Node, Link, Flow, Lose}
 use Rattle.scenario_asm.specs.Lines.{Word, words_of, is_printable}
 use Rattle.scenario_asm.specs.Numbers.{number_in}
-use Rattle.scenario_asm.specs.Names.{Known, new_name, node_of, other_node_of, sender_of, receiver_of}
+use Rattle.scenario_asm.specs.Names.{Known, new_name, node_of, other_node_of, sender_of, receiver_of, link_of, lost_of, last_of, least_above}
 use Rattle.scenario_asm.specs.Reading.{◌>>=◌, refuse_if}
 
 -- a word of a line, counted from 0
@@ -85,16 +85,21 @@ flow_words known words = do
   delack ← number_in 0 500000000 (nth words 8)
   Ok (name, record { sender = sender; receiver = receiver; mss = mss; segments = segments; start = start; rwnd = rwnd; delack = delack })
 
--- a flow that is not simulated yet: a second one, one of more than one segment, one that delays acknowledgements
-abbrev pub is_beyond : Known → FlowPart → Bool
-is_beyond known flow = nat_le 1 (length known.flow_names) || (nat_lt 1 flow.segments || nat_lt 0 flow.delack)
-
 -- `flow NAME SENDER RECEIVER MSS SEGMENTS START RWND DELACK`
 abbrev pub flow_at : Known → List Word → Result Statement Fault
 flow_at known words =
     if length words == 9 then (do
       flow ← flow_words known words
-      refuse_if (is_beyond known flow.1) S1 (Flow flow.0 flow.1))
+      refuse_if (nat_le 1 (length known.flow_names)) S1 (Flow flow.0 flow.1))
+    else Err E3
+
+-- `lose LINK NUMBER`: above the link's last number, and at most 64 of them
+abbrev pub lose_at : Known → List Word → Result Statement Fault
+lose_at known words =
+    if length words == 3 then (do
+      link ← link_of known (nth words 1)
+      number ← number_in (least_above (last_of (lost_of known link))) (10 ^ 9) (nth words 2)
+      refuse_if (nat_le 64 (length (lost_of known link))) E9 (Lose (record { link = link; number = number })))
     else Err E3
 
 -- what a line's words say, which are not none
@@ -104,8 +109,9 @@ statement_at known words =
     else (if bytes_eq (nth words 0) (codes "node") then node_at known words
     else (if bytes_eq (nth words 0) (codes "link") then link_at known words
     else (if bytes_eq (nth words 0) (codes "flow") then flow_at known words
-    else (if bytes_eq (nth words 0) (codes "route") || bytes_eq (nth words 0) (codes "lose") then Err S1
-    else Err E2))))
+    else (if bytes_eq (nth words 0) (codes "lose") then lose_at known words
+    else (if bytes_eq (nth words 0) (codes "route") then Err S1
+    else Err E2)))))
 
 -- what a line says: nothing, a statement, or its first fault
 unfoldable pub line_at : Known → List ℕ → Result (Option Statement) Fault

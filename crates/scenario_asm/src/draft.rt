@@ -41,17 +41,15 @@ impl Ends {
 pub struct Draft<'a> {
     /// What `sim` statements have said.
     pub ends: Ends,
-    /// The declared names, and the nodes.
+    /// The declared names, the nodes and the links.
     pub names: Names<'a>,
-    /// The links.
-    pub links: Vec<LinkPart>,
     /// The flows.
     pub flows: Vec<FlowPart>,
 }
 
-/// The link that a statement speaks of.
+/// The link that a statement declares, which loses nothing yet.
 fn link_part(alloc: Global, line: LinkLine) -> LinkPart
-    ensures { result ≡ part_of line }
+    ensures { result ≡ part_of line [] }
 {
     LinkPart {
         from: line.from,
@@ -73,7 +71,6 @@ impl<'a> Draft<'a> {
         Draft {
             ends: Ends::Unset,
             names: Names::new(alloc),
-            links: Vec::new(alloc),
             flows: Vec::new(alloc),
         }
     }
@@ -88,14 +85,12 @@ impl<'a> Draft<'a> {
         match statement {
             Statement::Sim(end) => self.ends = self.ends.and(end),
             Statement::Node(name, kind) => self.names.add_node(name, kind)?,
-            Statement::Link(name, line) => {
-                self.names.add_link(name)?;
-                self.links.push(link_part(alloc, line))?;
-            }
+            Statement::Link(name, line) => self.names.add_link(name, link_part(alloc, line))?,
             Statement::Flow(name, part) => {
                 self.names.add_flow(name)?;
                 self.flows.push(part)?;
             }
+            Statement::Lose(line) => self.names.add_lost(alloc, line.link, line.number)?,
         }
         Ok(())
     }
@@ -114,26 +109,22 @@ impl<'a> Draft<'a> {
     }
 
     /// The scenario that the lines mean, if they are the whole text.
-    #[tactic(auto, using(crate::proofs::Stage::stage_is_one_flow, crate::proofs::Stage::stage_is_one_segment))]
+    #[tactic(auto, using(crate::proofs::Stage::stage_is_one_flow))]
     pub fn finish(self, alloc: Global) -> Result<Scenario, AsmFault>
         requires { IsInStage self }
         ensures { (statements : List Statement) → Holds self.entry statements → WholeGives statements result }
     {
-        let Draft {
-            ends,
-            names,
-            links,
-            flows,
-        } = self;
+        let Draft { ends, names, flows } = self;
         let Ends::Set(end) = ends else {
             return Err(AsmFault::At {
                 line: 0,
                 fault: Fault::E10,
             });
         };
+        let (nodes, links) = names.into_parts();
         let parts = ScenarioParts {
             end,
-            nodes: Records::new(names.into_kinds()),
+            nodes: Records::new(nodes),
             links: Records::new(links),
             flows: Records::new(flows),
             routes: Records::new(Vec::new(alloc)),

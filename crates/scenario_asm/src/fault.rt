@@ -18,7 +18,7 @@ pub enum Fault {
     E3,
     /// A word of the wrong form: no number, no name or none of the fixed words, where one is asked.
     E4,
-    /// A number out of its range.
+    /// A number out of its range, or a `lose` number that is not above the link's last one.
     E5,
     /// A declared name is taken.
     E6,
@@ -26,7 +26,7 @@ pub enum Fault {
     E7,
     /// A used name is that of something else than what is asked.
     E8,
-    /// Too many nodes, links or flows.
+    /// Too many nodes, links or flows, or too many `lose` statements of one link.
     E9,
     /// Not exactly one `sim`.
     E10,

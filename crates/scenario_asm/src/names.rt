@@ -1,22 +1,26 @@
 //! The table of names.
-ghost use Rattle.std.specs.Prelude.{◌≡◌, ◌≢◌, ◌<◌, ◌++◌, ◌∷◌, [], length, OnOk, IfOk};
+ghost use Rattle.std.specs.Prelude.{◌≡◌, ◌≢◌, ◌<◌, ◌++◌, ◌∷◌, [], length, set, OnOk, IfOk};
 ghost use Rattle.std.specs.Bool.{OnTrue};
 ghost use Rattle.std.specs.List.{slice_get};
-ghost use Rattle.scenario_asm.specs.Names.{Known, is_among, is_taken, new_name, number_among, node_of, other_node_of, is_sender, is_receiver, sender_of, receiver_of};
+ghost use Rattle.scenario_image.specs.declared.parts.LinkPart.{LinkPart};
+ghost use Rattle.scenario_asm.specs.Names.{Known, is_among, is_taken, new_name, number_among, number_of, node_of, other_node_of, is_sender, is_receiver, sender_of, receiver_of, link_of, lost_of};
 
 use crate::fault::Fault;
 use crate::lexer::Word;
 use crate::name::Name;
-use scenario_image::NodeKind;
+use scenario_image::{LinkPart, NodeKind, Records};
 use std::alloc::{AllocError, Global};
 use std::marker::Model;
+use std::mem;
 
-/// The names that have been declared, each sort in the order of its numbers, and what the nodes do.
+/// The names that have been declared, each sort in the order of its numbers, what the nodes do, and
+/// what the links are.
 #[derive(Drop)]
 pub struct Names<'a> {
     nodes: Vec<Name<'a>>,
     kinds: Vec<NodeKind>,
     links: Vec<Name<'a>>,
+    parts: Vec<LinkPart>,
     flows: Vec<Name<'a>>,
 }
 
@@ -26,9 +30,9 @@ impl<'a> Model for Names<'a> {
 
     ghost Value = { Known };
 
-    ghost view = { λ n. record { node_names = n.nodes.items; node_kinds = n.kinds.items; link_names = n.links.items; flow_names = n.flows.items } };
+    ghost view = { λ n. record { node_names = n.nodes.items; node_kinds = n.kinds.items; link_names = n.links.items; links = n.parts.items; flow_names = n.flows.items } };
 
-    ghost invariant = { λ n. length n.nodes.items ≤ 256 };
+    ghost invariant = { λ n. (length n.nodes.items ≤ 256) × (length n.links.items ≤ 1024) };
 }
 
 /// Where a word stands among names.
@@ -45,15 +49,26 @@ fn is_among(names: &[Name<'_>], word: &[u8]) -> bool
     names.iter().any(|name| name.is(word))
 }
 
+/// Has a link lose one more packet. After an `Err` it loses none.
+fn lose(alloc: Global, part: &mut LinkPart, number: u32) -> Result<(), AllocError>
+    ensures { OnOk result (part.new ≡ record part.old { lose = part.old.lose ++ number ∷ [] }) }
+{
+    let mut numbers = mem::replace(&mut part.lose, Records::new(Vec::new(alloc))).into_vec();
+    numbers.push(number)?;
+    part.lose = Records::new(numbers);
+    Ok(())
+}
+
 impl<'a> Names<'a> {
     /// No names.
     pub fn new(alloc: Global) -> Names<'a>
-        ensures { result ≡ record { node_names = []; node_kinds = []; link_names = []; flow_names = [] } }
+        ensures { result ≡ record { node_names = []; node_kinds = []; link_names = []; links = []; flow_names = [] } }
     {
         Names {
             nodes: Vec::new(alloc),
             kinds: Vec::new(alloc),
             links: Vec::new(alloc),
+            parts: Vec::new(alloc),
             flows: Vec::new(alloc),
         }
     }
@@ -97,17 +112,45 @@ impl<'a> Names<'a> {
         }
     }
 
-    /// The node that a word means.
-    pub fn node(&self, word: &Word<'a>) -> Result<u16, Fault>
-        ensures { result ≡ node_of self.now word.now }
+    /// The number that a word means, where these names are asked, all those of one sort.
+    fn number(&self, names: &[Name<'a>], word: &Word<'a>) -> Result<usize, Fault>
+        ensures exact { result ≡ number_of self.now names.now word.now }
+        ensures within { IfOk result (λ number. number < length names.now) }
     {
         let Some(_name) = Name::of(word) else {
             return Err(Fault::E4);
         };
-        match number_among(&self.nodes, word.bytes()) {
-            Some(number) => Ok(number as u16),
+        match number_among(names, word.bytes()) {
+            Some(number) => Ok(number),
             None if self.is_taken(word.bytes()) => Err(Fault::E8),
             None => Err(Fault::E7),
+        }
+    }
+
+    /// The node that a word means.
+    pub fn node(&self, word: &Word<'a>) -> Result<u16, Fault>
+        ensures { result ≡ node_of self.now word.now }
+    {
+        let node = self.number(&self.nodes, word)?;
+        Ok(node as u16)
+    }
+
+    /// The link that a word means.
+    pub fn link(&self, word: &Word<'a>) -> Result<u16, Fault>
+        ensures exact { result ≡ link_of self.now word.now }
+        ensures within { IfOk result (λ link. link < length self.now.link_names) }
+    {
+        let link = self.number(&self.links, word)?;
+        Ok(link as u16)
+    }
+
+    /// The packets of a link that are lost so far, counted from 1 among those offered to it.
+    pub fn lost(&self, link: u16) -> &[u32]
+        ensures { result.now ≡ lost_of self.now link }
+    {
+        match self.parts.get(usize::from(link)) {
+            Some(part) => part.lose.as_slice(),
+            None => &[],
         }
     }
 
@@ -179,12 +222,22 @@ impl<'a> Names<'a> {
         Ok(())
     }
 
-    /// Declares the next link.
-    pub fn add_link(&mut self, name: Name<'a>) -> Result<(), AllocError>
-        ensures { OnOk result (self.new ≡ record self.old { link_names = self.old.link_names ++ name.entry ∷ [] }) }
+    /// Declares the next link. After an `Err` the table may lack its name.
+    pub fn add_link(&mut self, name: Name<'a>, part: LinkPart) -> Result<(), AllocError>
+        requires { length self.old.link_names < 1024 }
+        ensures { OnOk result (self.new ≡ record self.old { link_names = self.old.link_names ++ name.entry ∷ []; links = self.old.links ++ part ∷ [] }) }
     {
+        self.parts.push(part)?;
         self.links.push(name)?;
         Ok(())
+    }
+
+    /// Has a link lose one more packet. After an `Err` it may lose none.
+    pub fn add_lost(&mut self, alloc: Global, link: u16, number: u32) -> Result<(), AllocError>
+        requires { link < length self.old.links }
+        ensures { (part : LinkPart) → slice_get self.old.links link ≡ Some part → OnOk result (self.new ≡ record self.old { links = set self.old.links link (record part { lose = part.lose ++ number ∷ [] }) }) }
+    {
+        lose(alloc, &mut self.parts[usize::from(link)], number)
     }
 
     /// Declares the next flow.
@@ -195,10 +248,12 @@ impl<'a> Names<'a> {
         Ok(())
     }
 
-    /// What the nodes do.
-    pub fn into_kinds(self) -> Vec<NodeKind>
-        ensures { result.items ≡ self.entry.node_kinds }
+    /// What the nodes do, and the links.
+    pub fn into_parts(self) -> (Vec<NodeKind>, Vec<LinkPart>)
+        ensures nodes { result.0.items ≡ self.entry.node_kinds }
+        ensures links { result.1.items ≡ self.entry.links }
     {
-        self.kinds
+        let Names { kinds, parts, .. } = self;
+        (kinds, parts)
     }
 }

@@ -5,7 +5,6 @@ pub mod RouteLimits
 pub mod Limits
 pub mod Ends
 pub mod OneFlow
-pub mod OneSegment
 pub mod Scenario
 pub mod Shape
 pub mod Fault

@@ -2,7 +2,6 @@
 use Rattle.scenario_image.specs.Limits.{IsInLimits}
 use Rattle.scenario_image.specs.Ends.{HasItsEnds}
 use Rattle.scenario_image.specs.OneFlow.{IsOneFlow}
-use Rattle.scenario_image.specs.OneSegment.{SendsOneSegment}
 use Rattle.scenario_image.specs.declared.parts.ScenarioParts.{ScenarioParts}
 
 -- the parts of a scenario: within limits, each node with its links and its flow, and what is simulated today
@@ -10,4 +9,3 @@ pub record IsScenario (parts : ScenarioParts) : Type 0 where
   pub in_limits : IsInLimits parts
   pub ends : HasItsEnds parts
   pub simulated_flow : IsOneFlow parts
-  pub simulated_segment : SendsOneSegment parts

@@ -3,7 +3,6 @@ ghost use Rattle.std.specs.Prelude.{◌≡◌, ◌↔◌, IfOk, OnOk, IsErrOf};
 ghost use Rattle.scenario_image.specs.Limits.{IsInLimits};
 ghost use Rattle.scenario_image.specs.Ends.{HasItsEnds};
 ghost use Rattle.scenario_image.specs.OneFlow.{IsOneFlow};
-ghost use Rattle.scenario_image.specs.OneSegment.{SendsOneSegment};
 ghost use Rattle.scenario_image.specs.Scenario.{IsScenario};
 ghost use Rattle.scenario_image.specs.Shape.{OneFlowShape};
 
@@ -34,7 +33,6 @@ impl Scenario {
     /// The scenario of these parts. Refused parts are given up.
     pub fn of_parts(parts: ScenarioParts) -> Result<Scenario, LoadFault>
         requires one_flow { IsOneFlow parts }
-        requires one_segment { SendsOneSegment parts }
         ensures ok { IfOk result (λ scenario. scenario ≡ parts) }
         ensures scenario { OnOk result (IsScenario parts) }
         ensures limits { IsErrOf result LoadFault.L3 ↔ ¬ IsInLimits parts }

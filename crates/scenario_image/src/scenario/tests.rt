@@ -1,6 +1,5 @@
-ghost use Rattle.std.specs.Prelude.{◌≡◌, [], IfOk};
+ghost use Rattle.std.specs.Prelude.{◌≡◌, IfOk};
 ghost use Rattle.scenario_image.specs.OneFlow.{IsOneFlow};
-ghost use Rattle.scenario_image.specs.OneSegment.{SendsOneSegment};
 
 use super::*;
 use crate::parts::{FlowPart, LinkPart, NodeKind, QueueKind};
@@ -8,11 +7,10 @@ use crate::records::Records;
 use std::alloc::{AllocError, Global};
 use std::test::Fail;
 
-fn link(alloc: Global, from: u16, to: u16) -> LinkPart
+fn link(from: u16, to: u16, lose: Records<u32>) -> LinkPart
     ensures from { result.from ≡ from }
     ensures to { result.to ≡ to }
     ensures drop_tail { result.queue ≡ QueueKind.DropTail }
-    ensures no_loss { result.lose ≡ [] }
 {
     LinkPart {
         from,
@@ -21,26 +19,27 @@ fn link(alloc: Global, from: u16, to: u16) -> LinkPart
         delay: 1_000_000,
         queue: QueueKind::DropTail,
         capacity: 10,
-        lose: Records::new(Vec::new(alloc)),
+        lose,
     }
 }
 
-/// A flow between two nodes; the second link leads back, or as the first does.
-fn parts(alloc: Global, rwnd: u32, leads_back: bool) -> Result<ScenarioParts, AllocError>
+/// A flow between two nodes. The first link loses packet 2 and this one; the second leads back, or
+/// as the first does.
+fn parts(alloc: Global, rwnd: u32, lost: u32, leads_back: bool) -> Result<ScenarioParts, AllocError>
     ensures one_flow { IfOk result IsOneFlow }
-    ensures one_segment { IfOk result SendsOneSegment }
 {
-    let forward = link(alloc, 0, 1);
+    let lose = vec![in alloc; 2, lost]?;
+    let forward = link(0, 1, Records::new(lose));
     let from = u16::from(leads_back);
-    let second = link(alloc, from, 1 - from);
+    let second = link(from, 1 - from, Records::new(Vec::new(alloc)));
     let flow = FlowPart {
         sender: 0,
         receiver: 1,
         mss: 1_000,
-        segments: 1,
+        segments: 1_000_000_000,
         start: 0,
         rwnd,
-        delack: 0,
+        delack: 500_000_000,
     };
     let nodes = vec![in alloc; NodeKind::Sender, NodeKind::Receiver]?;
     let links = vec![in alloc; forward, second]?;
@@ -56,7 +55,7 @@ fn parts(alloc: Global, rwnd: u32, leads_back: bool) -> Result<ScenarioParts, Al
 
 #[test]
 fn a_scenario_keeps_its_parts(rt: HostRuntime) -> Result<(), Fail> {
-    let scenario = Scenario::of_parts(parts(rt.alloc(), 64_000, true)?)?;
+    let scenario = Scenario::of_parts(parts(rt.alloc(), 64_000, 3, true)?)?;
     let parts = scenario.parts();
     assert_eq!(rt;
         parts.nodes.as_slice(),
@@ -68,13 +67,14 @@ fn a_scenario_keeps_its_parts(rt: HostRuntime) -> Result<(), Fail> {
 
 #[test]
 fn refused_parts_have_a_fault(rt: HostRuntime) -> Result<(), Fail> {
-    for (rwnd, leads_back, want) in [
-        (1_000, true, None),
-        (999, true, Some(LoadFault::L3)),
-        (999, false, Some(LoadFault::L3)),
-        (1_000, false, Some(LoadFault::L5)),
+    for (rwnd, lost, leads_back, want) in [
+        (1_000, 3, true, None),
+        (999, 3, true, Some(LoadFault::L3)),
+        (1_000, 2, true, Some(LoadFault::L3)),
+        (999, 3, false, Some(LoadFault::L3)),
+        (1_000, 3, false, Some(LoadFault::L5)),
     ] {
-        let made = Scenario::of_parts(parts(rt.alloc(), rwnd, leads_back)?);
+        let made = Scenario::of_parts(parts(rt.alloc(), rwnd, lost, leads_back)?);
         assert_eq!(rt; made.err(), want);
     }
     Ok(())

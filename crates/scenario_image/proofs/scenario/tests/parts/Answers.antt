@@ -1,8 +1,7 @@
-use Rattle.std.proofs.Common.{◌≡◌, ◌≢◌, ◌≤◌, ℕ, List, [], ◌∷◌, length, Some, arith, refl, ap, sym, ◌∙◌, All}
+use Rattle.std.proofs.Common.{◌≡◌, ◌≢◌, ℕ, List, [], ◌∷◌, length, Some, arith, refl, ap, sym, ◌∙◌, All}
 use Rattle.std.proofs.lemmas.List.Elements.{All-nil, All-cons, All-same}
 use Rattle.std.specs.List.{slice_get}
 use Rattle.scenario_image.specs.OneFlow.{IsOneFlow}
-use Rattle.scenario_image.specs.OneSegment.{SendsOneSegment}
 use Rattle.scenario_image.specs.declared.parts.FlowPart.{FlowPart}
 use Rattle.scenario_image.specs.declared.parts.LinkPart.{LinkPart}
 use Rattle.scenario_image.specs.declared.parts.NodeKind.{NodeKind}
@@ -23,7 +22,6 @@ of_one P items a same at_a = All-same P items (a ∷ []) same (All-cons P a [] a
 record IsPlain (link : LinkPart) : Type 0 where
   pub no_loop : link.from ≢ link.to
   pub drop_tail : link.queue ≡ DropTail
-  pub no_loss : link.lose ≡ []
 
 at_sender : (nodes : List NodeKind) (node : ℕ) → nodes ≡ Sender ∷ Receiver ∷ [] → node ≡ 0 → (kind : NodeKind) → slice_get nodes node ≡ Some kind → kind ≡ Sender
 at_sender nodes node same zero kind found = let there : Some Sender ≡ slice_get nodes node = sym (ap (λ xs. slice_get xs node) same ∙ ap (slice_get (Sender ∷ Receiver ∷ [])) zero) in cc
@@ -45,24 +43,12 @@ one_flow_of parts a b flow nodes links flows routes plain_a plain_b sender recei
   no_routes = routes;
 }
 
-one_segment_of : (parts : ScenarioParts) (a b : LinkPart) (flow : FlowPart) → parts.links ≡ a ∷ b ∷ [] → parts.flows ≡ flow ∷ [] → IsPlain a → IsPlain b → flow.segments ≡ 1 → flow.delack ≡ 0 → SendsOneSegment parts
-one_segment_of parts a b flow links flows plain_a plain_b segments delack = record {
-  one_segment = of_one (λ f. f.segments ≤ 1) parts.flows flow flows (omega arith);
-  no_delay = of_one (λ f. f.delack ≡ 0) parts.flows flow flows delack;
-  no_loss = of_two (λ link. link.lose ≡ []) parts.links a b links plain_a.no_loss plain_b.no_loss;
-}
-
-pub returns-clause-one_flow : goal.returns-clause-one_flow
-returns-clause-one_flow c =
-    let flow : FlowPart = record { sender = 0; receiver = 1; mss = 1000; segments = 1; start = 0; rwnd = c.args.rwnd; delack = 0 } in
-    one_flow_of _ c.link-forward.result c.link-second.result flow (c.new.ensures ∙ c.in_ok-nodes.ensures.items) (c.new-2.ensures ∙ c.in_ok-links.ensures.items)
-    (c.new-3.ensures ∙ c.in_ok-flows.ensures.items) (c.new-5.ensures ∙ c.new-4.ensures.items)
-    (record { no_loop = omega arith; drop_tail = c.link-forward.ensures.drop_tail; no_loss = c.link-forward.ensures.no_loss })
-    (record { no_loop = omega arith; drop_tail = c.link-second.ensures.drop_tail; no_loss = c.link-second.ensures.no_loss }) refl refl
-
-pub returns-clause-one_segment : goal.returns-clause-one_segment
-returns-clause-one_segment c =
-    let flow : FlowPart = record { sender = 0; receiver = 1; mss = 1000; segments = 1; start = 0; rwnd = c.args.rwnd; delack = 0 } in
-    one_segment_of _ c.link-forward.result c.link-second.result flow (c.new-2.ensures ∙ c.in_ok-links.ensures.items) (c.new-3.ensures ∙ c.in_ok-flows.ensures.items)
-    (record { no_loop = omega arith; drop_tail = c.link-forward.ensures.drop_tail; no_loss = c.link-forward.ensures.no_loss })
-    (record { no_loop = omega arith; drop_tail = c.link-second.ensures.drop_tail; no_loss = c.link-second.ensures.no_loss }) refl refl
+pub returns : goal.returns
+returns c =
+    let flow : FlowPart = record { sender = 0; receiver = 1; mss = 1000; segments = 1000000000; start = 0; rwnd = c.args.rwnd; delack = 500000000 } in
+    record {
+      one_flow = one_flow_of _ c.link-forward.result c.link-second.result flow (c.new-4.ensures ∙ c.in_ok-nodes.ensures.items) (c.new-5.ensures ∙ c.in_ok-links.ensures.items)
+          (c.new-6.ensures ∙ c.in_ok-flows.ensures.items) (c.new-8.ensures ∙ c.new-7.ensures.items)
+          (record { no_loop = omega arith; drop_tail = c.link-forward.ensures.drop_tail })
+          (record { no_loop = omega arith; drop_tail = c.link-second.ensures.drop_tail }) refl refl;
+    }
