@@ -5,7 +5,6 @@ use Rattle.std.specs.Option.{option_map}
 use Rattle.std.specs.Io.KnownBytes.{Appends, Keeps}
 use Rattle.std.specs.Io.Take.{take_limit, take_inner, take_remaining}
 use Rattle.std.specs.declared.io.traits.Take.{Take}
-use Rattle.tcpsim.specs.Session.{IsWithin}
 use Rattle.tcpsim.specs.Written.{Writes, IsBeginningOf}
 
 -- nothing was taken
@@ -47,15 +46,15 @@ part_begun bytes a b done h = (take done bytes, h, (drop done bytes, take-append
 
 -- all bytes up to one more than the most, where there are no more than the most
 first_bytes : (known : Option (List ℕ)) (text : List ℕ) → IfSome (option_map (take 16777217) known) (λ xs. text ≡ xs) → length text ≤ 16777216
-    → IfSome known (λ bytes. (text ≡ bytes) × IsWithin bytes)
+    → IfSome known (λ bytes. text ≡ bytes)
 first_bytes None text h short = tt
 first_bytes (Some bytes) text h short =
     let same : length text ≡ length (take 16777217 bytes) = ap length h in
     let within : length bytes ≤ 16777216 = omega (arith, same, short, length-take 16777217 bytes) in
-    (h ∙ take_all 16777217 bytes (omega (arith, within)), within)
+    h ∙ take_all 16777217 bytes (omega (arith, within))
 
 pub all_bytes : {R : Type 0} (remaining : R → Option (List ℕ)) (t : Take R) (reader : R) (text before : List ℕ) → take_limit t ≡ 16777217 → take_inner t ≡ reader → before ≡ []
-    → IfSome (take_remaining remaining t) (λ xs. text ≡ before ++ xs) → length text ≤ 16777216 → IfSome (remaining reader) (λ bytes. (text ≡ bytes) × IsWithin bytes)
+    → IfSome (take_remaining remaining t) (λ xs. text ≡ before ++ xs) → length text ≤ 16777216 → IfSome (remaining reader) (λ bytes. text ≡ bytes)
 all_bytes remaining t reader text before limit inner empty h short =
     let e : take_remaining remaining t ≡ option_map (take 16777217) (remaining reader) =
     ap (λ n. option_map (take n) (remaining t.inner)) limit ∙ ap (λ r. option_map (take 16777217) (remaining r)) inner in

@@ -14,7 +14,7 @@ use Rattle.trace_text.specs.End.{end_bytes}
 use Rattle.tcpsim.specs.Trace.{lines_bytes, IsTrace, IsTraceStart, IsTraceOrStart}
 use Rattle.tcpsim.specs.declared.fault.SessionFault.{SessionFault}
 use Rattle.tcpsim.specs.declared.fault.SessionFault.TheVariants.{TooLong, Refused, CommandLine, WordsNotUtf8, ReadFailed, WriteFailed, NoMemory, CountFull}
-use Rattle.tcpsim.specs.Session.{IsRunFault, IsShortOfRoom}
+use Rattle.tcpsim.specs.Steps.{IsRunFault, IsShortOfRoom}
 use Rattle.tcpsim.specs.Written.{Writes, WritesBefore, IsBeginningOf}
 use Rattle.tcpsim.proofs.Bytes.{appends_nothing, appends_more}
 

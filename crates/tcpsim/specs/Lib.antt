@@ -1,5 +1,7 @@
 pub mod Written
 pub mod Faults
 pub mod Trace
+pub mod Steps
+pub mod Outcome
 pub mod Session
-pub mod Meaning
+pub mod CommandLine

@@ -1,9 +1,10 @@
 //! The program: a scenario text comes in on standard input, its trace goes out on standard output.
 #![tactic(auto)]
 
-mod command_line;
+pub mod command_line;
 mod fault;
 mod input;
+mod outcome;
 mod output;
 mod session;
 #[cfg(test)]
@@ -11,7 +12,8 @@ mod tests;
 mod trace;
 
 use crate::fault::SessionFault;
-use crate::session::{Outcome, run_all};
+use crate::outcome::Outcome;
+use crate::session::run_all;
 use std::env;
 use std::io::ErrorKind;
 use std::process::ExitCode;

@@ -1,78 +1,54 @@
 //! A session: from the words and the input to the output, the status and the note.
-ghost use Rattle.std.specs.Prelude.{◌≡◌, ℕ, OnOk, IfErr};
-ghost use Rattle.scenario_asm.specs.declared.fault.Fault.{Fault};
-ghost use Rattle.scenario_asm.specs.Meaning.{MeansFault};
-ghost use Rattle.tcpsim.specs.Meaning.{RunsText, IsFaultOf};
+ghost use Rattle.std.specs.Prelude.{◌≡◌, ◌≢◌, ◌⊎◌, [], map, Some, Err};
+ghost use Rattle.clap.specs.Values.{kind_of};
+ghost use Rattle.clap.specs.declared.error.kind.ErrorKind.TheVariants.{DisplayHelp, DisplayVersion, OutOfMemory};
+ghost use Rattle.tcpsim.specs.CommandLine.{word_faults, AreMistaken};
+ghost use Rattle.tcpsim.specs.Session.{IsWithin, IsSession, IsSessionOn, Tells};
 
 use crate::command_line::read_words;
 use crate::fault::SessionFault;
 use crate::input::read_text;
+use crate::outcome::Outcome;
 use crate::trace::run_scenario;
 use clap::error::ErrorKind;
-use scenario_asm::{AsmFault, assemble};
+use scenario_asm::assemble;
 use std::alloc::Global;
 use std::convert::AsStr;
 use std::io::{Read, Write};
 
-/// How a session ended.
-#[derive(Debug, Drop)]
-pub struct Outcome {
-    /// The status with which the program ends: 0 done, 1 input refused, 2 command line refused,
-    /// 3 reading or writing failed, 4 no room to go on.
-    pub status: u8,
-    /// What goes to standard error, by its `Display`. None where the session is done.
-    pub note: Option<SessionFault>,
-}
-
-impl From<Result<(), SessionFault>> for Outcome {
-    fn from(ended: Result<(), SessionFault>) -> Outcome {
-        match ended {
-            Ok(()) => Outcome {
-                status: 0,
-                note: None,
-            },
-            Err(fault) => Outcome {
-                status: fault.status(),
-                note: Some(fault),
-            },
-        }
-    }
+/// Runs a text, and writes its trace.
+fn run_text<W: Write>(alloc: Global, text: &[u8], writer: &mut W) -> Result<(), SessionFault>
+    requires { IsWithin text.now }
+    ensures { IsSession text.now result (W.contents writer.old) (W.contents writer.new) }
+{
+    let scenario = assemble(alloc, text)?;
+    run_scenario(alloc, &scenario, writer)
 }
 
 /// Runs the text on the reader, and writes its trace.
-fn run<R: Read + Drop, W: Write>(
+fn run_input<R: Read + Drop, W: Write>(
     alloc: Global,
     reader: R,
     writer: &mut W,
-) -> Result<(), SessionFault> {
+) -> Result<(), SessionFault>
+    ensures { IsSessionOn (R.remaining reader) result (W.contents writer.old) (W.contents writer.new) }
+{
     let text = read_text(alloc, reader)?;
     run_text(alloc, text.as_slice(), writer)
 }
 
-/// Runs a text, and writes its trace.
-fn run_text<W: Write>(alloc: Global, text: &[u8], writer: &mut W) -> Result<(), SessionFault>
-    ensures done { OnOk result (RunsText text.now (W.contents writer.old) (W.contents writer.new)) }
-    ensures refused { IfErr result (IsFaultOf text.now) }
+/// The session of `tcpsim run`: runs the text on the reader, and writes its trace.
+pub fn run_session<R: Read + Drop, W: Write>(alloc: Global, reader: R, writer: &mut W) -> Outcome
+    ensures { Tells result (λ ended. IsSessionOn (R.remaining reader) ended (W.contents writer.old) (W.contents writer.new)) }
 {
-    match assemble(alloc, text) {
-        Ok(scenario) => run_scenario(alloc, &scenario, writer),
-        Err(fault) => Err(refusal(text, fault)),
-    }
-}
-
-/// The text's fault, as the session's.
-fn refusal(_text: &[u8], fault: AsmFault) -> SessionFault
-    requires { (number : ℕ) (known : Fault) → fault ≡ AsmFault.At number known → MeansFault _text.now number known }
-    ensures { IsFaultOf _text.now result }
-{
-    match fault {
-        AsmFault::At { line, fault } => SessionFault::Refused { line, fault },
-        AsmFault::NoMemory => SessionFault::NoMemory,
-    }
+    Outcome::from(run_input(alloc, reader, writer))
 }
 
 /// Writes what the command line asks to be shown, or has the mistake in it.
-fn answer_words<W: Write>(error: clap::Error, writer: &mut W) -> Result<(), SessionFault> {
+fn answer_words<W: Write>(error: clap::Error, writer: &mut W) -> Result<(), SessionFault>
+    ensures no_memory { kind_of error ≡ OutOfMemory → (result ≡ Err SessionFault.NoMemory) × (W.contents writer.new ≡ W.contents writer.old) }
+    ensures mistake { kind_of error ≢ OutOfMemory → kind_of error ≢ DisplayHelp → kind_of error ≢ DisplayVersion → (result ≡ Err (SessionFault.CommandLine error)) × (W.contents writer.new ≡ W.contents writer.old) }
+{
     match error.kind() {
         ErrorKind::DisplayHelp | ErrorKind::DisplayVersion => {
             let written = write!(writer, "{error}");
@@ -89,10 +65,12 @@ pub fn run_all<H: AllocGlobal, R: Read + Drop, W: Write, S: AsStr>(
     reader: R,
     writer: &mut W,
     words: &[S],
-) -> Outcome {
-    let result = match read_words(rt.alloc(), words) {
-        Ok(()) => run(rt.alloc(), reader, writer),
-        Err(error) => answer_words(error, writer),
-    };
-    Outcome::from(result)
+) -> Outcome
+    ensures run { word_faults (map S.text words.now) ≡ [] → Tells result (λ ended. IsSessionOn (R.remaining reader) ended (W.contents writer.old) (W.contents writer.new)) }
+    ensures mistake { AreMistaken (map S.text words.now) → ((result.status ≡ 2) ⊎ (result.note ≡ Some SessionFault.NoMemory)) × (W.contents writer.new ≡ W.contents writer.old) }
+{
+    match read_words(rt.alloc(), words) {
+        Ok(()) => run_session(rt.alloc(), reader, writer),
+        Err(error) => Outcome::from(answer_words(error, writer)),
+    }
 }

@@ -1,6 +1,9 @@
 //! Whole sessions over memory.
 
+pub(crate) mod traces;
+
 use crate::session::run_all;
+use crate::tests::traces::{DELAY_ENDS, DELAYED, LOST_ONCE, QUEUE_OF_ONE, THREE_LOSSES};
 use std::io;
 use std::io::{Read, Write};
 use std::process::Abort;
@@ -115,6 +118,14 @@ end 10
 }
 
 #[test]
+fn a_flow_runs_as_its_rules_say(rt: HostRuntime) -> Result<(), Fail> {
+    for (text, trace) in [LOST_ONCE, QUEUE_OF_ONE, DELAYED, DELAY_ENDS, THREE_LOSSES] {
+        expect_run(&rt, text, 0, "", trace)?;
+    }
+    Ok(())
+}
+
+#[test]
 fn a_refused_text_has_its_first_fault_in_the_note(rt: HostRuntime) -> Result<(), Fail> {
     for (text, note) in [
         ("", "refused E10 line 0\n"),
@@ -125,10 +136,7 @@ fn a_refused_text_has_its_first_fault_in_the_note(rt: HostRuntime) -> Result<(),
             "sim 5\nnode a sender\nlink x a a 1000 1 droptail 1",
             "refused E8 line 3\n",
         ),
-        (
-            "sim 1\nnode s sender\nnode r receiver\nlink a s r 8000000 1000000 droptail 1\nlink b r s 8000000 1000000 droptail 10\nflow f s r 1000 4 0 64000 0\n",
-            "refused S1 line 6\n",
-        ),
+        ("sim 5\nnode a sender\nnode b router", "refused S1 line 3\n"),
     ] {
         expect_run(&rt, text, 1, note, "")?;
     }

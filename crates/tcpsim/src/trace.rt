@@ -5,7 +5,7 @@ ghost use Rattle.net_machine.specs.TraceLine.{shown};
 ghost use Rattle.trace_text.specs.Line.{line_bytes};
 ghost use Rattle.tcpsim.specs.Written.{Writes, WritesBefore, IsBeginningOf};
 ghost use Rattle.tcpsim.specs.Trace.{IsTrace, IsTraceStart, IsTraceOrStart};
-ghost use Rattle.tcpsim.specs.Session.{IsRunFault, IsShortOfRoom};
+ghost use Rattle.tcpsim.specs.Steps.{IsRunFault, IsShortOfRoom};
 
 use crate::fault::SessionFault;
 use crate::output::{PAGE, put_full_page, put_page};
