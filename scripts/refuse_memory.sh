@@ -1,14 +1,16 @@
 #!/usr/bin/env bash
-# Refuses each request for memory in turn, on the first example with the built program: every
-# refusal has to end with status 4, the note 'no memory' and a beginning of the trace in whole
-# lines. By hand, after `make run`; it wants a C compiler. Not in the gate.
+# Refuses each request for memory in turn, with the built program on a scenario (the first example,
+# or the file that is named): every refusal has to end with status 4, the note 'no memory' and a
+# beginning of the trace in whole lines. By hand, after `make run`; it wants a C compiler. Not in
+# the gate. Usage: scripts/refuse_memory.sh [SCENARIO]
 set -u
 top=$(cd "$(dirname "$0")/.." && pwd)
 program=$top/crates/tcpsim/out/tcpsim
-input=$top/crates/tcpsim/stdin
-whole=$top/crates/tcpsim/stdout
+input=${1:-$top/examples/one_segment.txt}
 work=$(mktemp -d)
+whole=$work/whole
 trap 'rm -rf "$work"' EXIT
+"$program" run < "$input" > "$whole" || exit 2
 
 cat > "$work/refuse.c" <<'C'
 #define _GNU_SOURCE
@@ -48,7 +50,7 @@ cc -O1 -shared -fPIC "$work/refuse.c" -o "$work/refuse.so" -ldl || exit 2
 
 refusals=0
 unharmed=0
-for n in $(seq 1 400); do
+for n in $(seq 1 10000); do
   REFUSE=$n LD_PRELOAD=$work/refuse.so "$program" run < "$input" > "$work/out" 2> "$work/err"
   status=$?
   if [ "$status" = 0 ] && cmp -s "$work/out" "$whole"; then
@@ -76,5 +78,5 @@ for n in $(seq 1 400); do
   fi
   refusals=$((refusals + 1))
 done
-echo "no end after 400 requests"
+echo "no end after 10000 requests"
 exit 1

@@ -1,0 +1,209 @@
+#!/usr/bin/env python3
+"""Measures the built program on long flows and writes bench/RESULTS.md. Run by `make bench`.
+
+Instructions and bytes of heap are counted by valgrind and do not depend on the machine's speed.
+Seconds do, and say only what the machine at hand did.
+"""
+import os
+import re
+import shutil
+import subprocess
+import sys
+import time
+from collections import namedtuple
+from concurrent.futures import ThreadPoolExecutor
+
+TOP = os.path.dirname(os.path.dirname(os.path.abspath(__file__)))
+CRATE = os.path.join(TOP, 'crates', 'tcpsim')
+PROGRAM = os.path.join(CRATE, 'out', 'tcpsim')
+BENCH = os.path.join(TOP, 'bench')
+FEW, MANY = 20_000, 200_000
+# A link takes at most 64 losses: the 1,000th, 2,000th, .. 64,000th packet.
+LOSSES = ''.join(f'lose a {1000 * k}\n' for k in range(1, 65))
+FLOWS = (  # name, delayed acknowledgement in nanoseconds, losses
+    ('no losses by name', 0, ''),
+    ('each 1,000th packet lost', 0, LOSSES),
+    ('the same, delayed ACKs', 200_000_000, LOSSES),
+)
+UNDER_WAY = (40, 400, 4_000)
+# Fixed, since a starting program looks through its environment.
+ENVIRONMENT = {'PATH': '/usr/bin:/bin', 'LC_ALL': 'C'}
+CALLGRIND = ('valgrind', '--tool=callgrind', '--callgrind-out-file=/dev/null')
+DHAT = ('valgrind', '--tool=dhat', '--dhat-out-file=/dev/null')
+Case = namedtuple('Case', 'name segments path')
+Run = namedtuple('Run', 'name segments events packets written resident seconds instructions heap')
+
+
+def text(segments, delack=0, losses='', end=10**15, link='100000000 1000000 droptail 20', window=44):
+    """One flow over a pair of links, its receiver's window in segments. As it stands the links have
+    100 Mbit/s, 1 ms each way and 20 packets of queue, which the window can overflow."""
+    return (f'sim {end}\nnode s sender\nnode r receiver\nlink a s r {link}\nlink b r s {link}\n'
+            f'flow f s r 1460 {segments} 0 {1460 * window} {delack}\n{losses}')
+
+
+def case(name, segments, scenario):
+    work = os.path.join(BENCH, 'work')
+    os.makedirs(work, exist_ok=True)
+    path = os.path.join(work, re.sub('[^a-z0-9]+', '_', name.lower()) + f'_{segments}.txt')
+    with open(path, 'w') as file:
+        file.write(scenario)
+    return Case(name, segments, path)
+
+
+def run(path, before=()):
+    """A whole run, its trace thrown away; what `before` (valgrind) wrote."""
+    with open(path) as scenario:
+        return subprocess.run([*before, PROGRAM, 'run'], stdin=scenario, stdout=subprocess.DEVNULL,
+                              stderr=subprocess.PIPE, text=True, env=ENVIRONMENT, check=True).stderr
+
+
+def number(pattern, said):
+    return int(re.search(pattern, said)[1].replace(',', ''))
+
+
+def resident(process, before):
+    """VmHWM, the most memory that was resident so far, in bytes; `before` once it has ended."""
+    with open(f'/proc/{process.pid}/status') as status:
+        found = re.search(r'VmHWM:\s+(\d+) kB', status.read())
+    return int(found[1]) * 1024 if found else before
+
+
+def watch(path):
+    """Events, packets sent, bytes written and resident memory of a run, its trace read as it comes.
+
+    The program is never further ahead than a pipe is long, so the last look at its memory is at
+    the end of its trace."""
+    packets, written, memory, tail = 0, 0, 0, b''
+    with open(path) as scenario:
+        process = subprocess.Popen([PROGRAM, 'run'], stdin=scenario, stdout=subprocess.PIPE,
+                                   env=ENVIRONMENT)
+    while chunk := process.stdout.read1(1 << 16):
+        memory = resident(process, memory)
+        packets += (tail[-3:] + chunk).count(b' tx=')
+        tail = (tail + chunk)[-40:]
+        written += len(chunk)
+    if process.wait() != 0:
+        sys.exit(f'{path}: status {process.returncode}')
+    return number(r'end (\d+)\n$', tail.decode()), packets, written, memory
+
+
+def seconds(path):
+    """The least of three runs."""
+    took = []
+    for _ in range(3):
+        begin = time.perf_counter()
+        run(path)
+        took.append(time.perf_counter() - begin)
+    return min(took)
+
+
+def measured(cases):
+    """Times the cases one after another, then counts, which may run side by side."""
+    seen = [(*watch(c.path), seconds(c.path)) for c in cases]
+    with ThreadPoolExecutor(os.cpu_count()) as pool:
+        counts = list(pool.map(lambda c: run(c.path, CALLGRIND), cases))
+        heaps = list(pool.map(lambda c: run(c.path, DHAT), cases))
+    return [Run(c.name, c.segments, *s, number(r'Collected : (\d+)', i), number(r't-gmax: ([\d,]+) bytes', h))
+            for c, s, i, h in zip(cases, seen, counts, heaps)]
+
+
+def ns2(segments):
+    """Version and instructions, start taken off, of ns-2 on the first flow; None without ns-2."""
+    if not shutil.which('ns', path=ENVIRONMENT['PATH']):
+        return None
+    counts = []
+    for n in (1, segments):
+        done = subprocess.run([*CALLGRIND, 'ns', os.path.join(BENCH, 'ns2.tcl'), str(n)], text=True,
+                              capture_output=True, env=ENVIRONMENT, check=True)
+        counts.append(number(r'Collected : (\d+)', done.stderr))
+    return done.stdout.strip(), counts[1] - counts[0]
+
+
+def told(*command):
+    return subprocess.run(command, capture_output=True, text=True, check=True).stdout.strip()
+
+
+def processor():
+    with open('/proc/cpuinfo') as info:
+        found = re.search(r'model name\s*:\s*(.*)', info.read())
+    return found[1] if found else 'an unnamed processor'
+
+
+def table(heads, rows):
+    yield '| ' + ' | '.join(heads) + ' |'
+    yield '|---' + '|--:' * (len(heads) - 1) + '|'
+    for row in rows:
+        yield '| ' + ' | '.join(row) + ' |'
+    yield ''
+
+
+def report(start, runs, crowded, other):
+    def an_event(r):
+        return (r.instructions - start.instructions) / (r.events - start.events)
+
+    yield '# What a run costs\n'
+    yield (f'Made by `make bench` with `{told("rt", "version")}` and `{told("valgrind", "--version")}`. One flow '
+           'of segments of 1,460 bytes over 100 Mbit/s, 1 ms each way, through a drop-tail queue of 20 packets '
+           'that it overflows now and then. The whole trace is written, to /dev/null. A link takes at most 64 '
+           'losses by name, so the last is that of its packet 64,000.\n')
+    yield '## What does not depend on the machine\'s speed\n'
+    yield from table(
+        ('Flow', 'Segments', 'Events', 'Packets sent', 'Instructions', 'Instructions an event', 'Heap, bytes'),
+        [('start: one event', '1', '1', '1', f'{start.instructions:,}', '', f'{start.heap:,}')]
+        + [(r.name, f'{r.segments:,}', f'{r.events:,}', f'{r.packets:,}', f'{r.instructions:,}',
+            f'{an_event(r):,.1f}', f'{r.heap:,}') for r in runs])
+    yield ('Instructions are those of the whole run (callgrind); those an event are without the start\'s. '
+           'Heap is the most that was held at once (DHAT).\n')
+    yield f'From {FEW:,} to {MANY:,} segments:\n'
+    pairs = [[next(r for r in runs if (r.name, r.segments) == (name, n)) for n in (FEW, MANY)]
+             for name, _, _ in FLOWS]
+    yield from table(
+        ('Flow', 'Events', 'Instructions an event', 'Bytes of trace an event', 'Heap'),
+        [(a.name, f'× {b.events / a.events:.2f}', f'× {an_event(b) / an_event(a):.3f}',
+          f'{a.written / a.events:.1f} to {b.written / b.events:.1f}', f'{b.heap - a.heap:+,} bytes')
+         for a, b in pairs])
+    yield (f'With more packets under way at once: {FEW:,} segments over 10 Gbit/s, 100 ms each way, and a window '
+           'of so many segments (nothing is lost):\n')
+    yield from table(('Packets under way', 'Events', 'Instructions an event', 'Heap, bytes'),
+                     [(f'{w:,}', f'{r.events:,}', f'{an_event(r):,.1f}', f'{r.heap:,}')
+                      for w, r in zip(UNDER_WAY, crowded)])
+    yield '## What this machine took, for information\n'
+    yield f'{processor()}; seconds are the least of three runs; resident memory has the C library in it.\n'
+    yield from table(
+        ('Flow', 'Segments', 'Seconds', 'Packets sent a second', 'Events a second', 'Resident memory (VmHWM), bytes'),
+        [(r.name, f'{r.segments:,}', f'{r.seconds:.3f}', f'{r.packets / r.seconds:,.0f}',
+          f'{r.events / r.seconds:,.0f}', f'{r.resident:,}') for r in runs])
+    if other is not None:
+        ours = pairs[0][0].instructions - start.instructions
+        yield '## Beside ns-2\n'
+        version, theirs = other
+        yield (f'`{version}` on bench/ns2.tcl, the first flow with {FEW:,} segments, its trace written to '
+               '/dev/null as well. Its Reno follows other rules, and its trace has other lines, so this says '
+               'only how large both are. Instructions without the start:\n')
+        yield from table(('Simulator', 'Instructions', 'Instructions a segment'),
+                         [('tcpsim', f'{ours:,}', f'{ours / FEW:,.0f}'),
+                          ('ns-2', f'{theirs:,}', f'{theirs / FEW:,.0f}')])
+
+
+def main():
+    if not shutil.which('valgrind', path=ENVIRONMENT['PATH']):
+        sys.exit('valgrind is not installed')
+    if not os.path.exists(PROGRAM):
+        print('building the program: rt run', flush=True)
+        with open(os.path.join(TOP, 'examples', 'one_segment.txt')) as scenario:
+            subprocess.run(['rt', 'run', '--', 'run'], cwd=CRATE, stdin=scenario, check=True,
+                           stdout=subprocess.DEVNULL)
+    start, *runs = measured(
+        [case('start', 1, text(1, end=1))]
+        + [case(name, n, text(n, delack, losses)) for name, delack, losses in FLOWS for n in (FEW, MANY)]
+        + [case(f'{w} under way', FEW, text(FEW, link='10000000000 100000000 droptail 65535', window=w))
+           for w in UNDER_WAY])
+    crowded = runs[-len(UNDER_WAY):]
+    results = '\n'.join(report(start, runs[:-len(UNDER_WAY)], crowded, ns2(FEW)))
+    with open(os.path.join(BENCH, 'RESULTS.md'), 'w') as file:
+        file.write(results.rstrip('\n') + '\n')
+    print(results)
+
+
+if __name__ == '__main__':
+    main()
