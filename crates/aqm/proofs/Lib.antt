@@ -2,3 +2,5 @@ pub mod TakenCases
 pub mod Front
 pub mod SoFar
 pub mod Schedule
+pub mod Foreseen
+pub mod Causes

@@ -4,7 +4,7 @@ use Rattle.aqm.specs.DropTail.{DropTailState, IsDropTail}
 
 -- the packets that wait, and how many may; target and interval in nanoseconds, maxpacket in bytes; from when on a packet above target may be dropped, if the last one was above target; when the next packet is due to be dropped in drop state; how many were dropped in this drop state or the last, and with how many it began; whether it is in drop state
 pub record CodelState : Type 0 where
-  pub line : DropTailState
+  pub fifo : DropTailState
   pub target : ℕ
   pub interval : ℕ
   pub maxpacket : ℕ
@@ -16,7 +16,7 @@ pub record CodelState : Type 0 where
 
 -- what every CoDel queue keeps
 pub record IsCodel (s : CodelState) : Type 0 where
-  pub line : IsDropTail s.line
+  pub fifo : IsDropTail s.fifo
   pub target_least : 1 ≤ s.target
   pub target_most : s.target ≤ 10000000000
   pub interval_least : 1 ≤ s.interval
@@ -28,8 +28,8 @@ pub record IsCodel (s : CodelState) : Type 0 where
 
 -- at first: nothing is above target, and nothing was dropped
 abbrev pub opening_codel : DropTailState → ℕ → ℕ → ℕ → CodelState
-opening_codel line target interval maxpacket = record {
-  line = line;
+opening_codel fifo target interval maxpacket = record {
+  fifo = fifo;
   target = target;
   interval = interval;
   maxpacket = maxpacket;

@@ -4,7 +4,7 @@ use Rattle.aqm.specs.declared.codel.Codel.TheInside.{Inside}
 
 abbrev pub codel_of : Inside → CodelState
 codel_of q = record {
-  line = q.line;
+  fifo = q.fifo;
   target = q.target;
   interval = q.interval;
   maxpacket = q.maxpacket;

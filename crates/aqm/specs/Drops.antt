@@ -21,14 +21,14 @@ stops s now j = not (judgement s now j).ok || nat_lt now (due s j)
 
 -- the least number of drops after which there is no further one; past the last packet there is none
 abbrev pub drops : CodelState → ℕ → ℕ
-drops s now = position_or_len (stops s now) (range_with_len 0 (length s.line.held))
+drops s now = position_or_len (stops s now) (range_with_len 0 (length s.fifo.waiting))
 
 -- the queue after k drops and the packet behind them: where that packet may be dropped, drop state lasts, and the drop after those k is next; else it ends, and drop_next stays where the last of them was due
 abbrev pub after_drops : CodelState → ℕ → ℕ → CodelState
 after_drops s now k =
     let j = judgement s now k in
     record s {
-      line = without_first (k + 1) s.line;
+      fifo = without_first (k + 1) s.fifo;
       first_above = j.first_above;
       drop_next = due s (if j.ok then k else k - 1);
       count = counted s.count k;

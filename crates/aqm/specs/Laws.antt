@@ -1,42 +1,43 @@
 -- What every take keeps to, whatever waits and whenever it comes.
-use Rattle.std.specs.Prelude.{◌≡◌, ◌↔◌, ◌+◌, ◌-◌, ◌<◌, ◌≤◌, ◌++◌, ℕ, true, false, List, [], ◌∷◌, drop, slice_get, Option, Some, None, IfSome}
-use Rattle.packet_chain.specs.Held.{Held, bytes_of}
+use Rattle.std.specs.Prelude.{◌≡◌, ◌↔◌, ◌+◌, ◌-◌, ◌<◌, ◌≤◌, ◌++◌, ℕ, true, false, List, [], ◌∷◌, length, drop, slice_get, Option, Some, None, IfSome, IsSomeAnd}
+use Rattle.packet_chain.specs.Stamped.{Stamped, bytes_of}
 use Rattle.aqm.specs.DropTail.{DropTailState}
 use Rattle.aqm.specs.Codel.{CodelState, IsCodel}
 use Rattle.aqm.specs.Drops.{stops, due, drops}
 use Rattle.aqm.specs.Taken.{codel_taken}
-use Rattle.aqm.specs.Queue.{taken_from, held_by}
+use Rattle.aqm.specs.Queue.{taken_from, waiting_in}
 use Rattle.aqm.specs.declared.queue.Queue.{Queue}
-use Rattle.aqm.specs.declared.queue.Queue.TheVariants.{DropTail}
+use Rattle.aqm.specs.declared.queue.Queue.TheVariants.{DropTail, Codel}
 
 -- the packet that was given, if there was one
-abbrev pub listed : Option Held → List Held
+abbrev pub listed : Option Stamped → List Stamped
 listed None = []
 listed (Some packet) = packet ∷ []
 
 -- what is dropped is the front of the queue, in order; what is given is next, and the rest stays
 abbrev pub TakesTheFront : Type 0
-TakesTheFront = (q : Queue) (now : ℕ) → let t = taken_from q now in t.dropped ++ listed t.given ++ held_by t.queue ≡ held_by q
+TakesTheFront = (q : Queue) (now : ℕ) → let t = taken_from q now in t.dropped ++ listed t.given ++ waiting_in t.queue ≡ waiting_in q
 
 -- nothing is given exactly where nothing waits
 abbrev pub GivesWhatWaits : Type 0
-GivesWhatWaits = (q : Queue) (now : ℕ) → ((taken_from q now).given ≡ None) ↔ (held_by q ≡ [])
+GivesWhatWaits = (q : Queue) (now : ℕ) → ((taken_from q now).given ≡ None) ↔ (waiting_in q ≡ [])
+
+-- no more is dropped than waits
+abbrev pub DropsAtMostWhatWaits : Type 0
+DropsAtMostWhatWaits = (q : Queue) (now : ℕ) → length (taken_from q now).dropped ≤ length (waiting_in q)
 
 abbrev pub DropTailKeepsWhatEntered : Type 0
 DropTailKeepsWhatEntered = (s : DropTailState) (now : ℕ) → (taken_from (DropTail s) now).dropped ≡ []
 
--- where the packet at the head has waited for less than the target, nothing is dropped
-abbrev pub NothingIsDroppedBelowTarget : Type 0
-NothingIsDroppedBelowTarget =
-    (s : CodelState) (now : ℕ) → IfSome (slice_get s.line.held 0) (λ head. now - head.1 < s.target) → (codel_taken s now).dropped ≡ []
+-- a packet is dropped for cause: it has waited for the target at least, packets have been above target for an interval, and over maxpacket bytes are left behind it
+pub record IsForCause (s : CodelState) (now left : ℕ) (packet : Stamped) : Type 0 where
+  pub waited : s.target ≤ now - packet.1
+  pub above : IsSomeAnd s.first_above (λ t. t ≤ now)
+  pub behind : s.maxpacket < left
 
--- before packets have been above target for an interval, nothing is dropped
-abbrev pub NothingIsDroppedWithinAnInterval : Type 0
-NothingIsDroppedWithinAnInterval = (s : CodelState) (now : ℕ) → IfSome s.first_above (λ t. now < t) → (codel_taken s now).dropped ≡ []
-
--- with at most maxpacket bytes behind the packet at the head, nothing is dropped
-abbrev pub NothingIsDroppedNearTheEnd : Type 0
-NothingIsDroppedNearTheEnd = (s : CodelState) (now : ℕ) → bytes_of (drop 1 s.line.held) ≤ s.maxpacket → (codel_taken s now).dropped ≡ []
+-- each packet that a CoDel queue drops is dropped for cause, with the bytes of those that wait behind it
+abbrev pub EveryDropHasACause : Type 0
+EveryDropHasACause = (s : CodelState) (now i : ℕ) → IfSome (slice_get (taken_from (Codel s) now).dropped i) (IsForCause s now (bytes_of (drop (i + 1) s.fifo.waiting)))
 
 -- after so many drops there is no further one, and after fewer there is
 pub record IsLeastStop (s : CodelState) (now k : ℕ) : Type 0 where

@@ -7,5 +7,6 @@ pub mod OneDrop
 pub mod Taken
 pub mod Queue
 pub mod Laws
-pub use Rattle.packet_chain.specs.Held
+pub use Rattle.packet_chain.specs.Stamped
 pub use Rattle.sim_time.specs.ControlLaw
+pub use Rattle.sim_time.specs.Moment

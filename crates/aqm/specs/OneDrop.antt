@@ -11,7 +11,7 @@ abbrev pub after_drop : CodelState → ℕ → CodelState
 after_drop s now =
     let j = judgement s now 0 in
     record s {
-      line = without_first 1 s.line;
+      fifo = without_first 1 s.fifo;
       first_above = j.first_above;
       drop_next = if j.ok then s.drop_next + gap_of s.interval (counted s.count 1) else s.drop_next;
       count = counted s.count 1;

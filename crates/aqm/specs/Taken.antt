@@ -1,6 +1,6 @@
 -- What a take from a CoDel queue does, in one step over all that waits (RFC 8289 section 5.5).
 use Rattle.std.specs.Prelude.{◌+◌, ◌-◌, ◌*◌, ℕ, true, ◌&&◌, nat_lt, if◌then◌else◌, List, take, slice_get, Option}
-use Rattle.packet_chain.specs.Held.{Held}
+use Rattle.packet_chain.specs.Stamped.{Stamped}
 use Rattle.sim_time.specs.ControlLaw.{gap_of}
 use Rattle.aqm.specs.DropTail.{without_first}
 use Rattle.aqm.specs.Codel.{CodelState}
@@ -9,17 +9,17 @@ use Rattle.aqm.specs.Drops.{drops, after_drops}
 
 -- the packets that are dropped, in order; the packet that is given, if there is one; the queue afterwards
 pub record CodelTaken : Type 0 where
-  pub dropped : List Held
-  pub given : Option Held
+  pub dropped : List Stamped
+  pub given : Option Stamped
   pub queue : CodelState
 
 -- the first k packets are dropped, and the one behind them is given
 abbrev pub handed_out : CodelState → ℕ → CodelState → CodelTaken
-handed_out s k after = record { dropped = take k s.line.held; given = slice_get s.line.held k; queue = after }
+handed_out s k after = record { dropped = take k s.fifo.waiting; given = slice_get s.fifo.waiting k; queue = after }
 
 -- the packet may not be dropped
 abbrev pub after_one : CodelState → ℕ → CodelState
-after_one s now = record s { line = without_first 1 s.line; first_above = (judgement s now 0).first_above }
+after_one s now = record s { fifo = without_first 1 s.fifo; first_above = (judgement s now 0).first_above }
 
 -- the count that drop state begins with: where the last drop of the one before was due less than 16 intervals ago, as many as that one dropped after its first packet, if more than one; else 1
 abbrev pub first_count : CodelState → ℕ → ℕ
@@ -33,7 +33,7 @@ begun s now =
 
 -- the first packet was dropped, and the one behind it judged
 abbrev pub after_first_drop : CodelState → ℕ → CodelState
-after_first_drop s now = begun (record s { line = without_first 2 s.line; first_above = (judgement s now 1).first_above }) now
+after_first_drop s now = begun (record s { fifo = without_first 2 s.fifo; first_above = (judgement s now 1).first_above }) now
 
 -- a take: in drop state, outside of it with a packet that may be dropped, and with one that may not
 abbrev pub codel_taken : CodelState → ℕ → CodelTaken

@@ -2,10 +2,12 @@
 ghost use Rattle.std.specs.Prelude.{◌≡◌, ◌≤◌, [], IfOk};
 ghost use Rattle.std.specs.Iterator.{YieldsFirst};
 ghost use Rattle.std.specs.Iterator.Runs.{YieldsInOrder};
-ghost use Rattle.packet_chain.specs.Held.{Held};
+ghost use Rattle.sim_time.specs.Moment.{IsMoment};
+ghost use Rattle.packet_chain.specs.Stamped.{Stamped};
 ghost use Rattle.aqm.specs.DropTail.{DropTailState, after_offer, answer_to};
 ghost use Rattle.aqm.specs.Codel.{IsCodel, opening_codel};
 
+mod foresee;
 mod judge;
 mod take;
 #[cfg(test)]
@@ -22,7 +24,7 @@ use std::marker::Model;
 #[derive(Drop)]
 pub struct Codel {
     /// The packets that wait.
-    line: DropTail,
+    fifo: DropTail,
     /// How long a packet may wait, in nanoseconds.
     target: Time,
     /// For how long packets may wait longer before one is dropped, in nanoseconds.
@@ -66,10 +68,10 @@ impl Codel {
         requires interval_least { 1 ≤ interval }
         requires interval_most { interval ≤ 10000000000 }
         requires maxpacket { 1 ≤ maxpacket }
-        ensures { result ≡ opening_codel (record { held = []; capacity = capacity }) target interval maxpacket }
+        ensures { result ≡ opening_codel (record { waiting = []; capacity = capacity }) target interval maxpacket }
     {
         Codel {
-            line: DropTail::new(alloc, capacity),
+            fifo: DropTail::new(alloc, capacity),
             target,
             interval,
             maxpacket,
@@ -83,18 +85,18 @@ impl Codel {
 
     /// The packets that wait, from the head, each with the moment at which it entered.
     pub fn packets(&self) -> Iter<'_>
-        ensures rest { result ≡ self.now.line.held }
-        ensures runs { YieldsInOrder (YieldsFirst {A = Held} (λ rest. rest)) (λ rest. rest) }
+        ensures rest { result ≡ self.now.fifo.waiting }
+        ensures runs { YieldsInOrder (YieldsFirst {A = Stamped} (λ rest. rest)) (λ rest. rest) }
         ensures sound { IsCodel self.now }
     {
-        self.line.packets()
+        self.fifo.packets()
     }
 
     // The packets and the capacity.
-    pub(crate) fn line(&self) -> &DropTail
-        ensures { result.now ≡ self.now.line }
+    pub(crate) fn fifo(&self) -> &DropTail
+        ensures { result.now ≡ self.now.fifo }
     {
-        &self.line
+        &self.fifo
     }
 
     /// From when on a packet above target may be dropped, in nanoseconds, if the last one was
@@ -137,20 +139,20 @@ impl Codel {
 
     /// Takes a packet in, unless the queue is full.
     pub fn offer(&mut self, cell: PacketCell, now: Time) -> Offered
-        requires { now ≤ 1000000000000000 }
-        ensures answer { result ≡ answer_to self.old.line cell }
-        ensures state { self.new ≡ record self.old { line = after_offer self.old.line cell now } }
+        requires { IsMoment now }
+        ensures answer { result ≡ answer_to self.old.fifo cell }
+        ensures state { self.new ≡ record self.old { fifo = after_offer self.old.fifo cell now } }
     {
-        self.line.offer(cell, now)
+        self.fifo.offer(cell, now)
     }
 
     /// A queue in the same state, with the packets in cells of its own.
     pub fn copy(&self) -> Result<Codel, AllocError>
         ensures { IfOk result (λ copy. copy ≡ self.now) }
     {
-        let line = self.line.copy()?;
+        let fifo = self.fifo.copy()?;
         Ok(Codel {
-            line,
+            fifo,
             target: self.target,
             interval: self.interval,
             maxpacket: self.maxpacket,

@@ -2,7 +2,8 @@
 ghost use Rattle.std.specs.Prelude.{◌≡◌, ◌^◌, ◌≤◌, [], length, slice_get, IfOk};
 ghost use Rattle.std.specs.Iterator.{YieldsFirst};
 ghost use Rattle.std.specs.Iterator.Runs.{YieldsInOrder};
-ghost use Rattle.packet_chain.specs.Held.{Held, bytes_of};
+ghost use Rattle.sim_time.specs.Moment.{IsMoment};
+ghost use Rattle.packet_chain.specs.Stamped.{Stamped, bytes_of};
 ghost use Rattle.aqm.specs.DropTail.{DropTailState, IsDropTail, after_offer, answer_to, without_first};
 
 use crate::offered::Offered;
@@ -25,9 +26,9 @@ impl Model for DropTail {
 
     ghost Value = { DropTailState };
 
-    ghost view = { λ q. record { held = q.cells; capacity = q.capacity } };
+    ghost view = { λ q. record { waiting = q.cells; capacity = q.capacity } };
 
-    ghost invariant = { λ q. IsDropTail (record { held = q.cells; capacity = q.capacity }) };
+    ghost invariant = { λ q. IsDropTail (record { waiting = q.cells; capacity = q.capacity }) };
 }
 
 impl DropTail {
@@ -35,7 +36,7 @@ impl DropTail {
     /// memory from `alloc`.
     pub fn new(alloc: Global, capacity: u16) -> DropTail
         requires { 1 ≤ capacity }
-        ensures { result ≡ record { held = []; capacity = capacity } }
+        ensures { result ≡ record { waiting = []; capacity = capacity } }
     {
         DropTail {
             cells: PacketChain::new(alloc),
@@ -45,7 +46,7 @@ impl DropTail {
 
     /// How many packets wait.
     pub fn len(&self) -> usize
-        ensures value { result ≡ length self.now.held }
+        ensures value { result ≡ length self.now.waiting }
         ensures sound { IsDropTail self.now }
     {
         self.cells.len()
@@ -53,15 +54,15 @@ impl DropTail {
 
     /// How many bytes the packets that wait have together.
     pub(crate) fn bytes(&self) -> u64
-        ensures { result ≡ bytes_of self.now.held }
+        ensures { result ≡ bytes_of self.now.waiting }
     {
         self.cells.bytes()
     }
 
     /// The packets that wait, from the head, each with the moment at which it entered.
     pub fn packets(&self) -> Iter<'_>
-        ensures rest { result ≡ self.now.held }
-        ensures runs { YieldsInOrder (YieldsFirst {A = Held} (λ rest. rest)) (λ rest. rest) }
+        ensures rest { result ≡ self.now.waiting }
+        ensures runs { YieldsInOrder (YieldsFirst {A = Stamped} (λ rest. rest)) (λ rest. rest) }
     {
         self.cells.iter()
     }
@@ -69,7 +70,7 @@ impl DropTail {
     /// Takes a packet in, with the moment as its stamp (RFC 8289 section 5.4), unless the queue
     /// is full.
     pub fn offer(&mut self, mut cell: PacketCell, now: Time) -> Offered
-        requires { now ≤ 1000000000000000 }
+        requires { IsMoment now }
         ensures answer { result ≡ answer_to self.old cell }
         ensures state { self.new ≡ after_offer self.old cell now }
         ensures sound { IsDropTail self.new }
@@ -84,7 +85,7 @@ impl DropTail {
 
     /// Takes the packet at the head out.
     pub fn take(&mut self) -> Option<PacketCell>
-        ensures given { result ≡ slice_get self.old.held 0 }
+        ensures given { result ≡ slice_get self.old.waiting 0 }
         ensures state { self.new ≡ without_first 1 self.old }
         ensures sound { IsDropTail self.new }
     {

@@ -1,13 +1,14 @@
 //! What every take keeps to, whatever waits and whenever it comes: laws over the definitions
 //! alone, each the contract of a function that does nothing, or calls the law that it rests on.
-ghost use Rattle.aqm.specs.Laws.{TakesTheFront, GivesWhatWaits, DropTailKeepsWhatEntered, NothingIsDroppedBelowTarget, NothingIsDroppedWithinAnInterval, NothingIsDroppedNearTheEnd, DropsStopAtTheFirstStop, DropsComeCloser, FirstWaitIsLongest, ScheduleStays};
+ghost use Rattle.aqm.specs.Laws.{TakesTheFront, DropsAtMostWhatWaits, GivesWhatWaits, DropTailKeepsWhatEntered, EveryDropHasACause, DropsStopAtTheFirstStop, DropsComeCloser, FirstWaitIsLongest, ScheduleStays};
 
 use sim_time::gaps_shrink;
 
 /// What is dropped is the front of the queue, in order; what is given is next, and the rest
-/// stays.
+/// stays. So no more is dropped than waits.
 pub fn takes_the_front()
-    ensures { TakesTheFront }
+    ensures front { TakesTheFront }
+    ensures most { DropsAtMostWhatWaits }
 {}
 
 /// Nothing is given exactly where nothing waits.
@@ -20,13 +21,10 @@ pub fn drop_tail_keeps_what_entered()
     ensures { DropTailKeepsWhatEntered }
 {}
 
-/// A CoDel queue drops nothing where the packet at its head has waited for less than the target,
-/// where packets have not been above target for an interval, or where at most maxpacket bytes
-/// wait behind the head.
-pub fn nothing_is_dropped_without_cause()
-    ensures target { NothingIsDroppedBelowTarget }
-    ensures interval { NothingIsDroppedWithinAnInterval }
-    ensures behind { NothingIsDroppedNearTheEnd }
+/// Each packet that a CoDel queue drops has waited for the target or longer, after packets have
+/// been above target for an interval, and leaves more than maxpacket bytes behind it.
+pub fn every_drop_has_a_cause()
+    ensures { EveryDropHasACause }
 {}
 
 /// In drop state a take drops until a packet may not be dropped, or its drop isn't due yet.

@@ -2,9 +2,10 @@
 ghost use Rattle.std.specs.Prelude.{◌≡◌, ◌≤◌, ◌^◌, ◌++◌, length, IfOk};
 ghost use Rattle.std.specs.Iterator.{YieldsFirst};
 ghost use Rattle.std.specs.Iterator.Runs.{YieldsInOrder};
-ghost use Rattle.packet_chain.specs.Held.{Held};
+ghost use Rattle.sim_time.specs.Moment.{IsMoment};
+ghost use Rattle.packet_chain.specs.Stamped.{Stamped};
 ghost use Rattle.aqm.specs.DropTail.{IsDropTail, answer_to};
-ghost use Rattle.aqm.specs.Queue.{line_of, held_by, offered_to, taken_from};
+ghost use Rattle.aqm.specs.Queue.{fifo_of, waiting_in, offered_to, taken_from};
 
 use crate::codel::Codel;
 use crate::drop_tail::DropTail;
@@ -25,24 +26,24 @@ pub enum Queue {
 impl Queue {
     /// How many packets wait.
     pub fn len(&self) -> usize
-        ensures value { result ≡ length (held_by self.now) }
-        ensures sound { IsDropTail (line_of self.now) }
+        ensures value { result ≡ length (waiting_in self.now) }
+        ensures sound { IsDropTail (fifo_of self.now) }
     {
-        self.line().len()
+        self.fifo().len()
     }
 
     /// The packets that wait, from the head, each with the moment at which it entered.
     pub fn packets(&self) -> Iter<'_>
-        ensures rest { result ≡ held_by self.now }
-        ensures runs { YieldsInOrder (YieldsFirst {A = Held} (λ rest. rest)) (λ rest. rest) }
+        ensures rest { result ≡ waiting_in self.now }
+        ensures runs { YieldsInOrder (YieldsFirst {A = Stamped} (λ rest. rest)) (λ rest. rest) }
     {
-        self.line().packets()
+        self.fifo().packets()
     }
 
     /// Takes a packet in, unless the queue is full.
     pub fn offer(&mut self, cell: PacketCell, now: Time) -> Offered
-        requires { now ≤ 1000000000000000 }
-        ensures answer { result ≡ answer_to (line_of self.old) cell }
+        requires { IsMoment now }
+        ensures answer { result ≡ answer_to (fifo_of self.old) cell }
         ensures state { self.new ≡ offered_to self.old cell now }
     {
         match self {
@@ -54,7 +55,7 @@ impl Queue {
     /// Takes the next packet out; those that are dropped on the way are put at the end of
     /// `dropped`.
     pub fn take(&mut self, now: Time, dropped: &mut PacketChain) -> Option<PacketCell>
-        requires moment { now ≤ 1000000000000000 }
+        requires moment { IsMoment now }
         requires room { length dropped.old ≤ 2 ^ 49 }
         ensures given { result ≡ (taken_from self.old now).given }
         ensures dropped { dropped.new ≡ dropped.old ++ (taken_from self.old now).dropped }
@@ -63,6 +64,19 @@ impl Queue {
         match self {
             Queue::DropTail(queue) => queue.take(),
             Queue::Codel(queue) => queue.take(now, dropped),
+        }
+    }
+
+    /// How many packets a take at `now` drops. The cost doesn't grow with what stays.
+    pub fn drops_at(&self, now: Time) -> usize
+        requires { IsMoment now }
+        ensures value { result ≡ length (taken_from self.now now).dropped }
+        ensures most { result ≤ length (waiting_in self.now) }
+        ensures limit { result ≤ 65535 }
+    {
+        match self {
+            Queue::DropTail(_) => 0,
+            Queue::Codel(queue) => queue.drops_at(now),
         }
     }
 
@@ -77,12 +91,12 @@ impl Queue {
     }
 
     // The packets and the capacity.
-    fn line(&self) -> &DropTail
-        ensures { result.now ≡ line_of self.now }
+    fn fifo(&self) -> &DropTail
+        ensures { result.now ≡ fifo_of self.now }
     {
         match self {
             Queue::DropTail(queue) => queue,
-            Queue::Codel(queue) => queue.line(),
+            Queue::Codel(queue) => queue.fifo(),
         }
     }
 }

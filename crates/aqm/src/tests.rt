@@ -1,5 +1,6 @@
 //! Two worked histories of a CoDel queue, drop-tail at its capacity, and copies.
 ghost use Rattle.std.specs.Prelude.{◌≤◌};
+ghost use Rattle.sim_time.specs.Moment.{IsMoment};
 
 use crate::{Codel, DropTail, Offered, Queue};
 use packet_chain::{Iter, Kind, Packet, PacketBytes, PacketCell, PacketChain};
@@ -29,22 +30,24 @@ pub(crate) fn expect_numbers(rt: &impl Abort, mut packets: Iter<'_>, numbers: &[
     assert!(rt; packets.next().is_none(), "at {now}");
 }
 
-/// Offers packets of these numbers, which all enter.
+/// Offers packets of these numbers, of which so many are refused.
 fn enter(
     rt: &impl Abort,
     alloc: Global,
     queue: &mut Queue,
     numbers: &[u64],
     now: Time,
+    refused: u64,
 ) -> Result<(), AllocError>
-    requires { now ≤ 1000000000000000 }
+    requires { IsMoment now }
 {
+    let mut full: u64 = 0;
     for number in numbers {
-        match queue.offer(cell(rt, alloc, *number)?, now) {
-            Offered::Entered => {}
-            Offered::Full(_) => assert!(rt; false, "{number} does not enter"),
+        if let Offered::Full(_) = queue.offer(cell(rt, alloc, *number)?, now) {
+            full = full.saturating_add(1);
         }
     }
+    assert_eq!(rt; full, refused, "at {now}");
     Ok(())
 }
 
@@ -57,29 +60,34 @@ fn control(queue: &Queue) -> Option<(u32, Time, bool)> {
 }
 
 /// A moment of a take, the packets dropped and the one given, the control afterwards, and the
-/// packets that enter then.
-type Row<'a> = (Time, &'a [u64], Option<u64>, (u32, Time, bool), &'a [u64]);
+/// packets that are offered then, with the number of those that are refused.
+type Row<'a> = (
+    Time,
+    &'a [u64],
+    Option<u64>,
+    Option<(u32, Time, bool)>,
+    &'a [u64],
+    u64,
+);
 
-/// Takes at the moment of each row from a queue with target 5 ms and interval 100 ms.
+/// Takes at the moment of each row, after these packets have entered at 0.
 fn follow(
     rt: &impl Abort,
     alloc: Global,
-    maxpacket: u16,
+    mut queue: Queue,
     first: &[u64],
     rows: &[Row<'_>],
-) -> Result<(), AllocError>
-    requires { 1 ≤ maxpacket }
-{
-    let mut queue = Queue::Codel(Codel::new(alloc, 20, 5_000_000, 100_000_000, maxpacket));
-    enter(rt, alloc, &mut queue, first, 0)?;
-    for (now, numbers, given, after, entering) in rows {
+) -> Result<(), AllocError> {
+    enter(rt, alloc, &mut queue, first, 0, 0)?;
+    for (now, numbers, given, after, offered, refused) in rows {
         assert!(rt; *now <= 1_000_000_000);
+        assert_eq!(rt; queue.drops_at(*now), numbers.len(), "at {now}");
         let mut dropped = PacketChain::new(alloc);
         let taken = queue.take(*now, &mut dropped);
         expect_numbers(rt, dropped.iter(), numbers, *now);
         assert_eq!(rt; taken.map(|cell| cell.packet().number), *given, "at {now}");
-        assert_eq!(rt; control(&queue), Some(*after), "at {now}");
-        enter(rt, alloc, &mut queue, entering, *now)?;
+        assert_eq!(rt; control(&queue), *after, "at {now}");
+        enter(rt, alloc, &mut queue, offered, *now, *refused)?;
     }
     Ok(())
 }
@@ -87,66 +95,120 @@ fn follow(
 #[test]
 fn drops_once_and_never_the_last_packet(rt: HostRuntime) -> Result<(), Fail> {
     let rows: [Row<'_>; 4] = [
-        (10_000_000, &[], Some(0), (0, 0, false), &[]),
-        (110_000_000, &[1], Some(2), (1, 210_000_000, true), &[]),
-        (120_000_000, &[], None, (1, 210_000_000, false), &[3]),
-        (900_000_000, &[], Some(3), (1, 210_000_000, false), &[]),
+        (10_000_000, &[], Some(0), Some((0, 0, false)), &[], 0),
+        (
+            110_000_000,
+            &[1],
+            Some(2),
+            Some((1, 210_000_000, true)),
+            &[],
+            0,
+        ),
+        (
+            120_000_000,
+            &[],
+            None,
+            Some((1, 210_000_000, false)),
+            &[3],
+            0,
+        ),
+        (
+            900_000_000,
+            &[],
+            Some(3),
+            Some((1, 210_000_000, false)),
+            &[],
+            0,
+        ),
     ];
-    follow(&rt, rt.alloc(), 1000, &[0, 1, 2], &rows)?;
+    let codel = Codel::new(rt.alloc(), 20, 5_000_000, 100_000_000, 1000);
+    follow(&rt, rt.alloc(), Queue::Codel(codel), &[0, 1, 2], &rows)?;
     Ok(())
 }
 
 #[test]
 fn drops_ever_closer_and_goes_on_soon_after(rt: HostRuntime) -> Result<(), Fail> {
+    let offered = [12, 13, 14, 15, 16, 17];
     let rows: [Row<'_>; 8] = [
-        (10_000_000, &[], Some(0), (0, 0, false), &[]),
-        (110_000_000, &[1], Some(2), (1, 210_000_000, true), &[]),
-        (210_000_000, &[3], Some(4), (2, 280_710_678, true), &[]),
+        (10_000_000, &[], Some(0), Some((0, 0, false)), &[], 0),
+        (
+            110_000_000,
+            &[1],
+            Some(2),
+            Some((1, 210_000_000, true)),
+            &[],
+            0,
+        ),
+        (
+            210_000_000,
+            &[3],
+            Some(4),
+            Some((2, 280_710_678, true)),
+            &[],
+            0,
+        ),
         (
             400_000_000,
             &[5, 6, 7],
             Some(8),
-            (5, 433_167_063, true),
+            Some((5, 433_167_063, true)),
             &[],
+            0,
         ),
-        (420_000_000, &[], Some(9), (5, 433_167_063, true), &[]),
+        (
+            420_000_000,
+            &[],
+            Some(9),
+            Some((5, 433_167_063, true)),
+            &[],
+            0,
+        ),
         (
             425_000_000,
             &[],
             Some(10),
-            (5, 433_167_063, false),
-            &[12, 13, 14, 15, 16, 17],
+            Some((5, 433_167_063, false)),
+            &offered,
+            0,
         ),
-        (430_000_000, &[], Some(11), (5, 433_167_063, false), &[]),
-        (530_000_000, &[12], Some(13), (4, 580_000_000, true), &[]),
+        (
+            430_000_000,
+            &[],
+            Some(11),
+            Some((5, 433_167_063, false)),
+            &[],
+            0,
+        ),
+        (
+            530_000_000,
+            &[12],
+            Some(13),
+            Some((4, 580_000_000, true)),
+            &[],
+            0,
+        ),
     ];
     let first = [0, 1, 2, 3, 4, 5, 6, 7, 8, 9, 10, 11];
-    follow(&rt, rt.alloc(), 1500, &first, &rows)?;
+    let codel = Codel::new(rt.alloc(), 20, 5_000_000, 100_000_000, 1500);
+    follow(&rt, rt.alloc(), Queue::Codel(codel), &first, &rows)?;
     Ok(())
 }
 
 #[test]
 fn drop_tail_refuses_what_is_beyond_its_capacity(rt: HostRuntime) -> Result<(), Fail> {
-    let alloc = rt.alloc();
-    let mut queue = Queue::DropTail(DropTail::new(alloc, 2));
-    enter(&rt, alloc, &mut queue, &[0, 1], 7)?;
-    let mut late = cell(&rt, alloc, 2)?;
-    late.set_stamp(5);
-    match queue.offer(late, 8) {
-        Offered::Entered => assert!(rt; false, "the queue is full"),
-        Offered::Full(cell) => assert_eq!(rt; (cell.packet().number, cell.stamp()), (2, 5)),
-    }
-    expect_numbers(&rt, queue.packets(), &[0, 1], 8);
-    let mut dropped = PacketChain::new(alloc);
-    let taken = queue.take(1_000_000_000, &mut dropped);
-    let taken = taken.map(|cell| (cell.packet().number, cell.stamp()));
-    assert_eq!(rt; (taken, dropped.len()), (Some((0, 7)), 0));
-    enter(&rt, alloc, &mut queue, &[2], 9)?;
-    expect_numbers(&rt, queue.packets(), &[1, 2], 9);
+    let rows: [Row<'_>; 3] = [
+        (8, &[], Some(0), None, &[2, 3], 1),
+        (1_000_000_000, &[], Some(1), None, &[4, 5], 1),
+        (1_000_000_000, &[], Some(2), None, &[], 0),
+    ];
+    let queue = Queue::DropTail(DropTail::new(rt.alloc(), 2));
+    follow(&rt, rt.alloc(), queue, &[0, 1], &rows)?;
     Ok(())
 }
 
-// Run with each request for memory refused in turn: the source stays, and a second copy is made.
+// scripts/refuse_copies.sh runs this with each request for memory refused in turn: the source
+// stays, and a second copy is made. The gate refuses none: cells come from the C library's heap
+// alone, and no test can make that refuse.
 #[test]
 fn copies_are_in_the_same_state(rt: HostRuntime) {
     let alloc = rt.alloc();
@@ -155,7 +217,7 @@ fn copies_are_in_the_same_state(rt: HostRuntime) {
         Queue::Codel(Codel::new(alloc, 3, 1, 1, 1)),
     ];
     for mut queue in queues {
-        if enter(&rt, alloc, &mut queue, &[0, 1, 2], 4).is_err() {
+        if enter(&rt, alloc, &mut queue, &[0, 1, 2], 4, 0).is_err() {
             return;
         }
         let copied = match queue.copy() {

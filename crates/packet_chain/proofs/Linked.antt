@@ -5,7 +5,7 @@ use Rattle.std.specs.Prelude.{slice_get, drop, unwrap_or, is_some}
 use base.Stored.{Coded-set}
 use denote.RawPtr.{Ptr, null_ptr, coded_ptr}
 use Rattle.packet_chain.specs.declared.node.Node.{Node}
-use Rattle.packet_chain.specs.Links.{Link, held_of, held_in, place_of, IsLinked}
+use Rattle.packet_chain.specs.Links.{Link, stamped_of, stamped_in, place_of, IsLinked}
 use mathlib.Core.Logic.{∥∥₁_elim}
 
 same : (p q : Ptr) → IsProp (p ≡ q)
@@ -48,9 +48,9 @@ IsLinked-join h t p u (k ∷ []) l m ms c d = (c.0, (c.1.0, d))
 IsLinked-join h t p u (k ∷ j ∷ ls) l m ms c d = (c.0, IsLinked-join k.1.next t p u (j ∷ ls) l m ms c.1 d)
 
 -- what the nodes hold does not depend on where they lead
-pub held_of-join : (ls : List Link) (l : Link) (p : Ptr) (ms : List Link) → held_of (ls ++ leading l p ∷ ms) ≡ held_of (ls ++ l ∷ []) ++ held_of ms
-held_of-join [] l p ms = refl
-held_of-join (k ∷ ls) l p ms = ap (λ hs. held_in k ∷ hs) (held_of-join ls l p ms)
+pub stamped_of-join : (ls : List Link) (l : Link) (p : Ptr) (ms : List Link) → stamped_of (ls ++ leading l p ∷ ms) ≡ stamped_of (ls ++ l ∷ []) ++ stamped_of ms
+stamped_of-join [] l p ms = refl
+stamped_of-join (k ∷ ls) l p ms = ap (λ hs. stamped_in k ∷ hs) (stamped_of-join ls l p ms)
 
 last_of : {X : Type 0} (x : X) (xs : List X) → (ys : List X) × (y : X) × (x ∷ xs ≡ ys ++ y ∷ [])
 last_of x [] = ([], x, refl)
@@ -80,9 +80,9 @@ some_is : {X : Type 0} (x y : X) → Some x ≡ Some y → x ≡ y
 some_is x y e = ap (λ o. unwrap_or o x) e
 
 -- what is left from the i-th node on begins with what that node holds
-pub held_from : (ls : List Link) (i : ℕ) (p : Ptr) (n : Node) → slice_get ls i ≡ Some (p, n) → drop i (held_of ls) ≡ (n.packet, n.stamp) ∷ drop (suc i) (held_of ls)
+pub held_from : (ls : List Link) (i : ℕ) (p : Ptr) (n : Node) → slice_get ls i ≡ Some (p, n) → drop i (stamped_of ls) ≡ (n.packet, n.stamp) ∷ drop (suc i) (stamped_of ls)
 held_from [] i p n e = absurd (false≢true (ap is_some e))
-held_from (l ∷ ls) zero p n e = ap (λ k. held_in k ∷ held_of ls) (some_is l (p, n) e)
+held_from (l ∷ ls) zero p n e = ap (λ k. stamped_in k ∷ stamped_of ls) (some_is l (p, n) e)
 held_from (l ∷ ls) (suc i) p n e = held_from ls i p n e
 
 -- the i-th node leads to the one behind it

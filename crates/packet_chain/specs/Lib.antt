@@ -1,5 +1,5 @@
 pub mod Counted
-pub mod Held
+pub mod Stamped
 pub mod Links
 pub mod Ownership
 pub mod PacketBytes

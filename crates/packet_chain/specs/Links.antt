@@ -2,19 +2,19 @@
 use Rattle.std.specs.Prelude.{◌≡◌, ℕ, List, [], ◌∷◌, map, slice_index_or}
 use denote.RawPtr.{Ptr, null_ptr}
 use Rattle.packet_chain.specs.declared.node.Node.{Node}
-use Rattle.packet_chain.specs.Held.{Held}
+use Rattle.packet_chain.specs.Stamped.{Stamped}
 
 -- where a node lies, and the node
 abbrev pub Link : Type 0
 Link = Ptr × Node
 
 -- the packet and the stamp in a node
-abbrev pub held_in : Link → Held
-held_in l = (l.1.packet, l.1.stamp)
+abbrev pub stamped_in : Link → Stamped
+stamped_in l = (l.1.packet, l.1.stamp)
 
 -- those of all the nodes, in order
-abbrev pub held_of : List Link → List Held
-held_of = map held_in
+abbrev pub stamped_of : List Link → List Stamped
+stamped_of = map stamped_in
 
 -- where the i-th node lies, and null past the last
 abbrev pub place_of : List Link → ℕ → Ptr

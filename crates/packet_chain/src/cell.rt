@@ -16,9 +16,9 @@ pub struct PacketCell {
 }
 
 impl Model for PacketCell {
-    ghost use Rattle.packet_chain.specs.Held.{Held};
+    ghost use Rattle.packet_chain.specs.Stamped.{Stamped};
 
-    ghost Value = { Held };
+    ghost Value = { Stamped };
 
     ghost view = { λ c. (c.node.node.packet, c.node.node.stamp) };
 }
@@ -74,6 +74,13 @@ impl PacketCell {
         replace_with(&mut self.node, stamp, stamped);
     }
 
+    /// Puts another packet into the cell, which keeps its stamp. It takes no memory.
+    pub fn set_packet(&mut self, packet: Packet)
+        ensures { self.new ≡ (packet, self.old.1) }
+    {
+        replace_with(&mut self.node, packet, repacked);
+    }
+
     /// Frees the cell and gives its packet.
     pub fn into_packet(self) -> Packet
         ensures { result ≡ self.0 }
@@ -97,4 +104,19 @@ fn stamped(node: Loose, stamp: u64) -> (Loose, ())
     ensures { result.0.node ≡ record node.node { stamp = stamp } }
 {
     (node.stamped(stamp), ())
+}
+
+// The block with another packet in it.
+fn repacked(cell: Loose, packet: Packet) -> (Loose, ())
+    ensures packet { result.0.node.packet ≡ packet }
+    ensures stamp { result.0.node.stamp ≡ cell.node.stamp }
+{
+    let stamp = cell.node().stamp;
+    let next = ptr::null_mut();
+    let node = Node {
+        next,
+        packet,
+        stamp,
+    };
+    (Loose::fill(cell.empty(), node), ())
 }

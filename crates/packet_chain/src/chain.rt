@@ -2,8 +2,8 @@
 ghost use Rattle.std.specs.Prelude.{◌≡◌, ◌+◌, ◌^◌, ◌<◌, ◌≤◌, [], ◌∷◌, ◌++◌, length, slice_get, IfOk, MatchOption};
 ghost use Rattle.std.specs.Iterator.{YieldsFirst};
 ghost use Rattle.std.specs.Iterator.Runs.{YieldsInOrder};
-ghost use Rattle.packet_chain.specs.Held.{Held, bytes_of};
-ghost use Rattle.packet_chain.specs.Links.{held_of};
+ghost use Rattle.packet_chain.specs.Stamped.{Stamped, bytes_of};
+ghost use Rattle.packet_chain.specs.Links.{stamped_of};
 ghost use Rattle.packet_chain.specs.Counted.{IsCounted};
 ghost use Rattle.packet_chain.specs.PacketBytes.{IsPacketBytes};
 
@@ -25,15 +25,15 @@ pub struct PacketChain {
 
 impl Model for PacketChain {
     ghost use Rattle.std.specs.Prelude.{List};
-    ghost use Rattle.packet_chain.specs.Held.{Held};
-    ghost use Rattle.packet_chain.specs.Links.{held_of};
+    ghost use Rattle.packet_chain.specs.Stamped.{Stamped};
+    ghost use Rattle.packet_chain.specs.Links.{stamped_of};
     ghost use Rattle.packet_chain.specs.Counted.{IsCounted};
 
-    ghost Value = { List Held };
+    ghost Value = { List Stamped };
 
-    ghost view = { λ c. held_of c.nodes.links };
+    ghost view = { λ c. stamped_of c.nodes.links };
 
-    ghost invariant = { λ c. IsCounted c.len c.bytes (held_of c.nodes.links) };
+    ghost invariant = { λ c. IsCounted c.len c.bytes (stamped_of c.nodes.links) };
 }
 
 impl Drop for PacketChain {
@@ -137,7 +137,7 @@ impl PacketChain {
     pub fn iter(&self) -> Iter<'_>
         ensures rest { result ≡ self.now }
         ensures limit { length self.now ≤ 2 ^ 50 }
-        ensures runs { YieldsInOrder (YieldsFirst {A = Held} (λ rest. rest)) (λ rest. rest) }
+        ensures runs { YieldsInOrder (YieldsFirst {A = Stamped} (λ rest. rest)) (λ rest. rest) }
     {
         Iter::all(&self.nodes, self.len)
     }
@@ -158,9 +158,9 @@ impl PacketChain {
     // Links the nodes in behind the last.
     fn attach(&mut self, behind: Nodes, len: usize, bytes: u64)
         requires some { 0 < len }
-        requires counted { IsCounted len bytes (held_of behind.links) }
+        requires counted { IsCounted len bytes (stamped_of behind.links) }
         requires room { length self.old + len ≤ 2 ^ 50 }
-        ensures { self.new ≡ self.old ++ held_of behind.links }
+        ensures { self.new ≡ self.old ++ stamped_of behind.links }
     {
         let empty = self.len == 0;
         if empty {

@@ -1,7 +1,7 @@
 //! A walk along a chain.
 ghost use Rattle.std.specs.Prelude.{◌≡◌, ◌+◌, ◌^◌, ◌<◌, ◌≤◌, length};
 ghost use Rattle.std.specs.Iterator.{YieldsFirst, item_count};
-ghost use Rattle.packet_chain.specs.Links.{held_of};
+ghost use Rattle.packet_chain.specs.Links.{stamped_of};
 
 use crate::node::Place;
 use crate::nodes::Nodes;
@@ -19,12 +19,12 @@ pub struct Iter<'a> {
 
 impl<'a> Model for Iter<'a> {
     ghost use Rattle.std.specs.Prelude.{◌≡◌, ◌+◌, ◌^◌, ◌<◌, ◌≤◌, List, drop, length};
-    ghost use Rattle.packet_chain.specs.Held.{Held};
-    ghost use Rattle.packet_chain.specs.Links.{held_of, place_of};
+    ghost use Rattle.packet_chain.specs.Stamped.{Stamped};
+    ghost use Rattle.packet_chain.specs.Links.{stamped_of, place_of};
 
-    ghost Value = { List Held };
+    ghost Value = { List Stamped };
 
-    ghost view = { λ it. drop it.from (held_of it.nodes.now.links) };
+    ghost view = { λ it. drop it.from (stamped_of it.nodes.now.links) };
 
     ghost invariant = { λ it. (it.from + it.left ≡ length it.nodes.now.links) × (it.from + it.left ≤ 2 ^ 50) × (0 < it.left → it.next.at ≡ place_of it.nodes.now.links it.from) };
 }
@@ -32,7 +32,7 @@ impl<'a> Model for Iter<'a> {
 impl<'a> Iter<'a> {
     pub(crate) fn all(nodes: &'a Nodes, len: usize) -> Iter<'a>
         requires { (len ≡ length nodes.now.links) × (len ≤ 2 ^ 50) }
-        ensures { result ≡ held_of nodes.now.links }
+        ensures { result ≡ stamped_of nodes.now.links }
     {
         Iter {
             nodes,

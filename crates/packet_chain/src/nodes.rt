@@ -1,6 +1,6 @@
 //! The raw pointers: nodes that lie in blocks of their own, each leading to the one behind it.
 ghost use Rattle.std.specs.Prelude.{◌≡◌, ◌<◌, List, [], ◌∷◌, ◌++◌, drop, length, slice_get, Some};
-ghost use Rattle.packet_chain.specs.Links.{Link, IsLinked, held_of, place_of};
+ghost use Rattle.packet_chain.specs.Links.{Link, IsLinked, stamped_of, place_of};
 ghost use Rattle.packet_chain.specs.Ownership.{nodes_own, nodes_lent};
 
 use crate::cell::PacketCell;
@@ -58,7 +58,7 @@ impl Nodes {
     /// Links the other's nodes in behind the last.
     pub(crate) fn join(self, other: Nodes) -> Nodes
         requires { (0 < length self.links) × (0 < length other.links) }
-        ensures { held_of result.links ≡ held_of self.links ++ held_of other.links }
+        ensures { stamped_of result.links ≡ stamped_of self.links ++ stamped_of other.links }
     {
         let Nodes { head, tail } = self;
         let Nodes {
@@ -107,7 +107,7 @@ impl Nodes {
     /// Takes the first of `len` nodes out, as a cell, and gives the others.
     pub(crate) fn pop(self, len: usize, alloc: Global) -> (PacketCell, Nodes)
         requires { (len ≡ length self.links) × (0 < len) }
-        ensures { held_of self.links ≡ result.0 ∷ held_of result.1.links }
+        ensures { stamped_of self.links ≡ result.0 ∷ stamped_of result.1.links }
     {
         if len == 1 {
             let front = self.into_only(alloc);

@@ -1,3 +1,4 @@
+pub mod Moment
 pub mod Keys
 pub mod Serial
 pub mod InitialWindow

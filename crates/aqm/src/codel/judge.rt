@@ -1,6 +1,7 @@
 //! When a packet has waited too long (RFC 8289 section 5.6).
-ghost use Rattle.std.specs.Prelude.{◌≡◌, ◌≤◌, ◌-◌, ◌||◌, not, nat_lt, nat_le, slice_get};
-ghost use Rattle.packet_chain.specs.Held.{bytes_of};
+ghost use Rattle.std.specs.Prelude.{◌≡◌, ◌-◌, ◌||◌, not, nat_lt, nat_le, slice_get};
+ghost use Rattle.sim_time.specs.Moment.{IsMoment};
+ghost use Rattle.packet_chain.specs.Stamped.{bytes_of};
 ghost use Rattle.aqm.specs.Judgement.{judged, judgement, above_target};
 ghost use Rattle.aqm.specs.Taken.{after_one};
 
@@ -20,24 +21,26 @@ pub(super) struct Head {
 impl Codel {
     // Takes the packet at the head out and judges it.
     pub(super) fn take_head(&mut self, now: Time) -> Head
-        requires { now ≤ 1000000000000000 }
-        ensures cell { result.cell ≡ slice_get self.old.line.held 0 }
+        requires { IsMoment now }
+        ensures cell { result.cell ≡ slice_get self.old.fifo.waiting 0 }
         ensures ok { result.ok ≡ (judgement self.old now 0).ok }
         ensures state { self.new ≡ after_one self.old now }
     {
-        let cell = self.line.take();
+        let cell = self.fifo.take();
         let ok = self.judge(&cell, now);
         Head { cell, ok }
     }
 
     // Whether a packet that was taken out may be dropped.
     fn judge(&mut self, head: &Option<PacketCell>, now: Time) -> bool
-        requires { now ≤ 1000000000000000 }
-        ensures ok { result ≡ (judged self.old now head.now (bytes_of self.old.line.held) self.old.first_above).ok }
-        ensures state { self.new ≡ record self.old { first_above = (judged self.old now head.now (bytes_of self.old.line.held) self.old.first_above).first_above } }
+        requires { IsMoment now }
+        ensures ok { result ≡ (judged self.old now head.now (bytes_of self.old.fifo.waiting) self.old.first_above).ok }
+        ensures state { self.new ≡ record self.old { first_above = (judged self.old now head.now (bytes_of self.old.fifo.waiting) self.old.first_above).first_above } }
     {
         match head {
-            Some(cell) if self.is_above_target(cell, now) => self.was_above_long(now),
+            Some(cell) if self.is_above_target(cell.stamp(), self.fifo.bytes(), now) => {
+                self.was_above_long(now)
+            }
             _ => {
                 self.first_above = None;
                 false
@@ -45,18 +48,17 @@ impl Codel {
         }
     }
 
-    // Whether a packet that was taken out has waited for the target at least, with over
-    // maxpacket bytes behind it.
-    fn is_above_target(&self, cell: &PacketCell, now: Time) -> bool
-        ensures { result ≡ not (nat_lt (now - cell.now.1) self.now.target || nat_le (bytes_of self.now.line.held) self.now.maxpacket) }
+    // Whether a packet that entered then has waited for the target at least, with so many bytes,
+    // over maxpacket, left behind it.
+    pub(super) fn is_above_target(&self, entered: Time, left: u64, now: Time) -> bool
+        ensures { result ≡ not (nat_lt (now - entered) self.now.target || nat_le left self.now.maxpacket) }
     {
-        now.saturating_sub(cell.stamp()) >= self.target
-            && self.line.bytes() > u64::from(self.maxpacket)
+        now.saturating_sub(entered) >= self.target && left > u64::from(self.maxpacket)
     }
 
     // Whether packets have been above target for an interval.
     fn was_above_long(&mut self, now: Time) -> bool
-        requires { now ≤ 1000000000000000 }
+        requires { IsMoment now }
         ensures ok { result ≡ (above_target self.old.interval now self.old.first_above).ok }
         ensures state { self.new ≡ record self.old { first_above = (above_target self.old.interval now self.old.first_above).first_above } }
     {

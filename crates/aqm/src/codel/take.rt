@@ -1,5 +1,6 @@
 //! What a take drops and gives (RFC 8289 section 5.5).
 ghost use Rattle.std.specs.Prelude.{◌≡◌, ◌≤◌, ◌<◌, ◌^◌, ◌++◌, ◌∷◌, [], length, true, false, slice_get, IsSome, IfSome};
+ghost use Rattle.sim_time.specs.Moment.{IsMoment};
 ghost use Rattle.aqm.specs.Codel.{IsCodel};
 ghost use Rattle.aqm.specs.Judgement.{judgement};
 ghost use Rattle.aqm.specs.OneDrop.{after_drop};
@@ -14,7 +15,7 @@ impl Codel {
     /// Takes the next packet out; those that are dropped on the way are put at the end of
     /// `dropped`.
     pub fn take(&mut self, now: Time, dropped: &mut PacketChain) -> Option<PacketCell>
-        requires moment { now ≤ 1000000000000000 }
+        requires moment { IsMoment now }
         requires room { length dropped.old ≤ 2 ^ 49 }
         ensures given { result ≡ (codel_taken self.old now).given }
         ensures dropped { dropped.new ≡ dropped.old ++ (codel_taken self.old now).dropped }
@@ -29,7 +30,7 @@ impl Codel {
 
     // In drop state: drops packets as long as they may be dropped and their drops are due.
     fn take_dropping(&mut self, now: Time, dropped: &mut PacketChain) -> Option<PacketCell>
-        requires moment { now ≤ 1000000000000000 }
+        requires moment { IsMoment now }
         requires room { length dropped.old ≤ 2 ^ 49 }
         requires dropping { self.old.dropping ≡ true }
         requires sound { IsCodel self.old }
@@ -49,11 +50,11 @@ impl Codel {
     // Drops a packet that was taken out, and takes the next; where that one may be dropped too,
     // its drop is due a gap later.
     fn drop_head(&mut self, head: Head, now: Time, dropped: &mut PacketChain) -> Head
-        requires moment { now ≤ 1000000000000000 }
+        requires moment { IsMoment now }
         requires room { length dropped.old < 2 ^ 50 }
         requires some { IsSome head.cell }
         requires due { self.old.drop_next ≤ now }
-        ensures cell { result.cell ≡ slice_get self.old.line.held 0 }
+        ensures cell { result.cell ≡ slice_get self.old.fifo.waiting 0 }
         ensures ok { result.ok ≡ (judgement self.old now 0).ok }
         ensures dropped { IfSome head.cell (λ cell. dropped.new ≡ dropped.old ++ cell ∷ []) }
         ensures state { self.new ≡ after_drop self.old now }
@@ -71,7 +72,7 @@ impl Codel {
     // Outside of drop state: where the packet at the head may be dropped, it is, and drop state
     // begins.
     fn take_before_drops(&mut self, now: Time, dropped: &mut PacketChain) -> Option<PacketCell>
-        requires moment { now ≤ 1000000000000000 }
+        requires moment { IsMoment now }
         requires room { length dropped.old ≤ 2 ^ 49 }
         requires dropping { self.old.dropping ≡ false }
         ensures given { result ≡ (codel_taken self.old now).given }
@@ -90,7 +91,7 @@ impl Codel {
 
     // Begins drop state after the first drop.
     fn begin_drops(&mut self, now: Time)
-        requires { now ≤ 1000000000000000 }
+        requires { IsMoment now }
         ensures { self.new ≡ begun self.old now }
     {
         let count = self.first_count(now);

@@ -18,22 +18,16 @@ fn standing(
 ) -> Result<Codel, AllocError>
     requires { drop_next ≤ 1000000000 }
 {
-    let mut line = DropTail::new(alloc, 4);
+    let mut codel = Codel::new(alloc, 4, 1, 1_000_000, 1_000);
     for number in 0..4 {
-        let _entered = line.offer(cell(rt, alloc, number)?, 0);
+        let _entered = codel.offer(cell(rt, alloc, number)?, 0);
     }
-    assert_eq!(rt; line.len(), 4);
-    Ok(Codel {
-        line,
-        target: 1,
-        interval: 1_000_000,
-        maxpacket: 1_000,
-        first_above: Some(0),
-        drop_next,
-        count,
-        lastcount: 1,
-        dropping,
-    })
+    codel.first_above = Some(0);
+    codel.drop_next = drop_next;
+    codel.count = count;
+    codel.lastcount = 1;
+    codel.dropping = dropping;
+    Ok(codel)
 }
 
 /// Takes: the first packet is dropped, and the second given. Count, lastcount and drop_next
@@ -50,26 +44,20 @@ fn drop_one(rt: &impl Abort, alloc: Global, mut codel: Codel, now: Time) -> (u32
 }
 
 #[test]
-fn a_drop_state_is_recent_below_16_intervals(rt: HostRuntime) -> Result<(), Fail> {
+fn a_drop_state_is_recent_below_16_intervals_and_the_count_stays_at_its_greatest(
+    rt: HostRuntime,
+) -> Result<(), Fail> {
     let alloc = rt.alloc();
-    let rows: [(Time, u32, Time); 3] = [
-        (16_999_999, 4, 17_499_999),
-        (17_000_000, 1, 18_000_000),
-        (17_000_001, 1, 18_000_001),
+    let rows: [((Time, u32, bool), Time, (u32, u32, Time)); 4] = [
+        ((1_000_000, 5, false), 16_999_999, (4, 4, 17_499_999)),
+        ((1_000_000, 5, false), 17_000_000, (1, 1, 18_000_000)),
+        ((1_000_000, 5, false), 17_000_001, (1, 1, 18_000_001)),
+        ((10, u32::MAX, true), 20, (u32::MAX, 1, 25)),
     ];
-    for (now, count, drop_next) in rows {
-        let codel = standing(&rt, alloc, 1_000_000, 5, false)?;
-        assert!(rt; now <= 1_000_000_000);
-        let after = drop_one(&rt, alloc, codel, now);
-        assert_eq!(rt; after, (count, count, drop_next), "at {now}");
+    for ((drop_next, count, dropping), now, after) in rows {
+        assert!(rt; drop_next <= 1_000_000_000 && now <= 1_000_000_000);
+        let codel = standing(&rt, alloc, drop_next, count, dropping)?;
+        assert_eq!(rt; drop_one(&rt, alloc, codel, now), after, "at {now}");
     }
-    Ok(())
-}
-
-#[test]
-fn the_count_stays_at_its_greatest(rt: HostRuntime) -> Result<(), Fail> {
-    let alloc = rt.alloc();
-    let codel = standing(&rt, alloc, 10, u32::MAX, true)?;
-    assert_eq!(rt; drop_one(&rt, alloc, codel, 20), (u32::MAX, 1, 25));
     Ok(())
 }

@@ -6,4 +6,4 @@ abbrev pub invariant-loop-head : goal.invariant-loop-head
 invariant-loop-head l = (k : ℕ) × IsSoFar l.fn.self l.now l.fn.dropped l.dropped l.self l.head.cell l.head.ok k
 
 abbrev pub decreases-loop-head : goal.decreases-loop-head
-decreases-loop-head l = length l.self.line.held
+decreases-loop-head l = length l.self.fifo.waiting

@@ -1,5 +1,5 @@
 use Rattle.std.proofs.Common.{◌≡◌, ◌+◌, ◌∷◌, suc, drop, sym, ap, ◌∙◌, arith}
-use Rattle.packet_chain.specs.Links.{held_of, place_of}
+use Rattle.packet_chain.specs.Links.{stamped_of, place_of}
 use Rattle.packet_chain.proofs.Linked.{IsLinked-had, held_from, next_is}
 use Rattle.packet_chain.proofs.iter.IterIterator.next.Goals as goal
 
@@ -21,4 +21,4 @@ returns-clause-steps c =
     let it = c.self.inside in
     let on : suc it.from ≡ it.from + 1 = omega arith in
     let node = c.node-node.result.now in
-    sym c.self.view_is ∙ held_from it.nodes.now.links it.from it.next.at node c.node-node.ensures ∙ ap (λ k. (node.packet, node.stamp) ∷ drop k (held_of it.nodes.now.links)) on
+    sym c.self.view_is ∙ held_from it.nodes.now.links it.from it.next.at node c.node-node.ensures ∙ ap (λ k. (node.packet, node.stamp) ∷ drop k (stamped_of it.nodes.now.links)) on

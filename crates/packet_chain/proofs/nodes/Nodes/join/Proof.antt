@@ -24,9 +24,9 @@ use Rattle.packet_chain.specs.contracts.nodes.Nodes.{the_row as R}
 use Rattle.packet_chain.specs.contracts.nodes.Nodes.join as f
 use Rattle.packet_chain.proofs.nodes.Nodes.join.Statement.{statement}
 use Rattle.packet_chain.proofs.nodes.Nodes.join.Code as code
-use Rattle.packet_chain.specs.Links.{Link, held_of, IsLinked}
+use Rattle.packet_chain.specs.Links.{Link, stamped_of, IsLinked}
 use Rattle.packet_chain.specs.Ownership.{nodes_own}
-use Rattle.packet_chain.proofs.Linked.{IsLinked-had, leading, tail_is, IsLinked-join, held_of-join, unsnoc, uncons}
+use Rattle.packet_chain.proofs.Linked.{IsLinked-had, leading, tail_is, IsLinked-join, stamped_of-join, unsnoc, uncons}
 use Rattle.packet_chain.proofs.Steps.{nodes_val, nodes_typed, nodes_had, nodes_made, Fits-leading, append_out, append_in, link_out, link_in}
 
 abbrev stayed : Stays f.ended.signature.params f.ended.kept
@@ -48,7 +48,7 @@ join_spec 𝓤 𝓛 𝓜 𝓡 wired =
     let links = ms.0 ++ leading m p ∷ e.links in
     let linked : IsLinked d.head e.tail links = subst (λ (ys : List Link). IsLinked d.head e.tail (ms.0 ++ leading m p ∷ ys)) (sym ks.2) (IsLinked-join d.head d.tail p e.tail ms.0 m ks.0 ks.1 front behind) in
     let made : Nodes = record { head = d.head; tail = e.tail; links = links; linked = ∣ linked ∣₁ } in
-    let held : held_of links ≡ held_of d.links ++ held_of e.links = held_of-join ms.0 m p e.links ∙ ap (λ (xs : List Link). held_of xs ++ held_of e.links) (sym ms.2) in
+    let stamped : stamped_of links ≡ stamped_of d.links ++ stamped_of e.links = stamped_of-join ms.0 m p e.links ∙ ap (λ (xs : List Link). stamped_of xs ++ stamped_of e.links) (sym ms.2) in
     -- [the other's nodes; this one's]
     move ! (1 ∷ []) $ rewrite ! 0 (λ (ls : List Link). ‵ (nodes_own ls)) ms.2 refl $ use1 𝓛 (‵ (nodes_own ms.0) ⊛ ‵ (nodes_own (m ∷ []))) (append_out 𝓛 ms.0 (m ∷ [])) $ split ! $
     move ! (1 ∷ []) $ fsplit ! $ link_out ! m (λ b o at fits.
@@ -66,6 +66,6 @@ join_spec 𝓤 𝓛 𝓜 𝓡 wired =
     returns ! (look_at ! 0 refl) $ free_all ! refl $
     link_in ! (leading m p) b o at (Fits-leading m.1 p fits) $ move ! (0 ∷ 3 ∷ []) $ fjoin ! $ move ! (2 ∷ 0 ∷ []) $
     use2 𝓛 (‵ (nodes_own links)) (append_in 𝓛 ms.0 (leading m p ∷ e.links)) $ nodes_made ! made $
-    use0 𝓛 (raw (fact 𝓤 (held_of links ≡ held_of d.links ++ held_of e.links))) (fact_i 𝓤 (held_of links ≡ held_of d.links ++ held_of e.links) (emp 𝓤) held) $
+    use0 𝓛 (raw (fact 𝓤 (stamped_of links ≡ stamped_of d.links ++ stamped_of e.links))) (fact_i 𝓤 (stamped_of links ≡ stamped_of d.links ++ stamped_of e.links) (emp 𝓤) stamped) $
     nothing ! $ nothing ! $ nothing ! $ fjoin ! $ nothing ! $ fjoin ! $ keep ! (1 ∷ 0 ∷ 3 ∷ 2 ∷ []) $
     by ! (leaves 𝓛 f.ended stayed c z (nodes_val d.head e.tail) made (tt, (tt, tt)) (tt, (tt, tt)))))))))

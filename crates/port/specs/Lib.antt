@@ -1,0 +1,15 @@
+pub mod ActList
+pub mod Losses
+pub mod Port
+pub mod PortOf
+pub mod Room
+pub mod History
+pub mod Fates
+pub mod Laws
+pub use Rattle.packet_chain.specs.Stamped
+pub use Rattle.packet_chain.specs.PacketBytes
+pub use Rattle.sim_time.specs.Moment
+pub use Rattle.sim_time.specs.Serial
+pub use Rattle.aqm.specs.DropTail
+pub use Rattle.aqm.specs.Codel
+pub use Rattle.aqm.specs.Queue

@@ -1,0 +1,103 @@
+//! What one event does to packets.
+ghost use Rattle.std.specs.Prelude.{◌≡◌, ◌+◌, ◌<◌, ◌≤◌, [], ◌∷◌, ◌++◌, length, IsOk, OnOk, OnErr};
+
+use packet_chain::{Kind, Packet, PacketBytes};
+use smallvec::SmallVec;
+use std::alloc::{AllocError, Global};
+use std::marker::Model;
+
+/// Why a packet was dropped.
+#[derive(Clone, Copy, Debug, PartialEq, Eq)]
+pub enum DropReason {
+    /// The link's list of lost packets names it.
+    Lost,
+    /// The queue held its capacity.
+    Full,
+    /// CoDel dropped it (RFC 8289 section 5).
+    Codel,
+}
+
+/// One thing that an event did.
+#[derive(Clone, Copy, Debug, PartialEq, Eq)]
+pub enum Act {
+    /// The link of this number began to send the packet.
+    Tx(u16, Packet),
+    /// The packet was dropped.
+    Dropped(DropReason, Packet),
+}
+
+/// An act for the places of a small vector that are not used.
+impl Default for Act {
+    fn default() -> Act {
+        Act::Tx(
+            0,
+            Packet {
+                flow: 0,
+                kind: Kind::Data,
+                number: 0,
+                bytes: PacketBytes::new(1).unwrap(),
+            },
+        )
+    }
+}
+
+/// What one event did, in the order done. Eight acts need no memory of their own.
+#[derive(Debug, Drop)]
+pub struct Acts {
+    items: SmallVec<Act, 8>,
+}
+
+impl Model for Acts {
+    ghost use Rattle.std.specs.Prelude.{◌-◌, ◌≤◌};
+    ghost use Rattle.smallvec.specs.SmallVec.{small_vec_len};
+    ghost use Rattle.port.specs.ActList.{ActList};
+
+    ghost Value = { ActList };
+
+    ghost view = { λ a. record { acts = a.items.items; room = a.items.capacity - small_vec_len a.items } };
+
+    ghost invariant = { λ a. small_vec_len a.items ≤ a.items.capacity };
+}
+
+impl Acts {
+    /// None yet.
+    pub fn new(alloc: Global) -> Acts
+        ensures { result ≡ record { acts = []; room = 8 } }
+    {
+        Acts {
+            items: SmallVec::new(alloc),
+        }
+    }
+
+    /// The acts, in the order done.
+    pub fn as_slice(&self) -> &[Act]
+        ensures { result.now ≡ self.now.acts }
+    {
+        self.items.as_slice()
+    }
+
+    /// Room for so many more acts. Where there is room already, none is asked for.
+    pub fn reserve(&mut self, more: usize) -> Result<(), AllocError>
+        ensures same { self.new.acts ≡ self.old.acts }
+        ensures ok { OnOk result (more ≤ self.new.room) }
+        ensures succeeds { more ≤ self.old.room → IsOk result }
+        ensures err { OnErr result (self.new ≡ self.old) }
+    {
+        self.items.reserve(more)
+    }
+
+    /// One more act, for which there is room.
+    pub fn push(&mut self, act: Act)
+        requires { 0 < self.old.room }
+        ensures acts { self.new.acts ≡ self.old.acts ++ act ∷ [] }
+        ensures room { self.new.room + 1 ≡ self.old.room }
+    {
+        self.items.push_reserved(act);
+    }
+    /// Forgets the acts, and keeps their memory for the next.
+    pub fn clear(&mut self)
+        ensures { self.new ≡ record { acts = []; room = self.old.room + length self.old.acts } }
+    {
+        self.items.clear();
+    }
+}

@@ -1,0 +1,211 @@
+//! A link's sending side.
+ghost use Rattle.std.specs.Prelude.{◌≡◌, ℕ, ◌+◌, ◌^◌, ◌<◌, ◌≤◌, ◌++◌, Some, None, All, length, IfOk};
+ghost use Rattle.std.specs.List.Sorted.{IsStrictlyIncreasing};
+ghost use Rattle.sim_time.specs.Moment.{IsMoment};
+ghost use Rattle.packet_chain.specs.declared.packet.Packet.{Packet};
+ghost use Rattle.aqm.specs.Queue.{waiting_in};
+ghost use Rattle.port.specs.Port.{IsPort, opening_port, offered_one, taken, departed};
+ghost use Rattle.port.specs.Laws.{NothingWaitsWhereIdle};
+ghost use Rattle.port.specs.Room.{drops_at, drops_at_offer};
+
+mod taking;
+
+use self::taking::drop_cell;
+use crate::acts::{Acts, DropReason};
+use crate::losses::Losses;
+use aqm::{Offered, Queue};
+use packet_chain::{PacketCell, PacketChain};
+use sim_time::{Rate, Time};
+use std::alloc::{AllocError, Global};
+use std::marker::Model;
+
+/// The sending side of a link.
+#[derive(Drop)]
+pub struct Port {
+    /// The link's number, below 1,024.
+    link: u16,
+    /// How fast it sends.
+    rate: Rate,
+    /// Propagation delay, 1 to 10^10 nanoseconds.
+    delay: Time,
+    /// How many packets were offered, and which are lost.
+    losses: Losses,
+    /// How many packets began to be sent.
+    sent: u64,
+    /// Until when the link is busy, in nanoseconds; none where it is idle.
+    next_free: Option<Time>,
+    /// The packets that wait.
+    queue: Queue,
+    /// What copies take their memory from.
+    alloc: Global,
+}
+
+impl Model for Port {
+    ghost use Rattle.port.specs.Port.{PortState, IsPort};
+
+    ghost Value = { PortState };
+
+    ghost use Rattle.port.specs.PortOf.{port_of};
+
+    ghost view = { port_of };
+
+    ghost invariant = { λ p. IsPort (port_of p) };
+}
+
+impl Port {
+    /// The link of a number below 1,024, with a delay of 1 to 10^10 nanoseconds, before anything
+    /// was offered to it. The packets of the numbers in `lose`, counted from 1, are lost. Its
+    /// copies take their memory from `alloc`.
+    pub fn new(
+        alloc: Global,
+        link: u16,
+        rate: Rate,
+        delay: Time,
+        queue: Queue,
+        lose: Vec<u32>,
+    ) -> Port
+        requires number { link < 1024 }
+        requires delay_least { 1 ≤ delay }
+        requires delay_most { delay ≤ 10000000000 }
+        requires lose_rises { IsStrictlyIncreasing lose.items }
+        requires lose_counts { All (λ number. 1 ≤ number) lose.items }
+        ensures { result ≡ opening_port link rate delay lose.items queue }
+    {
+        Port {
+            link,
+            rate,
+            delay,
+            losses: Losses::new(lose),
+            sent: 0,
+            next_free: None,
+            queue,
+            alloc,
+        }
+    }
+
+    /// The link's number.
+    pub fn link(&self) -> u16
+        ensures value { result ≡ self.now.link }
+        ensures sound { IsPort self.now }
+    {
+        self.link
+    }
+
+    /// Until when the link is busy, in nanoseconds; none where it is idle.
+    pub fn next_free(&self) -> Option<Time>
+        ensures { result ≡ self.now.next_free }
+    {
+        self.next_free
+    }
+
+    /// How many packets were offered.
+    pub fn offered(&self) -> u128
+        ensures { result ≡ self.now.offered }
+    {
+        self.losses.offered()
+    }
+
+    /// How many packets began to be sent.
+    pub fn sent(&self) -> u64
+        ensures { result ≡ self.now.sent }
+    {
+        self.sent
+    }
+
+    /// The packets that wait.
+    pub fn queue(&self) -> &Queue
+        ensures { result.now ≡ self.now.queue }
+    {
+        &self.queue
+    }
+
+    /// For how many acts there is to be room, whatever is called and whenever.
+    pub fn room(&self) -> usize
+        ensures value { result ≡ length (waiting_in self.now.queue) + 2 }
+        ensures sends { (now : ℕ) (packet : Packet) → drops_at_offer now self.now packet + 2 ≤ result }
+        ensures frees { (now : ℕ) → drops_at now self.now + 2 ≤ result }
+    {
+        self.queue.len() + 2
+    }
+
+    /// For how many acts there is to be room at `now`: two, and one for each packet that CoDel
+    /// drops where the link takes. The cost doesn't grow with what stays in the queue.
+    pub fn room_at(&self, now: Time) -> usize
+        requires { IsMoment now }
+        ensures value { result ≡ drops_at now self.now + 2 }
+        ensures sends { NothingWaitsWhereIdle self.now → (packet : Packet) → drops_at_offer now self.now packet + 2 ≤ result }
+        ensures least { 2 ≤ result }
+    {
+        self.queue.drops_at(now) + 2
+    }
+
+    /// Offers a packet to the link: it is lost, or dropped as the queue is full, or it enters the
+    /// queue. An idle link takes from its queue at once. A packet that begins to be sent goes to
+    /// the end of `out`, with the time of its arrival as its stamp.
+    pub fn send(&mut self, cell: PacketCell, now: Time, acts: &mut Acts, out: &mut PacketChain)
+        requires moment { IsMoment now }
+        requires room { drops_at_offer now self.old cell.0 + 2 ≤ acts.old.room }
+        requires sent { self.old.next_free ≡ None → self.old.sent < 1000000000000000 }
+        requires offered { self.old.offered < 2 ^ 100 }
+        requires chain { self.old.next_free ≡ None → length out.old < 1000000000000000 }
+        ensures state { self.new ≡ (offered_one now self.old cell.0).port }
+        ensures departed { out.new ≡ out.old ++ departed (offered_one now self.old cell.0).departure }
+        ensures acts { acts.new.acts ≡ acts.old.acts ++ (offered_one now self.old cell.0).acts }
+        ensures places { acts.new.room + length acts.new.acts ≡ acts.old.room + length acts.old.acts }
+
+        // What follows from these for a caller that offers several packets in a row.
+        ensures few { acts.old.room ≤ acts.new.room + (drops_at_offer now self.old cell.0 + 1) }
+        ensures counted { self.new.offered ≡ self.old.offered + 1 }
+        ensures idle_still { self.new.next_free ≡ None → (self.old.next_free ≡ None) × (self.new.sent ≡ self.old.sent) × (out.new ≡ out.old) }
+        ensures caught_up { NothingWaitsWhereIdle self.old → NothingWaitsWhereIdle self.new }
+    {
+        if self.losses.count() {
+            drop_cell(cell, DropReason::Lost, acts);
+            return;
+        }
+        match self.queue.offer(cell, now) {
+            Offered::Full(cell) => drop_cell(cell, DropReason::Full, acts),
+            Offered::Entered => {
+                if self.next_free.is_none() {
+                    self.take(now, acts, out);
+                }
+            }
+        }
+    }
+
+    /// The link has sent a packet whole, and takes the next from its queue. A packet that begins
+    /// to be sent goes to the end of `out`, with the time of its arrival as its stamp.
+    pub fn free(&mut self, now: Time, acts: &mut Acts, out: &mut PacketChain)
+        requires moment { IsMoment now }
+        requires due { self.old.next_free ≡ Some now }
+        requires room { drops_at now self.old + 2 ≤ acts.old.room }
+        requires sent { self.old.sent < 1000000000000000 }
+        requires chain { length out.old < 1000000000000000 }
+        ensures state { self.new ≡ (taken now self.old).port }
+        ensures departed { out.new ≡ out.old ++ departed (taken now self.old).departure }
+        ensures acts { acts.new.acts ≡ acts.old.acts ++ (taken now self.old).acts }
+        ensures places { acts.new.room + length acts.new.acts ≡ acts.old.room + length acts.old.acts }
+        ensures few { acts.old.room ≤ acts.new.room + (drops_at now self.old + 1) }
+        ensures caught_up { NothingWaitsWhereIdle self.new }
+    {
+        self.take(now, acts, out);
+    }
+
+    /// A port in the same state, with the packets that wait in cells of its own.
+    pub fn copy(&self) -> Result<Port, AllocError>
+        ensures { IfOk result (λ copy. copy ≡ self.now) }
+    {
+        let losses = self.losses.copy(self.alloc)?;
+        let queue = self.queue.copy()?;
+        Ok(Port {
+            link: self.link,
+            rate: self.rate,
+            delay: self.delay,
+            losses,
+            sent: self.sent,
+            next_free: self.next_free,
+            queue,
+            alloc: self.alloc,
+        })
+    }
+}
