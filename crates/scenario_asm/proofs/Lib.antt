@@ -1,7 +1,16 @@
 pub mod Pieces
 pub mod Digits
-pub mod Stage
+pub mod Verdicts
+pub mod Links
+pub mod Words
+pub mod Routes
+pub mod Declared
 pub mod Holds
+pub mod OfKinds
+pub mod Right
+pub mod Added
+pub mod Whole
 pub mod Read
 pub mod Progress
 pub mod OneMeaning
+pub mod OneAnswer

@@ -1,20 +1,21 @@
 -- A text has one meaning.
-use Rattle.std.proofs.Common.{◌≡◌, ◌⊎◌, inl, inr, ℕ, zero, suc, ◌+◌, ◌<◌, ◌≤◌, List, [], ◌∷◌, ◌++◌, length, take, get_or, Option, None, Result, Ok, Err, IfOk, IsErrOf, refl, ap, sym, ◌∙◌, subst, arith, add-one, length-append}
+use Rattle.std.proofs.Common.{◌≡◌, ◌⊎◌, inl, inr, ℕ, zero, suc, ◌+◌, ◌<◌, ◌≤◌, List, [], ◌∷◌, ◌++◌, length, take, get_or, Option, Some, None, Result, Ok, Err, IfOk, IsErrOf, refl, ap, sym, ◌∙◌, subst, arith, add-one, length-append}
 use Rattle.std.proofs.lemmas.Bool.{cases_lt}
 use Rattle.std.proofs.lemmas.List.{take_more, take_at, append-nil, get_or_append_left, get_or_at}
 use Rattle.scenario_image.specs.declared.parts.ScenarioParts.{ScenarioParts}
-use Rattle.scenario_image.specs.Limits.{IsInLimits}
-use Rattle.scenario_image.specs.Ends.{HasItsEnds}
+use Rattle.scenario_image.specs.Scenario.{IsScenario}
+use Rattle.scenario_image.specs.Fault.{IsFreeOf, judged_faults, IsFirstOf, IsFirstFault}
+use Rattle.scenario_image.specs.declared.fault.LoadFault.{LoadFault}
+use Rattle.scenario_image.specs.declared.fault.LoadFault.TheVariants.{L3 as image_L3, L5 as image_L5, L6 as image_L6, L7 as image_L7, L8 as image_L8, NoMemory as image_NoMemory}
 use Rattle.scenario_asm.specs.declared.fault.AsmFault.{AsmFault}
 use Rattle.scenario_asm.specs.declared.fault.AsmFault.TheVariants.{At, NoMemory}
 use Rattle.scenario_asm.specs.declared.fault.Fault.{Fault}
-use Rattle.scenario_asm.specs.declared.fault.Fault.TheVariants.{E10, L3, L5}
 use Rattle.scenario_asm.specs.declared.statement.Statement.{Statement}
 use Rattle.scenario_asm.specs.Lines.{lines_of}
 use Rattle.scenario_asm.specs.Statements.{line_at}
 use Rattle.scenario_asm.specs.Text.{known_of, parts_of}
 use Rattle.scenario_asm.specs.Draft.{WholeGives}
-use Rattle.scenario_asm.specs.Meaning.{AreRead, statements_of, HaveEnd, IsWholeFault, IsFirstFault, MeansFault, MakeScenario, MeansScenario}
+use Rattle.scenario_asm.specs.Meaning.{AreRead, statements_of, HaveEnd, as_text_fault, IsWholeFault, IsLineFault, MeansFault, MakeScenario, MeansScenario}
 
 -- a list has these lines at its front
 record IsFront (all xs : List (List ℕ)) : Type 0 where
@@ -74,30 +75,30 @@ line_is : (all above : List (List ℕ)) (line : List ℕ) (below : List (List �
 line_is all above line below is = ap (λ l. get_or l (length above) []) is ∙ get_or_at above line below [] (length above) refl
 
 -- the faulty line, in the lines of the text
-faulty_at : (text : List ℕ) (number : ℕ) (fault : Fault) → (first : IsFirstFault text number fault) → line_at (known_of (statements_of first.said)) (get_or (lines_of text) (length first.above) []) ≡ Err fault
+faulty_at : (text : List ℕ) (number : ℕ) (fault : Fault) → (first : IsLineFault text number fault) → line_at (known_of (statements_of first.said)) (get_or (lines_of text) (length first.above) []) ≡ Err fault
 faulty_at text number fault first = ap (λ l. line_at (known_of (statements_of first.said)) l) (line_is (lines_of text) first.above first.line first.below first.lines) ∙ first.faulty
 
-above_front : (text : List ℕ) (number : ℕ) (fault : Fault) → (first : IsFirstFault text number fault) → IsFront (lines_of text) first.above
+above_front : (text : List ℕ) (number : ℕ) (fault : Fault) → (first : IsLineFault text number fault) → IsFront (lines_of text) first.above
 above_front text number fault first = front_of (lines_of text) first.above first.line first.below first.lines
 
 err_is : (read : Result (Option Statement) Fault) (f g : Fault) → read ≡ Err f → read ≡ Err g → f ≡ g
 err_is read f g this that = cc
 
 -- no line is below itself
-first_le : (text : List ℕ) (m n : ℕ) (f g : Fault) → (a : IsFirstFault text m f) → (b : IsFirstFault text n g) → length b.above ≤ length a.above
+first_le : (text : List ℕ) (m n : ℕ) (f g : Fault) → (a : IsLineFault text m f) → (b : IsLineFault text n g) → length b.above ≤ length a.above
 first_le text m n f g a b = fault_stops (lines_of text) a.above b.above a.said b.said f (above_front text m f a) (above_front text n g b) a.above_read b.above_read (faulty_at text m f a)
 
-first_line : (text : List ℕ) (m n : ℕ) (f g : Fault) → (a : IsFirstFault text m f) → (b : IsFirstFault text n g) → length a.above ≡ length b.above
+first_line : (text : List ℕ) (m n : ℕ) (f g : Fault) → (a : IsLineFault text m f) → (b : IsLineFault text n g) → length a.above ≡ length b.above
 first_line text m n f g a b = omega (arith, first_le text m n f g a b, first_le text n m g f b a)
 
-first_said : (text : List ℕ) (m n : ℕ) (f g : Fault) → (a : IsFirstFault text m f) → (b : IsFirstFault text n g) → a.said ≡ b.said
+first_said : (text : List ℕ) (m n : ℕ) (f g : Fault) → (a : IsLineFault text m f) → (b : IsLineFault text n g) → a.said ≡ b.said
 first_said text m n f g a b =
     let many : length a.above ≡ length b.above = first_line text m n f g a b in
     sym (whole_take a.said (length a.above) a.above_read.as_many)
     ∙ (same_said (lines_of text) a.above b.above a.said b.said (above_front text m f a) (above_front text n g b) a.above_read b.above_read (length a.above) (omega arith) (omega arith)
     ∙ whole_take b.said (length a.above) (b.above_read.as_many ∙ sym many))
 
-first_fault : (text : List ℕ) (m n : ℕ) (f g : Fault) → (a : IsFirstFault text m f) → (b : IsFirstFault text n g) → f ≡ g
+first_fault : (text : List ℕ) (m n : ℕ) (f g : Fault) → (a : IsLineFault text m f) → (b : IsLineFault text n g) → f ≡ g
 first_fault text m n f g a b =
     err_is (line_at (known_of (statements_of b.said)) (get_or (lines_of text) (length b.above) [])) f g
     (ap (λ s. line_at (known_of (statements_of s)) (get_or (lines_of text) (length b.above) [])) (sym (first_said text m n f g a b))
@@ -105,7 +106,7 @@ first_fault text m n f g a b =
     (faulty_at text n g b)
 
 -- where all lines are read, none is faulty
-none_faulty : (text : List ℕ) (n : ℕ) (f : Fault) (said : List (Option Statement)) → IsFirstFault text n f → AreRead (lines_of text) said → ⊥
+none_faulty : (text : List ℕ) (n : ℕ) (f : Fault) (said : List (Option Statement)) → IsLineFault text n f → AreRead (lines_of text) said → ⊥
 none_faulty text n f said first read =
     let le : length (lines_of text) ≤ length first.above = fault_stops (lines_of text) first.above (lines_of text) first.said said f (above_front text n f first) (front_all (lines_of text)) first.above_read read (faulty_at text n f first) in
     omega (arith, ap length first.lines, length-append first.above (first.line ∷ first.below))
@@ -121,34 +122,52 @@ one_end statements d e hd he =
     let both : d ∷ [] ≡ e ∷ [] = sym hd.one_end ∙ he.one_end in
     cc
 
-limits_both : (statements : List Statement) (d e : ℕ) → HaveEnd statements d → HaveEnd statements e → IsInLimits (parts_of d statements) → IsInLimits (parts_of e statements)
-limits_both statements d e hd he limits = let P : ℕ → Type 0 = λ n. IsInLimits (parts_of n statements) in subst P (one_end statements d e hd he) limits
+-- what holds of the parts with one end holds with the other
+parts_both : (P : ScenarioParts → Type 0) (statements : List Statement) (d e : ℕ) → HaveEnd statements d → HaveEnd statements e → P (parts_of d statements) → P (parts_of e statements)
+parts_both P statements d e hd he holds = let Q : ℕ → Type 0 = λ n. P (parts_of n statements) in subst Q (one_end statements d e hd he) holds
 
-ends_both : (statements : List Statement) (d e : ℕ) → HaveEnd statements d → HaveEnd statements e → HasItsEnds (parts_of d statements) → HasItsEnds (parts_of e statements)
-ends_both statements d e hd he ends = let P : ℕ → Type 0 = λ n. HasItsEnds (parts_of n statements) in subst P (one_end statements d e hd he) ends
+-- parts have one first fault
+one_first : (parts : ScenarioParts) (faults : List LoadFault) (a b : LoadFault) → IsFirstOf parts faults a → IsFirstOf parts faults b → a ≡ b
+one_first parts [] a b this that = absurd this
+one_first parts (next ∷ later) a b (inl this) (inl that) = this.0 ∙ sym that.0
+one_first parts (next ∷ later) a b (inl this) (inr that) = absurd (this.1 that.0)
+one_first parts (next ∷ later) a b (inr this) (inl that) = absurd (that.1 this.0)
+one_first parts (next ∷ later) a b (inr this) (inr that) = one_first parts later a b this.1 that.1
+
+-- parts that are free of all faults have no first one
+none_first : (parts : ScenarioParts) (faults : List LoadFault) (fault : LoadFault) → ((other : LoadFault) → IsFreeOf parts other) → IsFirstOf parts faults fault → ⊥
+none_first parts [] fault free first = first
+none_first parts (next ∷ later) fault free (inl first) = first.1 (free next)
+none_first parts (next ∷ later) fault free (inr first) = none_first parts later fault free first.1
+
+free_of : (parts : ScenarioParts) → IsScenario parts → (fault : LoadFault) → IsFreeOf parts fault
+free_of parts is image_L3 = is.in_limits
+free_of parts is image_L5 = is.ends
+free_of parts is image_L6 = is.kinds
+free_of parts is image_L7 = is.unbroken
+free_of parts is image_L8 = is.simple
+free_of parts is image_NoMemory = tt
+
+some_one : (f g : Fault) → Some f ≡ Some g → f ≡ g
+some_one f g is = cc
 
 -- the whole has one fault
 whole_fault : (statements : List Statement) (f g : Fault) → IsWholeFault statements f → IsWholeFault statements g → f ≡ g
-whole_fault statements E10 E10 a b = refl
-whole_fault statements E10 L3 a b = absurd (a b.0 b.1)
-whole_fault statements E10 L5 a b = absurd (a b.0 b.1)
-whole_fault statements E10 _ a b = absurd b
-whole_fault statements L3 E10 a b = absurd (b a.0 a.1)
-whole_fault statements L3 L3 a b = refl
-whole_fault statements L3 L5 a b = absurd (a.2 (limits_both statements b.0 a.0 b.1 a.1 b.2))
-whole_fault statements L3 _ a b = absurd b
-whole_fault statements L5 E10 a b = absurd (b a.0 a.1)
-whole_fault statements L5 L3 a b = absurd (b.2 (limits_both statements a.0 b.0 a.1 b.1 a.2))
-whole_fault statements L5 L5 a b = refl
-whole_fault statements L5 _ a b = absurd b
-whole_fault statements _ _ a b = absurd a
+whole_fault statements f g (inl a) (inl b) = a.0 ∙ sym b.0
+whole_fault statements f g (inl a) (inr b) = absurd (a.1 b.end b.one_end)
+whole_fault statements f g (inr a) (inl b) = absurd (b.1 a.end a.one_end)
+whole_fault statements f g (inr a) (inr b) =
+    let there : IsFirstFault (parts_of b.end statements) a.load = parts_both (λ p. IsFirstFault p a.load) statements a.end b.end a.one_end b.one_end a.first in
+    let same : a.load ≡ b.load = one_first (parts_of b.end statements) judged_faults a.load b.load there b.first in
+    some_one f g (sym a.same ∙ (ap as_text_fault same ∙ b.same))
 
 -- what makes a scenario has no fault
 whole_none : (statements : List Statement) (f : Fault) (parts : ScenarioParts) → IsWholeFault statements f → MakeScenario statements parts → ⊥
-whole_none statements E10 parts a made = a made.end made.one_end
-whole_none statements L3 parts a made = a.2 (limits_both statements made.end a.0 made.one_end a.1 (let P : ScenarioParts → Type 0 = λ p. IsInLimits p in subst P made.parts_are made.in_limits))
-whole_none statements L5 parts a made = a.3 (ends_both statements made.end a.0 made.one_end a.1 (let P : ScenarioParts → Type 0 = λ p. HasItsEnds p in subst P made.parts_are made.ends))
-whole_none statements _ parts a made = a
+whole_none statements f parts (inl a) made = a.1 made.end made.one_end
+whole_none statements f parts (inr a) made =
+    let there : IsFirstFault (parts_of made.end statements) a.load = parts_both (λ p. IsFirstFault p a.load) statements a.end made.end a.one_end made.one_end a.first in
+    let right : IsScenario (parts_of made.end statements) = let P : ScenarioParts → Type 0 = λ p. IsScenario p in subst P made.parts_are made.right in
+    none_first (parts_of made.end statements) judged_faults a.load (free_of (parts_of made.end statements) right) there
 
 made_one : (statements : List Statement) (p q : ScenarioParts) → MakeScenario statements p → MakeScenario statements q → p ≡ q
 made_one statements p q a b = a.parts_are ∙ (ap (λ e. parts_of e statements) (one_end statements a.end b.end a.one_end b.one_end) ∙ sym b.parts_are)

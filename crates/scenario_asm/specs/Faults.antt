@@ -1,11 +1,7 @@
 -- The codes of the faults.
 use Rattle.std.specs.Prelude.{ℕ, List, codes}
-use Rattle.scenario_image.specs.declared.fault.LoadFault.{LoadFault}
-use Rattle.scenario_image.specs.declared.fault.LoadFault.TheVariants.{L3 as image_L3, L5 as image_L5, NoMemory as image_NoMemory}
-use Rattle.scenario_asm.specs.declared.fault.AsmFault.{AsmFault}
-use Rattle.scenario_asm.specs.declared.fault.AsmFault.TheVariants.{At, NoMemory}
 use Rattle.scenario_asm.specs.declared.fault.Fault.{Fault}
-use Rattle.scenario_asm.specs.declared.fault.Fault.TheVariants.{E1, E2, E3, E4, E5, E6, E7, E8, E9, E10, L3, L5, S1}
+use Rattle.scenario_asm.specs.declared.fault.Fault.TheVariants.{E1, E2, E3, E4, E5, E6, E7, E8, E9, E10, L3, L5, L7, L8}
 
 -- a fault's code, as the program prints it
 abbrev pub code_of : Fault → List ℕ
@@ -21,10 +17,5 @@ code_of E9 = codes "E9"
 code_of E10 = codes "E10"
 code_of L3 = codes "L3"
 code_of L5 = codes "L5"
-code_of S1 = codes "S1"
-
--- what is wrong with a text whose lines are right
-abbrev pub fault_of_whole : LoadFault → AsmFault
-fault_of_whole image_L3 = At 0 L3
-fault_of_whole image_L5 = At 0 L5
-fault_of_whole image_NoMemory = NoMemory
+code_of L7 = codes "L7"
+code_of L8 = codes "L8"

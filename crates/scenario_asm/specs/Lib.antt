@@ -1,12 +1,19 @@
 pub mod Faults
+pub mod Verdicts
 pub mod Lines
 pub mod Numbers
-pub mod Reading
 pub mod Names
 pub mod Statements
-pub mod Stage
+pub mod Routes
 pub mod Text
+pub mod Table
+pub mod Right
+pub mod OneAnswer
 pub mod Draft
 pub mod Meaning
 pub use Rattle.scenario_image.specs.Limits
 pub use Rattle.scenario_image.specs.Ends
+pub use Rattle.scenario_image.specs.Kinds
+pub use Rattle.scenario_image.specs.Ways
+pub use Rattle.scenario_image.specs.Scenario
+pub use Rattle.scenario_image.specs.Fault as PartsFault

@@ -23,6 +23,7 @@ is_printable b = nat_le 32 b && nat_le b 126
 abbrev pub without_comment : List ℕ → List ℕ
 without_comment line = before_first (λ b. b == 35) line
 
+-- not nothing
 abbrev pub is_word : List ℕ → Bool
 is_word bytes = not (length bytes == 0)
 

@@ -1,10 +1,10 @@
 -- Numbers and names.
-use Rattle.std.specs.Prelude.{ℕ, Bool, false, ◌&&◌, ◌||◌, not, ◌==◌, nat_le, [], ◌∷◌, length, Result, Ok, Err, if◌then◌else◌}
+use Rattle.std.specs.Prelude.{ℕ, Bool, false, ◌&&◌, ◌||◌, not, ◌==◌, nat_le, [], ◌∷◌, length}
 use Rattle.std.specs.List.{list_all}
 use Rattle.std.specs.Str.Parse.{digits_value}
-use Rattle.scenario_asm.specs.declared.fault.Fault.{Fault}
 use Rattle.scenario_asm.specs.declared.fault.Fault.TheVariants.{E4, E5}
 use Rattle.scenario_asm.specs.Lines.{Word}
+use Rattle.scenario_asm.specs.Verdicts.{Verdict, first_fault, faulty_unless}
 
 -- 0 to 9
 abbrev pub is_digit : ℕ → Bool
@@ -20,11 +20,15 @@ is_numeral [] = false
 is_numeral (d ∷ []) = is_digit d
 is_numeral (d ∷ e ∷ ds) = is_digit d && (not (d == 48) && list_all is_digit (e ∷ ds))
 
--- the number that the word is, in its range
-abbrev pub number_in : ℕ → ℕ → Word → Result ℕ Fault
-number_in least greatest word =
-    if is_numeral word then (if nat_le least (digits_value 10 word) && nat_le (digits_value 10 word) greatest then Ok (digits_value 10 word) else Err E5) else Err E4
+-- the number that a word is
+abbrev pub number : Word → ℕ
+number word = digits_value 10 word
 
+-- where a number from the least to the greatest is asked
+abbrev pub number_verdict : ℕ → ℕ → Word → Verdict
+number_verdict least greatest word = first_fault (faulty_unless (is_numeral word) E4 ∷ faulty_unless (nat_le least (number word) && nat_le (number word) greatest) E5 ∷ [])
+
+-- a to z, or 0 to 9
 abbrev pub is_letter_or_digit : ℕ → Bool
 is_letter_or_digit b = is_small_letter b || is_digit b
 

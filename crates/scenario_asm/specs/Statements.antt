@@ -1,21 +1,22 @@
--- The statements, and the first fault of a line.
-use Rattle.std.specs.Prelude.{ℕ, ◌-◌, ◌^◌, Bool, ◌&&◌, ◌||◌, not, ◌==◌, nat_le, List, [], length, codes, Option, Some, None, Result, Ok, Err, if◌then◌else◌}
+-- The statements: what a line says, or its first fault.
+use Rattle.std.specs.Prelude.{ℕ, ◌-◌, Bool, false, ◌||◌, ◌==◌, nat_le, List, [], ◌∷◌, length, codes, Option, Some, None, Result, Ok, Err, if◌then◌else◌, unwrap_or, is_some}
 use Rattle.std.specs.List.{slice_index_or, list_all}
 use Rattle.std.specs.Str.{bytes_eq}
+use Rattle.sim_time.specs.declared.rate.TheConstants.{LEAST_RATE, GREATEST_RATE}
+use Rattle.scenario_image.specs.declared.limits.TheConstants.{LATEST_END, LONGEST_DELAY, GREATEST_MSS, MOST_SEGMENTS, GREATEST_RWND, LONGEST_DELACK, MOST_LOSE, MOST_NODES, MOST_LINKS, MOST_FLOWS}
 use Rattle.scenario_image.specs.declared.parts.NodeKind.{NodeKind}
-use Rattle.scenario_image.specs.declared.parts.NodeKind.TheVariants.{Sender, Receiver}
+use Rattle.scenario_image.specs.declared.parts.NodeKind.TheVariants.{Sender, Receiver, Router}
 use Rattle.scenario_image.specs.declared.parts.QueueKind.{QueueKind}
-use Rattle.scenario_image.specs.declared.parts.QueueKind.TheVariants.{DropTail}
-use Rattle.scenario_image.specs.declared.parts.FlowPart.{FlowPart}
+use Rattle.scenario_image.specs.declared.parts.QueueKind.TheVariants.{DropTail, Codel}
 use Rattle.scenario_asm.specs.declared.fault.Fault.{Fault}
-use Rattle.scenario_asm.specs.declared.fault.Fault.TheVariants.{E1, E2, E3, E4, E9, S1}
+use Rattle.scenario_asm.specs.declared.fault.Fault.TheVariants.{E1, E2, E4}
 use Rattle.scenario_asm.specs.declared.statement.LinkLine.{LinkLine}
 use Rattle.scenario_asm.specs.declared.statement.Statement.{Statement}
-use Rattle.scenario_asm.specs.declared.statement.Statement.TheVariants.{Sim, Node, Link, Flow, Lose}
+use Rattle.scenario_asm.specs.declared.statement.Statement.TheVariants.{Sim, Node, Link, Flow, Route, Lose}
 use Rattle.scenario_asm.specs.Lines.{Word, words_of, is_printable}
-use Rattle.scenario_asm.specs.Numbers.{number_in}
-use Rattle.scenario_asm.specs.Names.{Known, new_name, node_of, other_node_of, sender_of, receiver_of, link_of, lost_of, last_of, least_above}
-use Rattle.scenario_asm.specs.Reading.{◌>>=◌, refuse_if}
+use Rattle.scenario_asm.specs.Numbers.{number, number_verdict}
+use Rattle.scenario_asm.specs.Names.{Known, number_of, lost_of, last_of, least_above, is_full_router, new_name_verdict, node_verdict, other_node_verdict, sender_verdict, receiver_verdict, router_verdict, destination_verdict, link_verdict, outgoing_verdict}
+use Rattle.scenario_asm.specs.Verdicts.{Verdict, first_fault, faulty_unless, judged}
 
 -- a word of a line, counted from 0
 abbrev pub nth : List Word → ℕ → Word
@@ -23,84 +24,104 @@ nth words place = slice_index_or words place []
 
 -- `sim END`
 abbrev pub sim_at : List Word → Result Statement Fault
-sim_at words =
-    if length words == 2 then (do
-      end ← number_in 1 (10 ^ 15) (nth words 1)
-      Ok (Sim end))
-    else Err E3
+sim_at words = judged (length words == 2) (number_verdict 1 LATEST_END (nth words 1) ∷ []) false (Sim (number (nth words 1)))
 
--- what a node does, but for what is not simulated yet
-abbrev pub kind_at : Word → Result NodeKind Fault
-kind_at word = if bytes_eq word (codes "sender") then Ok Sender else (if bytes_eq word (codes "receiver") then Ok Receiver else Err E4)
+-- what a word says that a node does
+abbrev pub kind_named : Word → Option NodeKind
+kind_named word =
+    if bytes_eq word (codes "sender") then Some Sender else (if bytes_eq word (codes "receiver") then Some Receiver else (if bytes_eq word (codes "router") then Some Router else None))
+
+-- the verdicts on the words of `node` after the first
+abbrev pub node_verdicts : Known → List Word → List Verdict
+node_verdicts known words = new_name_verdict known (nth words 1) ∷ faulty_unless (is_some (kind_named (nth words 2))) E4 ∷ []
 
 -- `node NAME KIND`
 abbrev pub node_at : Known → List Word → Result Statement Fault
 node_at known words =
-    if bytes_eq (nth words 2) (codes "router") then Err S1
-    else (if length words == 3 then (do
-      name ← new_name known (nth words 1)
-      kind ← kind_at (nth words 2)
-      refuse_if (nat_le 2 (length known.node_names)) S1 (Node name kind))
-    else Err E3)
+    judged (length words == 3) (node_verdicts known words) (nat_le MOST_NODES (length known.kinds)) (Node (nth words 1) (unwrap_or (kind_named (nth words 2)) Router))
 
--- how a queue drops, but for what is not simulated yet
-abbrev pub queue_at : Word → Result QueueKind Fault
-queue_at word = if bytes_eq word (codes "droptail") then Ok DropTail else Err E4
+-- the seventh word is `droptail`
+abbrev pub is_drop_tail : List Word → Bool
+is_drop_tail words = bytes_eq (nth words 6) (codes "droptail")
 
--- `droptail` has one operand; another seventh word has one or four
+-- the seventh word is `codel`
+abbrev pub is_codel : List Word → Bool
+is_codel words = bytes_eq (nth words 6) (codes "codel")
+
+-- `droptail` makes 8 words and `codel` 11; another seventh word has 8 or 11
 abbrev pub has_link_length : List Word → Bool
-has_link_length words = length words == 8 || (length words == 11 && not (bytes_eq (nth words 6) (codes "droptail")))
+has_link_length words = if is_drop_tail words then length words == 8 else (if is_codel words then length words == 11 else (length words == 8 || length words == 11))
 
--- the words of `link` after the first, the eighth the last of them that is read
-abbrev pub link_words : Known → List Word → Result (Word × LinkLine) Fault
-link_words known words = do
-  name ← new_name known (nth words 1)
-  from ← node_of known (nth words 2)
-  to ← other_node_of known from (nth words 3)
-  rate ← number_in 1000 (10 ^ 12) (nth words 4)
-  delay ← number_in 1 (10 ^ 10) (nth words 5)
-  queue ← queue_at (nth words 6)
-  capacity ← number_in 1 65535 (nth words 7)
-  Ok (name, record { from = from; to = to; rate = rate; delay = delay; queue = queue; capacity = capacity })
+-- the numbers of CoDel, where the seventh word asks for them
+abbrev pub codel_verdict : List Word → Verdict
+codel_verdict words = if is_codel words then first_fault (number_verdict 1 LONGEST_DELAY (nth words 8) ∷ number_verdict 1 LONGEST_DELAY (nth words 9) ∷ number_verdict 1 65535 (nth words 10) ∷ []) else None
 
--- `link NAME FROM TO RATE DELAY droptail CAP`
+-- the verdicts on the words of `link` after the first
+abbrev pub link_verdicts : Known → List Word → List Verdict
+link_verdicts known words =
+    new_name_verdict known (nth words 1)
+    ∷ node_verdict known (nth words 2)
+    ∷ other_node_verdict known (number_of known (nth words 2)) (nth words 3)
+    ∷ number_verdict LEAST_RATE GREATEST_RATE (nth words 4)
+    ∷ number_verdict 1 LONGEST_DELAY (nth words 5)
+    ∷ faulty_unless (is_drop_tail words || is_codel words) E4
+    ∷ number_verdict 1 65535 (nth words 7)
+    ∷ codel_verdict words
+    ∷ []
+
+-- how the queue drops
+abbrev pub queue_said : List Word → QueueKind
+queue_said words = if is_codel words then Codel (record { target = number (nth words 8); interval = number (nth words 9); maxpacket = number (nth words 10) }) else DropTail
+
+-- the link that the words say
+abbrev pub link_said : Known → List Word → LinkLine
+link_said known words =
+    record { from = number_of known (nth words 2); to = number_of known (nth words 3); rate = number (nth words 4); delay = number (nth words 5); queue = queue_said words; capacity = number (nth words 7) }
+
+-- `link NAME FROM TO RATE DELAY droptail CAP`, `link NAME FROM TO RATE DELAY codel CAP TARGET INTERVAL MAXPACKET`
 abbrev pub link_at : Known → List Word → Result Statement Fault
 link_at known words =
-    if bytes_eq (nth words 6) (codes "codel") then Err S1
-    else (if has_link_length words then (do
-      link ← link_words known words
-      refuse_if (nat_le 2 (length known.link_names)) S1 (Link link.0 link.1))
-    else Err E3)
+    judged (has_link_length words) (link_verdicts known words) (nat_le MOST_LINKS (length known.links) || is_full_router known (number_of known (nth words 2))) (Link (nth words 1) (link_said known words))
 
--- the words of `flow` after the first
-abbrev pub flow_words : Known → List Word → Result (Word × FlowPart) Fault
-flow_words known words = do
-  name ← new_name known (nth words 1)
-  sender ← sender_of known (nth words 2)
-  receiver ← receiver_of known (nth words 3)
-  mss ← number_in 1 9000 (nth words 4)
-  segments ← number_in 1 (10 ^ 9) (nth words 5)
-  start ← number_in 0 (10 ^ 15 - 1) (nth words 6)
-  rwnd ← number_in mss (2 ^ 30) (nth words 7)
-  delack ← number_in 0 500000000 (nth words 8)
-  Ok (name, record { sender = sender; receiver = receiver; mss = mss; segments = segments; start = start; rwnd = rwnd; delack = delack })
+-- the verdicts on the words of `flow` after the first
+abbrev pub flow_verdicts : Known → List Word → List Verdict
+flow_verdicts known words =
+    new_name_verdict known (nth words 1)
+    ∷ sender_verdict known (nth words 2)
+    ∷ receiver_verdict known (nth words 3)
+    ∷ number_verdict 1 GREATEST_MSS (nth words 4)
+    ∷ number_verdict 1 MOST_SEGMENTS (nth words 5)
+    ∷ number_verdict 0 (LATEST_END - 1) (nth words 6)
+    ∷ number_verdict (number (nth words 4)) GREATEST_RWND (nth words 7)
+    ∷ number_verdict 0 LONGEST_DELACK (nth words 8)
+    ∷ []
 
 -- `flow NAME SENDER RECEIVER MSS SEGMENTS START RWND DELACK`
 abbrev pub flow_at : Known → List Word → Result Statement Fault
 flow_at known words =
-    if length words == 9 then (do
-      flow ← flow_words known words
-      refuse_if (nat_le 1 (length known.flow_names)) S1 (Flow flow.0 flow.1))
-    else Err E3
+    judged (length words == 9) (flow_verdicts known words) (nat_le MOST_FLOWS (length known.flows)) (Flow (nth words 1) (record { sender = number_of known (nth words 2); receiver = number_of known (nth words 3); mss = number (nth words 4); segments = number (nth words 5); start = number (nth words 6); rwnd = number (nth words 7); delack = number (nth words 8) }))
 
--- `lose LINK NUMBER`: above the link's last number, and at most 64 of them
+-- the verdicts on the words of `route` after the first
+abbrev pub route_verdicts : Known → List Word → List Verdict
+route_verdicts known words =
+    router_verdict known (nth words 1)
+    ∷ destination_verdict known (number_of known (nth words 1)) (nth words 2)
+    ∷ outgoing_verdict known (number_of known (nth words 1)) (nth words 3)
+    ∷ []
+
+-- `route ROUTER DEST LINK`
+abbrev pub route_at : Known → List Word → Result Statement Fault
+route_at known words =
+    judged (length words == 4) (route_verdicts known words) false (Route (record { router = number_of known (nth words 1); destination = number_of known (nth words 2); link = number_of known (nth words 3) }))
+
+-- the verdicts on the words of `lose` after the first
+abbrev pub lose_verdicts : Known → List Word → List Verdict
+lose_verdicts known words = link_verdict known (nth words 1) ∷ number_verdict (least_above (last_of (lost_of known (number_of known (nth words 1))))) MOST_SEGMENTS (nth words 2) ∷ []
+
+-- `lose LINK NUMBER`
 abbrev pub lose_at : Known → List Word → Result Statement Fault
 lose_at known words =
-    if length words == 3 then (do
-      link ← link_of known (nth words 1)
-      number ← number_in (least_above (last_of (lost_of known link))) (10 ^ 9) (nth words 2)
-      refuse_if (nat_le 64 (length (lost_of known link))) E9 (Lose (record { link = link; number = number })))
-    else Err E3
+    judged (length words == 3) (lose_verdicts known words) (nat_le MOST_LOSE (length (lost_of known (number_of known (nth words 1))))) (Lose (record { link = number_of known (nth words 1); number = number (nth words 2) }))
 
 -- what a line's words say, which are not none
 abbrev pub statement_at : Known → List Word → Result Statement Fault
@@ -109,14 +130,16 @@ statement_at known words =
     else (if bytes_eq (nth words 0) (codes "node") then node_at known words
     else (if bytes_eq (nth words 0) (codes "link") then link_at known words
     else (if bytes_eq (nth words 0) (codes "flow") then flow_at known words
+    else (if bytes_eq (nth words 0) (codes "route") then route_at known words
     else (if bytes_eq (nth words 0) (codes "lose") then lose_at known words
-    else (if bytes_eq (nth words 0) (codes "route") then Err S1
     else Err E2)))))
+
+-- what a line with a statement says
+abbrev pub as_said : Result Statement Fault → Result (Option Statement) Fault
+as_said (Ok statement) = Ok (Some statement)
+as_said (Err fault) = Err fault
 
 -- what a line says: nothing, a statement, or its first fault
 unfoldable pub line_at : Known → List ℕ → Result (Option Statement) Fault
 line_at known line =
-    if list_all is_printable line then (if length (words_of line) == 0 then Ok None else (do
-      statement ← statement_at known (words_of line)
-      Ok (Some statement)))
-    else Err E1
+    if list_all is_printable line then (if length (words_of line) == 0 then Ok None else as_said (statement_at known (words_of line))) else Err E1

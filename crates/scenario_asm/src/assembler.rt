@@ -6,7 +6,7 @@ ghost use Rattle.scenario_asm.specs.Meaning.{MeansScenario, MeansFault};
 
 use crate::draft::Draft;
 use crate::fault::AsmFault;
-use crate::lexer::{Pieces, words};
+use crate::lexer::{Pieces, first_words};
 use crate::statement::read_line;
 use scenario_image::Scenario;
 use std::alloc::Global;
@@ -23,8 +23,8 @@ pub fn assemble(alloc: Global, text: &[u8]) -> Result<Scenario, AsmFault>
     let mut number = 0u64;
     for line in Pieces::new(text, b'\n') {
         number += 1;
-        let words = words(alloc, line)?;
-        let said = match read_line(&draft.names, line, &words) {
+        let words = first_words(alloc, line)?;
+        let said = match read_line(&draft.table, line, &words) {
             Ok(said) => said,
             Err(fault) => return Err(AsmFault::At {
                 line: number,

@@ -1,20 +1,22 @@
 //! What the lines so far say together.
-ghost use Rattle.std.specs.Prelude.{◌≡◌, ℕ, List, [], ◌∷◌, ◌++◌, Option, OnOk};
+ghost use Rattle.std.specs.Prelude.{◌≡◌, ◌≢◌, ℕ, List, [], ◌∷◌, ◌++◌, Option, OnOk};
 ghost use Rattle.std.specs.Option.{ForSome};
+ghost use Rattle.scenario_asm.specs.declared.statement.Statement.{Statement};
 ghost use Rattle.scenario_asm.specs.Meaning.{statements_of};
-ghost use Rattle.scenario_asm.specs.Text.{part_of};
-ghost use Rattle.scenario_asm.specs.Stage.{IsSimulated};
-ghost use Rattle.scenario_asm.specs.Draft.{AreEnds, Holds, IsInStage, WholeGives};
+ghost use Rattle.scenario_asm.specs.Text.{link_part};
+ghost use Rattle.scenario_asm.specs.Table.{known_in};
+ghost use Rattle.scenario_asm.specs.Right.{IsRight, AreOfKinds};
+ghost use Rattle.scenario_asm.specs.Draft.{AreEnds, Holds, IsWholeAnswer, WholeGives};
 
 use crate::fault::{AsmFault, Fault};
-use crate::names::Names;
 use crate::statement::{LinkLine, Statement};
-use scenario_image::{FlowPart, LinkPart, LoadFault, Records, Scenario, ScenarioParts};
+use crate::table::Table;
+use scenario_image::{LinkPart, LoadFault, Records, Scenario};
 use sim_time::Time;
 use std::alloc::{AllocError, Global};
 
 /// What `sim` statements have said.
-#[derive(Clone, Copy, Debug)]
+#[derive(Clone, Copy)]
 pub enum Ends {
     /// There was none.
     Unset,
@@ -41,15 +43,13 @@ impl Ends {
 pub struct Draft<'a> {
     /// What `sim` statements have said.
     pub ends: Ends,
-    /// The declared names, the nodes and the links.
-    pub names: Names<'a>,
-    /// The flows.
-    pub flows: Vec<FlowPart>,
+    /// All that is declared.
+    pub table: Table<'a>,
 }
 
 /// The link that a statement declares, which loses nothing yet.
-fn link_part(alloc: Global, line: LinkLine) -> LinkPart
-    ensures { result ≡ part_of line [] }
+fn new_link(alloc: Global, line: LinkLine) -> LinkPart
+    ensures { result ≡ link_part line [] }
 {
     LinkPart {
         from: line.from,
@@ -62,45 +62,53 @@ fn link_part(alloc: Global, line: LinkLine) -> LinkPart
     }
 }
 
+/// What is wrong with a text whose lines are right, by what is wrong with its parts.
+fn whole_fault(fault: LoadFault) -> AsmFault
+    requires { fault ≢ LoadFault.L6 }
+    ensures { IsWholeAnswer fault result }
+{
+    let fault = match fault {
+        LoadFault::L3 => Fault::L3,
+        LoadFault::L5 => Fault::L5,
+        LoadFault::L6 => unreachable!(),
+        LoadFault::L7 => Fault::L7,
+        LoadFault::L8 => Fault::L8,
+        LoadFault::NoMemory => return AsmFault::NoMemory,
+    };
+    AsmFault::At { line: 0, fault }
+}
+
 impl<'a> Draft<'a> {
     /// What no lines say.
     pub fn new(alloc: Global) -> Draft<'a>
-        ensures holds { Holds result [] }
-        ensures stage { IsInStage result }
+        ensures { Holds result [] }
     {
         Draft {
             ends: Ends::Unset,
-            names: Names::new(alloc),
-            flows: Vec::new(alloc),
+            table: Table::new(alloc),
         }
     }
 
     /// Adds one more statement. An `Err` may leave a part of it.
     fn add(&mut self, alloc: Global, statement: Statement<'a>) -> Result<(), AllocError>
-        requires stage { IsInStage self.old }
-        requires simulated { IsSimulated self.old.names statement }
-        ensures holds { (statements : List Statement) → Holds self.old statements → OnOk result (Holds self.new (statements ++ statement.entry ∷ [])) }
-        ensures stage { OnOk result (IsInStage self.new) }
+        requires { IsRight (known_in self.old.table) statement }
+        ensures { (statements : List Statement) → Holds self.old statements → OnOk result (Holds self.new (statements ++ statement.entry ∷ [])) }
     {
         match statement {
             Statement::Sim(end) => self.ends = self.ends.and(end),
-            Statement::Node(name, kind) => self.names.add_node(name, kind)?,
-            Statement::Link(name, line) => self.names.add_link(name, link_part(alloc, line))?,
-            Statement::Flow(name, part) => {
-                self.names.add_flow(name)?;
-                self.flows.push(part)?;
-            }
-            Statement::Lose(line) => self.names.add_lost(alloc, line.link, line.number)?,
+            Statement::Node(name, kind) => self.table.add_node(&name, kind)?,
+            Statement::Link(name, line) => self.table.add_link(&name, new_link(alloc, line))?,
+            Statement::Flow(name, part) => self.table.add_flow(&name, part)?,
+            Statement::Route(route) => self.table.add_route(route)?,
+            Statement::Lose(line) => self.table.add_lost(alloc, line.link, line.number)?,
         }
         Ok(())
     }
 
     /// Adds what one more line says. An `Err` may leave a part of it.
     pub fn add_said(&mut self, alloc: Global, said: Option<Statement<'a>>) -> Result<(), AllocError>
-        requires stage { IsInStage self.old }
-        requires simulated { ForSome said (IsSimulated self.old.names) }
-        ensures holds { (all : List (Option Statement)) → Holds self.old (statements_of all) → OnOk result (Holds self.new (statements_of (all ++ said.entry ∷ []))) }
-        ensures stage { OnOk result (IsInStage self.new) }
+        requires { ForSome said (IsRight (known_in self.old.table)) }
+        ensures { (all : List (Option Statement)) → Holds self.old (statements_of all) → OnOk result (Holds self.new (statements_of (all ++ said.entry ∷ []))) }
     {
         match said {
             Some(statement) => self.add(alloc, statement),
@@ -109,27 +117,21 @@ impl<'a> Draft<'a> {
     }
 
     /// The scenario that the lines mean, if they are the whole text.
-    #[tactic(auto, using(crate::proofs::Stage::stage_is_one_flow))]
     pub fn finish(self, alloc: Global) -> Result<Scenario, AsmFault>
-        requires { IsInStage self }
+        requires { AreOfKinds (known_in self.table) }
         ensures { (statements : List Statement) → Holds self.entry statements → WholeGives statements result }
     {
-        let Draft { ends, names, flows } = self;
+        let Draft { ends, table } = self;
         let Ends::Set(end) = ends else {
             return Err(AsmFault::At {
                 line: 0,
                 fault: Fault::E10,
             });
         };
-        let (nodes, links) = names.into_parts();
-        let parts = ScenarioParts {
-            end,
-            nodes: Records::new(nodes),
-            links: Records::new(links),
-            flows: Records::new(flows),
-            routes: Records::new(Vec::new(alloc)),
-        };
-        let scenario = Scenario::of_parts(parts)?;
-        Ok(scenario)
+        let parts = table.into_parts(alloc, end)?;
+        match Scenario::of_parts(parts) {
+            Ok(scenario) => Ok(scenario),
+            Err(fault) => Err(whole_fault(fault)),
+        }
     }
 }

@@ -2,7 +2,6 @@
 ghost use Rattle.std.specs.Prelude.{◌≡◌};
 ghost use Rattle.scenario_asm.specs.Faults.{code_of};
 
-use scenario_image::LoadFault;
 use std::alloc::{AllocError, AllocFailed};
 use std::fmt;
 use thiserror::Error;
@@ -18,25 +17,31 @@ pub enum Fault {
     E3,
     /// A word of the wrong form: no number, no name or none of the fixed words, where one is asked.
     E4,
-    /// A number out of its range, or a `lose` number that is not above the link's last one.
+    /// A number out of its range, RWND below MSS, or a `lose` number that is not above the link's
+    /// last one.
     E5,
-    /// A declared name is taken.
+    /// A declared name is taken, or a router has a route to this destination already.
     E6,
     /// A used name is unknown.
     E7,
-    /// A used name is that of something else than what is asked.
+    /// A used name is that of something else than what is asked: of another sort, of a node of
+    /// another kind, of the node where the link begins, or of a link that doesn't leave the router.
     E8,
-    /// Too many nodes, links or flows, or too many `lose` statements of one link.
+    /// Too many nodes, links or flows, outgoing links of one router, or `lose` statements of one
+    /// link.
     E9,
     /// Not exactly one `sim`.
     E10,
     /// A number out of its range once the whole text is known: a flow that starts at the end or
     /// later, fewer than two nodes, no link or no flow.
     L3,
-    /// A sender or receiver without exactly one flow, or without exactly one outgoing link.
+    /// A sender or receiver without exactly one flow or without exactly one outgoing link, or a
+    /// router without an outgoing link.
     L5,
-    /// Something that is not simulated yet.
-    S1,
+    /// On some flow's way a router without a route to the way's end, or another end.
+    L7,
+    /// Some flow's way returns to a node.
+    L8,
 }
 
 impl Fault {
@@ -57,7 +62,8 @@ impl Fault {
             Fault::E10 => "E10",
             Fault::L3 => "L3",
             Fault::L5 => "L5",
-            Fault::S1 => "S1",
+            Fault::L7 => "L7",
+            Fault::L8 => "L8",
         }
     }
 }
@@ -106,25 +112,5 @@ impl<T: Drop> From<AllocFailed<T>> for AsmFault {
 
     fn from(_error: AllocFailed<T>) -> AsmFault {
         AsmFault::NoMemory
-    }
-}
-
-impl From<LoadFault> for AsmFault {
-    ghost use Rattle.scenario_asm.specs.Faults.{fault_of_whole};
-
-    ghost from_gives = { λ fault e. e ≡ fault_of_whole fault };
-
-    fn from(fault: LoadFault) -> AsmFault {
-        match fault {
-            LoadFault::L3 => AsmFault::At {
-                line: 0,
-                fault: Fault::L3,
-            },
-            LoadFault::L5 => AsmFault::At {
-                line: 0,
-                fault: Fault::L5,
-            },
-            LoadFault::NoMemory => AsmFault::NoMemory,
-        }
     }
 }

@@ -1,5 +1,5 @@
 //! Lines, comments and words.
-ghost use Rattle.std.specs.Prelude.{◌≡◌, ◌==◌, IfOk};
+ghost use Rattle.std.specs.Prelude.{◌≡◌, ◌==◌, IfOk, take};
 ghost use Rattle.std.specs.Iterator.{YieldsFirstRef, item_count};
 ghost use Rattle.std.specs.List.{before_first, after_first, list_all, position};
 ghost use Rattle.std.specs.Str.{bytes_eq};
@@ -106,13 +106,19 @@ pub fn is_clean(line: &[u8]) -> bool
     line.iter().all(|byte| matches!(*byte, 0x20..=0x7e))
 }
 
-/// The words of a line, its comment left out.
-pub fn words<'a>(alloc: Global, line: &'a [u8]) -> Result<Vec<Word<'a>>, AllocError>
-    ensures { IfOk result (λ v. v.items ≡ words_of line.now) }
+/// One more than the most words of a statement: of a longer line no more words are kept.
+const MOST_WORDS: usize = 12;
+
+/// The first words of a line, its comment left out: at most twelve.
+pub fn first_words<'a>(alloc: Global, line: &'a [u8]) -> Result<Vec<Word<'a>>, AllocError>
+    ensures { IfOk result (λ v. v.items ≡ take 12 (words_of line.now)) }
 {
     let (content, _comment) = cut(line, b'#');
     let mut words = Vec::new(alloc);
     for bytes in Pieces::new(content, b' ') {
+        if words.len() == MOST_WORDS {
+            return Ok(words);
+        }
         if !bytes.is_empty() {
             words.push(Word { bytes })?;
         }

@@ -4,13 +4,13 @@
 pub mod assembler;
 mod draft;
 pub mod fault;
+pub mod guarantees;
 mod lexer;
 mod name;
-mod names;
 mod number;
 mod statement;
-#[cfg(test)]
-mod tests;
+mod table;
 
 pub use assembler::assemble;
 pub use fault::{AsmFault, Fault};
+pub use guarantees::texts_have_one_answer;

@@ -1,7 +1,6 @@
 //! Names.
 ghost use Rattle.std.specs.Prelude.{◌≡◌, if◌then◌else◌};
 ghost use Rattle.std.specs.List.{list_all};
-ghost use Rattle.std.specs.Str.{bytes_eq};
 ghost use Rattle.scenario_asm.specs.Numbers.{is_name, is_small_letter, is_letter_or_digit};
 
 use crate::lexer::Word;
@@ -65,10 +64,10 @@ impl<'a> Name<'a> {
         }
     }
 
-    /// Whether a word is this name.
-    pub fn is(&self, word: &[u8]) -> bool
-        ensures { result ≡ bytes_eq self.now word.now }
+    /// The name's bytes.
+    pub fn bytes(&self) -> &'a [u8]
+        ensures { result.now ≡ self.now }
     {
-        self.bytes == word
+        self.bytes
     }
 }

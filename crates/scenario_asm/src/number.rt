@@ -2,29 +2,11 @@
 ghost use Rattle.std.specs.Prelude.{◌≡◌, ◌<◌, ◌^◌, ◌-◌, min, IsTrue, IfOk, ◌≤◌};
 ghost use Rattle.std.specs.List.{list_all};
 ghost use Rattle.std.specs.Str.Parse.{digits_value};
-ghost use Rattle.scenario_asm.specs.Numbers.{number_in, is_numeral, is_digit};
+ghost use Rattle.scenario_asm.specs.Numbers.{number, number_verdict, is_numeral, is_digit};
+ghost use Rattle.scenario_asm.specs.Verdicts.{Judges};
 
 use crate::fault::Fault;
 use crate::lexer::Word;
-
-/// What a number may be.
-#[derive(Clone, Copy, Debug)]
-pub struct Limits {
-    /// The least number.
-    pub least: u64,
-    /// The greatest number.
-    pub greatest: u64,
-}
-
-impl Limits {
-    /// From the least to the greatest number.
-    pub const fn new(least: u64, greatest: u64) -> Limits
-        ensures least { result.least ≡ least }
-        ensures greatest { result.greatest ≡ greatest }
-    {
-        Limits { least, greatest }
-    }
-}
 
 /// Whether a byte is from `0` to `9`.
 fn is_digit(byte: u8) -> bool
@@ -65,18 +47,18 @@ fn value(digits: &[u8]) -> u64
     value
 }
 
-/// The number that a word means, within limits.
-pub fn number_in(word: &Word<'_>, limits: Limits) -> Result<u64, Fault>
-    requires { limits.greatest < 2 ^ 64 - 1 }
-    ensures exact { result ≡ number_in limits.least limits.greatest word.now }
-    ensures within { IfOk result (λ n. (limits.least ≤ n) × (n ≤ limits.greatest)) }
+/// The number that a word means, from the least to the greatest.
+pub fn number_in(word: &Word<'_>, least: u64, greatest: u64) -> Result<u64, Fault>
+    requires { greatest < 2 ^ 64 - 1 }
+    ensures judges { Judges (number_verdict least greatest word.now) (number word.now) result }
+    ensures within { IfOk result (λ n. (least ≤ n) × (n ≤ greatest)) }
 {
     let digits = word.bytes();
     if !is_numeral(digits) {
         return Err(Fault::E4);
     }
     let value = value(digits);
-    if value < limits.least || limits.greatest < value {
+    if value < least || greatest < value {
         return Err(Fault::E5);
     }
     Ok(value)

@@ -1,26 +1,27 @@
 //! Statements: what a line says.
-ghost use Rattle.std.specs.Prelude.{◌≡◌, ◌<◌, length, IfOk, IfSome};
+ghost use Rattle.std.specs.Prelude.{◌≡◌, ◌<◌, length, take};
 ghost use Rattle.std.specs.Str.{bytes_eq};
-ghost use Rattle.scenario_asm.specs.Names.{Known};
 ghost use Rattle.scenario_asm.specs.Lines.{words_of};
 ghost use Rattle.scenario_asm.specs.Statements.{nth, sim_at, statement_at, line_at};
-ghost use Rattle.scenario_asm.specs.Stage.{IsSimulated};
+ghost use Rattle.scenario_asm.specs.Table.{known_in};
 
 mod flow;
 mod link;
 mod lose;
 mod node;
+mod route;
 
 use crate::fault::Fault;
 use crate::lexer::{Word, is_clean};
 use crate::name::Name;
-use crate::names::Names;
-use crate::number::{Limits, number_in};
-use scenario_image::{FlowPart, NodeKind, QueueKind};
+use crate::number::number_in;
+use crate::table::Table;
+use scenario_image::limits::LATEST_END;
+use scenario_image::{FlowPart, NodeKind, QueueKind, RoutePart};
 use sim_time::Time;
 
 /// What a `link` statement says of its link.
-#[derive(Clone, Copy, Debug)]
+#[derive(Clone, Copy)]
 pub struct LinkLine {
     /// The node that sends.
     pub from: u16,
@@ -37,7 +38,7 @@ pub struct LinkLine {
 }
 
 /// What a `lose` statement says: which packet of a link is lost.
-#[derive(Clone, Copy, Debug)]
+#[derive(Clone, Copy)]
 pub struct LoseLine {
     /// The link's number.
     pub link: u16,
@@ -56,15 +57,11 @@ pub enum Statement<'a> {
     Link(Name<'a>, LinkLine),
     /// A flow of this name.
     Flow(Name<'a>, FlowPart),
+    /// Where a router sends packets for a destination.
+    Route(RoutePart),
     /// A packet of a link is lost.
     Lose(LoseLine),
 }
-
-/// The range of END, in nanoseconds.
-const END: Limits = Limits {
-    least: 1,
-    greatest: 1_000_000_000_000_000,
-};
 
 /// Whether the word at a place, counted from 0, is this one.
 fn has_word(words: &[Word<'_>], place: usize, word: &[u8]) -> bool
@@ -76,48 +73,46 @@ fn has_word(words: &[Word<'_>], place: usize, word: &[u8]) -> bool
 
 /// `sim END`
 fn sim<'a>(words: &[Word<'a>]) -> Result<Statement<'a>, Fault>
-    ensures exact { result ≡ sim_at words.now }
-    ensures simulated { (names : Known) → IfOk result (IsSimulated names) }
+    ensures { result ≡ sim_at words.now }
 {
     let [_sim, end] = words else {
         return Err(Fault::E3);
     };
-    let end = number_in(end, END)?;
+    let end = number_in(end, 1, LATEST_END)?;
     Ok(Statement::Sim(end))
 }
 
 /// What a line's words say.
-fn read<'a>(names: &Names<'a>, words: &[Word<'a>]) -> Result<Statement<'a>, Fault>
-    ensures exact { result ≡ statement_at names.now words.now }
-    ensures simulated { IfOk result (IsSimulated names.now) }
+fn read<'a>(table: &Table<'a>, words: &[Word<'a>]) -> Result<Statement<'a>, Fault>
+    ensures { result ≡ statement_at (known_in table.now) words.now }
 {
     if has_word(words, 0, b"sim") {
         sim(words)
     } else if has_word(words, 0, b"node") {
-        node::read(names, words)
+        node::read(table, words)
     } else if has_word(words, 0, b"link") {
-        link::read(names, words)
+        link::read(table, words)
     } else if has_word(words, 0, b"flow") {
-        flow::read(names, words)
-    } else if has_word(words, 0, b"lose") {
-        lose::read(names, words)
+        flow::read(table, words)
     } else if has_word(words, 0, b"route") {
-        Err(Fault::S1)
+        route::read(table, words)
+    } else if has_word(words, 0, b"lose") {
+        lose::read(table, words)
     } else {
         Err(Fault::E2)
     }
 }
 
-/// What a line says, of which these are the words: nothing, a statement, or its first fault.
+/// What a line says, of which these are the first words, at most twelve: nothing, a statement, or
+/// its first fault.
 #[tactic(auto, unfolding(crate::specs::Statements::line_at))]
 pub fn read_line<'a>(
-    names: &Names<'a>,
+    table: &Table<'a>,
     line: &'a [u8],
     words: &[Word<'a>],
 ) -> Result<Option<Statement<'a>>, Fault>
-    requires { words.now ≡ words_of line.now }
-    ensures exact { result ≡ line_at names.now line.now }
-    ensures simulated { IfOk result (λ said. IfSome said (IsSimulated names.now)) }
+    requires { words.now ≡ take 12 (words_of line.now) }
+    ensures { result ≡ line_at (known_in table.now) line.now }
 {
     if !is_clean(line) {
         return Err(Fault::E1);
@@ -125,6 +120,6 @@ pub fn read_line<'a>(
     if words.is_empty() {
         return Ok(None);
     }
-    let statement = read(names, words)?;
+    let statement = read(table, words)?;
     Ok(Some(statement))
 }

@@ -1,2 +1,7 @@
 pub mod Rising
-pub mod Shape
+pub mod Repeats
+pub mod RouteSearch
+pub mod Courses
+pub mod OnlyOne
+pub mod Arrivals
+pub mod FirstFault

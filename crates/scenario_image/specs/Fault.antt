@@ -1,10 +1,40 @@
--- The names of the faults that a scenario is refused for.
-use Rattle.std.specs.Prelude.{ℕ, List, codes}
+-- What parts are refused for.
+use Rattle.std.specs.Prelude.{◌≡◌, ℕ, List, [], ◌∷◌, ◌⊎◌, codes}
+use Rattle.scenario_image.specs.Limits.{IsInLimits}
+use Rattle.scenario_image.specs.Ends.{HasItsEnds}
+use Rattle.scenario_image.specs.Kinds.{HasItsKinds}
+use Rattle.scenario_image.specs.Ways.{EachWay, IsUnbroken, IsSimple}
 use Rattle.scenario_image.specs.declared.fault.LoadFault.{LoadFault}
-use Rattle.scenario_image.specs.declared.fault.LoadFault.TheVariants.{L3, L5, NoMemory}
+use Rattle.scenario_image.specs.declared.fault.LoadFault.TheVariants.{L3, L5, L6, L7, L8, NoMemory}
+use Rattle.scenario_image.specs.declared.parts.ScenarioParts.{ScenarioParts}
 
 -- what a fault is written as
 abbrev pub fault_name : LoadFault → List ℕ
 fault_name L3 = codes "L3"
 fault_name L5 = codes "L5"
+fault_name L6 = codes "L6"
+fault_name L7 = codes "L7"
+fault_name L8 = codes "L8"
 fault_name NoMemory = codes "no memory"
+
+-- parts are free of a fault
+abbrev pub IsFreeOf : ScenarioParts → LoadFault → Type 0
+IsFreeOf parts L3 = IsInLimits parts
+IsFreeOf parts L5 = HasItsEnds parts
+IsFreeOf parts L6 = HasItsKinds parts
+IsFreeOf parts L7 = EachWay parts (IsUnbroken parts)
+IsFreeOf parts L8 = EachWay parts (IsSimple parts)
+IsFreeOf parts NoMemory = Unit {0}
+
+-- the faults that parts can have, in the order in which they are judged
+abbrev pub judged_faults : List LoadFault
+judged_faults = L3 ∷ L5 ∷ L6 ∷ L7 ∷ L8 ∷ []
+
+-- a fault is the first of a list that parts are not free of
+abbrev pub IsFirstOf : ScenarioParts → List LoadFault → LoadFault → Type 0
+IsFirstOf parts [] fault = ⊥
+IsFirstOf parts (next ∷ later) fault = ((fault ≡ next) × ¬ IsFreeOf parts next) ⊎ (IsFreeOf parts next × IsFirstOf parts later fault)
+
+-- the fault that parts are refused for
+abbrev pub IsFirstFault : ScenarioParts → LoadFault → Type 0
+IsFirstFault parts fault = IsFirstOf parts judged_faults fault

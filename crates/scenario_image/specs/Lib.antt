@@ -4,8 +4,9 @@ pub mod FlowLimits
 pub mod RouteLimits
 pub mod Limits
 pub mod Ends
-pub mod OneFlow
+pub mod Kinds
+pub mod Ways
 pub mod Scenario
-pub mod Shape
 pub mod Fault
+pub mod WayLaws
 pub use Rattle.sim_time.specs.Serial

@@ -1,11 +1,14 @@
 -- What every scenario is.
 use Rattle.scenario_image.specs.Limits.{IsInLimits}
 use Rattle.scenario_image.specs.Ends.{HasItsEnds}
-use Rattle.scenario_image.specs.OneFlow.{IsOneFlow}
+use Rattle.scenario_image.specs.Kinds.{HasItsKinds}
+use Rattle.scenario_image.specs.Ways.{EachWay, IsUnbroken, IsSimple}
 use Rattle.scenario_image.specs.declared.parts.ScenarioParts.{ScenarioParts}
 
--- the parts of a scenario: within limits, each node with its links and its flow, and what is simulated today
+-- the parts of a scenario: within limits, each node with its links and its flow, all named nodes of their kinds, and each way comes to its end
 pub record IsScenario (parts : ScenarioParts) : Type 0 where
   pub in_limits : IsInLimits parts
   pub ends : HasItsEnds parts
-  pub simulated_flow : IsOneFlow parts
+  pub kinds : HasItsKinds parts
+  pub unbroken : EachWay parts (IsUnbroken parts)
+  pub simple : EachWay parts (IsSimple parts)

@@ -7,9 +7,17 @@ use std::fmt;
 pub enum LoadFault {
     /// A number is out of its range.
     L3,
-    /// A sender or receiver is without exactly one flow or exactly one outgoing link, or a router
-    /// has no or more than 16 outgoing links.
+    /// A sender or receiver is without exactly one flow that names it or exactly one outgoing link,
+    /// or a router has no or more than 16 outgoing links.
     L5,
+    /// A flow does not go from a sender to a receiver, a link goes into the node that it leaves, or
+    /// a route is not a router's, for a sender or receiver, over a link that leaves the router.
+    L6,
+    /// Some flow's way, for data or for acknowledgements, comes to a router without a route for the
+    /// way's end, or to a sender or receiver that is not the way's end.
+    L7,
+    /// Some flow's way comes to a node again.
+    L8,
     /// There was no memory.
     NoMemory,
 }
@@ -24,6 +32,9 @@ impl fmt::Display for LoadFault {
         match self {
             LoadFault::L3 => write!(f, "L3"),
             LoadFault::L5 => write!(f, "L5"),
+            LoadFault::L6 => write!(f, "L6"),
+            LoadFault::L7 => write!(f, "L7"),
+            LoadFault::L8 => write!(f, "L8"),
             LoadFault::NoMemory => write!(f, "no memory"),
         }
     }
@@ -41,6 +52,9 @@ mod tests {
         for (fault, name) in [
             (LoadFault::L3, "L3"),
             (LoadFault::L5, "L5"),
+            (LoadFault::L6, "L6"),
+            (LoadFault::L7, "L7"),
+            (LoadFault::L8, "L8"),
             (LoadFault::NoMemory, "no memory"),
         ] {
             let text = fault.to_string(rt.alloc())?;

@@ -1,5 +1,5 @@
 //! A list of records, over a vector.
-ghost use Rattle.std.specs.Prelude.{◌≡◌, ◌==◌, length};
+ghost use Rattle.std.specs.Prelude.{◌≡◌, length};
 
 use std::marker::Model;
 
@@ -44,12 +44,5 @@ impl<T> Records<T> {
         ensures { result ≡ length self.now }
     {
         self.items.len()
-    }
-
-    /// Whether there are none.
-    pub fn is_empty(&self) -> bool
-        ensures { result ≡ (length self.now == 0) }
-    {
-        self.items.is_empty()
     }
 }

@@ -1,15 +1,14 @@
 //! A scenario: parts that can be simulated.
-ghost use Rattle.std.specs.Prelude.{◌≡◌, ◌↔◌, IfOk, OnOk, IsErrOf};
-ghost use Rattle.scenario_image.specs.Limits.{IsInLimits};
-ghost use Rattle.scenario_image.specs.Ends.{HasItsEnds};
-ghost use Rattle.scenario_image.specs.OneFlow.{IsOneFlow};
+ghost use Rattle.std.specs.Prelude.{◌≡◌, ◌↔◌, IfOk, IfErr, IsOk, IsErrOf, MatchOption};
 ghost use Rattle.scenario_image.specs.Scenario.{IsScenario};
-ghost use Rattle.scenario_image.specs.Shape.{OneFlowShape};
+ghost use Rattle.scenario_image.specs.Fault.{IsFirstFault};
 
 use crate::ends::has_its_ends;
 use crate::fault::LoadFault;
+use crate::kinds::has_its_kinds;
 use crate::limits::is_in_limits;
 use crate::parts::ScenarioParts;
+use crate::ways::{ways_are_simple, ways_are_unbroken};
 use std::marker::Model;
 
 /// A scenario that can be simulated. Contracts see its parts.
@@ -29,31 +28,47 @@ impl Model for Scenario {
     ghost invariant = { λ scenario. IsScenario scenario.parts };
 }
 
+/// The first fault of parts, if they have one.
+fn first_fault(parts: &ScenarioParts) -> Option<LoadFault>
+    ensures { MatchOption result (IsScenario parts.now) (IsFirstFault parts.now) }
+{
+    if !is_in_limits(parts) {
+        return Some(LoadFault::L3);
+    }
+    if !has_its_ends(parts) {
+        return Some(LoadFault::L5);
+    }
+    if !has_its_kinds(parts) {
+        return Some(LoadFault::L6);
+    }
+    if !ways_are_unbroken(parts) {
+        return Some(LoadFault::L7);
+    }
+    if !ways_are_simple(parts) {
+        return Some(LoadFault::L8);
+    }
+    None
+}
+
 impl Scenario {
-    /// The scenario of these parts. Refused parts are given up.
+    /// The scenario of these parts, or the first fault that they have. Refused parts are given up.
+    /// No memory is taken.
     pub fn of_parts(parts: ScenarioParts) -> Result<Scenario, LoadFault>
-        requires one_flow { IsOneFlow parts }
         ensures ok { IfOk result (λ scenario. scenario ≡ parts) }
-        ensures scenario { OnOk result (IsScenario parts) }
-        ensures limits { IsErrOf result LoadFault.L3 ↔ ¬ IsInLimits parts }
-        ensures in_limits { ¬ IsErrOf result LoadFault.L3 → IsInLimits parts }
-        ensures ends { IsErrOf result LoadFault.L5 ↔ (IsInLimits parts × ¬ HasItsEnds parts) }
-        ensures memory { ¬ IsErrOf result LoadFault.NoMemory }
+        ensures scenario { IsOk result ↔ IsScenario parts }
+        ensures fault { IfErr result (IsFirstFault parts) }
+        ensures only_fault { (fault : LoadFault) → IsFirstFault parts fault → IsErrOf result fault }
     {
-        if !is_in_limits(&parts) {
-            return Err(LoadFault::L3);
+        match first_fault(&parts) {
+            Some(fault) => Err(fault),
+            None => Ok(Scenario { parts }),
         }
-        if !has_its_ends(&parts) {
-            return Err(LoadFault::L5);
-        }
-        Ok(Scenario { parts })
     }
 
     /// What the scenario is made of.
     pub fn parts(&self) -> &ScenarioParts
         ensures value { result.now ≡ self.now }
         ensures scenario { IsScenario self.now }
-        ensures shape { OneFlowShape self.now }
     {
         &self.parts
     }

@@ -1,74 +1,88 @@
 //! `link` statements.
-ghost use Rattle.std.specs.Prelude.{◌≡◌, ◌≢◌, ◌≤◌, length, IfOk};
-ghost use Rattle.scenario_asm.specs.Statements.{queue_at, has_link_length, link_words, link_at};
-ghost use Rattle.scenario_asm.specs.Stage.{IsSimulated};
+ghost use Rattle.std.specs.Prelude.{◌≡◌, ◌||◌, ◌≤◌, IsTrue, nat_le, length};
+ghost use Rattle.scenario_asm.specs.Names.{is_full_router};
+ghost use Rattle.scenario_asm.specs.Statements.{is_drop_tail, is_codel, has_link_length, codel_verdict, link_verdicts, queue_said, link_said, link_at, nth};
+ghost use Rattle.scenario_asm.specs.Table.{known_in};
+ghost use Rattle.scenario_asm.specs.Verdicts.{Judges, first_fault};
 
 use super::{LinkLine, Statement, has_word};
 use crate::fault::Fault;
 use crate::lexer::Word;
 use crate::name::Name;
-use crate::names::Names;
-use crate::number::{Limits, number_in};
-use scenario_image::QueueKind;
+use crate::number::number_in;
+use crate::table::Table;
+use scenario_image::limits::{LONGEST_DELAY, MOST_LINKS};
+use scenario_image::{Codel, QueueKind};
+use sim_time::rate::{GREATEST_RATE, LEAST_RATE};
 
-/// The range of RATE, in bits a second.
-const RATE: Limits = Limits {
-    least: 1_000,
-    greatest: 1_000_000_000_000,
-};
-
-/// The range of DELAY, in nanoseconds.
-const DELAY: Limits = Limits {
-    least: 1,
-    greatest: 10_000_000_000,
-};
-
-/// The range of CAP, in packets.
-const CAPACITY: Limits = Limits {
-    least: 1,
-    greatest: 65_535,
-};
-
-/// The most links that are simulated yet.
-const MOST_LINKS: usize = 2;
-
-/// How a queue drops.
-fn queue(word: &Word<'_>) -> Result<QueueKind, Fault>
-    ensures exact { result ≡ queue_at word.now }
-    ensures drop_tail { IfOk result (λ queue. queue ≡ QueueKind.DropTail) }
-{
-    if word.is(b"droptail") {
-        Ok(QueueKind::DropTail)
-    } else {
-        Err(Fault::E4)
-    }
-}
-
-/// Whether a `link` has a right number of words: eight with `droptail`, eight or eleven with
-/// another seventh word.
+/// Whether a `link` has a right number of words: 8 with `droptail`, 11 with `codel`, and one of
+/// these with another seventh word.
 fn has_link_length(words: &[Word<'_>]) -> bool
     ensures { result ≡ has_link_length words.now }
 {
-    words.len() == 8 || (words.len() == 11 && !has_word(words, 6, b"droptail"))
+    if has_word(words, 6, b"droptail") {
+        words.len() == 8
+    } else if has_word(words, 6, b"codel") {
+        words.len() == 11
+    } else {
+        words.len() == 8 || words.len() == 11
+    }
 }
 
-/// The words of `link` after the first, the eighth the last of them that is read.
-fn link_words<'a>(names: &Names<'a>, words: &[Word<'a>]) -> Result<(Name<'a>, LinkLine), Fault>
-    requires { 8 ≤ length words.now }
-    ensures exact { result ≡ link_words names.now words.now }
-    ensures no_loop { IfOk result (λ link. link.1.from ≢ link.1.to) }
-    ensures drop_tail { IfOk result (λ link. link.1.queue ≡ QueueKind.DropTail) }
+/// Whether the seventh word says how the queue drops.
+fn names_a_queue(words: &[Word<'_>]) -> bool
+    ensures { result ≡ (is_drop_tail words.now || is_codel words.now) }
 {
-    let [_link, name, from, to, rate, delay, drops, capacity, ..] = words else {
+    has_word(words, 6, b"droptail") || has_word(words, 6, b"codel")
+}
+
+/// Whether there are as many links as there may be, or as many that leave this node.
+fn is_full(table: &Table<'_>, from: u16) -> bool
+    ensures { result ≡ (nat_le MOST_LINKS (length (known_in table.now).links) || is_full_router (known_in table.now) from) }
+{
+    table.links.len() >= MOST_LINKS || table.is_full_router(from)
+}
+
+/// How a queue drops: with the seventh word `codel` by the last three of eleven words.
+fn queue(words: &[Word<'_>]) -> Result<QueueKind, Fault>
+    requires { IsTrue (is_codel words.now) → length words.now ≡ 11 }
+    ensures { Judges (codel_verdict words.now) (queue_said words.now) result }
+{
+    if !has_word(words, 6, b"codel") {
+        return Ok(QueueKind::DropTail);
+    }
+    let [_, _, _, _, _, _, _, _, target, interval, maxpacket] = words else {
         return Err(Fault::E3);
     };
-    let name = names.new_name(name)?;
-    let from = names.node(from)?;
-    let to = names.other_node(from, to)?;
-    let rate = number_in(rate, RATE)?;
-    let delay = number_in(delay, DELAY)?;
-    let queue = queue(drops)?;
-    let capacity = number_in(capacity, CAPACITY)? as u16;
+    let target = number_in(target, 1, LONGEST_DELAY)?;
+    let interval = number_in(interval, 1, LONGEST_DELAY)?;
+    let maxpacket = number_in(maxpacket, 1, u64::from(u16::MAX))? as u16;
+    Ok(QueueKind::Codel(Codel {
+        target,
+        interval,
+        maxpacket,
+    }))
+}
+
+/// The words of `link` after the first.
+fn link_words<'a>(table: &Table<'a>, words: &[Word<'a>]) -> Result<(Name<'a>, LinkLine), Fault>
+    requires least { 8 ≤ length words.now }
+    requires codel { IsTrue (is_codel words.now) → length words.now ≡ 11 }
+    ensures { Judges (first_fault (link_verdicts (known_in table.now) words.now)) (nth words.now 1, link_said (known_in table.now) words.now) result }
+{
+    let [_link, name, from, to, rate, delay, _drops, capacity, ..] = words else {
+        return Err(Fault::E3);
+    };
+    let name = table.new_name(name)?;
+    let from = table.node(from)?;
+    let to = table.other_node(from, to)?;
+    let rate = number_in(rate, LEAST_RATE, GREATEST_RATE)?;
+    let delay = number_in(delay, 1, LONGEST_DELAY)?;
+    if !names_a_queue(words) {
+        return Err(Fault::E4);
+    }
+    let capacity = number_in(capacity, 1, u64::from(u16::MAX))? as u16;
+    let queue = queue(words)?;
     let line = LinkLine {
         from,
         to,
@@ -80,20 +94,16 @@ fn link_words<'a>(names: &Names<'a>, words: &[Word<'a>]) -> Result<(Name<'a>, Li
     Ok((name, line))
 }
 
-/// `link NAME FROM TO RATE DELAY droptail CAP`
-pub(super) fn read<'a>(names: &Names<'a>, words: &[Word<'a>]) -> Result<Statement<'a>, Fault>
-    ensures exact { result ≡ link_at names.now words.now }
-    ensures simulated { IfOk result (IsSimulated names.now) }
+/// `link NAME FROM TO RATE DELAY droptail CAP`, or with `codel CAP TARGET INTERVAL MAXPACKET`
+pub(super) fn read<'a>(table: &Table<'a>, words: &[Word<'a>]) -> Result<Statement<'a>, Fault>
+    ensures { result ≡ link_at (known_in table.now) words.now }
 {
-    if has_word(words, 6, b"codel") {
-        return Err(Fault::S1);
-    }
     if !has_link_length(words) {
         return Err(Fault::E3);
     }
-    let (name, line) = link_words(names, words)?;
-    if names.link_count() >= MOST_LINKS {
-        return Err(Fault::S1);
+    let (name, line) = link_words(table, words)?;
+    if is_full(table, line.from) {
+        return Err(Fault::E9);
     }
     Ok(Statement::Link(name, line))
 }

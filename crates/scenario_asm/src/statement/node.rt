@@ -1,46 +1,43 @@
 //! `node` statements.
-ghost use Rattle.std.specs.Prelude.{◌≡◌, ◌≢◌, IfOk};
-ghost use Rattle.scenario_asm.specs.Statements.{kind_at, node_at};
-ghost use Rattle.scenario_asm.specs.Stage.{IsSimulated};
+ghost use Rattle.std.specs.Prelude.{◌≡◌};
+ghost use Rattle.scenario_asm.specs.Statements.{kind_named, node_at};
+ghost use Rattle.scenario_asm.specs.Table.{known_in};
 
-use super::{Statement, has_word};
+use super::Statement;
 use crate::fault::Fault;
 use crate::lexer::Word;
-use crate::names::Names;
+use crate::table::Table;
 use scenario_image::NodeKind;
+use scenario_image::limits::MOST_NODES;
 
-/// The most nodes that are simulated yet.
-const MOST_NODES: usize = 2;
-
-/// What a node does.
-fn kind(word: &Word<'_>) -> Result<NodeKind, Fault>
-    ensures exact { result ≡ kind_at word.now }
-    ensures no_router { IfOk result (λ kind. kind ≢ NodeKind.Router) }
+/// What a word says that a node does.
+fn kind(word: &Word<'_>) -> Option<NodeKind>
+    ensures { result ≡ kind_named word.now }
 {
     if word.is(b"sender") {
-        Ok(NodeKind::Sender)
+        Some(NodeKind::Sender)
     } else if word.is(b"receiver") {
-        Ok(NodeKind::Receiver)
+        Some(NodeKind::Receiver)
+    } else if word.is(b"router") {
+        Some(NodeKind::Router)
     } else {
-        Err(Fault::E4)
+        None
     }
 }
 
 /// `node NAME KIND`
-pub(super) fn read<'a>(names: &Names<'a>, words: &[Word<'a>]) -> Result<Statement<'a>, Fault>
-    ensures exact { result ≡ node_at names.now words.now }
-    ensures simulated { IfOk result (IsSimulated names.now) }
+pub(super) fn read<'a>(table: &Table<'a>, words: &[Word<'a>]) -> Result<Statement<'a>, Fault>
+    ensures { result ≡ node_at (known_in table.now) words.now }
 {
-    if has_word(words, 2, b"router") {
-        return Err(Fault::S1);
-    }
     let [_node, name, does] = words else {
         return Err(Fault::E3);
     };
-    let name = names.new_name(name)?;
-    let kind = kind(does)?;
-    if names.node_count() >= MOST_NODES {
-        return Err(Fault::S1);
+    let name = table.new_name(name)?;
+    let Some(kind) = kind(does) else {
+        return Err(Fault::E4);
+    };
+    if table.kinds.len() >= MOST_NODES {
+        return Err(Fault::E9);
     }
     Ok(Statement::Node(name, kind))
 }

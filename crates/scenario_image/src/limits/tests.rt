@@ -1,131 +1,51 @@
 use super::*;
+use crate::fixture;
 use crate::parts::NodeKind;
 use crate::records::Records;
 use std::alloc::{AllocError, Global};
 use std::test::Fail;
 
-const CODEL: Codel = Codel {
-    target: 5_000_000,
-    interval: 100_000_000,
-    maxpacket: 1_500,
-};
-
-const FLOW: FlowPart = FlowPart {
-    sender: 0,
-    receiver: 1,
-    mss: 1_000,
-    segments: 1,
-    start: 0,
-    rwnd: 64_000,
-    delack: 0,
-};
-
-fn link(alloc: Global, from: u16, to: u16, rate: u64, delay: Time, capacity: u16) -> LinkPart {
-    LinkPart {
-        from,
-        to,
-        rate,
-        delay,
-        queue: QueueKind::DropTail,
-        capacity,
-        lose: Records::new(Vec::new(alloc)),
-    }
-}
-
-fn links(alloc: Global, count: u16) -> Result<Records<LinkPart>, AllocError> {
-    let mut links = Vec::new(alloc);
-    for _ in 0..count {
-        links.push(link(alloc, 0, 1, 8_000_000, 1_000_000, 10))?;
-    }
-    Ok(Records::new(links))
-}
-
 fn parts(
     alloc: Global,
     end: Time,
     nodes: usize,
-    link_count: u16,
+    links: usize,
     flows: usize,
 ) -> Result<ScenarioParts, AllocError> {
-    Ok(ScenarioParts {
-        end,
-        nodes: Records::new(vec![in alloc; NodeKind::Sender; nodes]?),
-        links: links(alloc, link_count)?,
-        flows: Records::new(vec![in alloc; FLOW; flows]?),
-        routes: Records::new(Vec::new(alloc)),
-    })
+    let nodes = vec![in alloc; NodeKind::Sender; nodes]?;
+    let links = vec![in alloc; (0, 1); links]?;
+    let flows = vec![in alloc; (0, 1); flows]?;
+    let mut parts = fixture::parts(
+        alloc,
+        nodes.as_slice(),
+        links.as_slice(),
+        flows.as_slice(),
+        &[],
+    )?;
+    parts.end = end;
+    Ok(parts)
 }
 
 #[test]
 fn codel_has_limits(rt: HostRuntime) {
-    for (codel, want) in [
-        (CODEL, true),
-        (Codel { target: 0, ..CODEL }, false),
-        (Codel { target: 1, ..CODEL }, true),
-        (
-            Codel {
-                target: 10_000_000_000,
-                ..CODEL
-            },
-            true,
-        ),
-        (
-            Codel {
-                target: 10_000_000_001,
-                ..CODEL
-            },
-            false,
-        ),
-        (
-            Codel {
-                interval: 0,
-                ..CODEL
-            },
-            false,
-        ),
-        (
-            Codel {
-                interval: 1,
-                ..CODEL
-            },
-            true,
-        ),
-        (
-            Codel {
-                interval: 10_000_000_000,
-                ..CODEL
-            },
-            true,
-        ),
-        (
-            Codel {
-                interval: 10_000_000_001,
-                ..CODEL
-            },
-            false,
-        ),
-        (
-            Codel {
-                maxpacket: 0,
-                ..CODEL
-            },
-            false,
-        ),
-        (
-            Codel {
-                maxpacket: 1,
-                ..CODEL
-            },
-            true,
-        ),
-        (
-            Codel {
-                maxpacket: 65_535,
-                ..CODEL
-            },
-            true,
-        ),
+    for (target, interval, maxpacket, want) in [
+        (0, 100_000_000, 1_500, false),
+        (1, 100_000_000, 1_500, true),
+        (10_000_000_000, 100_000_000, 1_500, true),
+        (10_000_000_001, 100_000_000, 1_500, false),
+        (5_000_000, 0, 1_500, false),
+        (5_000_000, 1, 1_500, true),
+        (5_000_000, 10_000_000_000, 1_500, true),
+        (5_000_000, 10_000_000_001, 1_500, false),
+        (5_000_000, 100_000_000, 0, false),
+        (5_000_000, 100_000_000, 1, true),
+        (5_000_000, 100_000_000, 65_535, true),
     ] {
+        let codel = Codel {
+            target,
+            interval,
+            maxpacket,
+        };
         assert_eq!(rt; queue_is_in_limits(QueueKind::Codel(codel)), want);
     }
 }
@@ -149,13 +69,16 @@ fn a_link_has_limits(rt: HostRuntime) {
         (0, 1, 8_000_000, 1_000_000, 1, true),
         (0, 1, 8_000_000, 1_000_000, 65_535, true),
     ] {
-        let link = link(rt.alloc(), from, to, rate, delay, capacity);
+        let mut link = fixture::link(rt.alloc(), from, to);
+        link.rate = rate;
+        link.delay = delay;
+        link.capacity = capacity;
         assert_eq!(rt; link_is_in_limits(2, &link), want);
     }
 }
 
 #[test]
-fn lost_packets_have_limits(rt: HostRuntime) {
+fn lost_packets_have_limits(rt: HostRuntime) -> Result<(), Fail> {
     for (first, second, want) in [
         (0, 1, false),
         (1, 2, true),
@@ -166,10 +89,6 @@ fn lost_packets_have_limits(rt: HostRuntime) {
     ] {
         assert_eq!(rt; lose_is_in_limits(&[first, second]), want);
     }
-}
-
-#[test]
-fn at_most_64_packets_are_lost(rt: HostRuntime) -> Result<(), Fail> {
     let mut numbers = Vec::new(rt.alloc());
     for number in 1..65 {
         numbers.push(number)?;
@@ -182,105 +101,66 @@ fn at_most_64_packets_are_lost(rt: HostRuntime) -> Result<(), Fail> {
 
 #[test]
 fn a_flow_has_limits(rt: HostRuntime) {
-    for (flow, want) in [
-        (FLOW, true),
-        (FlowPart { sender: 1, ..FLOW }, true),
-        (FlowPart { sender: 2, ..FLOW }, false),
-        (
-            FlowPart {
-                receiver: 2,
-                ..FLOW
-            },
-            false,
-        ),
-        (FlowPart { mss: 0, ..FLOW }, false),
-        (FlowPart { mss: 1, ..FLOW }, true),
-        (FlowPart { mss: 9_000, ..FLOW }, true),
-        (FlowPart { mss: 9_001, ..FLOW }, false),
-        (
-            FlowPart {
-                segments: 0,
-                ..FLOW
-            },
-            false,
-        ),
-        (
-            FlowPart {
-                segments: 1_000_000_000,
-                ..FLOW
-            },
-            true,
-        ),
-        (
-            FlowPart {
-                segments: 1_000_000_001,
-                ..FLOW
-            },
-            false,
-        ),
-        (FlowPart { start: 99, ..FLOW }, true),
-        (FlowPart { start: 100, ..FLOW }, false),
-        (FlowPart { rwnd: 999, ..FLOW }, false),
-        (
-            FlowPart {
-                rwnd: 1_000,
-                ..FLOW
-            },
-            true,
-        ),
-        (
-            FlowPart {
-                rwnd: 1_073_741_824,
-                ..FLOW
-            },
-            true,
-        ),
-        (
-            FlowPart {
-                rwnd: 1_073_741_825,
-                ..FLOW
-            },
-            false,
-        ),
-        (
-            FlowPart {
-                delack: 500_000_000,
-                ..FLOW
-            },
-            true,
-        ),
-        (
-            FlowPart {
-                delack: 500_000_001,
-                ..FLOW
-            },
-            false,
-        ),
+    for (sender, receiver, mss, segments, start, rwnd, delack, want) in [
+        (0, 1, 1_000, 1, 0, 64_000, 0, true),
+        (1, 1, 1_000, 1, 0, 64_000, 0, true),
+        (2, 1, 1_000, 1, 0, 64_000, 0, false),
+        (0, 2, 1_000, 1, 0, 64_000, 0, false),
+        (0, 1, 0, 1, 0, 64_000, 0, false),
+        (0, 1, 1, 1, 0, 64_000, 0, true),
+        (0, 1, 9_000, 1, 0, 64_000, 0, true),
+        (0, 1, 9_001, 1, 0, 64_000, 0, false),
+        (0, 1, 1_000, 0, 0, 64_000, 0, false),
+        (0, 1, 1_000, 1_000_000_000, 0, 64_000, 0, true),
+        (0, 1, 1_000, 1_000_000_001, 0, 64_000, 0, false),
+        (0, 1, 1_000, 1, 99, 64_000, 0, true),
+        (0, 1, 1_000, 1, 100, 64_000, 0, false),
+        (0, 1, 1_000, 1, 0, 999, 0, false),
+        (0, 1, 1_000, 1, 0, 1_000, 0, true),
+        (0, 1, 1_000, 1, 0, 1_073_741_824, 0, true),
+        (0, 1, 1_000, 1, 0, 1_073_741_825, 0, false),
+        (0, 1, 1_000, 1, 0, 64_000, 500_000_000, true),
+        (0, 1, 1_000, 1, 0, 64_000, 500_000_001, false),
     ] {
+        let flow = FlowPart {
+            sender,
+            receiver,
+            mss,
+            segments,
+            start,
+            rwnd,
+            delack,
+        };
         assert_eq!(rt; flow_is_in_limits(2, 100, flow), want);
     }
 }
 
 #[test]
-fn a_route_comes_before_others_by_router_and_then_by_destination(rt: HostRuntime) {
+fn routes_have_limits_and_an_order(rt: HostRuntime) {
     let first = RoutePart {
         router: 2,
         destination: 1,
         link: 0,
     };
-    for (router, destination, want) in [
-        (3, 0, true),
-        (2, 2, true),
-        (2, 1, false),
-        (2, 0, false),
-        (1, 5, false),
+    for (router, destination, link, is_within, is_later) in [
+        (3, 0, 0, true, true),
+        (3, 0, 5, true, true),
+        (3, 0, 6, false, true),
+        (4, 0, 0, false, true),
+        (2, 2, 0, true, true),
+        (2, 3, 0, true, true),
+        (2, 4, 0, false, true),
+        (2, 1, 0, true, false),
+        (2, 0, 0, true, false),
+        (1, 3, 0, true, false),
     ] {
-        let second = RoutePart {
+        let route = RoutePart {
             router,
             destination,
-            link: 1,
+            link,
         };
-        assert_eq!(rt; route_is_before(&first, &second), want);
+        assert_eq!(rt; route_is_in_limits(4, 6, route), is_within);
+        assert_eq!(rt; route_is_before(&first, &route), is_later);
     }
 }
 
@@ -304,6 +184,16 @@ fn an_end_and_the_counts_have_limits(rt: HostRuntime) -> Result<(), Fail> {
     ] {
         let parts = parts(rt.alloc(), end, nodes, links, flows)?;
         assert_eq!(rt; is_in_limits(&parts), want);
+    }
+    let route = RoutePart {
+        router: 0,
+        destination: 1,
+        link: 0,
+    };
+    for (routes, want) in [(65_536, true), (65_537, false)] {
+        let mut parts = parts(rt.alloc(), 1, 2, 2, 1)?;
+        parts.routes = Records::new(vec![in rt.alloc(); route; routes]?);
+        assert_eq!(rt; counts_are_in_limits(&parts), want);
     }
     Ok(())
 }

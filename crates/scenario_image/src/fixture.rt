@@ -1,0 +1,58 @@
+//! Parts for tests.
+use crate::parts::{FlowPart, LinkPart, NodeKind, QueueKind, RoutePart, ScenarioParts};
+use crate::records::Records;
+use std::alloc::{AllocError, Global};
+
+/// A link between two nodes, with numbers within limits.
+pub(crate) fn link(alloc: Global, from: u16, to: u16) -> LinkPart {
+    LinkPart {
+        from,
+        to,
+        rate: 8_000_000,
+        delay: 1_000_000,
+        queue: QueueKind::DropTail,
+        capacity: 10,
+        lose: Records::new(Vec::new(alloc)),
+    }
+}
+
+/// A flow between two nodes, with numbers within limits.
+pub(crate) fn flow(sender: u16, receiver: u16) -> FlowPart {
+    FlowPart {
+        sender,
+        receiver,
+        mss: 1_000,
+        segments: 1,
+        start: 0,
+        rwnd: 64_000,
+        delack: 0,
+    }
+}
+
+/// Parts of nodes of these kinds, links and flows between these nodes, and routes of these routers,
+/// destinations and links.
+pub(crate) fn parts(
+    alloc: Global,
+    nodes: &[NodeKind],
+    link_ends: &[(u16, u16)],
+    flow_ends: &[(u16, u16)],
+    routes: &[(u16, u16, u16)],
+) -> Result<ScenarioParts, AllocError> {
+    let mut links = Vec::new(alloc);
+    for (from, to) in link_ends {
+        links.push(link(alloc, *from, *to))?;
+    }
+    let flows = flow_ends.iter().map(|ends| flow(ends.0, ends.1));
+    let routes = routes.iter().map(|numbers| RoutePart {
+        router: numbers.0,
+        destination: numbers.1,
+        link: numbers.2,
+    });
+    Ok(ScenarioParts {
+        end: 1_000_000_000,
+        nodes: Records::new(Vec::from_slice(alloc, nodes)?),
+        links: Records::new(links),
+        flows: Records::new(flows.collect(alloc)?),
+        routes: Records::new(routes.collect(alloc)?),
+    })
+}

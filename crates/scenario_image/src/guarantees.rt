@@ -1,0 +1,25 @@
+//! What is so of each scenario: laws over the definitions alone, each the contract of a function
+//! that does nothing.
+ghost use Rattle.scenario_image.specs.WayLaws.{WaysArrive, WaysBegin, WaysGoOnOrEnd, EndsHaveOneFlow};
+
+/// Each way comes to its end after fewer hops than there are nodes, comes only where it may, is at
+/// no node twice, and goes no further.
+pub fn ways_arrive()
+    ensures { WaysArrive }
+{}
+
+/// Each way begins with the one link that leaves its start.
+pub fn ways_begin()
+    ensures { WaysBegin }
+{}
+
+/// Where a link of a way ends, the way ends too; or there is a router with a route for the way's
+/// end, over a link that leaves the router and is on the way again.
+pub fn ways_go_on_or_end()
+    ensures { WaysGoOnOrEnd }
+{}
+
+/// Only one flow names a sender or a receiver.
+pub fn ends_have_one_flow()
+    ensures { EndsHaveOneFlow }
+{}
