@@ -1,5 +1,6 @@
 -- What every receiver keeps, whatever comes and in whatever order.
 use Rattle.std.specs.Prelude.{◌≡◌, ℕ, ◌+◌, ◌%◌, ◌<◌, ◌≤◌, ◌↔◌, ◌⊎◌, Some, None}
+use Rattle.sim_time.specs.Moment.{IsMoment}
 use Rattle.reno_receiver.specs.declared.reply.Reply.TheVariants.{AckNow, Wait}
 use Rattle.reno_receiver.specs.Received.{ReceiverState, Answered, opening_receiver, next_of, data_came, alarm_came, IsReceived, IsWellFormed}
 use Rattle.reno_receiver.specs.LeastMissing.{IsLeastMissing}
@@ -44,7 +45,7 @@ OpeningLaw = (mss delack : ℕ) → 1 ≤ mss → mss ≤ 9000 → delack ≤ 50
 
 abbrev pub DataLaw : Type 0
 DataLaw =
-    (st : ReceiverState) (seq now : ℕ) → IsWellFormed st → seq % st.mss ≡ 0 → seq ≤ 9000000000000 → now ≤ 1000000000000000 → DataKeeps st seq now (data_came st seq now)
+    (st : ReceiverState) (seq now : ℕ) → IsWellFormed st → seq % st.mss ≡ 0 → seq ≤ 9000000000000 → IsMoment now → DataKeeps st seq now (data_came st seq now)
 
 abbrev pub AlarmLaw : Type 0
 AlarmLaw = (st : ReceiverState) → IsWellFormed st → AlarmKeeps st (alarm_came st)

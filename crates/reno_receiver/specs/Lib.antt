@@ -3,3 +3,4 @@ pub mod LeastMissing
 pub mod Laws
 pub mod Kept
 pub mod Place
+pub use Rattle.sim_time.specs.Moment

@@ -1,5 +1,6 @@
 //! The receiver's rule: which segments have come, and when each is acknowledged.
 ghost use Rattle.std.specs.Prelude.{◌≡◌, ℕ, ◌+◌, ◌*◌, ◌%◌, ◌<◌, ◌≤◌, IfOk, OnOk, OnErr, None};
+ghost use Rattle.sim_time.specs.Moment.{IsMoment};
 ghost use Rattle.reno_receiver.specs.declared.reply.Reply.TheVariants.{AckNow, Wait};
 ghost use Rattle.reno_receiver.specs.Received.{opening_receiver, next_of, held_of, may_wait, gaining, data_came, alarm_came, IsReceived, IsWellFormed};
 ghost use Rattle.reno_receiver.specs.LeastMissing.{IsLeastMissing};
@@ -80,7 +81,7 @@ impl Receiver {
     pub fn on_data(&mut self, seq: u64, now: Time) -> Result<Reply, AllocError>
         requires multiple { seq % self.old.mss ≡ 0 }
         requires greatest { seq ≤ 9000000000000 }
-        requires moment { now ≤ 1000000000000000 }
+        requires moment { IsMoment now }
         ensures reply { IfOk result (λ reply. reply ≡ (data_came self.old seq now).reply) }
         ensures state { OnOk result (self.new ≡ (data_came self.old seq now).state) }
         ensures err { OnErr result (self.new ≡ self.old) }
@@ -194,7 +195,7 @@ mod tests {
         requires segments { receiver.old.mss ≡ 1000 }
         requires multiple { seq % 1000 ≡ 0 }
         requires greatest { seq ≤ 9000000000000 }
-        requires moment { now ≤ 1000000000000000 }
+        requires moment { IsMoment now }
         ensures { receiver.new.mss ≡ 1000 }
     {
         let next = receiver.next();

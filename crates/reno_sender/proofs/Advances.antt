@@ -7,7 +7,8 @@ use Rattle.reno_sender.specs.declared.fields.Timing.{Timing}
 use Rattle.reno_sender.specs.Fields.{IsSound, IsTimedWithin}
 use Rattle.reno_sender.specs.Timer.{Estimate, sampled, estimate_of}
 use Rattle.reno_sender.specs.Table.{enlarged, window_after, with_estimate, measured_by, restarted, advanced, new_acknowledgement}
-use Rattle.reno_sender.specs.Laws.{RowKeeps, IsMoment, IsAckFor, IsDeadlineSetAt}
+use Rattle.sim_time.specs.Moment.{IsMoment}
+use Rattle.reno_sender.specs.Laws.{RowKeeps, IsAckFor, IsDeadlineSetAt}
 use Rattle.reno_sender.proofs.Multiples.{multiple_max}
 use Rattle.reno_sender.proofs.Rows.{quiet_keeps, fill_keeps}
 

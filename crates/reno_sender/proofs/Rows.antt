@@ -10,7 +10,8 @@ use Rattle.reno_sender.specs.Fields.{IsSound, IsTimedWithin, IsMultiple, total, 
 use Rattle.reno_sender.specs.Timer.{backed_off}
 use Rattle.reno_sender.specs.Sending.{Planned, spaced, sending, timing_after, filling, fill_count, allowed_end}
 use Rattle.reno_sender.specs.Table.{timed_out, enlarged, one_more, halved, may_send_new, nothing_sent, early_duplicate, third_duplicate, further_duplicate, inflated}
-use Rattle.reno_sender.specs.Laws.{RowKeeps, IsMoment, IsDeadlineSetAt}
+use Rattle.sim_time.specs.Moment.{IsMoment}
+use Rattle.reno_sender.specs.Laws.{RowKeeps, IsDeadlineSetAt}
 use Rattle.reno_sender.proofs.Multiples.{multiple_next, multiple_below, multiple_max, fits_count}
 use Rattle.reno_sender.specs.PlanView.{IsWellMade}
 use Rattle.reno_sender.proofs.Runs.{length-spaced}

@@ -9,7 +9,8 @@ use Rattle.reno_sender.specs.declared.fields.SenderFields.{SenderFields}
 use Rattle.reno_sender.specs.declared.fields.Timing.{Timing}
 use Rattle.reno_sender.specs.Fields.{IsSound, IsTimedWithin, IsMultiple, total}
 use Rattle.reno_sender.specs.Sending.{spaced, sending, timing_after, timing_of, deadline_after}
-use Rattle.reno_sender.specs.Laws.{RowKeeps, IsMoment, IsSegment, IsDeadlineSetAt}
+use Rattle.sim_time.specs.Moment.{IsMoment}
+use Rattle.reno_sender.specs.Laws.{RowKeeps, IsSegment, IsDeadlineSetAt}
 use Rattle.reno_sender.proofs.Multiples.{multiples_apart, multiple_after, multiple_below, multiple_max, places_below, places_up_to}
 use Rattle.reno_sender.proofs.Runs.{length-spaced, find-spaced, find_none-spaced, none_below-spaced, all-spaced}
 

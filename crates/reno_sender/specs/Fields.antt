@@ -1,6 +1,5 @@
 -- What a sender keeps, and the facts that hold of it in every reachable state.
-use Rattle.std.specs.Prelude.{◌≡◌, ◌≤◌, ◌<◌, ◌*◌, ◌-◌, ◌%◌, ◌↔◌, ℕ, Bool, Option, IsTrue, IsSome, IfSome, refl}
-use Rattle.std.specs.Coded.{Coded, code_by, coded×, coded_ℕ, coded_bool, coded_option}
+use Rattle.std.specs.Prelude.{◌≡◌, ◌≤◌, ◌<◌, ◌*◌, ◌-◌, ◌%◌, ◌↔◌, ℕ, IsTrue, IsSome, IfSome}
 use Rattle.reno_sender.specs.declared.fields.SenderFields.{SenderFields}
 use Rattle.reno_sender.specs.declared.fields.Timing.{Timing}
 
@@ -49,16 +48,3 @@ pub record IsSound (f : SenderFields) : Type 0 where
   pub timed : IfSome f.timing (IsTimedWithin f.una f.high)
   pub srtt_most : IfSome f.srtt (λ s. s ≤ 2000000000000000)
   pub rttvar_most : f.rttvar ≤ 2000000000000000
-
--- a timing is stored as its two numbers
-abbrev pub timing_code : Coded Timing
-timing_code = code_by (ℕ × ℕ) (coded× coded_ℕ coded_ℕ) (λ t. (t.number, t.sent_at)) (λ p. record { number = p.0; sent_at = p.1 }) (λ _. refl)
-
--- the fields are stored one after another
-abbrev pub fields_code : Coded SenderFields
-fields_code =
-    code_by (ℕ × (ℕ × (ℕ × (ℕ × (ℕ × (ℕ × (ℕ × (ℕ × (ℕ × (ℕ × (Bool × (Option Timing × (Option ℕ × (ℕ × (ℕ × (Option ℕ × Bool))))))))))))))))
-    (coded× coded_ℕ (coded× coded_ℕ (coded× coded_ℕ (coded× coded_ℕ (coded× coded_ℕ (coded× coded_ℕ (coded× coded_ℕ (coded× coded_ℕ (coded× coded_ℕ (coded× coded_ℕ (coded× coded_bool (coded× (coded_option timing_code) (coded× (coded_option coded_ℕ) (coded× coded_ℕ (coded× coded_ℕ (coded× (coded_option coded_ℕ) coded_bool))))))))))))))))
-    (λ f. (f.mss, (f.segments, (f.rwnd, (f.una, (f.nxt, (f.high, (f.cwnd, (f.ssthresh, (f.dups, (f.lt, (f.recovery, (f.timing, (f.srtt, (f.rttvar, (f.rto, (f.deadline, f.resent)))))))))))))))))
-    (λ p. record { mss = p.0; segments = p.1.0; rwnd = p.1.1.0; una = p.1.1.1.0; nxt = p.1.1.1.1.0; high = p.1.1.1.1.1.0; cwnd = p.1.1.1.1.1.1.0; ssthresh = p.1.1.1.1.1.1.1.0; dups = p.1.1.1.1.1.1.1.1.0; lt = p.1.1.1.1.1.1.1.1.1.0; recovery = p.1.1.1.1.1.1.1.1.1.1.0; timing = p.1.1.1.1.1.1.1.1.1.1.1.0; srtt = p.1.1.1.1.1.1.1.1.1.1.1.1.0; rttvar = p.1.1.1.1.1.1.1.1.1.1.1.1.1.0; rto = p.1.1.1.1.1.1.1.1.1.1.1.1.1.1.0; deadline = p.1.1.1.1.1.1.1.1.1.1.1.1.1.1.1.0; resent = p.1.1.1.1.1.1.1.1.1.1.1.1.1.1.1.1 })
-    (λ _. refl)

@@ -1,14 +1,11 @@
 -- What every row of the table keeps, in the subject's own words.
 use Rattle.std.specs.Prelude.{◌≡◌, ◌≤◌, ◌<◌, ◌+◌, ◌*◌, ◌⊎◌, ◌↔◌, ℕ, true, false, min, List, length, Contains, Option, None, Some, IsSome, IfSome}
 use Rattle.std.specs.List.{AllByRecursion}
+use Rattle.sim_time.specs.Moment.{IsMoment}
 use Rattle.reno_sender.specs.declared.fields.SenderFields.{SenderFields}
 use Rattle.reno_sender.specs.Fields.{IsSound, IsMultiple, total}
 use Rattle.reno_sender.specs.Sending.{Planned, filling}
 use Rattle.reno_sender.specs.Table.{opening_fields, started, acknowledged, timed_out}
-
--- a moment of an event
-abbrev pub IsMoment : ℕ → Type 0
-IsMoment now = now ≤ 1000000000000000
 
 -- what an acknowledgement has to be: a whole number of segments that were sent, no earlier than the timed segment
 pub record IsAckFor (f : SenderFields) (ack now : ℕ) : Type 0 where

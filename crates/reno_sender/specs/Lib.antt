@@ -5,3 +5,4 @@ pub mod Table
 pub mod PlanView
 pub mod Laws
 pub use Rattle.sim_time.specs.InitialWindow
+pub use Rattle.sim_time.specs.Moment

@@ -1,8 +1,7 @@
 -- What a plan holds: the fields that a commit sets, and what is to be sent.
-use Rattle.std.specs.Prelude.{◌≡◌, ◌≤◌, ◌+◌, ◌*◌, ℕ, List, ◌++◌, Option, IfSome, option_to_list, refl}
-use Rattle.std.specs.Coded.{Coded, code_by, coded×, coded_ℕ, coded_option}
+use Rattle.std.specs.Prelude.{◌≡◌, ◌≤◌, ◌+◌, ◌*◌, ℕ, List, ◌++◌, Option, IfSome, option_to_list}
 use Rattle.reno_sender.specs.declared.fields.SenderFields.{SenderFields}
-use Rattle.reno_sender.specs.Fields.{IsSound, fields_code}
+use Rattle.reno_sender.specs.Fields.{IsSound}
 use Rattle.reno_sender.specs.Sending.{Planned, spaced}
 use Rattle.reno_sender.specs.Table.{started, acknowledged, timed_out}
 
@@ -15,11 +14,6 @@ pub record PlanView : Type 0 where
 
 abbrev pub plan_view : SenderFields → Option ℕ → ℕ → ℕ → PlanView
 plan_view fields resent first count = record { fields = fields; resent = resent; first = first; count = count }
-
-abbrev pub plan_code : Coded PlanView
-plan_code =
-    code_by (SenderFields × (Option ℕ × (ℕ × ℕ))) (coded× fields_code (coded× (coded_option coded_ℕ) (coded× coded_ℕ coded_ℕ)))
-    (λ v. (v.fields, (v.resent, (v.first, v.count)))) (λ p. record { fields = p.0; resent = p.1.0; first = p.1.1.0; count = p.1.1.1 }) (λ _. refl)
 
 -- the whole list of byte numbers that a plan sends
 abbrev pub sent_of : PlanView → List ℕ

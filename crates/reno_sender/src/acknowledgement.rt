@@ -1,7 +1,8 @@
 //! A new acknowledgement (RFC 5681 sections 3.1 and 3.2, RFC 6298 sections 2, 3 and 5).
 ghost use Rattle.std.specs.Prelude.{◌≡◌, ◌<◌};
 ghost use Rattle.reno_sender.specs.Fields.{IsSound};
-ghost use Rattle.reno_sender.specs.Laws.{IsMoment, IsAckFor};
+ghost use Rattle.sim_time.specs.Moment.{IsMoment};
+ghost use Rattle.reno_sender.specs.Laws.{IsAckFor};
 ghost use Rattle.reno_sender.specs.PlanView.{planned_of};
 ghost use Rattle.reno_sender.specs.Table.{measured_by, advanced, restarted, new_acknowledgement, acknowledged};
 

@@ -2,7 +2,7 @@
 //! section 3.2).
 ghost use Rattle.std.specs.Prelude.{◌≡◌, ◌≤◌, ◌<◌, ◌+◌, ◌^◌, Bool, true, false, ◌==◌};
 ghost use Rattle.reno_sender.specs.Fields.{IsSound};
-ghost use Rattle.reno_sender.specs.Laws.{IsMoment};
+ghost use Rattle.sim_time.specs.Moment.{IsMoment};
 ghost use Rattle.reno_sender.specs.PlanView.{planned_of};
 ghost use Rattle.reno_sender.specs.Table.{one_more, may_send_new, early_duplicate, third_duplicate, further_duplicate};
 

@@ -32,7 +32,8 @@ pub struct SenderFields {
     pub ssthresh: u64,
     /// Duplicate acknowledgements since the last new one.
     pub dups: u64,
-    /// Bytes sent by limited transmit since the last new acknowledgement (RFC 5681 section 3.1).
+    /// Bytes sent by limited transmit since the last new acknowledgement (RFC 5681 section 3.2 step
+    /// 1, RFC 3042).
     pub lt: u64,
     /// Whether the sender is in fast recovery (RFC 5681 section 3.2).
     pub recovery: bool,

@@ -1,7 +1,7 @@
 //! How much new data the windows allow (RFC 5681 section 3.1).
 ghost use Rattle.std.specs.Prelude.{◌≡◌};
 ghost use Rattle.reno_sender.specs.Fields.{IsSound};
-ghost use Rattle.reno_sender.specs.Laws.{IsMoment};
+ghost use Rattle.sim_time.specs.Moment.{IsMoment};
 ghost use Rattle.reno_sender.specs.PlanView.{planned_of};
 ghost use Rattle.reno_sender.specs.Sending.{fill_count, filling};
 

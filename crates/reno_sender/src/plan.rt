@@ -18,11 +18,9 @@ pub struct Plan {
 }
 
 impl Model for Plan {
-    ghost use Rattle.reno_sender.specs.PlanView.{PlanView, IsWellMade, plan_code, plan_view};
+    ghost use Rattle.reno_sender.specs.PlanView.{PlanView, IsWellMade, plan_view};
 
     ghost Value = { PlanView };
-
-    ghost coded = { plan_code };
 
     ghost view = { λ p. plan_view p.fields p.resent p.first p.count };
 
@@ -58,6 +56,14 @@ impl Plan {
         ensures well_made { IsWellMade self.now }
     {
         self.fields
+    }
+
+    /// What the sender keeps once this is committed, where it lies.
+    pub fn as_fields(&self) -> &SenderFields
+        ensures value { result.now ≡ self.now.fields }
+        ensures well_made { IsWellMade self.now }
+    {
+        &self.fields
     }
 
     /// The byte number that is sent again, before the others.

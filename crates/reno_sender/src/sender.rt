@@ -1,7 +1,8 @@
 //! The sender itself: what it keeps, and the plan that each event makes.
 ghost use Rattle.std.specs.Prelude.{◌≡◌, ◌≤◌, ◌+◌, IsSome, SomeIff};
 ghost use Rattle.reno_sender.specs.Fields.{IsSound};
-ghost use Rattle.reno_sender.specs.Laws.{IsMoment, IsAckFor, IsFlow};
+ghost use Rattle.sim_time.specs.Moment.{IsMoment};
+ghost use Rattle.reno_sender.specs.Laws.{IsAckFor, IsFlow};
 ghost use Rattle.reno_sender.specs.PlanView.{planned_of, IsPlanOf, IsWellMade};
 ghost use Rattle.reno_sender.specs.Table.{opening_fields, started, acknowledged, timed_out};
 
@@ -23,11 +24,9 @@ pub struct Sender {
 
 impl Model for Sender {
     ghost use Rattle.reno_sender.specs.declared.fields.SenderFields.{SenderFields};
-    ghost use Rattle.reno_sender.specs.Fields.{IsSound, fields_code};
+    ghost use Rattle.reno_sender.specs.Fields.{IsSound};
 
     ghost Value = { SenderFields };
-
-    ghost coded = { fields_code };
 
     ghost view = { λ s. s.fields };
 
@@ -82,6 +81,22 @@ impl Sender {
         ensures sound { IsSound self.now }
     {
         self.fields
+    }
+
+    /// What the sender keeps, where it lies.
+    pub fn as_fields(&self) -> &SenderFields
+        ensures value { result.now ≡ self.now }
+        ensures sound { IsSound self.now }
+    {
+        &self.fields
+    }
+
+    /// When the retransmission timer ends, in nanoseconds; none where it is off.
+    pub fn deadline(&self) -> Option<Time>
+        ensures value { result ≡ self.now.deadline }
+        ensures sound { IsSound self.now }
+    {
+        self.fields.deadline
     }
 
     /// The flow starts.

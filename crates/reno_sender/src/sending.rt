@@ -1,7 +1,7 @@
 //! What sending does to a sender: `high`, the timed segment and the timer.
 ghost use Rattle.std.specs.Prelude.{◌≡◌, ◌≤◌, ◌<◌, ℕ, ◌+◌, ◌-◌, ◌*◌, [], ◌∷◌, ◌^◌, ◌&&◌, nat_lt, if◌then◌else◌};
 ghost use Rattle.reno_sender.specs.Fields.{IsSound, IsMultiple, total};
-ghost use Rattle.reno_sender.specs.Laws.{IsMoment};
+ghost use Rattle.sim_time.specs.Moment.{IsMoment};
 ghost use Rattle.reno_sender.specs.PlanView.{planned_of};
 ghost use Rattle.reno_sender.specs.Sending.{sending, spaced, timing_of, timing_after, deadline_after};
 

@@ -1,5 +1,5 @@
-//! Worked rows, the caps, and each fact on fields broken alone.
-ghost use Rattle.reno_sender.specs.Laws.{IsMoment};
+//! Worked rows, the caps, and the limits of fields.
+ghost use Rattle.sim_time.specs.Moment.{IsMoment};
 
 use crate::{Plan, Sender, SenderFields, Timing, after_sample};
 use sim_time::Time;
@@ -27,30 +27,6 @@ const TEN_OUT: SenderFields = SenderFields {
     resent: false,
 };
 
-/// Four segments in flight after a timeout, with a segment timed and a round trip measured.
-const FOUR_OUT: SenderFields = SenderFields {
-    mss: 1_000,
-    segments: 20,
-    rwnd: 64_000,
-    una: 1_000,
-    nxt: 5_000,
-    high: 6_000,
-    cwnd: 4_000,
-    ssthresh: 64_000,
-    dups: 0,
-    lt: 0,
-    recovery: false,
-    timing: Some(Timing {
-        number: 6_000,
-        sent_at: 5,
-    }),
-    srtt: Some(7),
-    rttvar: 3,
-    rto: 1_000_000_000,
-    deadline: Some(9),
-    resent: false,
-};
-
 /// Nothing in flight.
 const AT_REST: SenderFields = SenderFields {
     mss: 1_000,
@@ -72,9 +48,11 @@ const AT_REST: SenderFields = SenderFields {
     resent: false,
 };
 
-const MOST_CWND: u64 = 1_099_511_627_776;
+/// The greatest congestion window and threshold.
+const CWND: u64 = 1_099_511_627_776;
 
-const LATE: u64 = 2_000_000_000_000_001;
+/// The last moment, and the longest span.
+const LAST: u64 = 2_000_000_000_000_000;
 
 fn acknowledge(rt: &impl Abort, sender: &mut Sender, ack: u64, now: Time) -> Plan
     requires { IsMoment now }
@@ -213,19 +191,19 @@ fn avoidance_grows_by_a_segment_a_round(rt: HostRuntime) -> Result<(), Fail> {
 #[test]
 fn the_window_and_the_duplicates_stop_at_their_caps(rt: HostRuntime) -> Result<(), Fail> {
     let starting = SenderFields {
-        cwnd: MOST_CWND - 500,
-        ssthresh: MOST_CWND,
+        cwnd: CWND - 500,
+        ssthresh: CWND,
         ..TEN_OUT
     };
     let avoiding = SenderFields {
-        cwnd: MOST_CWND,
-        ssthresh: MOST_CWND,
+        cwnd: CWND,
+        ssthresh: CWND,
         ..TEN_OUT
     };
     for fields in [starting, avoiding] {
         let mut sender = Sender::of_fields(fields).ok_or("sound")?;
         let _plan = acknowledge(&rt, &mut sender, 1_000, 1);
-        assert_eq!(rt; sender.fields().cwnd, MOST_CWND);
+        assert_eq!(rt; sender.fields().cwnd, CWND);
     }
     let recovering = SenderFields {
         dups: 4_294_967_294,
@@ -237,7 +215,7 @@ fn the_window_and_the_duplicates_stop_at_their_caps(rt: HostRuntime) -> Result<(
         let _plan = acknowledge(&rt, &mut sender, 0, 1);
         assert_eq!(rt;
             (sender.fields().dups, sender.fields().cwnd),
-            (4_294_967_295, MOST_CWND)
+            (4_294_967_295, CWND)
         );
     }
     Ok(())
@@ -249,7 +227,7 @@ fn a_run_of_many_segments_is_one_plan(rt: HostRuntime) -> Result<(), Fail> {
         mss: 1,
         segments: 1_000_000_000,
         rwnd: 1_073_741_824,
-        ssthresh: MOST_CWND,
+        ssthresh: CWND,
         cwnd: 13_000,
         dups: 3,
         recovery: true,
@@ -261,254 +239,132 @@ fn a_run_of_many_segments_is_one_plan(rt: HostRuntime) -> Result<(), Fail> {
     Ok(())
 }
 
-/// Fails where a sender could keep these fields.
-fn refuse(rt: &impl Abort, fields: SenderFields) {
-    assert!(rt; Sender::of_fields(fields).is_none());
-}
-
 #[test]
-fn sound_fields_are_taken(rt: HostRuntime) {
-    assert!(rt; Sender::of_fields(TEN_OUT).is_some());
-    assert!(rt; Sender::of_fields(FOUR_OUT).is_some());
-    assert!(rt; Sender::of_fields(AT_REST).is_some());
-}
-
-#[test]
-fn the_ranges_of_a_flow_are_asked(rt: HostRuntime) {
-    refuse(&rt, SenderFields { mss: 0, ..AT_REST });
-    refuse(
-        &rt,
-        SenderFields {
-            mss: 9_001,
-            cwnd: 36_004,
+fn sizes_have_limits(rt: HostRuntime) {
+    // mss, segments, rwnd, and whether a sender can keep them.
+    let rows = [
+        (1, 1, 1, true),
+        (0, 1, 1, false),
+        (1, 0, 1, false),
+        (2, 1, 1, false),
+        (9_000, 1_000_000_000, 1_073_741_824, true),
+        (9_001, 1_000_000_000, 1_073_741_824, false),
+        (9_000, 1_000_000_001, 1_073_741_824, false),
+        (9_000, 1_000_000_000, 1_073_741_825, false),
+    ];
+    for (mss, segments, rwnd, sound) in rows {
+        let fields = SenderFields {
+            mss,
+            segments,
+            rwnd,
+            cwnd: 9_001,
             ..AT_REST
-        },
-    );
-    refuse(
-        &rt,
-        SenderFields {
-            segments: 0,
-            ..AT_REST
-        },
-    );
-    refuse(
-        &rt,
-        SenderFields {
-            segments: 1_000_000_001,
-            ..AT_REST
-        },
-    );
-    refuse(
-        &rt,
-        SenderFields {
-            rwnd: 999,
-            ..AT_REST
-        },
-    );
-    refuse(
-        &rt,
-        SenderFields {
-            rwnd: 1_073_741_825,
-            ..AT_REST
-        },
-    );
+        };
+        assert_eq!(rt; Sender::of_fields(fields).is_some(), sound);
+    }
 }
 
 #[test]
-fn the_order_of_the_byte_numbers_is_asked(rt: HostRuntime) {
-    refuse(
-        &rt,
-        SenderFields {
-            una: 6_000,
-            timing: None,
-            deadline: None,
-            ..FOUR_OUT
-        },
-    );
-    refuse(
-        &rt,
-        SenderFields {
-            nxt: 7_000,
-            ..FOUR_OUT
-        },
-    );
-    refuse(
-        &rt,
-        SenderFields {
-            segments: 5,
-            ..FOUR_OUT
-        },
-    );
-    refuse(
-        &rt,
-        SenderFields {
-            rwnd: 3_000,
-            ..FOUR_OUT
-        },
-    );
-    refuse(
-        &rt,
-        SenderFields {
-            lt: 4_001,
-            ..FOUR_OUT
-        },
-    );
-}
-
-#[test]
-fn whole_segments_are_asked(rt: HostRuntime) {
-    refuse(
-        &rt,
-        SenderFields {
-            una: 1_001,
-            ..FOUR_OUT
-        },
-    );
-    refuse(
-        &rt,
-        SenderFields {
-            nxt: 5_001,
-            ..FOUR_OUT
-        },
-    );
-    refuse(
-        &rt,
-        SenderFields {
-            high: 6_001,
-            ..FOUR_OUT
-        },
-    );
-}
-
-#[test]
-fn the_windows_and_recovery_are_asked(rt: HostRuntime) {
-    refuse(
-        &rt,
-        SenderFields {
-            recovery: true,
-            ..FOUR_OUT
-        },
-    );
-    refuse(
-        &rt,
-        SenderFields {
-            dups: 3,
-            ..FOUR_OUT
-        },
-    );
-    refuse(
-        &rt,
-        SenderFields {
-            cwnd: 999,
-            ..FOUR_OUT
-        },
-    );
-    refuse(
-        &rt,
-        SenderFields {
-            cwnd: MOST_CWND + 1,
-            ..FOUR_OUT
-        },
-    );
-    refuse(
-        &rt,
-        SenderFields {
-            ssthresh: 999,
-            ..FOUR_OUT
-        },
-    );
-    refuse(
-        &rt,
-        SenderFields {
-            ssthresh: MOST_CWND + 1,
-            ..FOUR_OUT
-        },
-    );
-}
-
-#[test]
-fn the_timer_is_asked(rt: HostRuntime) {
-    refuse(
-        &rt,
-        SenderFields {
-            rto: 999_999_999,
-            ..FOUR_OUT
-        },
-    );
-    refuse(
-        &rt,
-        SenderFields {
-            rto: 60_000_000_001,
-            ..FOUR_OUT
-        },
-    );
-    refuse(
-        &rt,
-        SenderFields {
-            deadline: None,
-            ..FOUR_OUT
-        },
-    );
-    refuse(
-        &rt,
-        SenderFields {
-            deadline: Some(1),
+fn windows_and_the_timeout_have_limits(rt: HostRuntime) {
+    // cwnd, ssthresh, rto, rttvar, and whether a sender can keep them.
+    let rows = [
+        (1_000, 1_000, 1_000_000_000, 0, true),
+        (999, 1_000, 1_000_000_000, 0, false),
+        (1_000, 999, 1_000_000_000, 0, false),
+        (1_000, 1_000, 999_999_999, 0, false),
+        (CWND, CWND, 60_000_000_000, LAST, true),
+        (CWND + 1, CWND, 60_000_000_000, LAST, false),
+        (CWND, CWND + 1, 60_000_000_000, LAST, false),
+        (CWND, CWND, 60_000_000_001, LAST, false),
+        (CWND, CWND, 60_000_000_000, LAST + 1, false),
+    ];
+    for (cwnd, ssthresh, rto, rttvar, sound) in rows {
+        let fields = SenderFields {
+            cwnd,
+            ssthresh,
+            rto,
+            rttvar,
             ..AT_REST
-        },
-    );
-    refuse(
-        &rt,
-        SenderFields {
-            deadline: Some(LATE),
-            ..FOUR_OUT
-        },
-    );
+        };
+        assert_eq!(rt; Sender::of_fields(fields).is_some(), sound);
+    }
 }
 
 #[test]
-fn the_times_are_asked(rt: HostRuntime) {
-    refuse(
-        &rt,
-        SenderFields {
-            timing: Some(Timing {
-                number: 1_000,
-                sent_at: 5,
-            }),
-            ..FOUR_OUT
-        },
-    );
-    refuse(
-        &rt,
-        SenderFields {
-            timing: Some(Timing {
-                number: 7_000,
-                sent_at: 5,
-            }),
-            ..FOUR_OUT
-        },
-    );
-    refuse(
-        &rt,
-        SenderFields {
-            timing: Some(Timing {
-                number: 6_000,
-                sent_at: LATE,
-            }),
-            ..FOUR_OUT
-        },
-    );
-    refuse(
-        &rt,
-        SenderFields {
-            srtt: Some(LATE),
-            ..FOUR_OUT
-        },
-    );
-    refuse(
-        &rt,
-        SenderFields {
-            rttvar: LATE,
-            ..FOUR_OUT
-        },
-    );
+fn byte_numbers_and_duplicates_have_limits(rt: HostRuntime) {
+    // una, nxt, high, segments, rwnd, lt, dups, recovery, and whether a sender can keep them.
+    let rows = [
+        (1_000, 5_000, 6_000, 6, 4_000, 4_000, 2, false, true),
+        (1_000, 5_000, 6_000, 6, 4_000, 4_000, 3, true, true),
+        (1_000, 5_000, 6_000, 6, 4_000, 4_000, 2, true, false),
+        (1_000, 5_000, 6_000, 6, 4_000, 4_000, 3, false, false),
+        (1_000, 5_000, 6_000, 6, 4_000, 4_001, 0, false, false),
+        (1_000, 5_000, 6_000, 6, 3_999, 0, 0, false, false),
+        (1_000, 5_000, 6_000, 5, 4_000, 0, 0, false, false),
+        (1_000, 6_000, 5_000, 6, 5_000, 0, 0, false, false),
+        (5_000, 4_000, 6_000, 6, 4_000, 0, 0, false, false),
+        (1_001, 5_000, 6_000, 6, 4_000, 0, 0, false, false),
+        (1_000, 4_999, 6_000, 6, 4_000, 0, 0, false, false),
+        (1_000, 5_000, 5_999, 6, 4_000, 0, 0, false, false),
+    ];
+    for (una, nxt, high, segments, rwnd, lt, dups, recovery, sound) in rows {
+        let deadline = if una < nxt { Some(9) } else { None };
+        let fields = SenderFields {
+            una,
+            nxt,
+            high,
+            segments,
+            rwnd,
+            lt,
+            dups,
+            recovery,
+            deadline,
+            ..AT_REST
+        };
+        assert_eq!(rt; Sender::of_fields(fields).is_some(), sound);
+    }
+}
+
+#[test]
+fn times_have_limits(rt: HostRuntime) {
+    // The timed number, when it was sent, srtt, the deadline, and whether a sender can keep them.
+    let rows = [
+        (1_001, 0, 0, Some(0), true),
+        (6_000, LAST, LAST, Some(LAST), true),
+        (1_000, LAST, LAST, Some(LAST), false),
+        (6_001, LAST, LAST, Some(LAST), false),
+        (6_000, LAST + 1, LAST, Some(LAST), false),
+        (6_000, LAST, LAST + 1, Some(LAST), false),
+        (6_000, LAST, LAST, Some(LAST + 1), false),
+        (6_000, LAST, LAST, None, false),
+    ];
+    for (number, sent_at, srtt, deadline, sound) in rows {
+        let fields = SenderFields {
+            una: 1_000,
+            nxt: 5_000,
+            high: 6_000,
+            timing: Some(Timing { number, sent_at }),
+            srtt: Some(srtt),
+            deadline,
+            ..AT_REST
+        };
+        assert_eq!(rt; Sender::of_fields(fields).is_some(), sound);
+    }
+    let waiting_for_nothing = SenderFields {
+        deadline: Some(1),
+        ..AT_REST
+    };
+    assert!(rt; Sender::of_fields(waiting_for_nothing).is_none());
+}
+
+#[test]
+fn readers_agree(rt: HostRuntime) -> Result<(), Fail> {
+    let mut sender = Sender::of_fields(TEN_OUT).ok_or("sound")?;
+    assert_eq!(rt; sender.deadline(), Some(1_000_000_000));
+    assert_eq!(rt; sender.as_fields().cwnd, 10_000);
+    let plan = sender.on_rto(1_000_000_000);
+    assert_eq!(rt; plan.as_fields().cwnd, 1_000);
+    sender.commit(plan);
+    assert_eq!(rt; sender.deadline(), Some(3_000_000_000));
+    Ok(())
 }

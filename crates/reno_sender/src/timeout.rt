@@ -1,7 +1,7 @@
 //! The retransmission timer's end (RFC 5681 section 3.1, RFC 6298 sections 5.4 to 5.6).
 ghost use Rattle.std.specs.Prelude.{◌≡◌, ◌≤◌, IsSome};
 ghost use Rattle.reno_sender.specs.Fields.{IsSound};
-ghost use Rattle.reno_sender.specs.Laws.{IsMoment};
+ghost use Rattle.sim_time.specs.Moment.{IsMoment};
 ghost use Rattle.reno_sender.specs.PlanView.{planned_of};
 ghost use Rattle.reno_sender.specs.Table.{timed_out};
 ghost use Rattle.reno_sender.specs.Timer.{backed_off};

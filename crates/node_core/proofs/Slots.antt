@@ -1,0 +1,360 @@
+-- The slots of an agenda: whose keys are where, and what a change of one slot does to the whole.
+use Rattle.std.proofs.Common.{◌≡◌, ◌≢◌, ℕ, zero, suc, ◌+◌, ◌-◌, ◌<◌, ◌≤◌, ◌==◌, Bool, true, false, cond, ◌∷◌, [], List, ◌++◌, length, get_or, set, map, refl, sym, ap, subst, ◌∙◌, Some, None, Option, ⊎_elim, arith}
+use Rattle.std.proofs.lemmas.Bool.{cases_lt, cases_eq, ne_eqb, eqb-true, eqb-false}
+use Rattle.std.proofs.lemmas.List.{get_or-set_same, get_or-set_other, length-set, length-map, map-set, get_or_append_left, set-get_or, get_or-append-add, set-append_left, set-append_right, length-append}
+use Rattle.std.proofs.Math.ListN.{get_or-map, get_or-eq_default}
+use Rattle.std.proofs.Math.Seq.{map-set_same}
+use Rattle.std.specs.Option.{option_map}
+use Rattle.std.specs.FinMap as fin
+use Rattle.std.specs.FinMap.{get-empty}
+use Rattle.std.specs.List.{AllByRecursion}
+use Rattle.std.specs.Ordering.{eq_by_cmp, is_gt}
+use Rattle.std.proofs.lemmas.Cmp.{tied_itself}
+use Rattle.sim_time.specs.declared.key.Key.{Key}
+use Rattle.sim_time.specs.Keys.{key_cmp}
+use Rattle.sim_time.proofs.Order.{keys_total, exact_keys}
+use Rattle.ranking.specs.Leading.{rank_at, Leads}
+use Rattle.packet_chain.specs.Stamped.{Stamped}
+use Rattle.ranking.specs.Keyed.{changed, apply, entering, least, next_key, EachKey, nothing_due}
+use Rattle.ranking.specs.Gathered.{gathered, map_at, AtHome}
+use Rattle.ranking.proofs.Maps.{not_some, same_some, is_equal, get_here, get-changed, each_changed, each_empty, remove_insert, is_least, next_some, least_is}
+use Rattle.ranking.proofs.Gathered.{rank-next, next_empty, gathered-apply, get-gathered, none_gathered, IsFirst, is_first}
+use Rattle.packet_chain.specs.declared.packet.Packet.{Packet}
+use Rattle.node_core.specs.declared.event.Event.{Event}
+use Rattle.node_core.specs.declared.event.Event.TheVariants.{Start, Rto, DelAck, Free, Arrive}
+use Rattle.node_core.specs.Pending.{Events, Change}
+use Rattle.node_core.specs.Alarms.{numbered_key, alarm_cleared, alarm_set}
+use Rattle.node_core.specs.WireState.{WireState, pending_on, came_over, arrivals}
+use Rattle.node_core.specs.AgendaState.{Owner, Incoming, AgendaState, alarm_event, alarm_map, alarm_maps, slots, index_of, slot_of, no_wire, wire_at, IsAgenda, IsAlarm, IsDue, IsDueAs, cleared, agenda_state, incoming_of, incoming_at, come_over}
+use Rattle.node_core.proofs.Wires.{each_on, each_at, entering_sources, all_arrive}
+
+abbrev nothing : Events
+nothing = nothing_due Event
+
+-- the changes of an alarm that moves
+abbrev pub moved : Owner → ℕ → Option ℕ → Option ℕ → List Change
+moved owner i old new = alarm_cleared (numbered_key owner.node i) old ++ alarm_set (numbered_key owner.node i) (alarm_event owner i) new
+
+-- a map of one entry
+least_one : (k : Key) (v : Event) → least (changed nothing k (Some v)) ≡ Some (k, v)
+least_one k v = is_least (changed nothing k (Some v)) k v (record {
+  pending = get_here nothing k (Some v);
+  none_less = λ q w there. elim (eq_by_cmp key_cmp q k) as (λ b. eq_by_cmp key_cmp q k ≡ b → is_gt (key_cmp k q) ≡ false) [
+    | true ↦ λ t. ap is_gt (ap (key_cmp k) (exact_keys q k (is_equal _ t)) ∙ tied_itself keys_total k)
+    | false ↦ λ t. absurd (not_some (sym (ap (λ b. cond b (Some v) (fin.get nothing q)) t ∙ get-empty key_cmp q) ∙ sym (get-changed nothing k (Some v) q) ∙ there))
+  ] refl;
+})
+
+pub next_alarm : (owner : Owner) (i : ℕ) (time : Option ℕ) → next_key (alarm_map owner i time) ≡ option_map (numbered_key owner.node i) time
+next_alarm owner i None = next_empty Event
+next_alarm owner i (Some t) = ap (option_map (λ (entry : Key × Event). entry.0)) (least_one (numbered_key owner.node i t) (alarm_event owner i))
+
+-- an alarm that moves, as a map
+alarm_moves : (owner : Owner) (i : ℕ) (old new : Option ℕ) → alarm_map owner i new ≡ apply (moved owner i old new) (alarm_map owner i old)
+alarm_moves owner i None None = refl
+alarm_moves owner i None (Some t) = refl
+alarm_moves owner i (Some d) None = sym (remove_insert nothing (numbered_key owner.node i d) (alarm_event owner i) (get-empty key_cmp (numbered_key owner.node i d)))
+alarm_moves owner i (Some d) (Some t) =
+    ap (λ (m : Events). changed m (numbered_key owner.node i t) (Some (alarm_event owner i))) (sym (remove_insert nothing (numbered_key owner.node i d) (alarm_event owner i) (get-empty key_cmp (numbered_key owner.node i d))))
+
+pub moved_home : (P : Key → Type 0) (owner : Owner) (i : ℕ) (old new : Option ℕ) → ((t : ℕ) → P (numbered_key owner.node i t)) → AllByRecursion (λ (c : Change). P c.0) (moved owner i old new)
+moved_home P owner i None None h = tt
+moved_home P owner i None (Some t) h = (h t, tt)
+moved_home P owner i (Some d) None h = (h d, tt)
+moved_home P owner i (Some d) (Some t) h = (h d, (h t, tt))
+
+each_alarm : (owner : Owner) (i : ℕ) (time : Option ℕ) → EachKey (λ k. (k.source ≡ 0) × (k.number ≡ i)) (alarm_map owner i time)
+each_alarm owner i None = each_empty (λ k. (k.source ≡ 0) × (k.number ≡ i))
+each_alarm owner i (Some t) = each_changed (λ k. (k.source ≡ 0) × (k.number ≡ i)) nothing (numbered_key owner.node i t) (Some (alarm_event owner i)) (refl, refl) (each_empty (λ k. (k.source ≡ 0) × (k.number ≡ i)))
+
+-- which slot is where
+length-alarm_maps : (owner : Owner) (from : ℕ) (alarms : List (Option ℕ)) → length (alarm_maps owner from alarms) ≡ length alarms
+length-alarm_maps owner from [] = refl
+length-alarm_maps owner from (a ∷ alarms) = ap suc (length-alarm_maps owner (from + 1) alarms)
+
+alarm_maps-at : (owner : Owner) (from : ℕ) (alarms : List (Option ℕ)) (i : ℕ) → i < length alarms → map_at (alarm_maps owner from alarms) i ≡ alarm_map owner (from + i) (get_or alarms i None)
+alarm_maps-at owner from [] i within = absurd (omega (arith, within))
+alarm_maps-at owner from (a ∷ alarms) zero within = ap (λ n. alarm_map owner n a) {x = from} {y = from + 0} (omega arith)
+alarm_maps-at owner from (a ∷ alarms) (suc i) within =
+    alarm_maps-at owner (from + 1) alarms i (omega (arith, within)) ∙ ap (λ n. alarm_map owner n (get_or alarms i None)) {x = (from + 1) + i} {y = from + suc i} (omega arith)
+
+alarm_maps-set : (owner : Owner) (from : ℕ) (alarms : List (Option ℕ)) (i : ℕ) (time : Option ℕ) → alarm_maps owner from (set alarms i time) ≡ set (alarm_maps owner from alarms) i (alarm_map owner (from + i) time)
+alarm_maps-set owner from [] i time = refl
+alarm_maps-set owner from (a ∷ alarms) zero time = ap (λ n. alarm_map owner n time ∷ alarm_maps owner (from + 1) alarms) {x = from} {y = from + 0} (omega arith)
+alarm_maps-set owner from (a ∷ alarms) (suc i) time =
+    ap (λ l. alarm_map owner from a ∷ l)
+    (alarm_maps-set owner (from + 1) alarms i time ∙ ap (λ n. set (alarm_maps owner (from + 1) alarms) i (alarm_map owner n time)) {x = (from + 1) + i} {y = from + suc i} (omega arith))
+
+module _ (owner : Owner) (alarms : List (Option ℕ)) (wires : List WireState) where
+  pub length-slots : length (slots owner alarms wires) ≡ length alarms + length wires
+  length-slots = length-append (alarm_maps owner 0 alarms) (map pending_on wires) ∙ omega (arith, length-alarm_maps owner 0 alarms, length-map wires pending_on)
+
+  pub slots_at_alarm : (i : ℕ) → i < length alarms → map_at (slots owner alarms wires) i ≡ alarm_map owner i (get_or alarms i None)
+  slots_at_alarm i within =
+      get_or_append_left (alarm_maps owner 0 alarms) (map pending_on wires) nothing i (omega (arith, length-alarm_maps owner 0 alarms, within))
+      ∙ alarm_maps-at owner 0 alarms i within ∙ ap (λ n. alarm_map owner n (get_or alarms i None)) {x = 0 + i} {y = i} (omega arith)
+
+  pub slots_at_wire : (j : ℕ) → map_at (slots owner alarms wires) (length alarms + j) ≡ pending_on (wire_at wires j)
+  slots_at_wire j =
+      ap (λ n. map_at (slots owner alarms wires) (n + j)) (sym (length-alarm_maps owner 0 alarms))
+      ∙ get_or-append-add (alarm_maps owner 0 alarms) (map pending_on wires) j nothing
+      ∙ get_or-map pending_on wires j no_wire
+
+  pub slots_set_alarm : (i : ℕ) → i < length alarms → (time : Option ℕ) → slots owner (set alarms i time) wires ≡ set (slots owner alarms wires) i (alarm_map owner i time)
+  slots_set_alarm i within time =
+      ap (λ l. l ++ map pending_on wires)
+      (alarm_maps-set owner 0 alarms i time ∙ ap (λ n. set (alarm_maps owner 0 alarms) i (alarm_map owner n time)) {x = 0 + i} {y = i} (omega arith))
+      ∙ sym (set-append_left (alarm_maps owner 0 alarms) (map pending_on wires) i (alarm_map owner i time) (omega (arith, length-alarm_maps owner 0 alarms, within)))
+
+  pub slots_set_wire : (j : ℕ) (w : WireState) → slots owner alarms (set wires j w) ≡ set (slots owner alarms wires) (length alarms + j) (pending_on w)
+  slots_set_wire j w =
+      ap (λ l. alarm_maps owner 0 alarms ++ l) (map-set pending_on wires j w)
+      ∙ ap (λ i. alarm_maps owner 0 alarms ++ set (map pending_on wires) i (pending_on w)) {x = j} {y = (length alarms + j) - length alarms} (omega arith)
+      ∙ sym (set-append_right (alarm_maps owner 0 alarms) (map pending_on wires) (length alarms) (length alarms + j) (pending_on w) (length-alarm_maps owner 0 alarms) (omega arith))
+
+-- where keys are at home
+pub slot_alarm : (alarms : ℕ) (links : List ℕ) (k : Key) → k.source ≡ 0 → slot_of alarms links k ≡ k.number
+slot_alarm alarms links k is = ap (λ s. cond (s == 0) k.number (alarms + index_of links (s - 1))) is
+
+pub slot_wire : (alarms : ℕ) (links : List ℕ) (k : Key) (link : ℕ) → k.source ≡ link + 1 → slot_of alarms links k ≡ alarms + index_of links link
+slot_wire alarms links k link is =
+    ap (λ s. cond (s == 0) k.number (alarms + index_of links (s - 1))) is
+    ∙ ap (λ b. cond b k.number (alarms + index_of links ((link + 1) - 1))) (ne_eqb (link + 1) 0 (λ e. omega (arith, e)))
+    ∙ ap (λ l. alarms + index_of links l) {x = (link + 1) - 1} {y = link} (omega arith)
+
+abbrev pub links_of : List WireState → List ℕ
+links_of = map (λ (w : WireState). w.link)
+
+abbrev pub home_of : List (Option ℕ) → List WireState → Key → ℕ
+home_of alarms wires = slot_of (length alarms) (links_of wires)
+
+module _ (owner : Owner) (alarms : List (Option ℕ)) (wires : List WireState) (ranks : List (Option Key)) (is : IsAgenda owner alarms wires ranks) where
+  pub slots_home : AtHome (home_of alarms wires) (slots owner alarms wires)
+  slots_home i k v there =
+      ⊎_elim
+      (λ (alarm : i < length alarms).
+      let own = each_alarm owner i (get_or alarms i None) k v (ap (λ (m : Events). fin.get m k) (sym (slots_at_alarm owner alarms wires i alarm)) ∙ there) in
+      slot_alarm (length alarms) (links_of wires) k own.0 ∙ own.1)
+      (λ (wire : length alarms ≤ i). at_wire (i - length alarms) (omega (arith, wire)))
+      (cases_lt i (length alarms))
+    where
+      at_wire : (j : ℕ) → length alarms + j ≡ i → home_of alarms wires k ≡ i
+      at_wire j at =
+          let here : fin.get (pending_on (wire_at wires j)) k ≡ Some v = ap (λ (m : Events). fin.get m k) (sym (slots_at_wire owner alarms wires j) ∙ ap (map_at (slots owner alarms wires)) at) ∙ there in
+          ⊎_elim
+          (λ (within : j < length wires).
+          slot_wire (length alarms) (links_of wires) k (wire_at wires j).link (each_on (wire_at wires j) k v here)
+          ∙ ap (λ n. length alarms + n) (is.apart j within) ∙ at)
+          (λ (past : length wires ≤ j). absurd (not_some (sym (none_there k) ∙ ap (λ (w : WireState). fin.get (pending_on w) k) (sym (get_or-eq_default wires no_wire past)) ∙ here)))
+          (cases_lt j (length wires))
+        where
+          none_there : (q : Key) → fin.get (pending_on no_wire) q ≡ None
+          none_there q = get-empty key_cmp q
+
+  -- an alarm is set or cleared
+  pub set_ranked : (i : ℕ) → i < length alarms → (time : Option ℕ) → IsAgenda owner (set alarms i time) wires (set ranks i (option_map (numbered_key owner.node i) time))
+  set_ranked i within time = record {
+    ranked =
+        ap (λ r. set r i (option_map (numbered_key owner.node i) time)) is.ranked ∙ ap (set (map next_key (slots owner alarms wires)) i) (sym (next_alarm owner i time))
+        ∙ sym (map-set next_key (slots owner alarms wires) i (alarm_map owner i time)) ∙ ap (map next_key) (sym (slots_set_alarm owner alarms wires i within time));
+    apart = is.apart;
+    at_node = is.at_node;
+  }
+
+  pub set_pending : (i : ℕ) → i < length alarms → (time : Option ℕ)
+      → gathered (slots owner (set alarms i time) wires) ≡ apply (moved owner i (get_or alarms i None) time) (gathered (slots owner alarms wires))
+  set_pending i within time =
+      let changes = moved owner i (get_or alarms i None) time in
+      ap gathered (slots_set_alarm owner alarms wires i within time)
+      ∙ ap (λ (m : Events). gathered (set (slots owner alarms wires) i m)) (alarm_moves owner i (get_or alarms i None) time ∙ ap (apply changes) (sym (slots_at_alarm owner alarms wires i within)))
+      ∙ gathered-apply (home_of alarms wires) changes (slots owner alarms wires) slots_home i (omega (arith, within, length-slots owner alarms wires))
+      (moved_home (λ k. home_of alarms wires k ≡ i) owner i (get_or alarms i None) time (λ t. slot_alarm (length alarms) (links_of wires) (numbered_key owner.node i t) refl))
+
+  -- what comes over a link changes at its own keys
+  module _ (j : ℕ) (within : j < length wires) (w : WireState) (same_node : w.node ≡ (wire_at wires j).node) (same_link : w.link ≡ (wire_at wires j).link) where
+    same_links : links_of (set wires j w) ≡ links_of wires
+    same_links = map-set_same (λ (x : WireState). x.link) wires j w no_wire same_link
+
+    pub wire_ranked : IsAgenda owner alarms (set wires j w) (set ranks (length alarms + j) (next_key (pending_on w)))
+    wire_ranked = record {
+      ranked =
+          ap (λ r. set r (length alarms + j) (next_key (pending_on w))) is.ranked ∙ sym (map-set next_key (slots owner alarms wires) (length alarms + j) (pending_on w))
+          ∙ ap (map next_key) (sym (slots_set_wire owner alarms wires j w));
+      apart = λ i under.
+          let inside : i < length wires = subst (λ n. i < n) (length-set wires j w) under in
+          ap (λ l. index_of l (wire_at (set wires j w) i).link) same_links
+          ∙ ⊎_elim
+          (λ (at : i ≡ j). ap (λ (x : WireState). index_of (links_of wires) x.link) (ap (wire_at (set wires j w)) at ∙ get_or-set_same wires j w no_wire within)
+          ∙ ap (index_of (links_of wires)) same_link ∙ is.apart j within ∙ sym at)
+          (λ (apart : i ≢ j). ap (λ (x : WireState). index_of (links_of wires) x.link) (get_or-set_other wires j i w no_wire apart) ∙ is.apart i inside)
+          (cases_eq i j);
+      at_node = λ i under.
+          let inside : i < length wires = subst (λ n. i < n) (length-set wires j w) under in
+          ⊎_elim
+          (λ (at : i ≡ j). ap (λ (x : WireState). x.node) (ap (wire_at (set wires j w)) at ∙ get_or-set_same wires j w no_wire within) ∙ same_node ∙ is.at_node j within)
+          (λ (apart : i ≢ j). ap (λ (x : WireState). x.node) (get_or-set_other wires j i w no_wire apart) ∙ is.at_node i inside)
+          (cases_eq i j);
+    }
+
+    pub wire_pending : (cs : List Change) → AllByRecursion (λ (c : Change). c.0.source ≡ (wire_at wires j).link + 1) cs → pending_on w ≡ apply cs (pending_on (wire_at wires j))
+        → gathered (slots owner alarms (set wires j w)) ≡ apply cs (gathered (slots owner alarms wires))
+    wire_pending cs sources change =
+        ap gathered (slots_set_wire owner alarms wires j w)
+        ∙ ap (λ (m : Events). gathered (set (slots owner alarms wires) (length alarms + j) m)) (change ∙ ap (apply cs) (sym (slots_at_wire owner alarms wires j)))
+        ∙ gathered-apply (home_of alarms wires) cs (slots owner alarms wires) slots_home (length alarms + j) (omega (arith, within, length-slots owner alarms wires)) (at_slot cs sources)
+      where
+        at_slot : (cs : List Change) → AllByRecursion (λ (c : Change). c.0.source ≡ (wire_at wires j).link + 1) cs → AllByRecursion (λ (c : Change). home_of alarms wires c.0 ≡ length alarms + j) cs
+        at_slot [] all = tt
+        at_slot (c ∷ cs) all = (slot_wire (length alarms) (links_of wires) c.0 (wire_at wires j).link all.0 ∙ ap (λ n. length alarms + n) (is.apart j within), at_slot cs all.1)
+
+    -- a slot whose next key stays needs no new rank
+    pub still_ranked : next_key (pending_on w) ≡ next_key (pending_on (wire_at wires j)) → set ranks (length alarms + j) (next_key (pending_on w)) ≡ ranks
+    still_ranked same =
+        ap (set ranks (length alarms + j))
+        (same ∙ ap next_key (sym (slots_at_wire owner alarms wires j)) ∙ sym (rank-next (slots owner alarms wires) (length alarms + j)) ∙ ap (λ (r : List (Option Key)). rank_at r (length alarms + j)) (sym is.ranked))
+        ∙ set-get_or ranks (length alarms + j) None
+
+  pub none_first : ((slot : ℕ) → rank_at ranks slot ≡ None) → least (gathered (slots owner alarms wires)) ≡ None
+  none_first none = none_gathered (home_of alarms wires) (slots owner alarms wires) slots_home (subst (λ (r : List (Option Key)). (slot : ℕ) → rank_at r slot ≡ None) is.ranked none)
+
+  pub first_slot : (slot : ℕ) (key : Key) → Leads ranks slot key → IsFirst (home_of alarms wires) (slots owner alarms wires) slot key
+  first_slot slot key leads = is_first (home_of alarms wires) (slots owner alarms wires) slots_home slot key (subst (λ (r : List (Option Key)). Leads r slot key) is.ranked leads)
+
+  -- each key of what comes over a link is pending, with the link's source
+  pub wire_keys : (j : ℕ) → j < length wires → (k : Key) (v : Event) → fin.get (pending_on (wire_at wires j)) k ≡ Some v → (fin.get (gathered (slots owner alarms wires)) k ≡ Some v) × (k.source ≡ (wire_at wires j).link + 1)
+  wire_keys j within k v there =
+      let source = each_on (wire_at wires j) k v there in (
+        get-gathered (home_of alarms wires) (slots owner alarms wires) slots_home k
+            ∙ ap (λ (m : Events). fin.get m k)
+            (ap (map_at (slots owner alarms wires)) (slot_wire (length alarms) (links_of wires) k (wire_at wires j).link source ∙ ap (λ n. length alarms + n) (is.apart j within)) ∙ slots_at_wire owner alarms wires j)
+            ∙ there,
+        source,
+      )
+
+  pub first_next : (slot : ℕ) (key : Key) → Leads ranks slot key → next_key (gathered (slots owner alarms wires)) ≡ Some key
+  first_next slot key leads =
+      let first = first_slot slot key leads in
+      ap (option_map (λ (entry : Key × Event). entry.0)) first.same ∙ first.next
+
+pub same_agenda : (owner : Owner) {alarms alarms' : List (Option ℕ)} {incoming incoming' : List Incoming} {pending pending' : Events} → alarms ≡ alarms' → incoming ≡ incoming' → pending ≡ pending'
+    → ◌≡◌ {A = AgendaState} (record { owner = owner; alarms = alarms; incoming = incoming; pending = pending }) (record { owner = owner; alarms = alarms'; incoming = incoming'; pending = pending' })
+same_agenda owner e f g i = record { owner = owner; alarms = e i; incoming = f i; pending = g i }
+
+pub cleared_alarm : (key : Key) (alarms : List (Option ℕ)) (slot : ℕ) → key.source ≡ 0 → key.number ≡ slot → cleared key alarms ≡ set alarms slot None
+cleared_alarm key alarms slot source number = ap (λ s. cond (s == 0) (set alarms key.number None) alarms) source ∙ ap (λ n. set alarms n None) number
+
+pub cleared_wire : (key : Key) (alarms : List (Option ℕ)) (link : ℕ) → key.source ≡ link + 1 → cleared key alarms ≡ alarms
+cleared_wire key alarms link source =
+    ap (λ s. cond (s == 0) (set alarms key.number None) alarms) source ∙ ap (λ b. cond b (set alarms key.number None) alarms) (ne_eqb (link + 1) 0 (λ e. omega (arith, e)))
+
+-- an alarm's slot leads
+pub record FirstAlarm (owner : Owner) (alarms : List (Option ℕ)) (wires : List WireState) (slot : ℕ) (key : Key) : Type 0 where
+  pub least_is : least (gathered (slots owner alarms wires)) ≡ Some (key, alarm_event owner slot)
+  pub source : key.source ≡ 0
+  pub number_is : key.number ≡ slot
+  pub node_is : key.node ≡ owner.node
+  pub set_for : get_or alarms slot None ≡ Some key.time
+  pub rest : gathered (slots owner (set alarms slot None) wires) ≡ fin.remove (gathered (slots owner alarms wires)) key
+
+-- an incoming link's slot leads
+pub record FirstWire (owner : Owner) (alarms : List (Option ℕ)) (wires : List WireState) (j : ℕ) (key : Key) : Type 0 where
+  pub within : j < length wires
+  pub least_is : least (gathered (slots owner alarms wires)) ≡ least (pending_on (wire_at wires j))
+  pub next : next_key (pending_on (wire_at wires j)) ≡ Some key
+  pub source : key.source ≡ (wire_at wires j).link + 1
+  pub node_is : key.node ≡ owner.node
+  pub event : Event
+  pub entry : least (pending_on (wire_at wires j)) ≡ Some (key, event)
+
+module _ (owner : Owner) (alarms : List (Option ℕ)) (wires : List WireState) (ranks : List (Option Key)) (is : IsAgenda owner alarms wires ranks) (slot : ℕ) (key : Key) (leads : Leads ranks slot key) where
+  pub first_within : slot < length alarms + length wires
+  first_within = let h = (first_slot owner alarms wires ranks is slot key leads).within in omega (arith, h, length-slots owner alarms wires)
+
+  pub first_alarm : slot < length alarms → FirstAlarm owner alarms wires slot key
+  first_alarm within = at_time (get_or alarms slot None) refl (sym (next_alarm owner slot (get_or alarms slot None)) ∙ ap next_key (sym (slots_at_alarm owner alarms wires slot within)) ∙ (first_slot owner alarms wires ranks is slot key leads).next)
+    where
+      at_time : (time : Option ℕ) → get_or alarms slot None ≡ time → option_map (numbered_key owner.node slot) time ≡ Some key → FirstAlarm owner alarms wires slot key
+      at_time None set_at e = absurd (not_some e)
+      at_time (Some t) set_at e =
+          let key_is : numbered_key owner.node slot t ≡ key = same_some (numbered_key owner.node slot t) key e in
+          record {
+            least_is = (first_slot owner alarms wires ranks is slot key leads).same ∙ ap least (slots_at_alarm owner alarms wires slot within ∙ ap (alarm_map owner slot) set_at) ∙ least_one (numbered_key owner.node slot t) (alarm_event owner slot)
+                ∙ ap (λ k. Some (k, alarm_event owner slot)) key_is;
+            source = ap (λ (k : Key). k.source) (sym key_is);
+            number_is = ap (λ (k : Key). k.number) (sym key_is);
+            node_is = ap (λ (k : Key). k.node) (sym key_is);
+            set_for = set_at ∙ ap (λ (k : Key). Some k.time) key_is;
+            rest = set_pending owner alarms wires ranks is slot within None
+                ∙ ap (λ (old : Option ℕ). apply (moved owner slot old None) (gathered (slots owner alarms wires))) set_at
+                ∙ ap (fin.remove (gathered (slots owner alarms wires))) key_is;
+          }
+
+  pub first_wire : (j : ℕ) → length alarms + j ≡ slot → FirstWire owner alarms wires j key
+  first_wire j at =
+      let first = first_slot owner alarms wires ranks is slot key leads in
+      let there : map_at (slots owner alarms wires) slot ≡ pending_on (wire_at wires j) = ap (map_at (slots owner alarms wires)) (sym at) ∙ slots_at_wire owner alarms wires j in
+      let next : next_key (pending_on (wire_at wires j)) ≡ Some key = ap next_key (sym there) ∙ first.next in
+      let found = next_some (least (pending_on (wire_at wires j))) key next in
+      let pending = (least_is (pending_on (wire_at wires j)) key found.0 found.1).pending in
+      let within : j < length wires = omega (arith, first_within, at) in
+      record {
+        within = within;
+        least_is = first.same ∙ ap least there;
+        next = next;
+        source = each_on (wire_at wires j) key found.0 pending;
+        node_is = each_at (wire_at wires j) key found.0 pending ∙ is.at_node j within;
+        event = found.0;
+        entry = found.1;
+      }
+
+-- an alarm announces no arrival
+pub alarm_is_no_arrival : (owner : Owner) (i : ℕ) (packet : Packet) → alarm_event owner i ≡ Arrive packet → ⊥
+alarm_is_no_arrival owner i packet = at (i == 0) (i == 1) (i == 2)
+  where
+    at : (a b c : Bool) → cond a (Start owner.flow) (cond b (Rto owner.flow) (cond c (DelAck owner.flow) (Free (get_or owner.exits (i - 3) 0)))) ≡ Arrive packet → ⊥
+    at true b c e = cc
+    at false true c e = cc
+    at false false true e = cc
+    at false false false e = cc
+
+pub same_incoming : {link link' came came' : ℕ} → link ≡ link' → came ≡ came' → ◌≡◌ {A = Incoming} (record { link = link; came = came }) (record { link = link'; came = came' })
+same_incoming e f i = record { link = e i; came = f i }
+
+-- packets that join behind the others of a link join what is pending
+pub joined_state : (owner : Owner) (alarms : List (Option ℕ)) (wires : List WireState) (ranks : List (Option Key)) → IsAgenda owner alarms wires ranks → (j : ℕ) → j < length wires → (sent : List Stamped) (w : WireState)
+    → w ≡ record (wire_at wires j) { under_way = (wire_at wires j).under_way ++ sent }
+    → pending_on w ≡ apply (entering (arrivals (wire_at wires j).node (wire_at wires j).link (came_over (wire_at wires j)) sent)) (pending_on (wire_at wires j))
+    → agenda_state owner alarms (set wires j w) ≡ come_over (agenda_state owner alarms wires) j sent
+joined_state owner alarms wires ranks is j within sent w same entered =
+    let old = wire_at wires j in
+    let over_is : incoming_at (map incoming_of wires) j ≡ incoming_of old = get_or-map incoming_of wires j no_wire in
+    let longer : incoming_of w ≡ record { link = old.link; came = came_over old + length sent } =
+    ap incoming_of same ∙ same_incoming refl (omega (arith, length-append old.under_way sent)) in
+    same_agenda owner refl
+    (map-set incoming_of wires j w ∙ ap (set (map incoming_of wires) j) longer ∙ ap (λ (over : Incoming). set (map incoming_of wires) j (record over { came = over.came + length sent })) (sym over_is))
+    (wire_pending owner alarms wires ranks is j within w (ap (λ (x : WireState). x.node) same) (ap (λ (x : WireState). x.link) same) (entering (arrivals old.node old.link (came_over old) sent)) (entering_sources old.node old.link (came_over old) sent) entered
+    ∙ ap (λ n. apply (entering (arrivals n old.link (came_over old) sent)) (gathered (slots owner alarms wires))) (is.at_node j within)
+    ∙ ap (λ (over : Incoming). apply (entering (arrivals owner.node over.link over.came sent)) (gathered (slots owner alarms wires))) (sym over_is))
+
+-- the alarm of a slot that leads is due, by its number
+due_alarm : (owner : Owner) (alarms : List (Option ℕ)) (wires : List WireState) (slot : ℕ) (key : Key) → slot < length alarms → FirstAlarm owner alarms wires slot key → (a b c : Bool) → slot == 0 ≡ a → slot == 1 ≡ b → slot == 2 ≡ c
+    → IsDueAs (agenda_state owner alarms wires) key (cond a (Start owner.flow) (cond b (Rto owner.flow) (cond c (DelAck owner.flow) (Free (get_or owner.exits (slot - 3) 0)))))
+due_alarm owner alarms wires slot key within first a b c is0 is1 is2 = go a b c is0 is1 is2
+  where
+    alarm : (n : ℕ) → slot ≡ n → IsAlarm (agenda_state owner alarms wires) key n
+    alarm n same = record { source = first.source; number_is = first.number_is ∙ same; within = omega (arith, within, same); set_for = ap (λ i. get_or alarms i None) (sym same) ∙ first.set_for }
+
+    go : (a b c : Bool) → slot == 0 ≡ a → slot == 1 ≡ b → slot == 2 ≡ c → IsDueAs (agenda_state owner alarms wires) key (cond a (Start owner.flow) (cond b (Rto owner.flow) (cond c (DelAck owner.flow) (Free (get_or owner.exits (slot - 3) 0)))))
+    go true b c is0 is1 is2 = alarm 0 (eqb-true slot 0 is0)
+    go false true c is0 is1 is2 = alarm 1 (eqb-true slot 1 is1)
+    go false false true is0 is1 is2 = alarm 2 (eqb-true slot 2 is2)
+    go false false false is0 is1 is2 = (omega (arith, first.number_is, eqb-false slot 0 is0, eqb-false slot 1 is1, eqb-false slot 2 is2), alarm key.number (sym first.number_is))
+
+pub alarm_is_due : (owner : Owner) (alarms : List (Option ℕ)) (wires : List WireState) (slot : ℕ) (key : Key) → slot < length alarms → FirstAlarm owner alarms wires slot key → IsDue (agenda_state owner alarms wires) key (alarm_event owner slot)
+alarm_is_due owner alarms wires slot key within first = record { at_node = first.node_is; due = due_alarm owner alarms wires slot key within first (slot == 0) (slot == 1) (slot == 2) refl refl refl }
+
+pub wire_is_due : (owner : Owner) (alarms : List (Option ℕ)) (wires : List WireState) (j : ℕ) (key : Key) (first : FirstWire owner alarms wires j key) → IsDue (agenda_state owner alarms wires) key first.event
+wire_is_due owner alarms wires j key first = record {
+  at_node = first.node_is;
+  due = subst (IsDueAs (agenda_state owner alarms wires) key) (sym (all_arrive (wire_at wires j) key first.event (least_is (pending_on (wire_at wires j)) key first.event first.entry).pending).1) (λ zero. omega (arith, zero, first.source));
+}

@@ -1,0 +1,283 @@
+-- From what was done to a link and an agenda to the rows.
+use Rattle.std.proofs.Common.{◌≡◌, ◌≢◌, ◌⊎◌, ℕ, zero, suc, ◌+◌, ◌<◌, cond, true, false, List, [], ◌∷◌, ◌++◌, get_or, set, map, length, Option, Some, None, refl, sym, ap, ◌∙◌, arith, append-nil, ⊎_elim}
+use Rattle.std.proofs.lemmas.Bool.{ne_eqb}
+use Rattle.std.proofs.lemmas.List.{length-set, map-set, set-get_or, get_or-set_same, get_or-set_other, length-map}
+use Rattle.std.proofs.Math.ListN.{get_or-map}
+use Rattle.std.proofs.Math.Seq.{map-set_same}
+use Rattle.std.specs.FinMap as fin
+use Rattle.std.specs.Ordering.{eq_by_cmp}
+use Rattle.sim_time.specs.declared.key.Key.{Key}
+use Rattle.sim_time.specs.Keys.{key_cmp}
+use Rattle.packet_chain.specs.Stamped.{Stamped}
+use Rattle.ranking.specs.Keyed.{apply, changed}
+use Rattle.ranking.proofs.Maps.{same_at, get-changed}
+use Rattle.packet_chain.specs.declared.packet.Packet.{Packet}
+use Rattle.reno_sender.specs.declared.fields.SenderFields.{SenderFields}
+use Rattle.reno_receiver.specs.declared.reply.Reply.{Reply}
+use Rattle.reno_receiver.specs.Received.{ReceiverState, Answered}
+use Rattle.port.specs.Port.{PortState, PortStep, Departure, departed, offered_one, offered_all}
+use Rattle.port.specs.declared.acts.Act.{Act}
+use Rattle.std.specs.Option.{option_or}
+use Rattle.node_core.specs.declared.event.Event.TheVariants.{Free, Rto, DelAck}
+use Rattle.node_core.specs.declared.role.Role.{Role}
+use Rattle.node_core.specs.declared.role.Role.TheVariants.{Sends, Receives, Routes}
+use Rattle.node_core.specs.declared.alarm.Alarm.TheVariants.{Retransmission, DelayedAcknowledgement}
+use Rattle.node_core.specs.Pending.{Events, Change}
+use Rattle.node_core.specs.Alarms.{numbered_key, alarm_cleared, alarm_set, alarm_key}
+use Rattle.node_core.specs.AgendaState.{AgendaState, IsAlarm, cleared, alarm_event}
+use Rattle.node_core.specs.Part.{LinkState, link_at, no_link}
+use Rattle.node_core.specs.Passing.{busied, passed, after_take, moved_to}
+use Rattle.node_core.specs.InStep.{IsInStep, alarms_of, frees_of, deadline_of, delayed_of, flow_of, HasItsLink}
+use Rattle.node_core.specs.Row.{with_step, leaving_over, made_at_home, quiet, sender_row, receiver_row, timer_moved, data_packet, ack_of}
+use Rattle.node_core.specs.Node.{put_out}
+use Rattle.node_core.specs.Running.{HasRun, IsTimed, part}
+use Rattle.node_core.proofs.Slots.{cleared_alarm}
+use Rattle.node_core.proofs.Passages.{all_link}
+
+pub apply-append : (cs ds : List Change) (m : Events) → apply (cs ++ ds) m ≡ apply ds (apply cs m)
+apply-append [] ds m = refl
+apply-append (c ∷ cs) ds m = apply-append cs ds (changed m c.0 c.1)
+
+pub remove_again : (m : Events) (k : Key) → fin.remove (fin.remove m k) k ≡ fin.remove m k
+remove_again m k = same_at (changed (changed m k None) k None) (changed m k None) (λ q.
+    get-changed (changed m k None) k None q
+    ∙ elim (eq_by_cmp key_cmp q k) as (λ b. eq_by_cmp key_cmp q k ≡ b → cond b None (fin.get (changed m k None) q) ≡ fin.get (changed m k None) q) [
+      | true ↦ λ t. sym (get-changed m k None q ∙ ap (λ b. cond b None (fin.get m q)) t)
+      | false ↦ λ _. refl
+    ] refl)
+
+pub set-set : {A : Type 0} (xs : List A) (i : ℕ) (a b : A) → set (set xs i a) i b ≡ set xs i b
+set-set [] i a b = refl
+set-set (x ∷ xs) zero a b = refl
+set-set (x ∷ xs) (suc i) a b = ap (λ ys. x ∷ ys) (set-set xs i a b)
+
+-- the link's chain gets what departs
+pub put_is : (chains : List (List Stamped)) (index : ℕ) (d : Option Departure) → set chains index (get_or chains index [] ++ departed d) ≡ put_out (leaving_over index d) chains
+put_is chains index None = ap (set chains index) (append-nil (get_or chains index [])) ∙ set-get_or chains index []
+put_is chains index (Some d) = refl
+
+-- the link is busy, as the row says it
+made_is : (node index : ℕ) (links : List LinkState) (new : LinkState) (step : PortStep) (link : ℕ) → index < length links → new.port.link ≡ link → (d : Option Departure)
+    → made_at_home node (set links index new) (leaving_over index d) ≡ busied node index link d
+made_is node index links new step link within same None = refl
+made_is node index links new step link within same (Some d) =
+    ap (λ (l : ℕ). (numbered_key node (3 + index) d.free, Some (Free l)) ∷ []) (ap (λ (x : LinkState). x.port.link) (get_or-set_same links index new no_link within) ∙ same)
+
+module _ (role : Role) (links : List LinkState) (before : AgendaState) (is : IsInStep role links before) (key : Key) (index : ℕ) (within : index < length links) where
+  -- once a timer has moved and packets passed a link, the row is done
+  pub step_runs : (new_role : Role) (timers : List Change) (step : PortStep) (new : LinkState) (middle after : AgendaState) (start was : Option ℕ) (chains filled : List (List Stamped))
+      → flow_of new_role ≡ flow_of role → HasItsLink new_role (set links index new)
+      → new ≡ record (link_at links index) { port = step.port } → step.port.link ≡ (link_at links index).port.link
+      → middle.owner ≡ before.owner → middle.incoming ≡ before.incoming → middle.pending ≡ apply timers (fin.remove before.pending key)
+      → middle.alarms ≡ start ∷ deadline_of new_role ∷ delayed_of new_role ∷ set (frees_of links) index was
+      → after ≡ passed middle index step → filled ≡ put_out (leaving_over index step.departure) chains
+      → HasRun key (with_step (part role links) new_role timers index step) new_role (set links index new) before after chains filled
+  step_runs new_role timers step new middle after start was chains filled flow linked new_is same_link owner incoming pending alarms after_is out =
+      let all = set links index new in
+      let link_is : new.port.link ≡ step.port.link = ap (λ (x : LinkState). x.port.link) new_is in
+      let after_alarms : after.alarms ≡ start ∷ deadline_of new_role ∷ delayed_of new_role ∷ frees_of all =
+      ap (λ (s : AgendaState). s.alarms) after_is
+      ∙ ap (λ (a : List (Option ℕ)). set a (3 + index) step.port.next_free) alarms
+      ∙ ap (λ n. set (start ∷ deadline_of new_role ∷ delayed_of new_role ∷ set (frees_of links) index was) n step.port.next_free) {x = 3 + index} {y = suc (suc (suc index))} (omega arith)
+      ∙ ap (λ f. start ∷ deadline_of new_role ∷ delayed_of new_role ∷ f)
+      (set-set (frees_of links) index was step.port.next_free ∙ ap (set (frees_of links) index) (ap (λ (x : LinkState). x.port.next_free) (sym new_is)) ∙ sym (map-set (λ (x : LinkState). x.port.next_free) links index new)) in
+      record {
+        part_is = ap (λ (x : LinkState). part new_role (set links index x)) new_is;
+        pending = ap (λ (s : AgendaState). s.pending) after_is
+            ∙ ap (λ (o : Rattle.node_core.specs.AgendaState.Owner). apply (busied o.node index step.port.link step.departure) middle.pending) owner
+            ∙ ap (apply (busied before.owner.node index step.port.link step.departure)) pending
+            ∙ sym (apply-append timers (busied before.owner.node index step.port.link step.departure) (fin.remove before.pending key))
+            ∙ ap (λ (cs : List Change). apply (timers ++ cs) (fin.remove before.pending key))
+            (sym (made_is before.owner.node index links (record (link_at links index) { port = step.port }) step step.port.link within refl step.departure));
+        incoming = ap (λ (s : AgendaState). s.incoming) after_is ∙ incoming;
+        owner = ap (λ (s : AgendaState). s.owner) after_is ∙ owner;
+        in_step = record {
+          alarms = after_alarms ∙ ap (λ s. s ∷ deadline_of new_role ∷ delayed_of new_role ∷ frees_of all) (sym (ap (λ (a : List (Option ℕ)). get_or a 0 None) after_alarms));
+          exits = ap (λ (s : AgendaState). s.owner.exits) after_is ∙ ap (λ (o : Rattle.node_core.specs.AgendaState.Owner). o.exits) owner ∙ is.exits
+              ∙ sym (map-set_same (λ (x : LinkState). x.port.link) links index new no_link (link_is ∙ same_link));
+          flow = ap (λ (s : AgendaState). s.owner.flow) after_is ∙ ap (λ (o : Rattle.node_core.specs.AgendaState.Owner). o.flow) owner ∙ is.flow ∙ sym flow;
+          linked = linked;
+          few = omega (arith, is.few, length-set links index new);
+        };
+        out = out;
+      }
+
+pub cleared_other : (key : Key) (alarms : List (Option ℕ)) → key.source ≢ 0 → cleared key alarms ≡ alarms
+cleared_other key alarms apart = ap (λ b. cond b (set alarms key.number None) alarms) (ne_eqb key.source 0 apart)
+
+same_key : (key : Key) (node number : ℕ) → key.node ≡ node → key.source ≡ 0 → key.number ≡ number → numbered_key node number key.time ≡ key
+same_key key node number at source is i = record { time = key.time; node = sym at i; source = sym source i; number = sym is i }
+
+-- a timer's alarm is taken out, and if it was the event of the key, it has left already
+pub timer_out : (agenda : AgendaState) (key : Key) (number : ℕ) → 0 < number → number < length agenda.alarms → key.node ≡ agenda.owner.node → IsTimed agenda key number → (rest : List Change)
+    → apply (alarm_cleared (numbered_key agenda.owner.node number) (get_or (cleared key agenda.alarms) number None) ++ rest) (fin.remove agenda.pending key)
+    ≡ apply (alarm_cleared (numbered_key agenda.owner.node number) (get_or agenda.alarms number None) ++ rest) (fin.remove agenda.pending key)
+timer_out agenda key number some within at timed rest =
+    let goes : Option ℕ → Events = λ old. apply (alarm_cleared (numbered_key agenda.owner.node number) old ++ rest) (fin.remove agenda.pending key) in
+    ⊎_elim
+    (λ (other : key.source ≢ 0). ap (λ a. goes (get_or a number None)) (cleared_other key agenda.alarms other))
+    (λ (alarm : IsAlarm agenda key 0 ⊎ IsAlarm agenda key number).
+    ⊎_elim
+    (λ (start : IsAlarm agenda key 0). ap (λ a. goes (get_or a number None)) (cleared_alarm key agenda.alarms 0 start.source start.number_is) ∙ ap goes (get_or-set_other agenda.alarms 0 number None None (λ e. omega (arith, e, some))))
+    (λ (own : IsAlarm agenda key number).
+    ap (λ a. goes (get_or a number None)) (cleared_alarm key agenda.alarms number own.source own.number_is)
+    ∙ ap goes (get_or-set_same agenda.alarms number None None within)
+    ∙ ap (apply rest) (sym (ap (fin.remove (fin.remove agenda.pending key)) (same_key key agenda.owner.node number at own.source own.number_is) ∙ remove_again agenda.pending key))
+    ∙ ap goes (sym own.set_for))
+    alarm)
+    timed
+
+-- the alarms, once the event has left and the timer is set
+pub sender_alarms : (agenda : AgendaState) (key : Key) (s r d time : Option ℕ) (frees : List (Option ℕ)) → agenda.alarms ≡ s ∷ r ∷ d ∷ frees → IsTimed agenda key 1 → (start : Option ℕ) × (set (cleared key agenda.alarms) 1 time ≡ start ∷ time ∷ d ∷ frees)
+sender_alarms agenda key s r d time frees are timed =
+    ⊎_elim
+    (λ (other : key.source ≢ 0). (s, ap (λ a. set a 1 time) (cleared_other key agenda.alarms other ∙ are)))
+    (λ (alarm : IsAlarm agenda key 0 ⊎ IsAlarm agenda key 1).
+    ⊎_elim
+    (λ (own : IsAlarm agenda key 0). (None, ap (λ a. set a 1 time) (cleared_alarm key agenda.alarms 0 own.source own.number_is ∙ ap (λ a. set a 0 None) are)))
+    (λ (own : IsAlarm agenda key 1). (s, ap (λ a. set a 1 time) (cleared_alarm key agenda.alarms 1 own.source own.number_is ∙ ap (λ a. set a 1 None) are)))
+    alarm)
+    timed
+
+pub receiver_alarms : (agenda : AgendaState) (key : Key) (s r d time : Option ℕ) (frees : List (Option ℕ)) → agenda.alarms ≡ s ∷ r ∷ d ∷ frees → IsTimed agenda key 2 → (start : Option ℕ) × (set (cleared key agenda.alarms) 2 time ≡ start ∷ r ∷ time ∷ frees)
+receiver_alarms agenda key s r d time frees are timed =
+    ⊎_elim
+    (λ (other : key.source ≢ 0). (s, ap (λ a. set a 2 time) (cleared_other key agenda.alarms other ∙ are)))
+    (λ (alarm : IsAlarm agenda key 0 ⊎ IsAlarm agenda key 2).
+    ⊎_elim
+    (λ (own : IsAlarm agenda key 0). (None, ap (λ a. set a 2 time) (cleared_alarm key agenda.alarms 0 own.source own.number_is ∙ ap (λ a. set a 0 None) are)))
+    (λ (own : IsAlarm agenda key 2). (s, ap (λ a. set a 2 time) (cleared_alarm key agenda.alarms 2 own.source own.number_is ∙ ap (λ a. set a 2 None) are)))
+    alarm)
+    timed
+
+has_link : (role : Role) (links : List LinkState) (i : ℕ) (new : LinkState) → HasItsLink role links → HasItsLink role (set links i new)
+has_link (Sends flow fields) links i new some = omega (arith, some, length-set links i new)
+has_link (Receives flow state) links i new some = omega (arith, some, length-set links i new)
+has_link (Routes table) links i new some = tt
+
+-- a row of the sender's table
+module _ (flow : ℕ) (fields planned : SenderFields) (sent : List ℕ) (links : List LinkState) (before : AgendaState) (is : IsInStep (Sends flow fields) links before) (key : Key) (at : key.node ≡ before.owner.node) (timed : IsTimed before key 1) where
+  abbrev sender_packets : List Packet
+  sender_packets = map (data_packet flow planned.mss) sent
+
+  long : 3 < length before.alarms
+  long = omega (arith, ap length is.alarms, length-map links (λ (l : LinkState). l.port.next_free), is.linked)
+
+  pub sender_runs : (link new : LinkState) → link ≡ link_at links 0 → new ≡ record link { port = (offered_all key.time link.port sender_packets).port }
+      → (after : AgendaState) → after ≡ passed (moved_to (after_take before key) 1 planned.deadline) 0 (offered_all key.time link.port sender_packets)
+      → (chains : List (List Stamped)) (chain filled : List Stamped) → chain ≡ get_or chains 0 [] → filled ≡ chain ++ departed (offered_all key.time link.port sender_packets).departure
+      → HasRun key (sender_row (part (Sends flow fields) links) key flow fields (record { fields = planned; sent = sent })) (Sends flow planned) (set links 0 new) before after chains (set chains 0 filled)
+  sender_runs link new link_is new_is after after_is chains chain filled chain_is filled_is =
+      let old = link_at links 0 in
+      let step = offered_all key.time old.port sender_packets in
+      let moved = sender_alarms before key (get_or before.alarms 0 None) fields.deadline None planned.deadline (frees_of links) is.alarms timed in
+      let set_it : List Change = alarm_set (numbered_key before.owner.node 1) (alarm_event before.owner 1) planned.deadline in
+      let gone = fin.remove before.pending key in
+      step_runs (Sends flow fields) links before is key 0 is.linked (Sends flow planned)
+      (timer_moved (alarm_key key.node Retransmission) (Rto flow) fields.deadline planned.deadline) step new (moved_to (after_take before key) 1 planned.deadline) after moved.0 (get_or (frees_of links) 0 None) chains (set chains 0 filled)
+      refl (has_link (Sends flow planned) links 0 new is.linked)
+      (new_is ∙ ap (λ (l : LinkState). record l { port = (offered_all key.time l.port sender_packets).port }) link_is) (all_link key.time old.port sender_packets) refl refl
+      (timer_out before key 1 (omega arith) (omega (arith, long)) at timed set_it
+      ∙ ap (λ (d : Option ℕ). apply (alarm_cleared (numbered_key before.owner.node 1) d ++ set_it) gone) (ap (λ (a : List (Option ℕ)). get_or a 1 None) is.alarms)
+      ∙ ap (λ f. apply (alarm_cleared (numbered_key before.owner.node 1) fields.deadline ++ alarm_set (numbered_key before.owner.node 1) (Rto f) planned.deadline) gone) is.flow
+      ∙ ap (λ n. apply (timer_moved (numbered_key n 1) (Rto flow) fields.deadline planned.deadline) gone) (sym at))
+      (moved.1 ∙ ap (λ f. moved.0 ∷ planned.deadline ∷ None ∷ f) (sym (set-get_or (frees_of links) 0 None)))
+      (after_is ∙ ap (λ (l : LinkState). passed (moved_to (after_take before key) 1 planned.deadline) 0 (offered_all key.time l.port sender_packets)) link_is)
+      (ap (set chains 0) (filled_is ∙ ap (λ (c : List Stamped). c ++ departed (offered_all key.time link.port sender_packets).departure) chain_is ∙ ap (λ (l : LinkState). get_or chains 0 [] ++ departed (offered_all key.time l.port sender_packets).departure) link_is) ∙ put_is chains 0 step.departure)
+
+-- a row of the receiver's table
+module _ (flow : ℕ) (state answered : ReceiverState) (reply : Reply) (links : List LinkState) (before : AgendaState) (is : IsInStep (Receives flow state) links before) (key : Key) (at : key.node ≡ before.owner.node) (timed : IsTimed before key 2) where
+  long_there : 3 < length before.alarms
+  long_there = omega (arith, ap length is.alarms, length-map links (λ (l : LinkState). l.port.next_free), is.linked)
+
+  pub receiver_runs : (link new : LinkState) → link ≡ link_at links 0 → new ≡ record link { port = (offered_all key.time link.port (ack_of flow reply)).port }
+      → (after : AgendaState) → after ≡ passed (moved_to (after_take before key) 2 answered.alarm) 0 (offered_all key.time link.port (ack_of flow reply))
+      → (chains : List (List Stamped)) (chain filled : List Stamped) → chain ≡ get_or chains 0 [] → filled ≡ chain ++ departed (offered_all key.time link.port (ack_of flow reply)).departure
+      → HasRun key (receiver_row (part (Receives flow state) links) key flow state (record { state = answered; reply = reply })) (Receives flow answered) (set links 0 new) before after chains (set chains 0 filled)
+  receiver_runs link new link_is new_is after after_is chains chain filled chain_is filled_is =
+      let old = link_at links 0 in
+      let step = offered_all key.time old.port (ack_of flow reply) in
+      let moved = receiver_alarms before key (get_or before.alarms 0 None) None state.alarm answered.alarm (frees_of links) is.alarms timed in
+      let set_it : List Change = alarm_set (numbered_key before.owner.node 2) (alarm_event before.owner 2) answered.alarm in
+      let gone = fin.remove before.pending key in
+      step_runs (Receives flow state) links before is key 0 is.linked (Receives flow answered)
+      (timer_moved (alarm_key key.node DelayedAcknowledgement) (DelAck flow) state.alarm answered.alarm) step new (moved_to (after_take before key) 2 answered.alarm) after moved.0 (get_or (frees_of links) 0 None) chains (set chains 0 filled)
+      refl (has_link (Receives flow answered) links 0 new is.linked)
+      (new_is ∙ ap (λ (l : LinkState). record l { port = (offered_all key.time l.port (ack_of flow reply)).port }) link_is) (all_link key.time old.port (ack_of flow reply)) refl refl
+      (timer_out before key 2 (omega arith) (omega (arith, long_there)) at timed set_it
+      ∙ ap (λ (d : Option ℕ). apply (alarm_cleared (numbered_key before.owner.node 2) d ++ set_it) gone) (ap (λ (a : List (Option ℕ)). get_or a 2 None) is.alarms)
+      ∙ ap (λ f. apply (alarm_cleared (numbered_key before.owner.node 2) state.alarm ++ alarm_set (numbered_key before.owner.node 2) (DelAck f) answered.alarm) gone) is.flow
+      ∙ ap (λ n. apply (timer_moved (numbered_key n 2) (DelAck flow) state.alarm answered.alarm) gone) (sym at))
+      (moved.1 ∙ ap (λ f. moved.0 ∷ None ∷ answered.alarm ∷ f) (sym (set-get_or (frees_of links) 0 None)))
+      (after_is ∙ ap (λ (l : LinkState). passed (moved_to (after_take before key) 2 answered.alarm) 0 (offered_all key.time l.port (ack_of flow reply))) link_is)
+      (ap (set chains 0) (filled_is ∙ ap (λ (c : List Stamped). c ++ departed (offered_all key.time link.port (ack_of flow reply)).departure) chain_is ∙ ap (λ (l : LinkState). get_or chains 0 [] ++ departed (offered_all key.time l.port (ack_of flow reply)).departure) link_is) ∙ put_is chains 0 step.departure)
+
+-- packets pass a link, and no timer moves
+module _ (role : Role) (links : List LinkState) (before : AgendaState) (is : IsInStep role links before) (key : Key) (index : ℕ) (within : index < length links) where
+  pub pass_runs : (step_of : PortState → PortStep) (start was : Option ℕ) → cleared key before.alarms ≡ start ∷ deadline_of role ∷ delayed_of role ∷ set (frees_of links) index was
+      → (step_of (link_at links index).port).port.link ≡ (link_at links index).port.link
+      → (link new : LinkState) → link ≡ link_at links index → new ≡ record link { port = (step_of link.port).port }
+      → (after : AgendaState) → after ≡ passed (after_take before key) index (step_of link.port)
+      → (chains : List (List Stamped)) (chain filled : List Stamped) → chain ≡ get_or chains index [] → filled ≡ chain ++ departed (step_of link.port).departure
+      → HasRun key (with_step (part role links) role [] index (step_of (link_at links index).port)) role (set links index new) before after chains (set chains index filled)
+  pass_runs step_of start was alarms same_link link new link_is new_is after after_is chains chain filled chain_is filled_is =
+      step_runs role links before is key index within role [] (step_of (link_at links index).port) new (after_take before key) after start was chains (set chains index filled)
+      refl (has_link role links index new is.linked)
+      (new_is ∙ ap (λ (l : LinkState). record l { port = (step_of l.port).port }) link_is) same_link refl refl refl alarms
+      (after_is ∙ ap (λ (l : LinkState). passed (after_take before key) index (step_of l.port)) link_is)
+      (ap (set chains index) (filled_is ∙ ap (λ (c : List Stamped). c ++ departed (step_of link.port).departure) chain_is ∙ ap (λ (l : LinkState). get_or chains index [] ++ departed (step_of l.port).departure) link_is) ∙ put_is chains index (step_of (link_at links index).port).departure)
+
+  -- a packet that came in is offered
+  pub arrival_alarms : key.source ≢ 0 → cleared key before.alarms ≡ get_or before.alarms 0 None ∷ deadline_of role ∷ delayed_of role ∷ set (frees_of links) index (get_or (frees_of links) index None)
+  arrival_alarms other = cleared_other key before.alarms other ∙ is.alarms ∙ ap (λ f. get_or before.alarms 0 None ∷ deadline_of role ∷ delayed_of role ∷ f) (sym (set-get_or (frees_of links) index None))
+
+  -- the link's own alarm was the event
+  pub free_alarms : IsAlarm before key key.number → key.number ≡ suc (suc (suc index)) → cleared key before.alarms ≡ get_or before.alarms 0 None ∷ deadline_of role ∷ delayed_of role ∷ set (frees_of links) index None
+  free_alarms own number = cleared_alarm key before.alarms (suc (suc (suc index))) own.source number ∙ ap (λ (a : List (Option ℕ)). set a (suc (suc (suc index))) None) is.alarms
+
+same_step : {p q : PortState} {d e : Option Departure} {a b : List Act} → p ≡ q → d ≡ e → a ≡ b → ◌≡◌ {A = PortStep} (record { port = p; departure = d; acts = a }) (record { port = q; departure = e; acts = b })
+same_step f g h i = record { port = f i; departure = g i; acts = h i }
+
+-- one packet alone
+pub one_alone : (now : ℕ) (port : PortState) (packet : Packet) → offered_all now port (packet ∷ []) ≡ offered_one now port packet
+one_alone now port packet = same_step refl (or_none (offered_one now port packet).departure) (append-nil (offered_one now port packet).acts)
+  where
+    or_none : (d : Option Departure) → option_or d None ≡ d
+    or_none None = refl
+    or_none (Some d) = refl
+
+-- nothing is done but that the event leaves
+pub quiet_runs : (role : Role) (links : List LinkState) (before : AgendaState) → IsInStep role links before → (key : Key) → IsTimed before key 0 → (after : AgendaState) → after ≡ after_take before key → (chains : List (List Stamped))
+    → HasRun key (quiet (part role links)) role links before after chains chains
+quiet_runs role links before is key timed after after_is chains =
+    let kept = ⊎_elim
+    (λ (other : key.source ≢ 0). keeps (get_or before.alarms 0 None) (cleared_other key before.alarms other ∙ is.alarms))
+    (λ (alarm : IsAlarm before key 0 ⊎ IsAlarm before key 0). let own = ⊎_elim (λ (a : IsAlarm before key 0). a) (λ (a : IsAlarm before key 0). a) alarm in
+    keeps None (cleared_alarm key before.alarms 0 own.source own.number_is ∙ ap (λ (a : List (Option ℕ)). set a 0 None) is.alarms))
+    timed in
+    record {
+      part_is = refl;
+      pending = ap (λ (s : AgendaState). s.pending) after_is;
+      incoming = ap (λ (s : AgendaState). s.incoming) after_is;
+      owner = ap (λ (s : AgendaState). s.owner) after_is;
+      in_step = record {
+        alarms = kept;
+        exits = ap (λ (s : AgendaState). s.owner.exits) after_is ∙ is.exits;
+        flow = ap (λ (s : AgendaState). s.owner.flow) after_is ∙ is.flow;
+        linked = is.linked;
+        few = is.few;
+      };
+      out = refl;
+    }
+  where
+    keeps : (start : Option ℕ) → cleared key before.alarms ≡ alarms_of start role links → after.alarms ≡ alarms_of (get_or after.alarms 0 None) role links
+    keeps start e = let all = ap (λ (s : AgendaState). s.alarms) after_is ∙ e in all ∙ ap (λ s. alarms_of s role links) (sym (ap (λ (a : List (Option ℕ)). get_or a 0 None) all))
+
+pub alarm_at : (role : Role) (links : List LinkState) (before : AgendaState) → IsInStep role links before → (index : ℕ) → get_or before.alarms (3 + index) None ≡ (link_at links index).port.next_free
+alarm_at role links before is index =
+    ap (λ (a : List (Option ℕ)). get_or a (3 + index) None) is.alarms
+    ∙ ap (λ n. get_or (alarms_of (get_or before.alarms 0 None) role links) n None) {x = 3 + index} {y = suc (suc (suc index))} (omega arith)
+    ∙ get_or-map (λ (l : LinkState). l.port.next_free) links index no_link
+
+pub same_answered : {s t : ReceiverState} {r q : Reply} → s ≡ t → r ≡ q → ◌≡◌ {A = Answered} (record { state = s; reply = r }) (record { state = t; reply = q })
+same_answered e f i = record { state = e i; reply = f i }

@@ -1,0 +1,91 @@
+-- The nodes of a scenario, before anything is sent.
+use Rattle.std.specs.Prelude.{ℕ, ◌==◌, List, [], map, filter, find, unwrap_or, Option, Some}
+use Rattle.std.specs.List.{enumerate_from, position}
+use Rattle.std.specs.Option.{option_and_then}
+use Rattle.scenario_image.specs.declared.parts.NodeKind.{NodeKind}
+use Rattle.scenario_image.specs.declared.parts.NodeKind.TheVariants.{Sender, Receiver, Router}
+use Rattle.scenario_image.specs.declared.parts.QueueKind.{QueueKind}
+use Rattle.scenario_image.specs.declared.parts.QueueKind.TheVariants.{DropTail as DropTailKind, Codel as CodelKind}
+use Rattle.scenario_image.specs.declared.parts.LinkPart.{LinkPart}
+use Rattle.scenario_image.specs.declared.parts.FlowPart.{FlowPart}
+use Rattle.scenario_image.specs.declared.parts.ScenarioParts.{ScenarioParts}
+use Rattle.scenario_image.specs.Ways.{route_link}
+use Rattle.reno_sender.specs.Table.{opening_fields}
+use Rattle.reno_receiver.specs.Received.{opening_receiver}
+use Rattle.aqm.specs.declared.queue.Queue.{Queue}
+use Rattle.aqm.specs.declared.queue.Queue.TheVariants.{DropTail, Codel}
+use Rattle.aqm.specs.DropTail.{DropTailState}
+use Rattle.aqm.specs.Codel.{opening_codel}
+use Rattle.port.specs.Port.{opening_port}
+use Rattle.node_core.specs.declared.event.Event.TheVariants.{Start}
+use Rattle.node_core.specs.declared.alarm.Alarm.TheVariants.{Start as FlowStarts}
+use Rattle.node_core.specs.declared.role.Role.{Role}
+use Rattle.node_core.specs.declared.role.Role.TheVariants.{Sends, Receives, Routes}
+use Rattle.node_core.specs.declared.routes.FlowExits.{FlowExits}
+use Rattle.node_core.specs.Alarms.{alarm_key}
+use Rattle.node_core.specs.Pending.{Change}
+use Rattle.node_core.specs.Part.{LinkState, PartState}
+
+-- nothing waits, and so many packets may
+abbrev pub empty_fifo : ℕ → DropTailState
+empty_fifo capacity = record { waiting = []; capacity = capacity }
+
+-- a link's queue, before anything was offered to it
+abbrev pub opening_queue : QueueKind → ℕ → Queue
+opening_queue DropTailKind capacity = DropTail (empty_fifo capacity)
+opening_queue (CodelKind codel) capacity = Codel (opening_codel (empty_fifo capacity) codel.target codel.interval codel.maxpacket)
+
+-- a link with its number, before anything was offered to it
+abbrev pub opening_link : ℕ × LinkPart → LinkState
+opening_link numbered = record { to = numbered.1.to; port = opening_port numbered.0 numbered.1.rate numbered.1.delay numbered.1.lose (opening_queue numbered.1.queue numbered.1.capacity) }
+
+-- the links that leave a node with their numbers, which rise
+abbrev pub leaving_links : List LinkPart → ℕ → List (ℕ × LinkPart)
+leaving_links links node = filter (λ (x : ℕ × LinkPart). x.1.from == node) (enumerate_from 0 links)
+
+abbrev pub opening_links : List LinkPart → ℕ → List LinkState
+opening_links links node = map opening_link (leaving_links links node)
+
+-- which of a node's links goes to a destination by the node's route
+abbrev pub exit_to : ScenarioParts → ℕ → ℕ → Option ℕ
+exit_to p node destination = option_and_then (λ number. position (λ (x : ℕ × LinkPart). x.0 == number) (leaving_links p.links node)) (route_link p.routes node destination)
+
+-- a router sends a flow's segments to its receiver, the acknowledgements to its sender
+abbrev pub exits_of : ScenarioParts → ℕ → FlowPart → FlowExits
+exits_of p node flow = record { for_data = exit_to p node flow.receiver; for_acks = exit_to p node flow.sender }
+
+abbrev pub no_flow : ℕ × FlowPart
+no_flow = (0, record { sender = 0; receiver = 0; mss = 1; segments = 1; start = 0; rwnd = 1; delack = 0 })
+
+-- the flow that a node sends, or receives, with its number
+abbrev pub flow_from : List FlowPart → ℕ → ℕ × FlowPart
+flow_from flows node = unwrap_or (find (λ (x : ℕ × FlowPart). x.1.sender == node) (enumerate_from 0 flows)) no_flow
+
+abbrev pub flow_to : List FlowPart → ℕ → ℕ × FlowPart
+flow_to flows node = unwrap_or (find (λ (x : ℕ × FlowPart). x.1.receiver == node) (enumerate_from 0 flows)) no_flow
+
+abbrev pub sends : ℕ × FlowPart → Role
+sends numbered = Sends numbered.0 (opening_fields numbered.1.mss numbered.1.segments numbered.1.rwnd)
+
+abbrev pub receives : ℕ × FlowPart → Role
+receives numbered = Receives numbered.0 (opening_receiver numbered.1.mss numbered.1.delack)
+
+abbrev pub opening_role : ScenarioParts → ℕ → NodeKind → Role
+opening_role p node Sender = sends (flow_from p.flows node)
+opening_role p node Receiver = receives (flow_to p.flows node)
+opening_role p node Router = Routes (map (exits_of p node) p.flows)
+
+abbrev pub opening_part : ScenarioParts → ℕ × NodeKind → PartState
+opening_part p numbered = record { role = opening_role p numbered.0 numbered.1; links = opening_links p.links numbered.0 }
+
+-- the alarm that starts a flow
+abbrev pub start_of : ℕ × FlowPart → Change
+start_of numbered = (alarm_key numbered.1.sender FlowStarts numbered.1.start, Some (Start numbered.0))
+
+-- the links that end at a node with their numbers, which rise
+abbrev pub coming_links : List LinkPart → ℕ → List (ℕ × LinkPart)
+coming_links links node = filter (λ (x : ℕ × LinkPart). x.1.to == node) (enumerate_from 0 links)
+
+-- the flows that start at a node
+abbrev pub starting_flows : List FlowPart → ℕ → List (ℕ × FlowPart)
+starting_flows flows node = filter (λ (x : ℕ × FlowPart). x.1.sender == node) (enumerate_from 0 flows)

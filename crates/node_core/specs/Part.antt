@@ -1,0 +1,22 @@
+-- What a node is: what it does, and its outgoing links.
+use Rattle.std.specs.Prelude.{ℕ, List, [], slice_index_or}
+use Rattle.aqm.specs.declared.queue.Queue.TheVariants.{DropTail}
+use Rattle.port.specs.Port.{PortState, opening_port}
+use Rattle.node_core.specs.declared.role.Role.{Role}
+
+-- an outgoing link: the node at which it ends, and its sending side
+pub record LinkState : Type 0 where
+  pub to : ℕ
+  pub port : PortState
+
+-- a node: what it does, and its outgoing links in rising number
+pub record PartState : Type 0 where
+  pub role : Role
+  pub links : List LinkState
+
+abbrev pub no_link : LinkState
+no_link = record { to = 0; port = opening_port 0 0 0 [] (DropTail (record { waiting = []; capacity = 0 })) }
+
+-- the outgoing link of an index
+abbrev pub link_at : List LinkState → ℕ → LinkState
+link_at links index = slice_index_or links index no_link

@@ -1,0 +1,56 @@
+-- What a node needs so that its event can be run.
+use Rattle.std.specs.Prelude.{◌≡◌, ℕ, ◌%◌, ◌<◌, ◌≤◌, ◌^◌, length, Option, Some}
+use Rattle.std.specs.List.{AllByRecursion}
+use Rattle.packet_chain.specs.declared.packet.Packet.{Packet}
+use Rattle.packet_chain.specs.declared.packet.Kind.{Kind}
+use Rattle.packet_chain.specs.declared.packet.Kind.TheVariants.{Data, Ack}
+use Rattle.sim_time.specs.declared.key.Key.{Key}
+use Rattle.sim_time.specs.Moment.{IsMoment}
+use Rattle.reno_sender.specs.declared.fields.SenderFields.{SenderFields}
+use Rattle.reno_sender.specs.Laws.{IsAckFor}
+use Rattle.reno_receiver.specs.Received.{ReceiverState}
+use Rattle.node_core.specs.declared.event.Event.{Event}
+use Rattle.node_core.specs.declared.event.Event.TheVariants.{Start, Rto, DelAck, Free, Arrive}
+use Rattle.node_core.specs.declared.role.Role.{Role}
+use Rattle.node_core.specs.declared.role.Role.TheVariants.{Sends, Receives, Routes}
+use Rattle.node_core.specs.RouteTable.{exit_for}
+use Rattle.node_core.specs.Part.{LinkState, PartState}
+
+-- an acknowledgement has to be one for the sender
+abbrev pub SenderTakes : SenderFields → ℕ → Kind → ℕ → Type 0
+SenderTakes f now Data number = Unit {0}
+SenderTakes f now Ack number = IsAckFor f number now
+
+-- a segment has to be a whole multiple of mss, within the greatest flow
+abbrev pub ReceiverTakes : ReceiverState → Kind → ℕ → Type 0
+ReceiverTakes st Data number = (number % st.mss ≡ 0) × (number ≤ 9000000000000)
+ReceiverTakes st Ack number = Unit {0}
+
+-- a router's exit for a packet has to be one of its links
+abbrev pub IsExit : ℕ → Option ℕ → Type 0
+IsExit links exit = (index : ℕ) → exit ≡ Some index → index < links
+
+-- a node can take a packet
+abbrev pub Takes : PartState → Role → ℕ → Packet → Type 0
+Takes part (Sends flow fields) now x = SenderTakes fields now x.kind x.number
+Takes part (Receives flow state) now x = ReceiverTakes state x.kind x.number
+Takes part (Routes table) now x = IsExit (length part.links) (exit_for table x)
+
+-- what an event needs of its node: an arrival that the node can take the packet
+abbrev pub CanRun : PartState → ℕ → Event → Type 0
+CanRun part now (Start flow) = Unit {0}
+CanRun part now (Rto flow) = Unit {0}
+CanRun part now (DelAck flow) = Unit {0}
+CanRun part now (Free link) = Unit {0}
+CanRun part now (Arrive packet) = Takes part part.role now packet
+
+-- the sums at a link stay in their types
+pub record LinkCan (link : LinkState) : Type 0 where
+  pub sent_fits : link.port.sent < 1000000000000000
+  pub offered_fits : link.port.offered < 2 ^ 90
+
+-- what is needed of the event that is a node's least
+pub record IsRunnable (part : PartState) (k : Key) (v : Event) : Type 0 where
+  pub moment : IsMoment k.time
+  pub can : CanRun part k.time v
+  pub links : AllByRecursion LinkCan part.links

@@ -1,0 +1,17 @@
+-- What a line of the trace shows, the room for further acts aside.
+use Rattle.std.specs.Prelude.{List}
+use Rattle.sim_time.specs.declared.key.Key.{Key}
+use Rattle.port.specs.declared.acts.Act.{Act}
+use Rattle.node_core.specs.declared.event.Event.{Event}
+use Rattle.node_core.specs.declared.line.After.{After}
+use Rattle.node_core.specs.declared.line.Line.{Line}
+
+-- an event with its key, the state of its node after it, and what it did
+pub record TraceLine : Type 0 where
+  pub key : Key
+  pub event : Event
+  pub after : After
+  pub acts : List Act
+
+abbrev pub shown : Line → TraceLine
+shown line = record { key = line.key; event = line.event; after = line.after; acts = line.acts.acts }

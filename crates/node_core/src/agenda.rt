@@ -1,0 +1,260 @@
+//! What is pending at a node: its alarms and what comes over its links, ranked by their next keys.
+ghost use Rattle.std.specs.Prelude.{◌≡◌, ◌+◌, ◌<◌, ◌≤◌, ◌^◌, ◌++◌, [], ℕ, All, EachIndex, IfOk, IsSome, Option, Some, None, length, map as each, replicate, slice_index, slice_index_or, slice_set, vec_len};
+ghost use Rattle.std.specs.Option.{option_map};
+ghost use Rattle.std.specs.List.Sorted.{IsStrictlyIncreasing};
+ghost use Rattle.std.specs.FinMap as map;
+ghost use Rattle.sim_time.specs.declared.key.Key.{Key};
+ghost use Rattle.ranking.specs.Keyed.{least, next_key, apply, entering, EachKey};
+ghost use Rattle.node_core.specs.Alarms.{numbered_key, alarm_cleared, alarm_set};
+ghost use Rattle.node_core.specs.WireState.{stamps_of};
+ghost use Rattle.node_core.specs.AgendaState.{alarm_event, cleared, incoming_at, come_over, AreApart, fresh_wire, fresh_agenda, IsDue};
+ghost use Rattle.packet_chain.specs.declared.packet.Packet.{Packet};
+ghost use Rattle.node_core.specs.declared.event.Event.{Event};
+ghost use Rattle.node_core.specs.declared.event.Event.TheVariants.{Arrive};
+
+use crate::event::Event;
+use crate::wire::Wire;
+use packet_chain::{PacketCell, PacketChain};
+use ranking::Ranking;
+use sim_time::{Key, Time};
+use std::alloc::{AllocError, Global};
+use std::marker::Model;
+
+/// What is pending at a node.
+#[derive(Drop)]
+pub struct Agenda {
+    /// The node's number.
+    node: u16,
+    /// The number of the node's flow; 0 at a router.
+    flow: u16,
+    /// The numbers of the node's outgoing links.
+    exits: Vec<u16>,
+    /// When each alarm is due, in nanoseconds, where it is set, by its number.
+    alarms: Vec<Option<Time>>,
+    /// The incoming links.
+    wires: Vec<Wire>,
+    /// The next key of each alarm, and behind them of each incoming link.
+    ranking: Ranking,
+    /// What copies take their memory from.
+    alloc: Global,
+}
+
+impl Model for Agenda {
+    ghost use Rattle.node_core.specs.AgendaState.{AgendaState};
+
+    ghost Value = { AgendaState };
+
+    ghost use Rattle.node_core.specs.Codes.{agenda_code};
+
+    ghost coded = { agenda_code };
+
+    ghost use Rattle.node_core.specs.AgendaOf.{agenda_of, IsAgendaInside};
+
+    ghost view = { agenda_of };
+
+    ghost invariant = { IsAgendaInside };
+}
+
+// The key of an alarm of a node, where it is set.
+fn key_of(node: u16, number: usize, time: Option<Time>) -> Option<Key>
+    ensures { result ≡ option_map (numbered_key node number) time }
+{
+    match time {
+        Some(time) => Some(Key {
+            time,
+            node,
+            source: 0,
+            number: number as u64,
+        }),
+        None => None,
+    }
+}
+
+// A wire for each of these links, which end at a node.
+fn wires_of(alloc: Global, node: u16, links: &[u16]) -> Result<Vec<Wire>, AllocError>
+    requires { EachIndex links.now (λ j. slice_index links.now j < 65535) }
+    ensures { IfOk result (λ wires. wires.items ≡ each (fresh_wire node) links.now) }
+{
+    let mut wires = Vec::new(alloc);
+    for link in links {
+        wires.push(Wire::new(alloc, node, *link))?;
+    }
+    Ok(wires)
+}
+
+// Wires of the same packets, in cells of their own.
+fn copies_of(alloc: Global, wires: &[Wire]) -> Result<Vec<Wire>, AllocError>
+    ensures { IfOk result (λ copies. copies.items ≡ wires.now) }
+{
+    let mut copies = Vec::new(alloc);
+    for wire in wires {
+        copies.push(wire.copy()?)?;
+    }
+    Ok(copies)
+}
+
+// So many alarms, none set.
+fn none_set(alloc: Global, alarms: usize) -> Result<Vec<Option<Time>>, AllocError>
+    ensures { IfOk result (λ all. all.items ≡ replicate alarms None) }
+{
+    let mut all: Vec<Option<Time>> = Vec::new(alloc);
+    for _at in 0..alarms {
+        all.push(None)?;
+    }
+    Ok(all)
+}
+
+impl Agenda {
+    /// The agenda of a node, its flow, its outgoing links' numbers and its incoming links'. There
+    /// is an alarm for each outgoing link, and three others. None is set, and nothing has come.
+    pub fn new(
+        alloc: Global,
+        node: u16,
+        flow: u16,
+        exits: Vec<u16>,
+        links: &[u16],
+    ) -> Result<Agenda, AllocError>
+        requires few { vec_len exits + length links.now ≤ 2 ^ 20 }
+        requires links { EachIndex links.now (λ j. slice_index links.now j < 65535) }
+        requires apart { AreApart links.now }
+        ensures { IfOk result (λ agenda. agenda ≡ fresh_agenda (record { node = node; flow = flow; exits = exits.items }) links.now) }
+    {
+        let alarms = 3 + exits.len();
+        Ok(Agenda {
+            node,
+            flow,
+            exits,
+            alarms: none_set(alloc, alarms)?,
+            wires: wires_of(alloc, node, links)?,
+            ranking: Ranking::new(alloc, alarms + links.len())?,
+            alloc,
+        })
+    }
+
+    /// The node's number.
+    pub fn node(&self) -> u16
+        ensures { result ≡ self.now.owner.node }
+    {
+        self.node
+    }
+
+    /// The number of an incoming link.
+    pub fn incoming_link(&self, index: usize) -> u16
+        requires { index < length self.now.incoming }
+        ensures { result ≡ (incoming_at self.now.incoming index).link }
+    {
+        self.wires[index].link()
+    }
+
+    /// How many incoming links there are.
+    pub fn incoming_count(&self) -> usize
+        ensures { result ≡ length self.now.incoming }
+    {
+        self.wires.len()
+    }
+
+    /// A copy, with packets in cells of its own.
+    pub fn copy(&self) -> Result<Agenda, AllocError>
+        ensures { IfOk result (λ copy. copy ≡ self.now) }
+    {
+        Ok(Agenda {
+            node: self.node,
+            flow: self.flow,
+            exits: self.exits.clone()?,
+            alarms: self.alarms.clone()?,
+            wires: copies_of(self.alloc, &self.wires)?,
+            ranking: self.ranking.copy()?,
+            alloc: self.alloc,
+        })
+    }
+
+    /// The least key.
+    pub fn next_key(&self) -> Option<Key>
+        ensures { result ≡ next_key self.now.pending }
+    {
+        match self.ranking.first() {
+            Some((_, key)) => Some(key),
+            None => None,
+        }
+    }
+
+    /// Sets an alarm to this time, or clears it.
+    pub fn set_alarm(&mut self, which: usize, time: Option<Time>)
+        requires { which < length self.old.alarms }
+        ensures { self.new ≡ record self.old { alarms = slice_set self.old.alarms which time; pending = apply (alarm_cleared (numbered_key self.old.owner.node which) (slice_index_or self.old.alarms which None) ++ alarm_set (numbered_key self.old.owner.node which) (alarm_event self.old.owner which) time) self.old.pending } }
+    {
+        self.alarms[which] = time;
+        self.ranking.set(which, key_of(self.node, which, time));
+    }
+
+    /// The event of the least key.
+    pub fn least(&self) -> Option<(Key, Event)>
+        ensures value { result ≡ least self.now.pending }
+        ensures due { (k : Key) (v : Event) → least self.now.pending ≡ Some (k, v) → IsDue self.now k v }
+    {
+        match self.ranking.first() {
+            Some((slot, key)) => {
+                let alarms = self.alarms.len();
+                if slot < alarms {
+                    return Some((key, self.announced(slot)));
+                }
+                let wire = &self.wires[slot - alarms];
+                wire.head()
+            }
+            None => None,
+        }
+    }
+
+    // What an alarm announces.
+    fn announced(&self, number: usize) -> Event
+        ensures { result ≡ alarm_event self.now.owner number }
+    {
+        match number {
+            0 => Event::Start(self.flow),
+            1 => Event::Rto(self.flow),
+            2 => Event::DelAck(self.flow),
+            _ => Event::Free(self.exits.get(number - 3).copied().unwrap_or(0)),
+        }
+    }
+
+    /// The event of the least key, which is this one, leaves; where it is an arrival, the packet's
+    /// cell is given.
+    pub fn take(&mut self, key: Key) -> Option<PacketCell>
+        requires { next_key self.old.pending ≡ Some key }
+        ensures state { self.new ≡ record self.old { alarms = cleared key self.old.alarms; pending = map.remove self.old.pending key } }
+        ensures packet { (packet : Packet) → least self.old.pending ≡ Some (key, Arrive packet) → option_map (λ cell. cell.0) result ≡ Some packet }
+    {
+        let (slot, _) = self.ranking.first()?;
+        let alarms = self.alarms.len();
+        if slot < alarms {
+            self.alarms[slot] = None;
+            self.ranking.set(slot, None);
+            return None;
+        }
+        let wire = &mut self.wires[slot - alarms];
+        let cell = wire.pop();
+        let next = wire.next_key();
+        self.ranking.set(slot, next);
+        cell
+    }
+
+    /// Packets come over an incoming link, after all that came over it before. It takes no memory.
+    pub fn append(&mut self, index: usize, sent: &mut PacketChain)
+        requires within { index < length self.old.incoming }
+        requires rising { IsStrictlyIncreasing (stamps_of sent.old) }
+        requires later { All (λ stamp. EachKey (λ k. k.source ≡ (incoming_at self.old.incoming index).link + 1 → k.time < stamp) self.old.pending) (stamps_of sent.old) }
+        requires few { (incoming_at self.old.incoming index).came + length sent.old ≤ 2 ^ 50 }
+        ensures state { self.new ≡ come_over self.old index sent.old }
+        ensures sent { sent.new ≡ [] }
+    {
+        let wire = &mut self.wires[index];
+        let waiting = wire.next_key().is_some();
+        wire.append(sent);
+        if waiting {
+            return;
+        }
+        let next = wire.next_key();
+        let slot = self.alarms.len() + index;
+        self.ranking.set(slot, next);
+    }
+}

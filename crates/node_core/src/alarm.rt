@@ -1,0 +1,30 @@
+//! The alarms of a node.
+ghost use Rattle.std.specs.Prelude.{◌≡◌, ◌<◌};
+ghost use Rattle.node_core.specs.Alarms.{alarm_number};
+
+/// An alarm of a node: it is set at one moment at most.
+#[derive(Clone, Copy, Debug, PartialEq, Eq)]
+pub enum Alarm {
+    /// The node's flow starts.
+    Start,
+    /// The retransmission timer ends.
+    Retransmission,
+    /// A delayed acknowledgement is due.
+    DelayedAcknowledgement,
+    /// The outgoing link of this index, counted from 0 in rising number, becomes free.
+    Free(u16),
+}
+
+impl Alarm {
+    /// The alarm's number in the key of its event.
+    pub fn number(self) -> u64
+        ensures { result ≡ alarm_number self }
+    {
+        match self {
+            Alarm::Start => 0,
+            Alarm::Retransmission => 1,
+            Alarm::DelayedAcknowledgement => 2,
+            Alarm::Free(index) => 3 + u64::from(index),
+        }
+    }
+}

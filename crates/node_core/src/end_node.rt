@@ -1,0 +1,117 @@
+//! The events of a sender's or a receiver's node at which packets are offered.
+ghost use Rattle.std.specs.Prelude.{◌≡◌, ◌+◌, ◌^◌, ◌<◌, ◌≤◌, ◌++◌, None, Some, OnOk, OnErr, IfOk, length, map, slice_index_or, is_some};
+ghost use Rattle.sim_time.specs.Moment.{IsMoment};
+ghost use Rattle.ranking.specs.Keyed.{next_key};
+ghost use Rattle.reno_sender.specs.PlanView.{IsPlanOf, IsWellMade, sent_of};
+ghost use Rattle.port.specs.Port.{offered_all, departed};
+ghost use Rattle.node_core.specs.Passing.{passed, after_take, moved_to};
+ghost use Rattle.node_core.specs.AgendaState.{cleared};
+ghost use Rattle.node_core.specs.Row.{data_packet, ack_of};
+ghost use Rattle.node_core.specs.Links.{packets_of};
+
+use crate::agenda::Agenda;
+use crate::cells::{acknowledgement, alone, segments};
+use crate::link::Link;
+use crate::passing::offer;
+use packet_chain::{PacketCell, PacketChain};
+use port::Acts;
+use reno_receiver::Reply;
+use reno_sender::{Plan, Sender};
+use sim_time::{Key, Time};
+use std::alloc::{AllocError, Global};
+
+/// The number of the retransmission timer among a node's alarms.
+const RETRANSMISSION: usize = 1;
+
+/// The number of the delayed acknowledgement among a node's alarms.
+const DELAYED_ACKNOWLEDGEMENT: usize = 2;
+
+/// Runs a row of the sender's table: its packets are offered to the node's link, and the
+/// retransmission timer is its deadline. Whether a packet begins to be sent. All memory is taken
+/// before anything changes.
+pub(crate) fn run_plan(
+    alloc: Global,
+    flow: u16,
+    sender: &mut Sender,
+    plan: Plan,
+    link: &mut Link,
+    key: Key,
+    agenda: &mut Agenda,
+    acts: &mut Acts,
+    out: &mut PacketChain,
+) -> Result<bool, AllocError>
+    requires moment { IsMoment key.time }
+    requires due { next_key agenda.old.pending ≡ Some key }
+    requires made { IsPlanOf sender.old plan }
+    requires well_made { IsWellMade plan }
+    requires sent { link.old.port.sent < 1000000000000000 }
+    requires offered { link.old.port.offered < 2 ^ 90 }
+    requires chain { length out.old < 1000000000000000 }
+    requires within { 3 < length agenda.old.alarms }
+    requires alarm { slice_index_or (cleared key agenda.old.alarms) 3 None ≡ link.old.port.next_free }
+    requires exit { slice_index_or agenda.old.owner.exits 0 0 ≡ link.old.port.link }
+    ensures sender { OnOk result (sender.new ≡ plan.fields) }
+    ensures link { OnOk result (link.new ≡ record link.old { port = (offered_all key.time link.old.port (map (data_packet flow plan.fields.mss) (sent_of plan))).port }) }
+    ensures agenda { OnOk result (agenda.new ≡ passed (moved_to (after_take agenda.old key) 1 plan.fields.deadline) 0 (offered_all key.time link.old.port (map (data_packet flow plan.fields.mss) (sent_of plan)))) }
+    ensures departed { OnOk result (out.new ≡ out.old ++ departed (offered_all key.time link.old.port (map (data_packet flow plan.fields.mss) (sent_of plan))).departure) }
+    ensures acts { OnOk result (acts.new.acts ≡ acts.old.acts ++ (offered_all key.time link.old.port (map (data_packet flow plan.fields.mss) (sent_of plan))).acts) }
+    ensures departs { IfOk result (λ departs. departs ≡ is_some (offered_all key.time link.old.port (map (data_packet flow plan.fields.mss) (sent_of plan))).departure) }
+    ensures same_sender { OnErr result (sender.new ≡ sender.old) }
+    ensures same_link { OnErr result (link.new ≡ link.old) }
+    ensures same_agenda { OnErr result (agenda.new ≡ agenda.old) }
+    ensures same_out { OnErr result (out.new ≡ out.old) }
+{
+    let count = plan.count();
+    let mss = plan.as_fields().mss;
+    acts.reserve(count as usize + 2)?;
+    let cells = segments(alloc, flow, mss, plan.resent(), plan.first(), count)?;
+    let _cell = agenda.take(key);
+    agenda.set_alarm(RETRANSMISSION, plan.as_fields().deadline);
+    let departs = offer(link, 0, cells, agenda, key.time, acts, out);
+    sender.commit(plan);
+    Ok(departs)
+}
+
+/// Gives a receiver's answer, whose event has left the agenda: the acknowledgement, if there is
+/// one, is offered to the node's link in this cell, and the receiver's alarm is set as it is.
+/// Whether a packet begins to be sent.
+pub(crate) fn give_answer(
+    alloc: Global,
+    flow: u16,
+    reply: Reply,
+    cell: PacketCell,
+    alarm: Option<Time>,
+    link: &mut Link,
+    now: Time,
+    agenda: &mut Agenda,
+    acts: &mut Acts,
+    out: &mut PacketChain,
+) -> bool
+    requires moment { IsMoment now }
+    requires sent { link.old.port.sent < 1000000000000000 }
+    requires offered { link.old.port.offered < 2 ^ 90 }
+    requires chain { length out.old < 1000000000000000 }
+    requires room { 2 ≤ acts.old.room }
+    requires within { 3 < length agenda.old.alarms }
+    requires link_alarm { slice_index_or agenda.old.alarms 3 None ≡ link.old.port.next_free }
+    requires exit { slice_index_or agenda.old.owner.exits 0 0 ≡ link.old.port.link }
+    ensures link { link.new ≡ record link.old { port = (offered_all now link.old.port (ack_of flow reply)).port } }
+    ensures agenda { agenda.new ≡ passed (moved_to agenda.old 2 alarm) 0 (offered_all now link.old.port (ack_of flow reply)) }
+    ensures departed { out.new ≡ out.old ++ departed (offered_all now link.old.port (ack_of flow reply)).departure }
+    ensures acts { acts.new.acts ≡ acts.old.acts ++ (offered_all now link.old.port (ack_of flow reply)).acts }
+    ensures departs { result ≡ is_some (offered_all now link.old.port (ack_of flow reply)).departure }
+{
+    agenda.set_alarm(DELAYED_ACKNOWLEDGEMENT, alarm);
+    let cells = answer_cells(alloc, flow, reply, cell);
+    offer(link, 0, cells, agenda, now, acts, out)
+}
+
+// A chain of the acknowledgement that a receiver gives now, in this cell, if it gives one.
+fn answer_cells(alloc: Global, flow: u16, reply: Reply, cell: PacketCell) -> PacketChain
+    ensures { packets_of result ≡ ack_of flow reply }
+{
+    match reply {
+        Reply::AckNow(number) => alone(alloc, cell, acknowledgement(flow, number)),
+        Reply::Wait(_) => PacketChain::new(alloc),
+    }
+}

@@ -1,0 +1,31 @@
+//! One node of the network: a sender, a receiver or a router, with its outgoing links, what is
+//! pending at it, and what each of its events does.
+#![tactic(auto)]
+
+mod agenda;
+pub mod alarm;
+mod cells;
+mod end_node;
+pub mod event;
+mod events;
+mod fire;
+pub mod line;
+pub mod link;
+mod node;
+pub mod outbox;
+mod passing;
+mod receiver_node;
+pub mod role;
+mod router_node;
+pub mod routes;
+#[cfg(test)]
+mod tests;
+pub mod wire;
+
+pub use alarm::Alarm;
+pub use event::Event;
+pub use line::{After, Line};
+pub use node::Node;
+pub use outbox::Outbox;
+pub use port::{Act, Acts, DropReason};
+pub use wire::Wire;

@@ -1,0 +1,30 @@
+//! What a line of the trace shows.
+
+use crate::event::Event;
+use port::Acts;
+use reno_sender::SenderFields;
+use sim_time::Key;
+
+/// The state of the event's node after the event.
+#[derive(Clone, Copy, Debug, PartialEq, Eq)]
+pub enum After {
+    /// All that the sender keeps.
+    AtSender(SenderFields),
+    /// The next byte that the receiver waits for.
+    AtReceiver(u64),
+    /// A router keeps nothing that is shown.
+    AtRouter,
+}
+
+/// What one event was and did.
+#[derive(Debug, Drop)]
+pub struct Line {
+    /// When and where it was due.
+    pub key: Key,
+    /// What it was.
+    pub event: Event,
+    /// The node's state after it.
+    pub after: After,
+    /// What it did to packets, in the order done.
+    pub acts: Acts,
+}

@@ -1,0 +1,104 @@
+//! An outgoing link of a node.
+ghost use Rattle.std.specs.Prelude.{◌≡◌, ◌+◌, ◌^◌, ◌<◌, ◌≤◌, ◌++◌, Some, length, map, IfOk};
+ghost use Rattle.sim_time.specs.Moment.{IsMoment};
+ghost use Rattle.port.specs.Laws.{NothingWaitsWhereIdle};
+ghost use Rattle.port.specs.Port.{IsPort, offered_all, taken, departed};
+ghost use Rattle.port.specs.Room.{drops_at};
+ghost use Rattle.node_core.specs.Links.{packets_of};
+
+use packet_chain::PacketChain;
+use port::{Acts, Port};
+use sim_time::Time;
+use std::alloc::AllocError;
+use std::marker::Model;
+
+/// An outgoing link: while it is idle, nothing waits at it.
+#[derive(Drop)]
+pub struct Link {
+    /// The node at which it ends.
+    to: u16,
+    /// Its sending side.
+    port: Port,
+}
+
+impl Model for Link {
+    ghost use Rattle.node_core.specs.Part.{LinkState};
+    ghost use Rattle.port.specs.Laws.{NothingWaitsWhereIdle};
+
+    ghost Value = { LinkState };
+
+    ghost view = { λ l. record { to = l.to; port = l.port } };
+
+    ghost invariant = { λ l. NothingWaitsWhereIdle l.port };
+}
+
+impl Link {
+    /// A link to a node, over a sending side at which nothing waits while it is idle.
+    pub fn new(to: u16, port: Port) -> Link
+        requires { NothingWaitsWhereIdle port }
+        ensures { result ≡ record { to = to; port = port } }
+    {
+        Link { to, port }
+    }
+
+    /// The node at which it ends.
+    pub fn to(&self) -> u16
+        ensures { result ≡ self.now.to }
+    {
+        self.to
+    }
+
+    /// Its sending side.
+    pub fn port(&self) -> &Port
+        ensures value { result.now ≡ self.now.port }
+        ensures idle { NothingWaitsWhereIdle self.now.port }
+    {
+        &self.port
+    }
+
+    /// Offers packets one after another. One that begins to be sent goes to the end of `out`, with
+    /// the time of its arrival as its stamp.
+    pub fn offer(
+        &mut self,
+        mut cells: PacketChain,
+        now: Time,
+        acts: &mut Acts,
+        out: &mut PacketChain,
+    )
+        requires moment { IsMoment now }
+        requires room { length cells + 1 ≤ acts.old.room }
+        requires sent { self.old.port.sent < 1000000000000000 }
+        requires offered { self.old.port.offered + length cells ≤ 2 ^ 99 }
+        requires chain { length out.old < 1000000000000000 }
+        ensures state { self.new ≡ record self.old { port = (offered_all now self.old.port (packets_of cells)).port } }
+        ensures departed { out.new ≡ out.old ++ departed (offered_all now self.old.port (packets_of cells)).departure }
+        ensures acts { acts.new.acts ≡ acts.old.acts ++ (offered_all now self.old.port (packets_of cells)).acts }
+    {
+        while let Some(cell) = cells.pop_front() {
+            self.port.send(cell, now, acts, out);
+        }
+    }
+
+    /// The link has sent a packet whole, and takes the next. One that begins to be sent goes to
+    /// the end of `out`, with the time of its arrival as its stamp.
+    pub fn free(&mut self, now: Time, acts: &mut Acts, out: &mut PacketChain)
+        requires moment { IsMoment now }
+        requires due { self.old.port.next_free ≡ Some now }
+        requires room { drops_at now self.old.port + 2 ≤ acts.old.room }
+        requires sent { self.old.port.sent < 1000000000000000 }
+        requires chain { length out.old < 1000000000000000 }
+        ensures state { self.new ≡ record self.old { port = (taken now self.old.port).port } }
+        ensures departed { out.new ≡ out.old ++ departed (taken now self.old.port).departure }
+        ensures acts { acts.new.acts ≡ acts.old.acts ++ (taken now self.old.port).acts }
+    {
+        self.port.free(now, acts, out);
+    }
+
+    /// A link in the same state, with the packets that wait in cells of its own.
+    pub fn copy(&self) -> Result<Link, AllocError>
+        ensures { IfOk result (λ copy. copy ≡ self.now) }
+    {
+        let port = self.port.copy()?;
+        Ok(Link { to: self.to, port })
+    }
+}

@@ -1,0 +1,186 @@
+//! A node: what it does, its outgoing links, and what is pending at it.
+ghost use Rattle.std.specs.Prelude.{◌≡◌, ◌≢◌, ◌+◌, ◌<◌, ◌≤◌, ◌^◌, [], ◌∷◌, ◌++◌, ℕ, All, IfOk, IfSome, OnOk, OnErr, MatchOption, Option, Some, None, length, map as each, slice_index_or, slice_set};
+ghost use Rattle.std.specs.Option.{option_map};
+ghost use Rattle.std.specs.List.{slice_get};
+ghost use Rattle.std.specs.List.Sorted.{IsStrictlyIncreasing};
+ghost use Rattle.std.specs.FinMap as map;
+ghost use Rattle.sim_time.specs.declared.key.Key.{Key};
+ghost use Rattle.packet_chain.specs.Stamped.{Stamped};
+ghost use Rattle.ranking.specs.Keyed.{least, next_key, EachKey};
+ghost use Rattle.node_core.specs.declared.event.Event.{Event};
+ghost use Rattle.node_core.specs.AgendaState.{incoming_at};
+ghost use Rattle.node_core.specs.WireState.{stamps_of};
+ghost use Rattle.node_core.specs.Part.{link_at};
+ghost use Rattle.node_core.specs.Row.{Leaving, row};
+ghost use Rattle.node_core.specs.Ready.{IsRunnable};
+ghost use Rattle.node_core.specs.TraceLine.{shown};
+ghost use Rattle.node_core.specs.Node.{delivered, HasFired};
+
+use crate::agenda::Agenda;
+use crate::events::run;
+use crate::line::Line;
+use crate::link::Link;
+use crate::outbox::Outbox;
+use crate::role::Role;
+use packet_chain::PacketChain;
+use sim_time::Key;
+use std::alloc::{AllocError, Global};
+use std::marker::Model;
+
+/// A node.
+#[derive(Drop)]
+pub struct Node {
+    /// What it does.
+    role: Role,
+    /// Its outgoing links, in rising number.
+    links: Vec<Link>,
+    /// What is pending at it: its alarms and what comes over its incoming links.
+    agenda: Agenda,
+    /// What its packets and its copies take their memory from.
+    alloc: Global,
+}
+
+impl Model for Node {
+    ghost use Rattle.node_core.specs.Node.{NodeState};
+
+    ghost Value = { NodeState };
+
+    ghost use Rattle.node_core.specs.NodeCode.{node_code};
+
+    ghost coded = { node_code };
+
+    ghost use Rattle.node_core.specs.NodeOf.{node_of, IsNodeInside};
+
+    ghost view = { node_of };
+
+    ghost invariant = { IsNodeInside };
+}
+
+// Links in the same state, with packets in cells of their own.
+fn copies_of(alloc: Global, links: &[Link]) -> Result<Vec<Link>, AllocError>
+    ensures { IfOk result (λ copies. copies.items ≡ links.now) }
+{
+    let mut copies = Vec::new(alloc);
+    for link in links {
+        copies.push(link.copy()?)?;
+    }
+    Ok(copies)
+}
+
+impl Node {
+    /// Its number.
+    pub fn number(&self) -> u16
+        ensures { result ≡ self.now.number }
+    {
+        self.agenda.node()
+    }
+
+    /// The least key of the events that are pending at it.
+    pub fn least(&self) -> Option<Key>
+        ensures { result ≡ next_key self.now.pending }
+    {
+        self.agenda.next_key()
+    }
+
+    /// How many outgoing links it has.
+    pub fn link_count(&self) -> usize
+        ensures { result ≡ length self.now.part.links }
+    {
+        self.links.len()
+    }
+
+    /// The node at which an outgoing link ends.
+    pub fn link_end(&self, index: usize) -> u16
+        requires { index < length self.now.part.links }
+        ensures { result ≡ (link_at self.now.part.links index).to }
+    {
+        self.links[index].to()
+    }
+
+    /// The number of an outgoing link.
+    pub fn link_number(&self, index: usize) -> u16
+        requires { index < length self.now.part.links }
+        ensures { result ≡ (link_at self.now.part.links index).port.link }
+    {
+        self.links[index].port().link()
+    }
+
+    /// How many incoming links it has.
+    pub fn incoming_count(&self) -> usize
+        ensures { result ≡ length self.now.incoming }
+    {
+        self.agenda.incoming_count()
+    }
+
+    /// The number of an incoming link.
+    pub fn incoming_link(&self, index: usize) -> u16
+        requires { index < length self.now.incoming }
+        ensures { result ≡ (incoming_at self.now.incoming index).link }
+    {
+        self.agenda.incoming_link(index)
+    }
+
+    /// Packets come over an incoming link, after all that came over it before; the chain is then
+    /// empty. It takes no memory.
+    pub fn deliver_at(&mut self, index: usize, chain: &mut PacketChain)
+        requires within { index < length self.old.incoming }
+        requires rising { IsStrictlyIncreasing (stamps_of chain.old) }
+        requires later { All (λ stamp. EachKey (λ k. k.source ≡ (incoming_at self.old.incoming index).link + 1 → k.time < stamp) self.old.pending) (stamps_of chain.old) }
+        requires few { (incoming_at self.old.incoming index).came + length chain.old ≤ 2 ^ 50 }
+        ensures node { self.new ≡ delivered self.old index chain.old }
+        ensures emptied { chain.new ≡ [] }
+    {
+        self.agenda.append(index, chain);
+    }
+
+    /// Runs the event of the least key: `line` tells what it was and did, and a packet that
+    /// begins to be sent goes to its link's chain in `out`. The answer is the index of that link.
+    /// Where memory is refused, neither the node nor `out` changes.
+    pub fn fire_into(
+        &mut self,
+        out: &mut Outbox,
+        line: &mut Line,
+    ) -> Result<Option<u16>, AllocError>
+        requires pending { next_key self.old.pending ≢ None }
+        requires due { (k : Key) (v : Event) → least self.old.pending ≡ Some (k, v) → IsRunnable self.old.part k v }
+        requires chains { length self.old.part.links ≤ length out.old }
+        requires room { All (λ chain. length chain < 1000000000000000) out.old }
+        ensures fired { OnOk result (HasFired self.old self.new out.old out.new (shown line.new)) }
+        ensures leaving { IfOk result (λ index. index ≡ option_map (λ (leaving : Leaving). leaving.index) (row self.old.part line.new.key line.new.event).leaving) }
+        ensures same { OnErr result (self.new ≡ self.old) }
+        ensures same_out { OnErr result (out.new ≡ out.old) }
+    {
+        let (key, event) = self.agenda.least().unwrap();
+        let acts = &mut line.acts;
+        acts.clear();
+        let left = run(
+            self.alloc,
+            &mut self.role,
+            &mut self.links,
+            key,
+            &event,
+            &mut self.agenda,
+            acts,
+            out,
+        )?;
+        line.key = key;
+        line.event = event;
+        line.after = self.role.after();
+        Ok(left)
+    }
+
+    /// A node in the same state, with packets in cells of its own.
+    pub fn copy(&self) -> Result<Node, AllocError>
+        ensures { IfOk result (λ copy. copy ≡ self.now) }
+    {
+        let role = self.role.copy()?;
+        let links = copies_of(self.alloc, &self.links)?;
+        let agenda = self.agenda.copy()?;
+        Ok(Node {
+            role,
+            links,
+            agenda,
+            alloc: self.alloc,
+        })
+    }
+}

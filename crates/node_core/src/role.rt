@@ -1,0 +1,45 @@
+//! What a node does.
+ghost use Rattle.std.specs.Prelude.{◌≡◌, IfOk};
+
+use crate::line::After;
+use crate::routes::RouteTable;
+use reno_receiver::Receiver;
+use reno_sender::Sender;
+use std::alloc::AllocError;
+
+/// What a node does, with all that it keeps for it.
+#[derive(Debug, Drop)]
+pub enum Role {
+    /// Sends the data of the flow of this number.
+    Sends(u16, Sender),
+    /// Receives the data of the flow of this number, and acknowledges it.
+    Receives(u16, Receiver),
+    /// Passes packets on.
+    Routes(RouteTable),
+}
+
+impl Role {
+    ghost use Rattle.node_core.specs.Row.{after_of};
+
+    /// What a line shows of it.
+    pub fn after(&self) -> After
+        ensures { result ≡ after_of self.now }
+    {
+        match self {
+            Role::Sends(_, sender) => After::AtSender(sender.fields()),
+            Role::Receives(_, receiver) => After::AtReceiver(receiver.next()),
+            Role::Routes(_) => After::AtRouter,
+        }
+    }
+
+    /// The same, with memory of its own.
+    pub fn copy(&self) -> Result<Role, AllocError>
+        ensures { IfOk result (λ copy. copy ≡ self.now) }
+    {
+        match self {
+            Role::Sends(flow, sender) => Ok(Role::Sends(*flow, *sender)),
+            Role::Receives(flow, receiver) => Ok(Role::Receives(*flow, receiver.copy()?)),
+            Role::Routes(table) => Ok(Role::Routes(table.copy()?)),
+        }
+    }
+}

@@ -1,0 +1,142 @@
+//! What is under way over a link to the node at its end.
+ghost use Rattle.std.specs.Option.{option_map};
+ghost use Rattle.packet_chain.specs.declared.packet.Packet.{Packet};
+ghost use Rattle.node_core.specs.declared.event.Event.TheVariants.{Arrive};
+ghost use Rattle.std.specs.Prelude.{◌≡◌, ◌+◌, ◌<◌, ◌≤◌, ◌^◌, ◌++◌, [], length, slice_get, All, Some, IfOk, IsSome};
+ghost use Rattle.std.specs.FinMap as map;
+ghost use Rattle.std.specs.Iterator.{YieldsFirst};
+ghost use Rattle.std.specs.Iterator.Runs.{YieldsInOrder};
+ghost use Rattle.std.specs.List.Sorted.{IsStrictlyIncreasing};
+ghost use Rattle.sim_time.specs.declared.key.Key.{Key};
+ghost use Rattle.packet_chain.specs.Stamped.{Stamped};
+ghost use Rattle.ranking.specs.Keyed.{least, next_key, apply, entering, EachKey};
+ghost use Rattle.node_core.specs.WireState.{IsWire, arrivals, arrivals_on, pending_on, came_over, stamps_of, after_pop};
+
+use crate::event::Event;
+use packet_chain::{Iter, PacketCell, PacketChain};
+use sim_time::Key;
+use std::alloc::{AllocError, Global};
+use std::marker::Model;
+
+/// The packets that a link has sent and that have not arrived, each with the moment at which it
+/// arrives. At most 2^50 ever come over it.
+#[derive(Drop)]
+pub struct Wire {
+    /// The node at its end.
+    node: u16,
+    /// The link's number.
+    link: u16,
+    /// How many packets have arrived.
+    taken: u64,
+    /// The others, stamped with the nanoseconds at which they arrive.
+    under_way: PacketChain,
+}
+
+impl Model for Wire {
+    ghost use Rattle.node_core.specs.WireState.{WireState, IsWire};
+
+    ghost Value = { WireState };
+
+    ghost view = { λ w. record { node = w.node; link = w.link; taken = w.taken; under_way = w.under_way } };
+
+    ghost invariant = { λ w. IsWire (record { node = w.node; link = w.link; taken = w.taken; under_way = w.under_way }) };
+}
+
+impl Wire {
+    /// A wire over which nothing has come. Its copies take their memory from `alloc`.
+    pub fn new(alloc: Global, node: u16, link: u16) -> Wire
+        requires { link < 65535 }
+        ensures { result ≡ record { node = node; link = link; taken = 0; under_way = [] } }
+    {
+        Wire {
+            node,
+            link,
+            taken: 0,
+            under_way: PacketChain::new(alloc),
+        }
+    }
+
+    /// The link's number.
+    pub fn link(&self) -> u16
+        ensures { result ≡ self.now.link }
+    {
+        self.link
+    }
+
+    /// How many packets have arrived.
+    pub fn taken(&self) -> u64
+        ensures { result ≡ self.now.taken }
+    {
+        self.taken
+    }
+
+    /// The packets that have not arrived, each with the moment at which it arrives.
+    pub fn under_way(&self) -> Iter<'_>
+        ensures rest { result ≡ self.now.under_way }
+        ensures runs { YieldsInOrder (YieldsFirst {A = Stamped} (λ rest. rest)) (λ rest. rest) }
+    {
+        self.under_way.iter()
+    }
+
+    /// The first arrival, whose number is one more than how many packets have arrived.
+    pub fn head(&self) -> Option<(Key, Event)>
+        ensures first { result ≡ slice_get (arrivals_on self.now) 0 }
+        ensures least { result ≡ least (pending_on self.now) }
+        ensures sound { IsWire self.now }
+    {
+        let (packet, time) = self.under_way.front()?;
+        let key = Key {
+            time,
+            node: self.node,
+            source: self.link + 1,
+            number: self.taken + 1,
+        };
+        Some((key, Event::Arrive(packet)))
+    }
+
+    /// The key of the first arrival.
+    pub fn next_key(&self) -> Option<Key>
+        ensures { result ≡ next_key (pending_on self.now) }
+    {
+        self.head().map(|(key, _)| key)
+    }
+
+    /// Takes the first packet off, in its cell: it arrives.
+    pub fn pop(&mut self) -> Option<PacketCell>
+        ensures given { result ≡ slice_get self.old.under_way 0 }
+        ensures packet { (key : Key) (packet : Packet) → least (pending_on self.old) ≡ Some (key, Arrive packet) → option_map (λ cell. cell.0) result ≡ Some packet }
+        ensures state { self.new ≡ after_pop self.old }
+        ensures pending { (key : Key) → next_key (pending_on self.old) ≡ Some key → pending_on self.new ≡ map.remove (pending_on self.old) key }
+    {
+        let cell = self.under_way.pop_front()?;
+        self.taken += 1;
+        Some(cell)
+    }
+
+    /// Puts packets behind the others, which all arrive before them, and leaves the chain with
+    /// none. It takes no memory.
+    pub fn append(&mut self, sent: &mut PacketChain)
+        requires rising { IsStrictlyIncreasing (stamps_of sent.old) }
+        requires later { All (λ stamp. EachKey (λ k. k.time < stamp) (pending_on self.old)) (stamps_of sent.old) }
+        requires few { came_over self.old + length sent.old ≤ 2 ^ 50 }
+        ensures state { self.new ≡ record self.old { under_way = self.old.under_way ++ sent.old } }
+        ensures pending { pending_on self.new ≡ apply (entering (arrivals self.old.node self.old.link (came_over self.old) sent.old)) (pending_on self.old) }
+        ensures next { IsSome (next_key (pending_on self.old)) → next_key (pending_on self.new) ≡ next_key (pending_on self.old) }
+        ensures sent { sent.new ≡ [] }
+    {
+        self.under_way.append(sent);
+    }
+
+    /// A wire of the same packets, in cells of its own.
+    pub fn copy(&self) -> Result<Wire, AllocError>
+        ensures { IfOk result (λ copy. copy ≡ self.now) }
+    {
+        let under_way = self.under_way.copy()?;
+        Ok(Wire {
+            node: self.node,
+            link: self.link,
+            taken: self.taken,
+            under_way,
+        })
+    }
+}

@@ -1,0 +1,4 @@
+pub mod Gathered
+pub mod InOrder
+pub mod Maps
+pub mod Winners

@@ -1,0 +1,4 @@
+pub mod Gathered
+pub mod Keyed
+pub mod Leading
+pub mod Tournament
