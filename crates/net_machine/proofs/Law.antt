@@ -6,6 +6,7 @@ use Rattle.std.proofs.Math.Nat.{mod-eq_of_lt}
 use Rattle.std.specs.List.{AllByRecursion}
 use Rattle.std.specs.Option.{IfSome}
 use Rattle.std.specs.FinMap as map
+use Rattle.sim_time.specs.Moment.{IsMoment}
 use Rattle.sim_time.specs.declared.key.Key.{Key}
 use Rattle.packet_chain.specs.declared.packet.Packet.{Packet}
 use Rattle.packet_chain.specs.declared.packet.Kind.{Kind}
@@ -26,7 +27,7 @@ use Rattle.net_machine.specs.declared.event.Event.TheVariants.{Start, Rto, DelAc
 use Rattle.net_machine.specs.declared.port.Place.{Place}
 use Rattle.net_machine.specs.declared.role.Role.TheVariants.{Sends, Receives}
 use Rattle.net_machine.specs.Pending.{Change, apply}
-use Rattle.net_machine.specs.Port.{PortState, taken, taken_from}
+use Rattle.net_machine.specs.Port.{PortState, taken, next_begun}
 use Rattle.net_machine.specs.Part.{PartState, alarm_key, free_row, row, arrival_row}
 use Rattle.net_machine.specs.State.{State, part_at}
 use Rattle.net_machine.specs.Sound.{IsSent, IsAnswerable, IsGiven, Ends, Parts, Belongs, IsPendingWhereSet, IsSoundAt}
@@ -190,7 +191,7 @@ module _ (e : Ends) (pair : ArePair e) (n now : ℕ) (s : State) (k : Key) (v : 
         };
       }
     where
-      offered_same : (port : PortState) (queue : List (Packet × ℕ)) → (taken_from (record { node = k.node; index = 0 }) k.time port queue).port.offered ≤ port.offered + 2147483648
+      offered_same : (port : PortState) (queue : List (Packet × ℕ)) → (next_begun (record { node = k.node; index = 0 }) k.time port queue).port.offered ≤ port.offered + 2147483648
       offered_same port [] = omega arith
       offered_same port (x ∷ queue) = omega arith
 
@@ -259,7 +260,7 @@ module _ (e : Ends) (pair : ArePair e) (n now : ℕ) (s : State) (k : Key) (v : 
         };
       }
     where
-      offered_same : (port : PortState) (queue : List (Packet × ℕ)) → (taken_from (record { node = k.node; index = 0 }) k.time port queue).port.offered ≤ port.offered + 2147483648
+      offered_same : (port : PortState) (queue : List (Packet × ℕ)) → (next_begun (record { node = k.node; index = 0 }) k.time port queue).port.offered ≤ port.offered + 2147483648
       offered_same port [] = omega arith
       offered_same port (x ∷ queue) = omega arith
 
@@ -301,7 +302,7 @@ module _ (e : Ends) (pair : ArePair e) (n now : ℕ) (s : State) (k : Key) (v : 
   pub data_fits : (x : Packet) → IsSent p.fields.mss p.fields.high x → (x.number % p.received.mss ≡ 0) × (x.number ≤ 9000000000000)
   data_fits x sent = (subst (λ m. x.number % m ≡ 0) (sym S.same_mss) sent.multiple, omega (arith, sent.by_high, high_fits p.fields S.sound))
 
-  pub every_event_keeps : k.time ≤ 1000000000000000 → Belongs e p k v → Kept e n s k (row (part_at s k.node) k v)
+  pub every_event_keeps : IsMoment k.time → Belongs e p k v → Kept e n s k (row (part_at s k.node) k v)
   every_event_keeps moment here = by v refl here
     where
       number_is : (node : ℕ) → k ≡ alarm_key node 3 k.time → k.number - 3 ≡ 0

@@ -10,6 +10,7 @@ pub mod SetAlarms
 pub mod Steps
 pub mod ReceiverSteps
 pub mod Law
+pub mod Shape
 pub mod OpeningLaw
 pub mod Runs
 pub mod Readiness

@@ -8,7 +8,7 @@ use Rattle.std.specs.List.{slice_get, enumerate_from}
 use Rattle.scenario_image.specs.declared.parts.FlowPart.{FlowPart}
 use Rattle.scenario_image.specs.declared.parts.LinkPart.{LinkPart}
 use Rattle.scenario_image.specs.declared.parts.ScenarioParts.{ScenarioParts}
-use Rattle.scenario_image.specs.Shape.{OneFlowShape}
+use Rattle.net_machine.specs.Shape.{OneFlowShape}
 use Rattle.net_machine.specs.declared.part.Part.{Part}
 use Rattle.net_machine.specs.Part.{PartState}
 use Rattle.net_machine.specs.PartOf.{part_state}

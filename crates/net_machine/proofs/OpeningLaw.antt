@@ -17,8 +17,9 @@ use Rattle.scenario_image.specs.declared.parts.ScenarioParts.{ScenarioParts}
 use Rattle.scenario_image.specs.LinkLimits.{IsLinkInLimits}
 use Rattle.scenario_image.specs.FlowLimits.{IsFlowInLimits}
 use Rattle.scenario_image.specs.Scenario.{IsScenario}
-use Rattle.scenario_image.specs.Shape.{OneFlowShape}
-use Rattle.scenario_image.proofs.Shape.{shape_of}
+use Rattle.net_machine.specs.OneFlow.{IsOneFlow}
+use Rattle.net_machine.specs.Shape.{OneFlowShape}
+use Rattle.net_machine.proofs.Shape.{shape_of}
 use Rattle.reno_sender.specs.Table.{opening_fields}
 use Rattle.reno_sender.proofs.Laws.{opening_sound}
 use Rattle.reno_receiver.specs.Received.{opening_receiver}
@@ -114,8 +115,8 @@ flow_in_limits p x is =
     subst (IsFlowInLimits (length p.nodes) p.end) (ap (λ l. get_or l 0 x.flow) x.the_flow)
     (All-get_or (IsFlowInLimits (length p.nodes) p.end) p.flows 0 x.flow (subst (λ (l : List FlowPart). 0 < length l) (sym x.the_flow) (omega arith)) is.in_limits.each_flow)
 
-pub opening_is_sound : (p : ScenarioParts) → IsScenario p → IsSoundRun p 0 (opening p)
-opening_is_sound p is = shaped (shape_of p is)
+pub opening_is_sound : (p : ScenarioParts) → IsScenario p → IsOneFlow p → IsSoundRun p 0 (opening p)
+opening_is_sound p is one = shaped (shape_of p is one)
   where
     shaped : OneFlowShape p → IsSoundRun p 0 (opening p)
     shaped x =

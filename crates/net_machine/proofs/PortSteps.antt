@@ -12,7 +12,7 @@ use Rattle.net_machine.specs.declared.event.Event.TheVariants.{Start, Rto, DelAc
 use Rattle.net_machine.specs.declared.port.Place.{Place}
 use Rattle.net_machine.specs.Pending.{Change}
 use Rattle.net_machine.specs.Part.{alarm_key}
-use Rattle.net_machine.specs.Port.{PortState, Sending, begun, taken_from, taken, entered, is_lost, offered_one, offered_all}
+use Rattle.net_machine.specs.Port.{PortState, Sending, begun, next_begun, taken, entered, is_lost, offered_one, offered_all}
 
 pub all_append : {A : Type 0} (P : A → Type 0) (xs ys : List A) → AllByRecursion P xs → AllByRecursion P ys → AllByRecursion P (xs ++ ys)
 all_append P [] ys a b = b
@@ -77,7 +77,7 @@ module _ (D : Packet → Type 0) (sized : AreSized D) (place : Place) (now : ℕ
         offered_least = omega arith;
       }
 
-  pub taken_moves : (port : PortState) (q : List (Packet × ℕ)) → IsLink port → AllByRecursion (λ x. D x.0) port.queue → AllByRecursion (λ x. D x.0) q → PortMoves D place now port (taken_from place now port q).port (taken_from place now port q).changes
+  pub taken_moves : (port : PortState) (q : List (Packet × ℕ)) → IsLink port → AllByRecursion (λ x. D x.0) port.queue → AllByRecursion (λ x. D x.0) q → PortMoves D place now port (next_begun place now port q).port (next_begun place now port q).changes
   taken_moves port [] link all those = record {
     same_link = refl;
     same_to = refl;
@@ -149,7 +149,7 @@ module _ (D : Packet → Type 0) (sized : AreSized D) (place : Place) (now : ℕ
       idle_not_busy : (o : Option ℕ) (t : ℕ) → o ≡ None → o ≡ Some t → ⊥
       idle_not_busy o t a b = cc
 
-      offered_taken : (port : PortState) (q : List (Packet × ℕ)) → (taken_from place now port q).port.offered ≡ port.offered
+      offered_taken : (port : PortState) (q : List (Packet × ℕ)) → (next_begun place now port q).port.offered ≡ port.offered
       offered_taken port [] = refl
       offered_taken port (y ∷ q) = refl
   entered_offers port x (Some u) e link is all =

@@ -91,4 +91,4 @@ module _ (scenario : ScenarioParts) (n : ℕ) (s : State) (k : Key) (v : Event) 
 
 -- the event that is due in a run can be run
 pub ready : (r : Reached) (k : Key) (v : Event) → IsRun r → due r.state ≡ Some (k, v) → IsReady r.state r.position (k, v)
-ready r k v is_run is = is_ready is_run.scenario r.position r.state k v (sound_run is_run.scenario r.position is_run.lines r.state is_run.is_scenario is_run.is) (is_due r.state k v is)
+ready r k v is_run is = is_ready is_run.scenario r.position r.state k v (sound_run is_run.scenario r.position is_run.lines r.state is_run.is_scenario is_run.one_flow is_run.is) (is_due r.state k v is)

@@ -61,12 +61,12 @@ same_state p n m lines more s t same e f node =
     subst (λ (x : State). RoleRises (part_at s node).role (part_at x node).role) (ap (λ (q : List TraceLine × State). q.1) both) (role_rises_itself (part_at s node).role)
 
 pub numbers_never_fall : NumbersNeverFall
-numbers_never_fall p n zero lines more s t is below e f = same_state p n zero lines more s t (omega (arith, below)) e f
-numbers_never_fall p n (suc m) lines more s t is below e f =
+numbers_never_fall p n zero lines more s t is one below e f = same_state p n zero lines more s t (omega (arith, below)) e f
+numbers_never_fall p n (suc m) lines more s t is one below e f =
     ⊎_elim
     (λ (before : n < suc m).
     option_and_then_some one_more (run (opening p) m) (more, t) f (λ so_far was now.
     of_one_more so_far more t now (λ line step_is node.
-    rises_on _ _ _ (numbers_never_fall p n m lines so_far.0 s so_far.1 is (omega (arith, before)) e was node) (step_rises p m so_far.1 line t (sound_run p m so_far.0 so_far.1 is was) step_is node))))
+    rises_on _ _ _ (numbers_never_fall p n m lines so_far.0 s so_far.1 is one (omega (arith, before)) e was node) (step_rises p m so_far.1 line t (sound_run p m so_far.0 so_far.1 is one was) step_is node))))
     (λ (last : suc m ≤ n). same_state p n (suc m) lines more s t (omega (arith, below, last)) e f)
     (cases_lt n (suc m))

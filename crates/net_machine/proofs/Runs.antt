@@ -60,10 +60,10 @@ of_one_more {G} so_far lines s e from = go (step so_far.1) refl e
     go (Some next) is e = from next.0 (is ∙ ap (λ (p : List TraceLine × State). Some (next.0, p.1)) (same_some (so_far.0 ++ next.0 ∷ [], next.1) (lines, s) e))
 
 pub sound_run : RunsAreSound
-sound_run p zero lines s is e = subst (λ (q : List TraceLine × State). IsSoundRun p 0 q.1) (same_some ([], opening p) (lines, s) e) (opening_is_sound p is)
-sound_run p (suc n) lines s is e =
+sound_run p zero lines s is one e = subst (λ (q : List TraceLine × State). IsSoundRun p 0 q.1) (same_some ([], opening p) (lines, s) e) (opening_is_sound p is one)
+sound_run p (suc n) lines s is one e =
     option_and_then_some one_more (run (opening p) n) (lines, s) e (λ so_far was now.
-    of_one_more so_far lines s now (λ line step_is. subst (λ m. IsSoundRun p m s) {x = n + 1} {y = suc n} (omega arith) (sound_step p n so_far.1 line s (sound_run p n so_far.0 so_far.1 is was) step_is)))
+    of_one_more so_far lines s now (λ line step_is. subst (λ m. IsSoundRun p m s) {x = n + 1} {y = suc n} (omega arith) (sound_step p n so_far.1 line s (sound_run p n so_far.0 so_far.1 is one was) step_is)))
 
 -- of two keys neither less than the other, they are one
 decided : (a b : Key) → key_cmp b a ≢ Less → b ≢ a → key_cmp a b ≡ Less
@@ -75,8 +75,8 @@ decided a b not_less other =
     ] refl
 
 pub keys_rise : KeysRise
-keys_rise p n lines s is_scenario e k next v w is next_is =
-    let sound = sound_run p n lines s is_scenario e in
+keys_rise p n lines s is_scenario one e k next v w is next_is =
+    let sound = sound_run p n lines s is_scenario one e in
     let first = is_due s k v is in
     let kept = kept_by p n s k v sound is in
     let effect = effect_of s (k, v) in
@@ -123,6 +123,7 @@ run_step r line new is_run fits is = record {
   scenario = is_run.scenario;
   lines = is_run.lines ++ line ∷ [];
   is_scenario = is_run.is_scenario;
+  one_flow = is_run.one_flow;
   position_fits = omega (arith, fits);
   is = subst (λ n. run (opening is_run.scenario) n ≡ Some (is_run.lines ++ line ∷ [], new)) {x = suc r.position} {y = r.position + 1} (omega arith)
       (ap (option_and_then one_more) is_run.is ∙ ap (option_map {U = List TraceLine × State} (λ (next : TraceLine × State). (is_run.lines ++ next.0 ∷ [], next.1))) is);
@@ -130,9 +131,9 @@ run_step r line new is_run fits is = record {
 
 -- all that an event makes is due soon after it
 pub effects_are_soon : EffectsAreSoon
-effects_are_soon p n lines s is_scenario e k v is =
+effects_are_soon p n lines s is_scenario one e k v is =
     all_map (λ (c : Change). IfSome c.1 (λ _. IsSoon k.time c.0)) (λ (c : Change). IfSome c.1 (λ _. IsDueSoon k.time c.0)) (λ c h. at c.0 c.1 h) (effect_of s (k, v)).changes
-    (kept_by p n s k v (sound_run p n lines s is_scenario e) is).soon
+    (kept_by p n s k v (sound_run p n lines s is_scenario one e) is).soon
   where
     at : (q : Key) (o : Option Event) → IfSome o (λ _. IsSoon k.time q) → IfSome o (λ _. IsDueSoon k.time q)
     at q None h = h

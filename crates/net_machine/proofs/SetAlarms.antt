@@ -15,7 +15,7 @@ use Rattle.net_machine.specs.declared.event.Event.TheVariants.{Free}
 use Rattle.net_machine.specs.declared.port.Place.{Place}
 use Rattle.net_machine.specs.Pending.{Events, Change, changed, apply}
 use Rattle.net_machine.specs.Part.{alarm_key, alarm_moved}
-use Rattle.net_machine.specs.Port.{PortState, Sending, begun, taken_from, taken, is_lost, offered_one, offered_all}
+use Rattle.net_machine.specs.Port.{PortState, Sending, begun, next_begun, taken, is_lost, offered_one, offered_all}
 use Rattle.net_machine.specs.Sound.{IsPendingWhereSet}
 use Rattle.net_machine.proofs.Offered.{apply-append}
 use Rattle.net_machine.proofs.Events.{same_some, alike}
@@ -94,7 +94,7 @@ module _ (place : Place) (now : ℕ) where
       not_first : (link : ℕ) → 0 ≡ link + 1 → ⊥
       not_first link e = omega (arith, e)
 
-  pub taken_alarm : (old port : PortState) (queue : List (Packet × ℕ)) → PortAlarm place old (taken_from place now port queue).port (taken_from place now port queue).changes
+  pub taken_alarm : (old port : PortState) (queue : List (Packet × ℕ)) → PortAlarm place old (next_begun place now port queue).port (next_begun place now port queue).changes
   taken_alarm old port [] = record { keys = tt; pending = λ m _. tt }
   taken_alarm old port (x ∷ queue) = begun_alarm old port x.0 queue
 

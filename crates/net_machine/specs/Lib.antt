@@ -11,6 +11,9 @@ pub mod PartOf
 pub mod PartsOf
 pub mod NetOf
 pub mod StateCodes
+pub mod OneFlow
+pub mod Shape
 pub mod Sound
 pub mod Run
 pub mod Rising
+pub use Rattle.sim_time.specs.Moment

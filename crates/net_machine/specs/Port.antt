@@ -52,12 +52,12 @@ begun place now port packet rest =
     }
 
 -- a port takes the head of its queue; with none it is idle
-abbrev pub taken_from : Place → ℕ → PortState → List (Packet × ℕ) → Sending
-taken_from place now port [] = record { port = record port { next_free = None }; changes = []; acts = [] }
-taken_from place now port (head ∷ rest) = begun place now port head.0 rest
+abbrev pub next_begun : Place → ℕ → PortState → List (Packet × ℕ) → Sending
+next_begun place now port [] = record { port = record port { next_free = None }; changes = []; acts = [] }
+next_begun place now port (head ∷ rest) = begun place now port head.0 rest
 
 abbrev pub taken : Place → ℕ → PortState → Sending
-taken place now port = taken_from place now port port.queue
+taken place now port = next_begun place now port port.queue
 
 -- whether the offered packet of this number is lost
 abbrev pub is_lost : List ℕ → ℕ → Bool

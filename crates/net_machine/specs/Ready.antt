@@ -1,5 +1,6 @@
 -- What an event needs of its node, so that its row can be run.
 use Rattle.std.specs.Prelude.{◌≡◌, ℕ, ◌*◌, ◌%◌, ◌<◌, ◌≤◌, length, Some, IsSome}
+use Rattle.sim_time.specs.Moment.{IsMoment}
 use Rattle.sim_time.specs.declared.key.Key.{Key}
 use Rattle.packet_chain.specs.declared.packet.Kind.{Kind}
 use Rattle.packet_chain.specs.declared.packet.Kind.TheVariants.{Data, Ack}
@@ -61,7 +62,7 @@ pub record PortCan (port : PortState) : Type 0 where
 
 -- what is known of the event that is due after so many events: it can be run
 pub record IsReady (s : State) (position : ℕ) (entry : Key × Event) : Type 0 where
-  pub time_fits : entry.0.time ≤ 1000000000000000
+  pub time_fits : IsMoment entry.0.time
   pub within : entry.0.node < length s.parts
   pub is_next : next_key s.pending ≡ Some entry.0
   pub role_can : RoleCan (part_at s entry.0.node).role entry.0.time entry.1

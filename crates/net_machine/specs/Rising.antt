@@ -2,6 +2,7 @@
 use Rattle.std.specs.Prelude.{◌≡◌, ℕ, ◌≤◌, List, Some}
 use Rattle.scenario_image.specs.declared.parts.ScenarioParts.{ScenarioParts}
 use Rattle.scenario_image.specs.Scenario.{IsScenario}
+use Rattle.net_machine.specs.OneFlow.{IsOneFlow}
 use Rattle.reno_sender.specs.declared.fields.SenderFields.{SenderFields}
 use Rattle.reno_receiver.specs.Received.{next_of}
 use Rattle.net_machine.specs.declared.role.Role.{Role}
@@ -26,7 +27,7 @@ RoleRises Routes (Sends later g) = ⊥
 RoleRises Routes (Receives later b) = ⊥
 RoleRises Routes Routes = Unit {0}
 
--- from each state of a run to each later one no number of a flow falls, at any node
+-- from each state of a run of one flow to each later one no number of a flow falls, at any node
 abbrev pub NumbersNeverFall : Type 0
-NumbersNeverFall = (p : ScenarioParts) (n m : ℕ) (lines more : List TraceLine) (s t : State) → IsScenario p → n ≤ m → run (opening p) n ≡ Some (lines, s) → run (opening p) m ≡ Some (more, t)
+NumbersNeverFall = (p : ScenarioParts) (n m : ℕ) (lines more : List TraceLine) (s t : State) → IsScenario p → IsOneFlow p → n ≤ m → run (opening p) n ≡ Some (lines, s) → run (opening p) m ≡ Some (more, t)
     → (node : ℕ) → RoleRises (part_at s node).role (part_at t node).role

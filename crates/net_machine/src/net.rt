@@ -2,12 +2,14 @@
 ghost use Rattle.std.specs.Prelude.{◌≡◌, ◌≢◌, ◌+◌, ◌<◌, ◌≤◌, ◌++◌, IfOk, OnOk, OnErr, IfErr, IfSome, None, Some, Ok, Err, length, slice_index_or, slice_set};
 ghost use Rattle.std.specs.Option.{option_map};
 ghost use Rattle.std.specs.FinMap as map;
+ghost use Rattle.sim_time.specs.Moment.{IsMoment};
 ghost use Rattle.net_machine.specs.Pending.{next_key, apply};
 ghost use Rattle.net_machine.specs.Part.{row, port_at};
 ghost use Rattle.net_machine.specs.PartsOf.{parts_state};
 ghost use Rattle.net_machine.specs.State.{opening, due, no_part};
 ghost use Rattle.net_machine.specs.Ready.{IsReady, RoleCan, IsFirstPort, PortCan};
 ghost use Rattle.net_machine.specs.TraceLine.{shown};
+ghost use Rattle.net_machine.specs.OneFlow.{IsOneFlow};
 ghost use Rattle.net_machine.specs.Rising.{NumbersNeverFall};
 ghost use Rattle.net_machine.specs.Run.{IsRun, Stepped, RunsAreSound, KeysRise, EffectsAreSoon};
 
@@ -69,7 +71,7 @@ fn fire_at(
     pending: &mut Agenda,
     line: &mut Line,
 ) -> Result<(), AllocError>
-    requires time { key.time ≤ 1000000000000000 }
+    requires time { IsMoment key.time }
     requires within { key.node < length (parts_state parts.old.items) }
     requires due { next_key pending.old.events ≡ Some key }
     requires can { RoleCan (slice_index_or (parts_state parts.old.items) key.node no_part).role key.time event.now }
@@ -91,8 +93,9 @@ fn fire_at(
 }
 
 impl Net {
-    /// The opening state of a scenario.
+    /// The opening state of a scenario of one flow.
     pub fn new(alloc: Global, scenario: &Scenario) -> Result<Net, AllocError>
+        requires one_flow { IsOneFlow scenario.now }
         ensures { IfOk result (λ net. net ≡ record { state = opening scenario.now; position = 0 }) }
     {
         let scenario = scenario.parts();
@@ -162,7 +165,7 @@ impl Net {
     }
 }
 
-/// In every run of every scenario each packet, each acknowledgement and each alarm is as its flow
+/// In every run of every scenario of one flow each packet, each acknowledgement and each alarm is as its flow
 /// has it: data numbers are whole segments below the sender's greatest byte sent, acknowledgement
 /// numbers are at most the receiver's next byte, which is at most that, an alarm is pending exactly
 /// where its node has set it, nothing pending is past, and the counts are bounded by the events run.
@@ -170,18 +173,18 @@ pub fn every_run_is_sound()
     ensures { RunsAreSound }
 {}
 
-/// In every run of every scenario all that an event sets or sends is due after it, by at most 100
-/// seconds.
+/// In every run of every scenario of one flow all that an event sets or sends is due after it, by at
+/// most 100 seconds.
 pub fn effects_are_soon()
     ensures { EffectsAreSoon }
 {}
 
-/// In every run of every scenario the keys of the events strictly rise.
+/// In every run of every scenario of one flow the keys of the events strictly rise.
 pub fn keys_rise()
     ensures { KeysRise }
 {}
 
-/// Along every run of every scenario no number of a flow falls: neither the bytes acknowledged
+/// Along every run of every scenario of one flow no number of a flow falls: neither the bytes acknowledged
 /// and sent of its sender nor the next byte of its receiver.
 pub fn numbers_never_fall()
     ensures { NumbersNeverFall }

@@ -1,5 +1,6 @@
 //! A flow's packets, offered to a link.
 ghost use Rattle.std.specs.Prelude.{◌≡◌, ℕ, ◌+◌, ◌*◌, ◌^◌, ◌<◌, ◌≤◌, ◌++◌, [], ◌∷◌, length, map, min, IsNone, option_to_list};
+ghost use Rattle.sim_time.specs.Moment.{IsMoment};
 ghost use Rattle.reno_sender.specs.Sending.{spaced};
 ghost use Rattle.net_machine.specs.Pending.{apply};
 ghost use Rattle.net_machine.specs.Port.{offered_all};
@@ -57,7 +58,7 @@ pub fn offer_run(
     pending: &mut Agenda,
     acts: &mut Acts,
 )
-    requires time { now ≤ 1000000000000000 }
+    requires time { IsMoment now }
     requires mss { segments.mss ≤ 9000 }
     requires numbers { first + count * segments.mss < 2 ^ 63 }
     requires sent { IsNone port.old.next_free → port.old.sent < 1000000000000000 }
@@ -88,7 +89,7 @@ pub fn offer_segments(
     pending: &mut Agenda,
     acts: &mut Acts,
 )
-    requires time { now ≤ 1000000000000000 }
+    requires time { IsMoment now }
     requires mss { segments.mss ≤ 9000 }
     requires numbers { first + count * segments.mss < 2 ^ 63 }
     requires sent { port.old.sent < 1000000000000000 }

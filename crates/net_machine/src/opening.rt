@@ -4,7 +4,7 @@ ghost use Rattle.std.specs.List.Sorted.{IsStrictlyIncreasing};
 ghost use Rattle.sim_time.specs.Serial.{IsRate};
 ghost use Rattle.scenario_image.specs.Scenario.{IsScenario};
 ghost use Rattle.scenario_image.specs.FlowLimits.{IsFlowInLimits};
-ghost use Rattle.scenario_image.specs.Shape.{OneFlowShape};
+ghost use Rattle.net_machine.specs.Shape.{OneFlowShape};
 ghost use Rattle.reno_sender.specs.Laws.{IsFlow};
 ghost use Rattle.net_machine.specs.PartOf.{part_state};
 ghost use Rattle.net_machine.specs.PartsOf.{parts_state};

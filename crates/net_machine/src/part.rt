@@ -1,6 +1,7 @@
 //! One node: what its events do.
 ghost use Rattle.std.specs.Prelude.{◌≡◌, ◌≤◌, ◌++◌, Some, OnOk, OnErr};
 ghost use Rattle.std.specs.FinMap as map;
+ghost use Rattle.sim_time.specs.Moment.{IsMoment};
 ghost use Rattle.net_machine.specs.Pending.{next_key, apply};
 ghost use Rattle.net_machine.specs.PortOf.{port_state};
 ghost use Rattle.net_machine.specs.Part.{row, after_of};
@@ -39,7 +40,7 @@ impl Part {
         pending: &mut Agenda,
         acts: &mut Acts,
     ) -> Result<(), AllocError>
-        requires time { key.time ≤ 1000000000000000 }
+        requires time { IsMoment key.time }
         requires due { next_key pending.old.events ≡ Some key }
         requires can { RoleCan self.old.role key.time event.now }
         requires first { IsFirstPort key event.now }

@@ -1,6 +1,7 @@
 //! A link's sending side: its queue, and what is offered to it, sent and dropped.
 ghost use Rattle.std.specs.Prelude.{◌≡◌, ◌+◌, ◌^◌, ◌<◌, ◌≤◌, ◌++◌, [], length, min, IsNone, IfOk, OnOk, OnErr, None};
 ghost use Rattle.std.specs.List.Sorted.{IsStrictlyIncreasing};
+ghost use Rattle.sim_time.specs.Moment.{IsMoment};
 ghost use Rattle.sim_time.specs.Serial.{serial, IsRate};
 ghost use Rattle.net_machine.specs.Pending.{apply};
 ghost use Rattle.net_machine.specs.Port.{offered_one, taken, begun, entered, is_lost};
@@ -115,7 +116,7 @@ impl Port {
         pending: &mut Agenda,
         acts: &mut Acts,
     )
-        requires time { now ≤ 1000000000000000 }
+        requires time { IsMoment now }
         requires sent { self.old.sent < 1000000000000000 }
         requires agenda { 2 ≤ pending.old.room }
         requires room { 1 ≤ acts.old.room }
@@ -148,7 +149,7 @@ impl Port {
 
     /// Takes the packet at the head of the queue, if one waits, and begins to send it.
     pub fn take(&mut self, place: Place, now: Time, pending: &mut Agenda, acts: &mut Acts)
-        requires time { now ≤ 1000000000000000 }
+        requires time { IsMoment now }
         requires sent { self.old.sent < 1000000000000000 }
         requires agenda { 2 ≤ pending.old.room }
         requires room { 1 ≤ acts.old.room }
@@ -183,7 +184,7 @@ impl Port {
         pending: &mut Agenda,
         acts: &mut Acts,
     )
-        requires time { now ≤ 1000000000000000 }
+        requires time { IsMoment now }
         requires sent { IsNone self.old.next_free → self.old.sent < 1000000000000000 }
         requires offered { self.old.offered < 2 ^ 100 }
         requires queue { length (port_state self.old).queue < self.old.capacity → length (port_state self.old).queue < queue_space self.old }

@@ -1,6 +1,7 @@
 //! The events of a receiver's node.
 ghost use Rattle.std.specs.Prelude.{◌≡◌, ◌+◌, ◌<◌, ◌≤◌, ◌++◌, [], ◌∷◌, Some, IfOk, OnOk, OnErr, length};
 ghost use Rattle.std.specs.FinMap as map;
+ghost use Rattle.sim_time.specs.Moment.{IsMoment};
 ghost use Rattle.reno_receiver.specs.Received.{next_of};
 ghost use Rattle.net_machine.specs.Pending.{next_key, apply};
 ghost use Rattle.net_machine.specs.Port.{offered_all};
@@ -32,7 +33,7 @@ fn give_answer(
     pending: &mut Agenda,
     acts: &mut Acts,
 )
-    requires time { key.time ≤ 1000000000000000 }
+    requires time { IsMoment key.time }
     requires due { next_key pending.old.events ≡ Some key }
     requires port { PortCan (port_state port.old) }
     requires agenda { 3 ≤ pending.old.room }
@@ -71,7 +72,7 @@ pub fn fire_receiver(
     pending: &mut Agenda,
     acts: &mut Acts,
 ) -> Result<(), AllocError>
-    requires time { key.time ≤ 1000000000000000 }
+    requires time { IsMoment key.time }
     requires due { next_key pending.old.events ≡ Some key }
     requires can { ReceiverCan receiver.old event.now }
     requires first { IsFirstPort key event.now }

@@ -1,6 +1,7 @@
 //! What every event of a node has in common: its room, its first link, and leaving the set.
 ghost use Rattle.std.specs.Prelude.{◌≡◌, ◌+◌, ◌≤◌, ◌++◌, Some, OnOk, OnErr, min, length};
 ghost use Rattle.std.specs.FinMap as map;
+ghost use Rattle.sim_time.specs.Moment.{IsMoment};
 ghost use Rattle.net_machine.specs.Pending.{next_key, apply};
 ghost use Rattle.net_machine.specs.Port.{taken};
 ghost use Rattle.net_machine.specs.Ready.{PortCan};
@@ -63,7 +64,7 @@ pub fn free_port(
     pending: &mut Agenda,
     acts: &mut Acts,
 ) -> Result<(), AllocError>
-    requires time { key.time ≤ 1000000000000000 }
+    requires time { IsMoment key.time }
     requires due { next_key pending.old.events ≡ Some key }
     requires port { PortCan (port_state port.old) }
     ensures port { OnOk result (port_state port.new ≡ (taken (record { node = key.node; index = 0 }) key.time (port_state port.old)).port) }

@@ -1,6 +1,7 @@
 //! The events of a sender's node.
 ghost use Rattle.std.specs.Prelude.{◌≡◌, ◌+◌, ◌≤◌, ◌++◌, [], ◌∷◌, Some, OnOk, OnErr};
 ghost use Rattle.std.specs.FinMap as map;
+ghost use Rattle.sim_time.specs.Moment.{IsMoment};
 ghost use Rattle.reno_sender.specs.PlanView.{planned_of, IsPlanOf};
 ghost use Rattle.net_machine.specs.Pending.{next_key, apply};
 ghost use Rattle.net_machine.specs.PortOf.{port_state};
@@ -29,7 +30,7 @@ fn run_plan(
     pending: &mut Agenda,
     acts: &mut Acts,
 ) -> Result<(), AllocError>
-    requires time { key.time ≤ 1000000000000000 }
+    requires time { IsMoment key.time }
     requires due { next_key pending.old.events ≡ Some key }
     requires made { IsPlanOf sender.old plan }
     requires port { PortCan (port_state port.old) }
@@ -76,7 +77,7 @@ pub fn fire_sender(
     pending: &mut Agenda,
     acts: &mut Acts,
 ) -> Result<(), AllocError>
-    requires time { key.time ≤ 1000000000000000 }
+    requires time { IsMoment key.time }
     requires due { next_key pending.old.events ≡ Some key }
     requires can { SenderCan sender.old key.time event.now }
     requires first { IsFirstPort key event.now }

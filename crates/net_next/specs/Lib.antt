@@ -1,0 +1,5 @@
+pub mod Run
+pub mod Nodes
+pub mod Wiring
+pub mod Codes
+pub mod NetOf

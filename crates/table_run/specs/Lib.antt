@@ -1,0 +1,4 @@
+pub mod State
+pub mod Flow
+pub mod Sound
+pub mod Laws

@@ -1,0 +1,5 @@
+//! The written tables run one event at a time: the opening state of a scenario, the step, the run,
+//! and what holds of every run of every scenario.
+#![tactic(auto)]
+
+pub mod laws;
