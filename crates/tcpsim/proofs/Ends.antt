@@ -1,19 +1,68 @@
 -- How a session ends.
-use Rattle.std.proofs.Common.{◌≡◌, ◌⊎◌, inl, inr, ℕ, ◌<◌, List, [], length, arith, Option, Result, Ok, Err, IfOk, IfErr, OnOk, IsErrOf, refl, sym, subst}
+use Rattle.std.proofs.Common.{◌≡◌, ◌⊎◌, inl, inr, ℕ, zero, suc, ◌+◌, ◌-◌, ◌<◌, ◌≤◌, List, [], ◌∷◌, ◌++◌, length, arith, Option, None, Some, Result, Ok, Err, IfOk, IsErrOf, refl, sym, subst, ap, ◌∙◌}
+use Rattle.std.specs.Option.{option_map, option_and_then}
 use Rattle.scenario_image.specs.declared.parts.ScenarioParts.{ScenarioParts}
 use Rattle.scenario_asm.specs.declared.fault.Fault.{Fault}
 use Rattle.scenario_asm.specs.declared.fault.AsmFault.{AsmFault}
 use Rattle.scenario_asm.specs.declared.fault.AsmFault.TheVariants.{At, NoMemory as text_NoMemory}
 use Rattle.scenario_asm.specs.Meaning.{MeansScenario, MeansFault}
-use Rattle.net_machine.specs.State.{State, opening}
+use Rattle.net_machine.specs.OneFlow.{IsOneFlow}
+use Rattle.net_machine.specs.State.{State, opening, run, step, one_more}
+use Rattle.net_machine.specs.TraceLine.{TraceLine}
 use Rattle.tcpsim.specs.declared.fault.SessionFault.{SessionFault}
-use Rattle.tcpsim.specs.declared.fault.SessionFault.TheVariants.{TooLong, Refused, CommandLine, WordsNotUtf8, ReadFailed, WriteFailed, NoMemory, CountFull}
+use Rattle.tcpsim.specs.declared.fault.SessionFault.TheVariants.{TooLong, Refused, NotSimulated, ReadFailed, WriteFailed, NoMemory, CountFull}
 use Rattle.tcpsim.specs.Faults.{of_text}
-use Rattle.tcpsim.specs.Trace.{IsTrace, IsTraceStart, IsTraceOrStart}
-use Rattle.tcpsim.specs.Written.{Writes, IsBeginningOf}
-use Rattle.tcpsim.specs.Steps.{IsReadFault, IsRunFault, IsShortOfRoom}
-use Rattle.tcpsim.specs.Session.{Ended, IsWithin, IsDue, IsHindered, IsOfRun, IsOutput, IsSession}
+use Rattle.tcpsim.specs.Trace.{IsTrace, IsFullTrace}
+use Rattle.tcpsim.specs.Written.{Writes}
+use Rattle.tcpsim.specs.Ended.{Ended, IsHindered, IsRunOutput, IsReadFault}
+use Rattle.tcpsim.specs.Session.{IsWithin, IsEnding, IsDue, IsSession}
 use Rattle.tcpsim.proofs.Bytes.{appends_nothing}
+use Rattle.tcpsim.proofs.Options.{some_none, same_some}
+
+-- no event comes after the last one
+none_after : (s : State) (n : ℕ) → run s n ≡ None → (k : ℕ) → run s (k + n) ≡ None
+none_after s n none zero = let same : n ≡ 0 + n = omega arith in subst (λ m. run s m ≡ None) same none
+none_after s n none (suc k) =
+    let same : suc (k + n) ≡ suc k + n = omega arith in
+    let more : run s (suc (k + n)) ≡ None = ap (option_and_then one_more) (none_after s n none k) in
+    subst (λ m. run s m ≡ None) same more
+
+-- a run that has ended has no event due later
+no_more : (s : State) (n m : ℕ) (lines lines' : List TraceLine) (last last' : State) → n ≤ m → run s n ≡ Some (lines, last) → step last ≡ None → run s m ≡ Some (lines', last') → step last' ≡ None
+no_more s n m lines lines' last last' few is final later = go (m - n) refl
+  where
+    next : run s (suc n) ≡ None
+    next = ap (option_and_then one_more) is ∙ ap (option_map (λ (next : TraceLine × State). (lines ++ next.0 ∷ [], next.1))) final
+
+    go : (k : ℕ) → m - n ≡ k → step last' ≡ None
+    go zero e =
+        let same : n ≡ m = omega (arith, few, e) in
+        let both : Some (lines, last) ≡ Some (lines', last') = sym is ∙ subst (λ x. run s x ≡ Some (lines', last')) (sym same) later in
+        subst (λ x. step x ≡ None) (ap (λ (p : List TraceLine × State). p.1) (same_some (lines, last) (lines', last') both)) final
+    go (suc k) e =
+        let same : k + suc n ≡ m = omega (arith, few, e) in
+        absurd (some_none (lines', last') (sym later ∙ subst (λ x. run s x ≡ None) same (none_after s (suc n) next k)))
+
+-- a run comes to its end within 10^15 events, or it does not
+not_both : (s : State) (out out' : List ℕ) → IsTrace s out → IsFullTrace s out' → ⊥
+not_both s out out' ends full =
+    full.more (no_more s ends.n full.n ends.lines full.lines ends.last full.last (let few = ends.few in let is = full.full in omega (arith, few, is)) ends.is_run ends.final full.is_run)
+
+one_trace : (s : State) (ended : Ended) (out out' : List ℕ) → IsRunOutput s ended out → IsTrace s out' → (ended ≡ Ok tt) ⊎ IsHindered ended
+one_trace s (Ok u) out out' made ends = inl refl
+one_trace s (Err CountFull) out out' made ends = absurd (not_both s out' out ends made)
+one_trace s (Err WriteFailed) out out' made ends = inr tt
+one_trace s (Err NoMemory) out out' made ends = inr tt
+one_trace s (Err ReadFailed) out out' made ends = inr tt
+one_trace s _ out out' made ends = absurd made
+
+one_full : (s : State) (ended : Ended) (out out' : List ℕ) → IsRunOutput s ended out → IsFullTrace s out' → (ended ≡ Err CountFull) ⊎ IsHindered ended
+one_full s (Ok u) out out' made full = absurd (not_both s out out' made full)
+one_full s (Err CountFull) out out' made full = inl refl
+one_full s (Err WriteFailed) out out' made full = inr tt
+one_full s (Err NoMemory) out out' made full = inr tt
+one_full s (Err ReadFailed) out out' made full = inr tt
+one_full s _ out out' made full = absurd made
 
 abbrev pub Assembled : Type 0
 Assembled = Result ScenarioParts AsmFault
@@ -26,122 +75,89 @@ pub record Assembles (text : List ℕ) (made : Assembled) : Type 0 where
   pub only_fault : (number : ℕ) (fault : Fault) → MeansFault text number fault → (made ≡ Err (At number fault)) ⊎ (made ≡ Err text_NoMemory)
 
 -- where the assembler answers so, the session ends so, or something hinders it
-abbrev EndsBy : Assembled → Ended → Type 0
-EndsBy (Ok parts) ended = (ended ≡ Ok tt) ⊎ IsHindered ended
-EndsBy (Err (At number fault)) ended = ended ≡ Err (Refused number fault)
-EndsBy (Err text_NoMemory) ended = IsHindered ended
+abbrev EndsBy : Assembled → Ended → List ℕ → Type 0
+EndsBy (Ok parts) ended out = (IsOneFlow parts × IsRunOutput (opening parts) ended out) ⊎ ((¬ IsOneFlow parts) × (ended ≡ Err NotSimulated))
+EndsBy (Err (At number fault)) ended out = ended ≡ Err (Refused number fault)
+EndsBy (Err text_NoMemory) ended out = IsHindered ended
 
-by : (made other : Assembled) (ended : Ended) → made ≡ other → EndsBy made ended → EndsBy other ended
-by made other ended is ends = let P : Assembled → Type 0 = λ m. EndsBy m ended in subst P is ends
+by : (made other : Assembled) (ended : Ended) (out : List ℕ) → made ≡ other → EndsBy made ended out → EndsBy other ended out
+by made other ended out is ends = subst (λ m. EndsBy m ended out) is ends
 
 -- one end is due
-no_other : (text : List ℕ) (made : Assembled) (ended other : Ended) → IsWithin text → Assembles text made → EndsBy made ended → IsDue text other → (ended ≡ other) ⊎ IsHindered ended
-no_other text made ended (Ok u) within says ends due = elim (says.only_scenario due.1.0 due.1.1) [
-  | inl is ↦ by made (Ok due.1.0) ended is ends
-  | inr is ↦ inr (by made (Err text_NoMemory) ended is ends)
+no_other : (text : List ℕ) (made : Assembled) (ended other : Ended) (out : List ℕ) → IsWithin text → Assembles text made → EndsBy made ended out → IsDue text other → (ended ≡ other) ⊎ IsHindered ended
+no_other text made ended (Ok u) out within says ends due =
+    let other = due.1.1.1 in elim (says.only_scenario other.0 other.1) [
+      | inl is ↦ elim (by made (Ok other.0) ended out is ends) [ inl runs ↦ one_trace (opening other.0) ended out due.1.0 runs.1 other.3 | inr stops ↦ absurd (stops.0 other.2) ]
+      | inr is ↦ inr (by made (Err text_NoMemory) ended out is ends)
+    ]
+no_other text made ended (Err CountFull) out within says ends due =
+    let other = due.1.1.1 in elim (says.only_scenario other.0 other.1) [
+      | inl is ↦ elim (by made (Ok other.0) ended out is ends) [ inl runs ↦ one_full (opening other.0) ended out due.1.0 runs.1 other.3 | inr stops ↦ absurd (stops.0 other.2) ]
+      | inr is ↦ inr (by made (Err text_NoMemory) ended out is ends)
+    ]
+no_other text made ended (Err (Refused line fault)) out within says ends due = elim (says.only_fault line fault due.1.1.1) [
+  | inl is ↦ inl (by made (Err (At line fault)) ended out is ends)
+  | inr is ↦ inr (by made (Err text_NoMemory) ended out is ends)
 ]
-no_other text made ended (Err TooLong) within says ends due = absurd (omega (arith, within, due))
-no_other text made ended (Err (Refused line fault)) within says ends due = elim (says.only_fault line fault due.1) [
-  | inl is ↦ inl (by made (Err (At line fault)) ended is ends)
-  | inr is ↦ inr (by made (Err text_NoMemory) ended is ends)
-]
-no_other text made ended (Err (CommandLine error)) within says ends due = absurd due
-no_other text made ended (Err WordsNotUtf8) within says ends due = absurd due
-no_other text made ended (Err ReadFailed) within says ends due = absurd due
-no_other text made ended (Err WriteFailed) within says ends due = absurd due
-no_other text made ended (Err NoMemory) within says ends due = absurd due
-no_other text made ended (Err CountFull) within says ends due = absurd due
+no_other text made ended (Err NotSimulated) out within says ends due =
+    let other = due.1.1.1 in elim (says.only_scenario other.0 other.1) [
+      | inl is ↦ elim (by made (Ok other.0) ended out is ends) [ inl runs ↦ absurd (other.2 runs.0) | inr stops ↦ inl stops.1 ]
+      | inr is ↦ inr (by made (Err text_NoMemory) ended out is ends)
+    ]
+no_other text made ended (Err TooLong) out within says ends due = let long = due.1.1.0 in absurd (omega (arith, within, long))
+no_other text made ended (Err ReadFailed) out within says ends due = absurd (due.0 tt)
+no_other text made ended (Err WriteFailed) out within says ends due = absurd (due.0 tt)
+no_other text made ended (Err NoMemory) out within says ends due = absurd (due.0 tt)
+no_other text made ended _ out within says ends due = absurd due.1.1.1.3
 
--- what a run says of the scenario that it ran
-pub record Runs (parts : ScenarioParts) (ended : Ended) (old new : Option (List ℕ)) : Type 0 where
-  pub done : OnOk ended (Writes (IsTrace (opening parts)) old new)
-  pub stopped : IfErr ended (λ fault. IsShortOfRoom fault → Writes (IsTraceStart (opening parts)) old new)
-  pub failed : IsErrOf ended WriteFailed → Writes (IsBeginningOf (IsTraceOrStart (opening parts))) old new
-  pub faults : IfErr ended IsRunFault
-
--- what was written is of this scenario
-of_run : (P : State → List ℕ → Type 0) (text : List ℕ) (parts : ScenarioParts) (old new : Option (List ℕ)) → MeansScenario text parts → Writes (P (opening parts)) old new → Writes (IsOfRun P text) old new
-of_run P text parts old new means written = (written.0, written.1, (parts, means, written.2))
-
-ran_output : (text : List ℕ) (parts : ScenarioParts) (ended : Ended) (old new : Option (List ℕ)) → MeansScenario text parts → Runs parts ended old new → Writes (IsOutput text ended) old new
-ran_output text parts (Ok u) old new means runs = of_run IsTrace text parts old new means runs.done
-ran_output text parts (Err WriteFailed) old new means runs = of_run (λ s. IsBeginningOf (IsTraceOrStart s)) text parts old new means (runs.failed refl)
-ran_output text parts (Err NoMemory) old new means runs = let made = of_run IsTraceStart text parts old new means (runs.stopped tt) in (made.0, made.1, inr made.2)
-ran_output text parts (Err CountFull) old new means runs = of_run IsTraceStart text parts old new means (runs.stopped tt)
-ran_output text parts (Err TooLong) old new means runs = absurd runs.faults
-ran_output text parts (Err (Refused line fault)) old new means runs = absurd runs.faults
-ran_output text parts (Err (CommandLine error)) old new means runs = absurd runs.faults
-ran_output text parts (Err WordsNotUtf8) old new means runs = absurd runs.faults
-ran_output text parts (Err ReadFailed) old new means runs = absurd runs.faults
-
-ran_due : (text : List ℕ) (parts : ScenarioParts) (ended : Ended) → IsWithin text → MeansScenario text parts → IfErr ended IsRunFault → IsDue text ended ⊎ IsHindered ended
-ran_due text parts (Ok u) within means faults = inl (within, (parts, means))
-ran_due text parts (Err TooLong) within means faults = absurd faults
-ran_due text parts (Err (Refused line fault)) within means faults = absurd faults
-ran_due text parts (Err (CommandLine error)) within means faults = absurd faults
-ran_due text parts (Err WordsNotUtf8) within means faults = absurd faults
-ran_due text parts (Err ReadFailed) within means faults = absurd faults
-ran_due text parts (Err WriteFailed) within means faults = inr tt
-ran_due text parts (Err NoMemory) within means faults = inr tt
-ran_due text parts (Err CountFull) within means faults = inr tt
-
-ran_ends : (parts : ScenarioParts) (ended : Ended) → IfErr ended IsRunFault → EndsBy (Ok parts) ended
-ran_ends parts (Ok u) faults = inl refl
-ran_ends parts (Err TooLong) faults = absurd faults
-ran_ends parts (Err (Refused line fault)) faults = absurd faults
-ran_ends parts (Err (CommandLine error)) faults = absurd faults
-ran_ends parts (Err WordsNotUtf8) faults = absurd faults
-ran_ends parts (Err ReadFailed) faults = absurd faults
-ran_ends parts (Err WriteFailed) faults = inr tt
-ran_ends parts (Err NoMemory) faults = inr tt
-ran_ends parts (Err CountFull) faults = inr tt
+-- a run of the text's scenario is an ending of the session
+run_ending : (text : List ℕ) (parts : ScenarioParts) (ended : Ended) (out : List ℕ) → IsWithin text → MeansScenario text parts → IsOneFlow parts → IsRunOutput (opening parts) ended out → IsEnding text ended out
+run_ending text parts (Ok u) out within means one made = (within, (parts, means, one, made))
+run_ending text parts (Err CountFull) out within means one made = (within, (parts, means, one, made))
+run_ending text parts (Err WriteFailed) out within means one made = (within, (parts, means, one, made))
+run_ending text parts (Err NoMemory) out within means one made = inr (within, (parts, means, one, made))
+run_ending text parts _ out within means one made = absurd made
 
 -- the text means a scenario, which was run
-pub ran : (text : List ℕ) (parts : ScenarioParts) (made : Assembled) (ended : Ended) (old new : Option (List ℕ)) → IsWithin text → made ≡ Ok parts → Assembles text made → Runs parts ended old new
-    → IsSession text ended old new
-ran text parts made ended old new within is says runs =
-    let P : Assembled → Type 0 = λ m. IfOk m (MeansScenario text) in
-    let means : MeansScenario text parts = subst P is says.scenario in
+pub ran : (text : List ℕ) (parts : ScenarioParts) (made : Assembled) (ended : Ended) (old new : Option (List ℕ)) → IsWithin text → made ≡ Ok parts → Assembles text made
+    → IsOneFlow parts → Writes (IsRunOutput (opening parts) ended) old new → IsSession text ended old new
+ran text parts made ended old new within is says one written =
+    let means : MeansScenario text parts = subst (λ m. IfOk m (MeansScenario text)) is says.scenario in
     record {
-      due = ran_due text parts ended within means runs.faults;
-      only_due = λ other due. no_other text made ended other within says (by (Ok parts) made ended (sym is) (ran_ends parts ended runs.faults)) due;
-      written = ran_output text parts ended old new means runs;
+      ending = (written.0, written.1, run_ending text parts ended written.0 within means one written.2);
+      only_due = λ other due. no_other text made ended other written.0 within says (by (Ok parts) made ended written.0 (sym is) (inl (one, written.2))) due;
+    }
+
+-- the text means a scenario that is not run, and nothing was written
+pub not_run : (text : List ℕ) (parts : ScenarioParts) (made : Assembled) (known : Option (List ℕ)) → IsWithin text → made ≡ Ok parts → Assembles text made
+    → ¬ IsOneFlow parts → IsSession text (Err NotSimulated) known known
+not_run text parts made known within is says other =
+    let means : MeansScenario text parts = subst (λ m. IfOk m (MeansScenario text)) is says.scenario in
+    record {
+      ending = ([], appends_nothing known, (within, (parts, means, other), refl));
+      only_due = λ another due. no_other text made (Err NotSimulated) another [] within says (by (Ok parts) made (Err NotSimulated) [] (sym is) (inr (other, refl))) due;
     }
 
 -- the text was refused, and nothing was written
 pub refused : (text : List ℕ) (fault : AsmFault) (made : Assembled) (known : Option (List ℕ)) → IsWithin text → made ≡ Err fault → Assembles text made → IsSession text (Err (of_text fault)) known known
 refused text (At number fault) made known within is says =
     record {
-      due = inl (within, says.fault number fault is);
-      only_due = λ other due. no_other text made (Err (Refused number fault)) other within says (by (Err (At number fault)) made (Err (Refused number fault)) (sym is) refl) due;
-      written = ([], appends_nothing known, refl);
+      ending = ([], appends_nothing known, (within, says.fault number fault is, refl));
+      only_due = λ other due. no_other text made (Err (Refused number fault)) other [] within says (by (Err (At number fault)) made (Err (Refused number fault)) [] (sym is) refl) due;
     }
-refused text text_NoMemory made known within is says = record { due = inr tt; only_due = λ other due. inr tt; written = ([], appends_nothing known, inl refl) }
+refused text text_NoMemory made known within is says = record { ending = ([], appends_nothing known, inl refl); only_due = λ other due. inr tt }
 
 -- a text that is too long has no other end
 too_long_only : (text : List ℕ) → 16777216 < length text → (other : Ended) → IsDue text other → (Err TooLong ≡ other) ⊎ IsHindered (Err TooLong)
-too_long_only text long (Ok u) due = absurd (omega (arith, long, due.0))
 too_long_only text long (Err TooLong) due = inl refl
-too_long_only text long (Err (Refused line fault)) due = absurd (omega (arith, long, due.0))
-too_long_only text long (Err (CommandLine error)) due = absurd due
-too_long_only text long (Err WordsNotUtf8) due = absurd due
-too_long_only text long (Err ReadFailed) due = absurd due
-too_long_only text long (Err WriteFailed) due = absurd due
-too_long_only text long (Err NoMemory) due = absurd due
-too_long_only text long (Err CountFull) due = absurd due
+too_long_only text long (Err ReadFailed) due = absurd (due.0 tt)
+too_long_only text long (Err WriteFailed) due = absurd (due.0 tt)
+too_long_only text long (Err NoMemory) due = absurd (due.0 tt)
+too_long_only text long _ due = let within = due.1.1.0 in absurd (omega (arith, long, within))
 
 -- the input was not read, and nothing was written
-unread_text : (text : List ℕ) (fault : SessionFault) (known : Option (List ℕ)) → (IsErrOf {T = Unit {0}} (Err fault) TooLong → 16777216 < length text) → IsReadFault fault → IsSession text (Err fault) known known
-unread_text text TooLong known long faults =
-    record {
-      due = inl (long refl);
-      only_due = too_long_only text (long refl);
-      written = ([], appends_nothing known, refl);
-    }
-unread_text text ReadFailed known long faults = record { due = inr tt; only_due = λ other due. inr tt; written = ([], appends_nothing known, refl) }
-unread_text text NoMemory known long faults = record { due = inr tt; only_due = λ other due. inr tt; written = ([], appends_nothing known, inl refl) }
-unread_text text (Refused line fault) known long faults = absurd faults
-unread_text text (CommandLine error) known long faults = absurd faults
-unread_text text WordsNotUtf8 known long faults = absurd faults
-unread_text text WriteFailed known long faults = absurd faults
-unread_text text CountFull known long faults = absurd faults
+pub unread_text : (text : List ℕ) (fault : SessionFault) (known : Option (List ℕ)) → IsReadFault text fault → IsSession text (Err fault) known known
+unread_text text TooLong known long = record { ending = ([], appends_nothing known, (long, refl)); only_due = too_long_only text long }
+unread_text text ReadFailed known reads = record { ending = ([], appends_nothing known, refl); only_due = λ other due. inr tt }
+unread_text text NoMemory known reads = record { ending = ([], appends_nothing known, inl refl); only_due = λ other due. inr tt }
+unread_text text _ known reads = absurd reads

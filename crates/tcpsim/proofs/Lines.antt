@@ -1,21 +1,26 @@
 -- The lines that a net has made.
-use Rattle.std.proofs.Common.{◌≡◌, ℕ, ◌+◌, suc, List, [], ◌∷◌, ◌++◌, length, refl, sym, ◌∙◌, ap, subst, append_assoc, arith, length-append, Option, None, Some, inl, inr, Result, Ok, Err, OnOk, IfErr}
+use Rattle.std.proofs.Common.{◌≡◌, ◌≢◌, ℕ, ◌+◌, ◌≤◌, suc, List, [], ◌∷◌, ◌++◌, length, refl, sym, ◌∙◌, ap, subst, append_assoc, arith, length-append, Option, None, Some, inl, inr, Ok, Err}
 use Rattle.std.proofs.lemmas.List.{append-nil}
 use Rattle.std.proofs.lemmas.Grind.{flat_map-append}
 use Rattle.std.specs.List.{flat_map, enumerate_from}
 use Rattle.std.specs.Option.{option_map, option_and_then}
 use Rattle.std.specs.Io.KnownBytes.{Appends}
-use Rattle.net_machine.specs.State.{State, run, step, one_more}
+use Rattle.sim_time.specs.declared.key.Key.{Key}
+use Rattle.net_machine.specs.declared.event.Event.{Event}
+use Rattle.net_machine.specs.declared.net.StepFault.{StepFault}
+use Rattle.net_machine.specs.declared.net.StepFault.TheVariants.{NoMemory as step_NoMemory, CountFull as step_CountFull}
+use Rattle.net_machine.specs.State.{State, due, run, step, step_at, one_more}
 use Rattle.net_machine.specs.Run.{Reached, Stepped}
 use Rattle.net_machine.specs.TraceLine.{TraceLine, shown}
 use Rattle.net_machine.specs.declared.line.Line.{Line}
 use Rattle.trace_text.specs.Line.{line_bytes}
 use Rattle.trace_text.specs.End.{end_bytes}
-use Rattle.tcpsim.specs.Trace.{lines_bytes, IsTrace, IsTraceStart, IsTraceOrStart}
-use Rattle.tcpsim.specs.declared.fault.SessionFault.{SessionFault}
+use Rattle.tcpsim.specs.Trace.{lines_bytes, IsTrace, IsTraceStart, IsFullTrace, IsTraceOrStart}
 use Rattle.tcpsim.specs.declared.fault.SessionFault.TheVariants.{TooLong, Refused, CommandLine, WordsNotUtf8, ReadFailed, WriteFailed, NoMemory, CountFull}
-use Rattle.tcpsim.specs.Steps.{IsRunFault, IsShortOfRoom}
+use Rattle.tcpsim.specs.Faults.{of_step}
+use Rattle.tcpsim.specs.Ended.{Ended, IsRunOutput}
 use Rattle.tcpsim.specs.Written.{Writes, WritesBefore, IsBeginningOf}
+use Rattle.tcpsim.proofs.Options.{some_none}
 use Rattle.tcpsim.proofs.Bytes.{appends_nothing, appends_more}
 
 -- a net that started in this state has made these bytes
@@ -62,9 +67,21 @@ at_next s old new made x at h =
 pub start_of : (s : State) (net : Reached) (made : List ℕ) → IsAt s net made → IsTraceStart s made
 start_of s net made at = record { n = net.position; lines = at.lines; last = net.state; is_run = at.is_run; bytes_are = at.made_are }
 
-pub trace_of : (s : State) (net : Reached) (made : List ℕ) → IsAt s net made → step net.state ≡ None → IsTrace s (made ++ end_bytes net.position)
-trace_of s net made at last =
-    record { n = net.position; lines = at.lines; last = net.state; is_run = at.is_run; final = last; bytes_are = ap (λ l. l ++ end_bytes net.position) at.made_are }
+pub trace_of : (s : State) (net : Reached) (made : List ℕ) → IsAt s net made → net.position ≤ 1000000000000000 → step net.state ≡ None → IsTrace s (made ++ end_bytes net.position)
+trace_of s net made at few last =
+    record { n = net.position; few = few; lines = at.lines; last = net.state; is_run = at.is_run; final = last; bytes_are = ap (λ l. l ++ end_bytes net.position) at.made_are }
+
+-- where an event is due, a step is possible
+due_steps : (s : State) → due s ≢ None → step s ≢ None
+due_steps s more = go (due s) more
+  where
+    go : (d : Option (Key × Event)) → d ≢ None → option_map (step_at s) d ≢ None
+    go None h e = h refl
+    go (Some entry) h e = absurd (some_none (step_at s entry) e)
+
+full_of : (s : State) (net : Reached) (made : List ℕ) → IsAt s net made → net.position ≡ 1000000000000000 → due net.state ≢ None → IsFullTrace s made
+full_of s net made at full more =
+    record { n = net.position; full = full; lines = at.lines; last = net.state; is_run = at.is_run; more = due_steps net.state more; bytes_are = at.made_are }
 
 -- what a net has made was written, or waits
 abbrev pub Made : State → Reached → List ℕ → Option (List ℕ) → Option (List ℕ) → Type 0
@@ -96,12 +113,18 @@ made_so_far s net page page' a b made e =
     subst P (sym e) (made.0, made.1, start_of s net (made.0 ++ page) made.2)
 
 -- no event is due, and the last line was added
-pub made_all : (s : State) (net : Reached) (page page' : List ℕ) (a b : Option (List ℕ)) → Made s net page a b → step net.state ≡ None → page' ≡ page ++ end_bytes net.position
+pub made_all : (s : State) (net : Reached) (page page' : List ℕ) (a b : Option (List ℕ)) → Made s net page a b → net.position ≤ 1000000000000000 → step net.state ≡ None → page' ≡ page ++ end_bytes net.position
     → WritesBefore page' (IsTrace s) a b
-made_all s net page page' a b made h e =
+made_all s net page page' a b made few h e =
     let P : List ℕ → Type 0 = IsTrace s in
     let same : (made.0 ++ page) ++ end_bytes net.position ≡ made.0 ++ page' = append_assoc made.0 page (end_bytes net.position) ∙ ap (λ l. made.0 ++ l) (sym e) in
-    (made.0, made.1, subst P same (trace_of s net (made.0 ++ page) made.2 h))
+    (made.0, made.1, subst P same (trace_of s net (made.0 ++ page) made.2 few h))
+
+-- a step was refused, and the lines so far wait
+pub made_refused : (s : State) (net : Reached) (page : List ℕ) (fault : StepFault) (a b : Option (List ℕ)) → Made s net page a b
+    → (fault ≡ step_CountFull → (due net.state ≢ None) × (net.position ≡ 1000000000000000)) → WritesBefore page (IsRunOutput s (Err (of_step fault))) a b
+made_refused s net page step_NoMemory a b made full = (made.0, made.1, start_of s net (made.0 ++ page) made.2)
+made_refused s net page step_CountFull a b made full = (made.0, made.1, full_of s net (made.0 ++ page) made.2 (full refl).1 (full refl).0)
 
 -- bytes of this kind were to be written, and the writer failed
 pub begun : (P Q : List ℕ → Type 0) (page : List ℕ) (a b c : Option (List ℕ)) → ((l : List ℕ) → P l → Q l) → WritesBefore page P a b → Writes (IsBeginningOf (λ all. all ≡ page)) b c
@@ -118,42 +141,22 @@ written P page a b c made h = (made.0 ++ page, appends_more a b c made.0 page ma
 pub nothing_yet : (s : State) (known : Option (List ℕ)) → Writes (IsTraceStart s) known known
 nothing_yet s known = ([], appends_nothing known, record { n = 0; lines = []; last = s; is_run = refl; bytes_are = refl })
 
--- the lines so far were written
-pub stopped : (r : Result (Unit {0}) SessionFault) (s : State) (page : List ℕ) (a b : Option (List ℕ)) → WritesBefore page (IsTraceStart s) a b
-    → IfErr r (λ fault. IsShortOfRoom fault → WritesBefore page (IsTraceStart s) a b)
-stopped (Ok u) s page a b h = tt
-stopped (Err fault) s page a b h = λ _. h
-
-pub stopped_first : (r : Result (Unit {0}) SessionFault) (s : State) (a : Option (List ℕ)) → IfErr r (λ fault. IsShortOfRoom fault → Writes (IsTraceStart s) a a)
-stopped_first (Ok u) s a = tt
-stopped_first (Err fault) s a = λ _. nothing_yet s a
-
 -- the line could not be added
 pub line_written : (s : State) (net : Reached) (page : List ℕ) (a b c : Option (List ℕ)) → Made s net page a b → Writes (IsBeginningOf (λ all. all ≡ page)) b c → Writes (IsBeginningOf (IsTraceOrStart s)) a c
 line_written s net page a b c made part = begun (IsAt s net) (IsTraceOrStart s) page a b c (λ l at. inr (start_of s net l at)) made part
 
--- the run ended, and the page was written
-pub all_done : (r : Result (Unit {0}) SessionFault) (s : State) (page : List ℕ) (a b c : Option (List ℕ)) → OnOk r (WritesBefore page (IsTrace s) a b) → Appends b c page → OnOk r (Writes (IsTrace s) a c)
-all_done (Ok u) s page a b c h k = written (IsTrace s) page a b c h k
-all_done (Err fault) s page a b c h k = tt
-
-pub all_stopped : (r : Result (Unit {0}) SessionFault) (s : State) (page : List ℕ) (a b c : Option (List ℕ)) → IfErr r (λ fault. IsShortOfRoom fault → WritesBefore page (IsTraceStart s) a b) → Appends b c page
-    → IfErr r (λ fault. IsShortOfRoom fault → Writes (IsTraceStart s) a c)
-all_stopped (Ok u) s page a b c h k = tt
-all_stopped (Err fault) s page a b c h k = λ short. written (IsTraceStart s) page a b c (h short) k
+-- but for a writer that failed, a run has written a trace or its first lines
+trace_or_start : (r : Ended) (s : State) (out : List ℕ) → r ≢ Err WriteFailed → IsRunOutput s r out → IsTraceOrStart s out
+trace_or_start (Ok u) s out other made = inl made
+trace_or_start (Err NoMemory) s out other made = inr made
+trace_or_start (Err CountFull) s out other made = inr (record { n = made.n; lines = made.lines; last = made.last; is_run = made.is_run; bytes_are = made.bytes_are })
+trace_or_start (Err WriteFailed) s out other made = absurd (other refl)
+trace_or_start _ s out other made = absurd made
 
 -- the run ended, and the writer failed at the page
-pub all_failed : (r : Result (Unit {0}) SessionFault) (s : State) (page : List ℕ) (a b c : Option (List ℕ)) → (r ≡ Err WriteFailed → ⊥) → OnOk r (WritesBefore page (IsTrace s) a b)
-    → IfErr r (λ fault. IsShortOfRoom fault → WritesBefore page (IsTraceStart s) a b) → IfErr r IsRunFault → Writes (IsBeginningOf (λ all. all ≡ page)) b c → Writes (IsBeginningOf (IsTraceOrStart s)) a c
-all_failed (Ok u) s page a b c other done short faults part = begun (IsTrace s) (IsTraceOrStart s) page a b c (λ l h. inl h) done part
-all_failed (Err NoMemory) s page a b c other done short faults part = begun (IsTraceStart s) (IsTraceOrStart s) page a b c (λ l h. inr h) (short tt) part
-all_failed (Err CountFull) s page a b c other done short faults part = begun (IsTraceStart s) (IsTraceOrStart s) page a b c (λ l h. inr h) (short tt) part
-all_failed (Err WriteFailed) s page a b c other done short faults part = absurd (other refl)
-all_failed (Err TooLong) s page a b c other done short faults part = absurd faults
-all_failed (Err (Refused line fault)) s page a b c other done short faults part = absurd faults
-all_failed (Err (CommandLine error)) s page a b c other done short faults part = absurd faults
-all_failed (Err WordsNotUtf8) s page a b c other done short faults part = absurd faults
-all_failed (Err ReadFailed) s page a b c other done short faults part = absurd faults
+pub page_failed : (r : Ended) (s : State) (page : List ℕ) (a b c : Option (List ℕ)) → r ≢ Err WriteFailed → WritesBefore page (IsRunOutput s r) a b → Writes (IsBeginningOf (λ all. all ≡ page)) b c
+    → Writes (IsBeginningOf (IsTraceOrStart s)) a c
+page_failed r s page a b c other made part = begun (IsRunOutput s r) (IsTraceOrStart s) page a b c (λ l. trace_or_start r s l other) made part
 
 -- what a step answered
 pub stepped_some : (old new : Reached) (o : Option Line) (line : Line) → o ≡ Some line → Stepped old (option_map shown o) new → Stepped old (Some (shown line)) new
@@ -169,9 +172,10 @@ made_line_at s old new page page' o line n a b made is h count e =
     made_line s old new page page' (shown line) a b made (stepped_some old new o line is h) (e ∙ ap (λ k. page ++ line_bytes k (shown line)) count)
 
 -- the end, with the number as the code has it
-pub made_end : (s : State) (old new : Reached) (page page' : List ℕ) (o : Option Line) (n : ℕ) (a b : Option (List ℕ)) → Made s old page a b → o ≡ None → Stepped old (option_map shown o) new
-    → n ≡ new.position → page' ≡ page ++ end_bytes n → WritesBefore page' (IsTrace s) a b
-made_end s old new page page' o n a b made is h count e =
+pub made_end : (s : State) (old new : Reached) (page page' : List ℕ) (o : Option Line) (n : ℕ) (a b : Option (List ℕ)) → Made s old page a b → new.position ≤ 1000000000000000 → o ≡ None
+    → Stepped old (option_map shown o) new → n ≡ new.position → page' ≡ page ++ end_bytes n → WritesBefore page' (IsTrace s) a b
+made_end s old new page page' o n a b made few is h count e =
     let last = stepped_none old new o is h in
-    let same : n ≡ old.position = count ∙ ap (λ (r : Reached). r.position) last.1 in
-    made_all s old page page' a b made last.0 (e ∙ ap (λ k. page ++ end_bytes k) same)
+    let stays : new.position ≡ old.position = ap (λ (r : Reached). r.position) last.1 in
+    let few_old : old.position ≤ 1000000000000000 = omega (arith, few, stays) in
+    made_all s old page page' a b made few_old last.0 (e ∙ ap (λ k. page ++ end_bytes k) (count ∙ stays))

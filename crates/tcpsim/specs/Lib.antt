@@ -1,7 +1,10 @@
 pub mod Written
+pub mod Failures
+pub mod Streams
+pub mod Over
 pub mod Faults
 pub mod Trace
-pub mod Steps
+pub mod Ended
 pub mod Outcome
 pub mod Session
 pub mod CommandLine

@@ -1,62 +1,49 @@
 -- What a session of `run` comes to, by the bytes of its input.
-use Rattle.std.specs.Prelude.{◌≡◌, ◌⊎◌, ◌<◌, ◌≤◌, ℕ, List, [], length, Option, Result, Ok, Err, IfSome}
+use Rattle.std.specs.Prelude.{◌≡◌, ◌⊎◌, ◌<◌, ◌≤◌, ℕ, List, [], length, Option, Err}
 use Rattle.tcpsim.specs.declared.outcome.Outcome.{Outcome}
 use Rattle.tcpsim.specs.Outcome.{outcome_of}
 use Rattle.scenario_image.specs.declared.parts.ScenarioParts.{ScenarioParts}
-use Rattle.net_machine.specs.State.{State, opening}
+use Rattle.net_machine.specs.OneFlow.{IsOneFlow}
+use Rattle.net_machine.specs.State.{opening}
 use Rattle.scenario_asm.specs.Meaning.{MeansScenario, MeansFault}
-use Rattle.tcpsim.specs.declared.fault.SessionFault.{SessionFault}
-use Rattle.tcpsim.specs.declared.fault.SessionFault.TheVariants.{TooLong, Refused, CommandLine, WordsNotUtf8, ReadFailed, WriteFailed, NoMemory, CountFull}
-use Rattle.tcpsim.specs.Trace.{IsTrace, IsTraceStart, IsTraceOrStart}
-use Rattle.tcpsim.specs.Written.{Writes, IsBeginningOf}
-
-abbrev pub Ended : Type 0
-Ended = Result (Unit {0}) SessionFault
+use Rattle.tcpsim.specs.declared.fault.SessionFault.TheVariants.{TooLong, Refused, NotSimulated, ReadFailed, NoMemory}
+use Rattle.tcpsim.specs.Ended.{Ended, IsHindered, IsRunOutput, reads_after, writes_after}
+use Rattle.tcpsim.specs.Streams.{Streams, IsTextOf}
+use Rattle.tcpsim.specs.Written.{Writes}
 
 -- no more bytes than a text may have
 abbrev pub IsWithin : List ℕ → Type 0
 IsWithin text = length text ≤ 16777216
 
--- the end of a session that nothing hinders: the text is too long, has this first fault, or means a scenario
+-- the text means a scenario of the form that is run, whose run ended so and wrote this
+abbrev pub IsOfRun : List ℕ → Ended → List ℕ → Type 0
+IsOfRun text ended out = IsWithin text × ((p : ScenarioParts) × MeansScenario text p × IsOneFlow p × IsRunOutput (opening p) ended out)
+
+-- why a session on this text ends so, and what it has written by then: each end has its row
+abbrev pub IsEnding : List ℕ → Ended → List ℕ → Type 0
+IsEnding text (Err TooLong) out = (16777216 < length text) × (out ≡ [])
+IsEnding text (Err (Refused line fault)) out = IsWithin text × MeansFault text line fault × (out ≡ [])
+IsEnding text (Err NotSimulated) out = IsWithin text × ((p : ScenarioParts) × MeansScenario text p × ¬ IsOneFlow p) × (out ≡ [])
+IsEnding text (Err ReadFailed) out = out ≡ []
+IsEnding text (Err NoMemory) out = (out ≡ []) ⊎ IsOfRun text (Err NoMemory) out
+IsEnding text ended out = IsOfRun text ended out
+
+-- the end that the text has where nothing hinders it
 abbrev pub IsDue : List ℕ → Ended → Type 0
-IsDue text (Ok done) = IsWithin text × ((p : ScenarioParts) × MeansScenario text p)
-IsDue text (Err TooLong) = 16777216 < length text
-IsDue text (Err (Refused line fault)) = IsWithin text × MeansFault text line fault
-IsDue text (Err other) = ⊥
+IsDue text ended = ¬ IsHindered ended × ((out : List ℕ) × IsEnding text ended out)
 
--- the input could not be read, the output could not be written, or there was no room to go on
-abbrev pub IsHindered : Ended → Type 0
-IsHindered (Ok done) = ⊥
-IsHindered (Err TooLong) = ⊥
-IsHindered (Err (Refused line fault)) = ⊥
-IsHindered (Err (CommandLine error)) = ⊥
-IsHindered (Err WordsNotUtf8) = ⊥
-IsHindered (Err ReadFailed) = Unit {0}
-IsHindered (Err WriteFailed) = Unit {0}
-IsHindered (Err NoMemory) = Unit {0}
-IsHindered (Err CountFull) = Unit {0}
-
--- bytes of this kind, from the opening state of the scenario that the text means
-abbrev pub IsOfRun : (State → List ℕ → Type 0) → List ℕ → List ℕ → Type 0
-IsOfRun P text out = (p : ScenarioParts) × MeansScenario text p × P (opening p) out
-
--- what a session that ended so has written: the whole trace, the lines of its first events, a part of the trace, or nothing
-abbrev pub IsOutput : List ℕ → Ended → List ℕ → Type 0
-IsOutput text (Ok done) out = IsOfRun IsTrace text out
-IsOutput text (Err WriteFailed) out = IsOfRun (λ s. IsBeginningOf (IsTraceOrStart s)) text out
-IsOutput text (Err NoMemory) out = (out ≡ []) ⊎ IsOfRun IsTraceStart text out
-IsOutput text (Err CountFull) out = IsOfRun IsTraceStart text out
-IsOutput text (Err other) out = out ≡ []
-
--- a session on this input ended so, and its writer held the first bytes before it and holds the second now
+-- a session on this text ended so, and its writer held the first bytes before it and holds the second now
 pub record IsSession (text : List ℕ) (ended : Ended) (old new : Option (List ℕ)) : Type 0 where
-  pub due : IsDue text ended ⊎ IsHindered ended
+  pub ending : Writes (IsEnding text ended) old new
   pub only_due : (other : Ended) → IsDue text other → (ended ≡ other) ⊎ IsHindered ended
-  pub written : Writes (IsOutput text ended) old new
 
--- the same, where the reader's bytes are known
-abbrev pub IsSessionOn : Option (List ℕ) → Ended → Option (List ℕ) → Option (List ℕ) → Type 0
-IsSessionOn input ended old new = IfSome input (λ text. IsSession text ended old new)
+-- a session on the text that the reader gives; reading failed exactly where it ended for that, and writing too
+pub record IsSessionOn (input : Option (List ℕ)) (ended : Ended) (before after : Streams) : Type 0 where
+  pub text : List ℕ
+  pub given : IsTextOf input text
+  pub session : IsSession text ended before.written after.written
+  pub reads : after.read_failures ≡ reads_after ended before.read_failures
+  pub writes : after.write_failures ≡ writes_after ended before.write_failures
 
 -- a session that ended so is told by this outcome
 abbrev pub Tells : Outcome → (Ended → Type 0) → Type 0

@@ -1,5 +1,5 @@
 -- The trace of a run, as bytes.
-use Rattle.std.specs.Prelude.{◌≡◌, ℕ, List, ◌++◌, ◌⊎◌, Some, None}
+use Rattle.std.specs.Prelude.{◌≡◌, ◌≢◌, ◌≤◌, ℕ, List, ◌++◌, ◌⊎◌, Some, None}
 use Rattle.std.specs.List.{flat_map, enumerate_from}
 use Rattle.net_machine.specs.State.{State, run, step}
 use Rattle.net_machine.specs.TraceLine.{TraceLine}
@@ -18,14 +18,25 @@ pub record IsTraceStart (s : State) (bytes : List ℕ) : Type 0 where
   pub is_run : run s n ≡ Some (lines, last)
   pub bytes_are : bytes ≡ lines_bytes lines
 
--- the lines of all n events of the run from a state, no further event being due, and the last line
+-- the lines of all n events of the run from a state, at most 10^15 and no further one being due, and the last line
 pub record IsTrace (s : State) (bytes : List ℕ) : Type 0 where
   pub n : ℕ
+  pub few : n ≤ 1000000000000000
   pub lines : List TraceLine
   pub last : State
   pub is_run : run s n ≡ Some (lines, last)
   pub final : step last ≡ None
   pub bytes_are : bytes ≡ lines_bytes lines ++ end_bytes n
+
+-- the lines of 10^15 events of the run from a state, one more being due
+pub record IsFullTrace (s : State) (bytes : List ℕ) : Type 0 where
+  pub n : ℕ
+  pub full : n ≡ 1000000000000000
+  pub lines : List TraceLine
+  pub last : State
+  pub is_run : run s n ≡ Some (lines, last)
+  pub more : step last ≢ None
+  pub bytes_are : bytes ≡ lines_bytes lines
 
 -- a trace, or its lines for the first events
 abbrev pub IsTraceOrStart : State → List ℕ → Type 0

@@ -2,6 +2,8 @@
 ghost use Rattle.std.specs.Prelude.{◌≡◌};
 ghost use Rattle.tcpsim.specs.Faults.{status_of};
 
+use crate::sink::SinkFail;
+use crate::source::SourceFail;
 use net_machine::StepFault;
 use scenario_asm::{AsmFault, Fault};
 use std::alloc::{AllocError, AllocFailed};
@@ -20,6 +22,8 @@ pub enum SessionFault {
         /// What is wrong there.
         fault: Fault,
     },
+    /// The text means a scenario of another form than is run today.
+    NotSimulated,
     /// The command line is not one of this program.
     CommandLine(clap::Error),
     /// A word of the command line is not UTF-8.
@@ -40,7 +44,7 @@ impl SessionFault {
         ensures { result ≡ status_of self.now }
     {
         match self {
-            SessionFault::TooLong | SessionFault::Refused { .. } => 1,
+            SessionFault::TooLong | SessionFault::Refused { .. } | SessionFault::NotSimulated => 1,
             SessionFault::CommandLine(_) | SessionFault::WordsNotUtf8 => 2,
             SessionFault::ReadFailed | SessionFault::WriteFailed => 3,
             SessionFault::NoMemory | SessionFault::CountFull => 4,
@@ -60,6 +64,7 @@ impl fmt::Display for SessionFault {
                 let code = fault.code();
                 write!(f, "refused {code} line {line}\n")
             }
+            SessionFault::NotSimulated => f.write_str("not simulated yet\n"),
             SessionFault::CommandLine(error) => write!(f, "{error}"),
             SessionFault::WordsNotUtf8 => f.write_str("error: a word is not valid UTF-8\n"),
             SessionFault::ReadFailed => f.write_str("read failed\n"),
@@ -79,6 +84,26 @@ impl From<AllocError> for SessionFault {
 
     fn from(_error: AllocError) -> SessionFault {
         SessionFault::NoMemory
+    }
+}
+
+impl From<SourceFail> for SessionFault {
+    ghost use Rattle.tcpsim.specs.declared.fault.SessionFault.TheVariants.{ReadFailed};
+
+    ghost from_gives = { λ _ e. e ≡ ReadFailed };
+
+    fn from(_fail: SourceFail) -> SessionFault {
+        SessionFault::ReadFailed
+    }
+}
+
+impl From<SinkFail> for SessionFault {
+    ghost use Rattle.tcpsim.specs.declared.fault.SessionFault.TheVariants.{WriteFailed};
+
+    ghost from_gives = { λ _ e. e ≡ WriteFailed };
+
+    fn from(_fail: SinkFail) -> SessionFault {
+        SessionFault::WriteFailed
     }
 }
 

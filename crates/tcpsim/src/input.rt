@@ -1,28 +1,57 @@
 //! The text that a session is given.
-ghost use Rattle.std.specs.Prelude.{◌≡◌, ◌≤◌, ◌<◌, ◌⊎◌, length, IfOk, IfErr, IfSome, IsErrOf};
+ghost use Rattle.std.specs.Prelude.{◌≡◌, ◌<◌, ◌≤◌, ◌++◌, ℕ, List, length, take, IfOk, OnErr, IfErr};
+ghost use Rattle.std.specs.Io.KnownBytes.{Consumes, IsAtEnd};
 ghost use Rattle.tcpsim.specs.Session.{IsWithin};
-ghost use Rattle.tcpsim.specs.Steps.{IsReadFault};
+ghost use Rattle.tcpsim.specs.Streams.{IsTextOf};
+ghost use Rattle.tcpsim.specs.Ended.{IsReadFault, reads_after};
 
 use crate::fault::SessionFault;
-use std::alloc::Global;
-use std::io::{ErrorKind, Read};
+use crate::source::Source;
+use std::alloc::{AllocError, Global};
 
 /// The most bytes of a text.
 const MOST_BYTES: usize = 16_777_216;
 
+/// The most bytes that are asked for at once.
+const PIECE: usize = 65_536;
+
 /// All bytes of the input, if they are few enough.
-pub(crate) fn read_text<R: Read + Drop>(alloc: Global, reader: R) -> Result<Vec<u8>, SessionFault>
-    ensures text { IfOk result (λ text. IfSome (R.remaining reader) (λ bytes. text.items ≡ bytes)) }
+pub(crate) fn read_text<R: Source>(alloc: Global, reader: &mut R) -> Result<Vec<u8>, SessionFault>
+    ensures text { IfOk result (λ text. IsTextOf (R.remaining reader.old) text.items) }
     ensures within { IfOk result (λ text. IsWithin text.items) }
-    ensures too_long { IsErrOf result SessionFault.TooLong → IfSome (R.remaining reader) (λ bytes. 16777216 < length bytes) }
-    ensures faults { IfErr result IsReadFault }
+    ensures faults { IfErr result (λ fault. (text : List ℕ) × IsTextOf (R.remaining reader.old) text × IsReadFault text fault) }
+    ensures failures { R.failures reader.new ≡ reads_after result (R.failures reader.old) }
 {
+    let mut room = room_for_piece(alloc)?;
     let mut text = Vec::new(alloc);
-    let read = reader.take(MOST_BYTES as u64 + 1).read_to_end(&mut text);
-    match read {
-        Ok(_) if text.len() <= MOST_BYTES => Ok(text),
-        Ok(_) => Err(SessionFault::TooLong),
-        Err(error) if error.kind() == ErrorKind::OutOfMemory => Err(SessionFault::NoMemory),
-        Err(_) => Err(SessionFault::ReadFailed),
+    while text.len() <= MOST_BYTES {
+        if read_piece(reader, room.as_mut_slice(), &mut text)? == 0 {
+            return Ok(text);
+        }
     }
+    Err(SessionFault::TooLong)
+}
+
+/// Room for a piece of the input.
+fn room_for_piece(alloc: Global) -> Result<Vec<u8>, AllocError>
+    ensures { IfOk result (λ room. 0 < length room.items) }
+{
+    vec![in alloc; 0; PIECE]
+}
+
+/// Adds the next piece of the input to the text and answers its length, which is 0 at the end.
+fn read_piece<R: Source>(
+    reader: &mut R,
+    room: &mut [u8],
+    text: &mut Vec<u8>,
+) -> Result<usize, SessionFault>
+    requires { 0 < length room.old }
+    ensures piece { IfOk result (λ count. (piece : List ℕ) × (text.new.items ≡ text.old.items ++ piece) × (length piece ≡ count) × Consumes (R.remaining reader.old) (R.remaining reader.new) piece) }
+    ensures end { IfOk result (λ count. count ≡ 0 → IsAtEnd (R.remaining reader.new)) }
+    ensures faults { IfErr result (λ fault. (text : List ℕ) → IsReadFault text fault) }
+    ensures failures { R.failures reader.new ≡ reads_after result (R.failures reader.old) }
+{
+    let count = reader.get(room)?;
+    text.extend_from_slice(&room[..count])?;
+    Ok(count)
 }

@@ -2,18 +2,22 @@
 #![tactic(auto)]
 
 pub mod command_line;
-mod fault;
+pub mod fault;
 mod input;
-mod outcome;
+pub mod outcome;
 mod output;
-mod session;
+pub mod session;
+pub mod sink;
+pub mod source;
 #[cfg(test)]
 mod tests;
-mod trace;
+pub mod trace;
 
 use crate::fault::SessionFault;
 use crate::outcome::Outcome;
 use crate::session::run_all;
+use crate::sink::OverWrite;
+use crate::source::OverRead;
 use std::env;
 use std::io::ErrorKind;
 use std::process::ExitCode;
@@ -30,7 +34,11 @@ fn process_words(rt: &HostRuntime) -> Result<Vec<String>, SessionFault> {
 /// A session with the process's own words, input and output.
 fn run_process(rt: &HostRuntime) -> Outcome {
     match process_words(rt) {
-        Ok(words) => run_all(rt, rt.stdin(), &mut rt.stdout(), words.as_slice()),
+        Ok(words) => {
+            let mut input = OverRead::new(rt.stdin());
+            let mut output = OverWrite::new(rt.stdout());
+            run_all(rt, &mut input, &mut output, words.as_slice())
+        }
         Err(fault) => Outcome::from(Err(fault)),
     }
 }

@@ -1,11 +1,13 @@
-//! Whole sessions over memory.
+//! Whole sessions over memory, and what texts are refused for.
 
+mod broken;
+mod texts;
 pub(crate) mod traces;
 
 use crate::session::run_all;
+use crate::sink::OverWrite;
+use crate::source::OverRead;
 use crate::tests::traces::{DELAY_ENDS, DELAYED, LOST_ONCE, QUEUE_OF_ONE, THREE_LOSSES};
-use std::io;
-use std::io::{Read, Write};
 use std::process::Abort;
 use std::test::Fail;
 
@@ -36,7 +38,8 @@ fn expect_words(
     output: &str,
 ) -> Result<(), Fail> {
     let mut out = Vec::new(rt.alloc());
-    let outcome = run_all(rt, text, &mut out, words);
+    let mut input = OverRead::new(text);
+    let outcome = run_all(rt, &mut input, &mut OverWrite::new(&mut out), words);
     assert_eq!(rt; outcome.status, status);
     let shown = match &outcome.note {
         Some(note) => note.to_string(rt.alloc())?,
@@ -125,6 +128,48 @@ fn a_flow_runs_as_its_rules_say(rt: HostRuntime) -> Result<(), Fail> {
     Ok(())
 }
 
+/// Data goes to and fro between two routers, and there is no way back.
+const TO_AND_FRO: &str = "\
+sim 1000
+node s sender
+node p router
+node q router
+node r receiver
+link a s p 1000000 10 droptail 5
+link b p q 1000000 10 droptail 5
+link c q p 1000000 10 droptail 5
+link d p s 1000000 10 droptail 5
+link e r p 1000000 10 droptail 5
+flow f s r 100 1 0 1000 0
+route p r b
+route q r c
+";
+
+/// A flow over a router.
+const OVER_A_ROUTER: &str = "\
+sim 1000
+node s sender
+node p router
+node r receiver
+link a s p 1000000 10 droptail 5
+link b p r 1000000 10 droptail 5
+link c p s 1000000 10 droptail 5
+link d r p 1000000 10 droptail 5
+flow f s r 100 1 0 1000 0
+route p r b
+route p s c
+";
+
+/// A flow whose data goes through a queue with CoDel.
+const WITH_CODEL: &str = "\
+sim 1000
+node s sender
+node r receiver
+link a s r 1000000 10 codel 5 5000000 100000000 1500
+link b r s 1000000 10 droptail 5
+flow f s r 100 1 0 1000 0
+";
+
 #[test]
 fn a_refused_text_has_its_first_fault_in_the_note(rt: HostRuntime) -> Result<(), Fail> {
     for (text, note) in [
@@ -136,106 +181,42 @@ fn a_refused_text_has_its_first_fault_in_the_note(rt: HostRuntime) -> Result<(),
             "sim 5\nnode a sender\nlink x a a 1000 1 droptail 1",
             "refused E8 line 3\n",
         ),
-        ("sim 5\nnode a sender\nnode b router", "refused S1 line 3\n"),
     ] {
         expect_run(&rt, text, 1, note, "")?;
     }
     Ok(())
 }
 
-/// As many LF.
-fn expect_line_feeds(
-    rt: &(impl Abort + AllocGlobal),
-    count: usize,
-    note: &str,
-) -> Result<(), Fail> {
-    let text = vec![in rt.alloc(); b'\n'; count]?;
-    expect_words(rt, &["tcpsim", "run"], text.as_slice(), 1, note, "")
+#[test]
+fn a_way_that_breaks_is_told_before_one_that_returns(rt: HostRuntime) -> Result<(), Fail> {
+    expect_run(&rt, TO_AND_FRO, 1, "refused L7 line 0\n", "")?;
+    let with_a_way_back = format!(in rt.alloc(); "{TO_AND_FRO}route p s d\n")?;
+    expect_run(&rt, with_a_way_back.as_str(), 1, "refused L8 line 0\n", "")
 }
 
 #[test]
-fn a_text_has_at_most_16_mebibytes(rt: HostRuntime) -> Result<(), Fail> {
-    expect_line_feeds(&rt, 16_777_216, "refused E10 line 0\n")?;
-    expect_line_feeds(&rt, 16_777_217, "refused I1\n")
-}
-
-/// Takes so many bytes at most, in pieces of at most 7, and then fails.
-#[derive(Drop)]
-struct Narrow {
-    taken: Vec<u8>,
-    room: usize,
-}
-
-impl Write for Narrow {
-    fn write(&mut self, buf: &[u8]) -> io::Result<usize> {
-        if self.room == 0 {
-            return Err(io::Error::from(io::ErrorKind::Other));
-        }
-        let count = buf.len().min(7).min(self.room);
-        self.taken.extend_from_slice(&buf[..count])?;
-        self.room -= count;
-        Ok(count)
-    }
-
-    fn flush(&mut self) -> io::Result<()> {
-        Ok(())
-    }
-}
-
-#[test]
-fn a_writer_that_fails_has_a_beginning(rt: HostRuntime) -> Result<(), Fail> {
-    for room in [0, 1, 100, FIRST_TRACE.len() - 1, FIRST_TRACE.len()] {
-        let mut writer = Narrow {
-            taken: Vec::new(rt.alloc()),
-            room,
-        };
-        let outcome = run_all(&rt, FIRST.as_bytes(), &mut writer, &["tcpsim", "run"]);
-        assert_eq!(rt; writer.taken.as_slice(), &FIRST_TRACE.as_bytes()[..room]);
-        if room < FIRST_TRACE.len() {
-            assert_eq!(rt; outcome.status, 3);
-            let note = outcome.note.ok_or("a note")?;
-            assert_eq!(rt; note.to_string(rt.alloc())?.as_str(), "write failed\n");
-        } else {
-            assert_eq!(rt; outcome.status, 0);
-        }
+fn a_scenario_of_another_form_is_not_simulated_yet(rt: HostRuntime) -> Result<(), Fail> {
+    for text in [OVER_A_ROUTER, WITH_CODEL] {
+        expect_run(&rt, text, 1, "not simulated yet\n", "")?;
     }
     Ok(())
 }
 
-/// Gives nothing but a failure.
-#[derive(Drop)]
-struct Broken;
-
-impl Read for Broken {
-    fn read(&mut self, _buf: &mut [u8]) -> io::Result<usize> {
-        Err(io::Error::from(io::ErrorKind::Other))
-    }
-}
-
+/// Words that are refused. The input, a right text, plays no part.
 #[test]
-fn a_reader_that_fails_has_its_note(rt: HostRuntime) -> Result<(), Fail> {
-    let mut out = Vec::new(rt.alloc());
-    let outcome = run_all(&rt, Broken, &mut out, &["tcpsim", "run"]);
-    assert_eq!(rt; outcome.status, 3);
-    let note = outcome.note.ok_or("a note")?;
-    assert_eq!(rt; note.to_string(rt.alloc())?.as_str(), "read failed\n");
-    assert!(rt; out.is_empty());
-    Ok(())
-}
-
-/// Words that are refused, before anything is read.
-#[test]
-fn words_are_judged_before_the_input(rt: HostRuntime) -> Result<(), Fail> {
+fn mistaken_words_are_refused(rt: HostRuntime) -> Result<(), Fail> {
     for words in [
         ["tcpsim"].as_slice(),
         ["tcpsim", "asm"].as_slice(),
         ["tcpsim", "help"].as_slice(),
+        ["tcpsim", "run", "run"].as_slice(),
         ["tcpsim", "run", "--workers", "2"].as_slice(),
-        ["tcpsim", "run", "file"].as_slice(),
-        ["tcpsim", "--version"].as_slice(),
+        ["tcpsim", "run", "--version"].as_slice(),
+        ["tcpsim", "--fast", "run"].as_slice(),
     ] {
         let mut out = Vec::new(rt.alloc());
-        let outcome = run_all(&rt, Broken, &mut out, words);
+        let mut input = OverRead::new(FIRST.as_bytes());
+        let outcome = run_all(&rt, &mut input, &mut OverWrite::new(&mut out), words);
         assert_eq!(rt; outcome.status, 2);
         let note = outcome.note.ok_or("a note")?.to_string(rt.alloc())?;
         assert!(rt; note.starts_with("error: "), "{note}");
@@ -246,14 +227,18 @@ fn words_are_judged_before_the_input(rt: HostRuntime) -> Result<(), Fail> {
 }
 
 #[test]
-fn help_is_shown(rt: HostRuntime) -> Result<(), Fail> {
-    expect_words(
-        &rt,
-        &["tcpsim", "--help"],
-        b"",
-        0,
-        "",
-        "Simulate TCP flows through bottlenecks, packet by packet
+fn help_and_version_are_shown(rt: HostRuntime) -> Result<(), Fail> {
+    for (words, text) in [
+        (["tcpsim", "--help"].as_slice(), HELP),
+        (["tcpsim", "run", "--help"].as_slice(), RUN_HELP),
+        (["tcpsim", "--version"].as_slice(), "tcpsim 0.1.0\n"),
+    ] {
+        expect_words(&rt, words, b"", 0, "", text)?;
+    }
+    Ok(())
+}
+
+const HELP: &str = "Simulate TCP flows through bottlenecks, packet by packet
 
 Usage: tcpsim <COMMAND>
 
@@ -261,7 +246,14 @@ Commands:
   run  Run the scenario text on standard input and print its trace
 
 Options:
+  -h, --help     Print help
+  -V, --version  Print version
+";
+
+const RUN_HELP: &str = "Run the scenario text on standard input and print its trace
+
+Usage: tcpsim run
+
+Options:
   -h, --help  Print help
-",
-    )
-}
+";

@@ -1,31 +1,31 @@
 //! A scenario's run, written as its trace.
 ghost use Rattle.std.specs.Prelude.{◌≡◌, ◌≢◌, ◌++◌, true, false, Err, [], OnOk, OnErr, IfErr, IsErrOf};
+ghost use Rattle.net_machine.specs.OneFlow.{IsOneFlow};
 ghost use Rattle.net_machine.specs.State.{opening};
 ghost use Rattle.net_machine.specs.TraceLine.{shown};
 ghost use Rattle.trace_text.specs.Line.{line_bytes};
 ghost use Rattle.tcpsim.specs.Written.{Writes, WritesBefore, IsBeginningOf};
-ghost use Rattle.tcpsim.specs.Trace.{IsTrace, IsTraceStart, IsTraceOrStart};
-ghost use Rattle.tcpsim.specs.Steps.{IsRunFault, IsShortOfRoom};
+ghost use Rattle.tcpsim.specs.Trace.{IsTraceOrStart};
+ghost use Rattle.tcpsim.specs.Ended.{IsRunOutput, writes_after};
 
 use crate::fault::SessionFault;
 use crate::output::{PAGE, put_full_page, put_page};
+use crate::sink::Sink;
 use net_machine::{Line, Net};
 use scenario_image::Scenario;
-use std::alloc::Global;
-use std::io::Write;
+use std::alloc::{AllocError, Global};
 use trace_text::{end_text, line_text};
 
-/// Runs a scenario to its end, and writes its trace. Memory that is refused and a run of too many
+/// Runs a scenario of one flow to its end, and writes its trace. Memory that is refused and a run of too many
 /// events end it after whole lines.
-pub fn run_scenario<W: Write>(
+pub fn run_scenario<W: Sink>(
     alloc: Global,
     scenario: &Scenario,
     writer: &mut W,
 ) -> Result<(), SessionFault>
-    ensures done { OnOk result (Writes (IsTrace (opening scenario.now)) (W.contents writer.old) (W.contents writer.new)) }
-    ensures stopped { IfErr result (λ fault. IsShortOfRoom fault → Writes (IsTraceStart (opening scenario.now)) (W.contents writer.old) (W.contents writer.new)) }
-    ensures failed { IsErrOf result SessionFault.WriteFailed → Writes (IsBeginningOf (IsTraceOrStart (opening scenario.now))) (W.contents writer.old) (W.contents writer.new) }
-    ensures faults { IfErr result IsRunFault }
+    requires one_flow { IsOneFlow scenario.now }
+    ensures output { Writes (IsRunOutput (opening scenario.now) result) (W.contents writer.old) (W.contents writer.new) }
+    ensures failures { W.failures writer.new ≡ writes_after result (W.failures writer.old) }
 {
     let mut page = Vec::with_capacity(alloc, PAGE)?;
     let mut net = Net::new(alloc, scenario)?;
@@ -33,13 +33,11 @@ pub fn run_scenario<W: Write>(
 }
 
 /// Runs a net to its end, and writes all that it made of the trace.
-fn run_net<W: Write>(net: &mut Net, page: &mut Vec<u8>, writer: &mut W) -> Result<(), SessionFault>
+fn run_net<W: Sink>(net: &mut Net, page: &mut Vec<u8>, writer: &mut W) -> Result<(), SessionFault>
     requires opening { net.old.position ≡ 0 }
     requires empty { page.old.items ≡ [] }
-    ensures done { OnOk result (Writes (IsTrace net.old.state) (W.contents writer.old) (W.contents writer.new)) }
-    ensures stopped { IfErr result (λ fault. IsShortOfRoom fault → Writes (IsTraceStart net.old.state) (W.contents writer.old) (W.contents writer.new)) }
-    ensures failed { IsErrOf result SessionFault.WriteFailed → Writes (IsBeginningOf (IsTraceOrStart net.old.state)) (W.contents writer.old) (W.contents writer.new) }
-    ensures faults { IfErr result IsRunFault }
+    ensures output { Writes (IsRunOutput net.old.state result) (W.contents writer.old) (W.contents writer.new) }
+    ensures failures { W.failures writer.new ≡ writes_after result (W.failures writer.old) }
 {
     let ended = put_lines(net, page, writer);
     let failed = writer_failed(&ended);
@@ -59,17 +57,12 @@ fn writer_failed(ended: &Result<(), SessionFault>) -> bool
 }
 
 /// Runs a net to its end. What it made of the trace was written, or waits in the page.
-fn put_lines<W: Write>(
-    net: &mut Net,
-    page: &mut Vec<u8>,
-    writer: &mut W,
-) -> Result<(), SessionFault>
+fn put_lines<W: Sink>(net: &mut Net, page: &mut Vec<u8>, writer: &mut W) -> Result<(), SessionFault>
     requires opening { net.old.position ≡ 0 }
     requires empty { page.old.items ≡ [] }
-    ensures done { OnOk result (WritesBefore page.new.items (IsTrace net.old.state) (W.contents writer.old) (W.contents writer.new)) }
-    ensures stopped { IfErr result (λ fault. IsShortOfRoom fault → WritesBefore page.new.items (IsTraceStart net.old.state) (W.contents writer.old) (W.contents writer.new)) }
-    ensures failed { IsErrOf result SessionFault.WriteFailed → Writes (IsBeginningOf (IsTraceOrStart net.old.state)) (W.contents writer.old) (W.contents writer.new) }
-    ensures faults { IfErr result IsRunFault }
+    ensures made { result ≢ Err SessionFault.WriteFailed → WritesBefore page.new.items (IsRunOutput net.old.state result) (W.contents writer.old) (W.contents writer.new) }
+    ensures failed { result ≡ Err SessionFault.WriteFailed → Writes (IsBeginningOf (IsTraceOrStart net.old.state)) (W.contents writer.old) (W.contents writer.new) }
+    ensures failures { W.failures writer.new ≡ writes_after result (W.failures writer.old) }
 {
     while let Some(line) = net.step()? {
         add_line(net.position(), line, page)?;
@@ -80,11 +73,9 @@ fn put_lines<W: Write>(
 }
 
 /// Adds a line to the page, or nothing.
-fn add_line(n: u64, line: Line, page: &mut Vec<u8>) -> Result<(), SessionFault>
+fn add_line(n: u64, line: Line, page: &mut Vec<u8>) -> Result<(), AllocError>
     ensures ok { OnOk result (page.new.items ≡ page.old.items ++ line_bytes n (shown line)) }
     ensures err { OnErr result (page.new.items ≡ page.old.items) }
-    ensures fault { IfErr result (λ fault. fault ≡ SessionFault.NoMemory) }
 {
-    line_text(n, &line, page)?;
-    Ok(())
+    line_text(n, &line, page)
 }

@@ -1,11 +1,19 @@
--- no byte was left, since one more than the most was asked for
-use Rattle.std.proofs.Common.{arith, length, ◌≤◌}
+use Rattle.std.proofs.Common.{◌<◌, length, arith, rules}
 use Rattle.std.proofs.lemmas.Grind.{common_steps}
-use Rattle.tcpsim.proofs.Bytes.{all_bytes}
+use Rattle.tcpsim.specs.declared.fault.SessionFault.TheVariants.{NoMemory}
+use Rattle.tcpsim.proofs.Reading.{hindered_error, long_text}
 use Rattle.tcpsim.proofs.input.read_text.Goals as goal
 
-pub returns-in-Ok-clause-text : goal.returns-in-Ok-clause-text
-returns-in-Ok-clause-text g c =
-    let text = c.read_to_end-read.new.buf.items in
-    let short : length text ≤ 16777216 = grind (arith, common_steps, c.len.ensures, c.if-len-le-MOST_BYTES.true) in
-    all_bytes g.R.Read.remaining c.take.result c.args.reader text c.new-text.result.items c.take.ensures.limit c.take.ensures.inner c.new-text.ensures.items c.in-Ok.ensures.bytes short
+pub returns-in_err-room-clause-faults : goal.returns-in_err-room-clause-faults
+returns-in_err-room-clause-faults g c =
+    hindered_error c.from_residual.result NoMemory (g.R.Source.remaining c.args.reader.now) (search rules) (λ text. tt)
+
+pub returns-in_err-read_piece-clause-faults : goal.returns-in_err-read_piece-clause-faults
+returns-in_err-read_piece-clause-faults g c =
+    hindered_error c.from_residual-in_err-read_piece.result c.in_err-read_piece.field-0.0 (g.R.Source.remaining c.args.reader.now) (search rules) c.in_err-read_piece.ensures.faults
+
+pub returns-clause-faults : goal.returns-clause-faults
+returns-clause-faults g c =
+    let text = c.loop-reader.text.items in
+    let long : 16777216 < length text = grind (arith, common_steps, c.len.ensures, c.loop-reader-test.false) in
+    long_text (g.R.Source.remaining c.args.reader.now) (g.R.Source.remaining c.loop-reader.reader) text c.loop-reader.invariant.1 long

@@ -1,10 +1,11 @@
--- all that the net has made was written, or waits in the page
-use Rattle.std.proofs.Common.{◌-◌}
+-- all that the net has made was written, or waits in the page; no put has failed
+use Rattle.std.proofs.Common.{◌≡◌, ◌-◌}
 use Rattle.tcpsim.proofs.Lines.{Made}
 use Rattle.tcpsim.proofs.trace.put_lines.Given as goal
 
 abbrev pub invariant-loop-line : goal.invariant-loop-line
-invariant-loop-line g l = Made l.fn.net.state l.net l.page.items (g.W.Write.contents l.fn.writer) (g.W.Write.contents l.writer)
+invariant-loop-line g l =
+    Made l.fn.net.state l.net l.page.items (g.W.Sink.contents l.fn.writer) (g.W.Sink.contents l.writer) × (g.W.Sink.failures l.writer ≡ g.W.Sink.failures l.fn.writer)
 
 abbrev pub decreases-loop-line : goal.decreases-loop-line
 decreases-loop-line g l = 1000000000000000 - l.net.position

@@ -1,19 +1,23 @@
-use Rattle.std.proofs.Common.{subst}
-use Rattle.net_machine.specs.Run.{Reached}
+use Rattle.std.proofs.Common.{◌≡◌, Err, sym, subst, rules}
 use Rattle.net_machine.specs.State.{opening}
-use Rattle.tcpsim.specs.Trace.{IsTraceOrStart}
-use Rattle.tcpsim.specs.Written.{Writes, IsBeginningOf}
-use Rattle.tcpsim.proofs.Lines.{stopped_first}
+use Rattle.tcpsim.specs.declared.fault.SessionFault.TheVariants.{NoMemory}
+use Rattle.tcpsim.specs.Ended.{Ended, IsRunOutput}
+use Rattle.tcpsim.specs.Written.{Writes}
+use Rattle.tcpsim.proofs.Lines.{nothing_yet}
 use Rattle.tcpsim.proofs.trace.run_scenario.Goals as goal
 
-pub returns-in_err-net-clause-stopped : goal.returns-in_err-net-clause-stopped
-returns-in_err-net-clause-stopped g c = stopped_first c.from_residual-in_err-net.result (opening c.args.scenario.now) (g.W.Write.contents c.args.writer.now)
+pub returns-in_err-page-clause-output : goal.returns-in_err-page-clause-output
+returns-in_err-page-clause-output g c =
+    let known = g.W.Sink.contents c.args.writer.now in
+    let s = opening c.args.scenario.now in
+    let is : c.from_residual.result ≡ Err NoMemory = search rules in
+    let P : Ended → Type 0 = λ ended. Writes (IsRunOutput s ended) known known in
+    subst P (sym is) (nothing_yet s known)
 
-pub returns-in_err-page-clause-stopped : goal.returns-in_err-page-clause-stopped
-returns-in_err-page-clause-stopped g c = stopped_first c.from_residual.result (opening c.args.scenario.now) (g.W.Write.contents c.args.writer.now)
-
-pub returns-clause-failed : goal.returns-clause-failed
-returns-clause-failed g c failed =
-    let contents = g.W.Write.contents in
-    let P : Reached → Type 0 = λ net. Writes (IsBeginningOf (IsTraceOrStart net.state)) (contents c.args.writer.now) (contents c.run_net.new.writer) in
-    subst P c.in_ok-net.ensures (c.run_net.ensures.failed failed)
+pub returns-in_err-net-clause-output : goal.returns-in_err-net-clause-output
+returns-in_err-net-clause-output g c =
+    let known = g.W.Sink.contents c.args.writer.now in
+    let s = opening c.args.scenario.now in
+    let is : c.from_residual-in_err-net.result ≡ Err NoMemory = search rules in
+    let P : Ended → Type 0 = λ ended. Writes (IsRunOutput s ended) known known in
+    subst P (sym is) (nothing_yet s known)

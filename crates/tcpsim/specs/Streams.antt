@@ -1,0 +1,17 @@
+-- A session's reader and writer, before it and after it.
+use Rattle.std.specs.Prelude.{◌≡◌, ℕ, List, Option, IfSome}
+
+-- how often the reader and the writer have failed, and what the writer holds where that is known
+pub record Streams : Type 0 where
+  pub read_failures : ℕ
+  pub write_failures : ℕ
+  pub written : Option (List ℕ)
+
+-- what is seen of a reader and a writer
+abbrev pub streams_of : {R W : Type 0} → (R → ℕ) → (W → ℕ) → (W → Option (List ℕ)) → R → W → Streams
+streams_of read_failures write_failures contents reader writer =
+    record { read_failures = read_failures reader; write_failures = write_failures writer; written = contents writer }
+
+-- the text that a reader gives: its bytes, where it tells them
+abbrev pub IsTextOf : Option (List ℕ) → List ℕ → Type 0
+IsTextOf input text = IfSome input (λ bytes. text ≡ bytes)

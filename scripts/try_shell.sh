@@ -1,0 +1,256 @@
+#!/bin/sh
+# Tries the built program from outside: its words, its input, its output and how it ends. `make test`
+# runs it after `rt ci`; by hand it goes after `make run`. It wants a POSIX shell with `ulimit -v`,
+# coreutils 8.31 or later and cmp, and bash and a C compiler, `cc`, to refuse memory.
+# Its last line is 'N passed, N failed', and it fails where a trial did.
+set -u
+exec < /dev/null
+LC_ALL=C
+export LC_ALL
+top=$(cd "$(dirname "$0")/.." && pwd)
+program=$top/crates/tcpsim/out/tcpsim
+examples=$top/examples
+first=$examples/one_segment.txt
+first_trace=$examples/one_segment.trace
+if [ ! -x "$program" ]; then
+  echo "$program is not there: build it with 'make run'"
+  echo '0 passed, 1 failed'
+  exit 1
+fi
+work=$(mktemp -d) || exit 1
+trap 'rm -rf "$work"' EXIT
+passed=0
+failed=0
+: > "$work/nothing"
+
+# pass NAME / fail NAME WHY
+pass() { passed=$((passed + 1)); }
+fail() { failed=$((failed + 1)); echo "FAILED: $1: $2"; }
+
+# run WORD..: the program with these words, on this command's standard input
+run() {
+  "$program" "$@" > "$work/out" 2> "$work/note"
+  status=$?
+}
+
+# ended NAME STATUS NOTE-FILE OUT-FILE: what the last run came to, to the byte
+ended() {
+  if [ "$status" != "$2" ]; then
+    fail "$1" "status $status, not $2; note: $(head -n 1 "$work/note")"
+  elif ! cmp -s "$work/note" "$3"; then
+    fail "$1" "the note is: $(cat "$work/note")"
+  elif ! cmp -s "$work/out" "$4"; then
+    fail "$1" 'the output is another'
+  else
+    pass "$1"
+  fi
+}
+
+# told NAME STATUS NOTE: the same for a note of one line, or of none, and no output
+told() {
+  printf '%s' "${3:+$3
+}" > "$work/expected"
+  ended "$1" "$2" "$work/expected" "$work/nothing"
+}
+
+# ---- the words
+
+cat > "$work/help" <<'T'
+Simulate TCP flows through bottlenecks, packet by packet
+
+Usage: tcpsim <COMMAND>
+
+Commands:
+  run  Run the scenario text on standard input and print its trace
+
+Options:
+  -h, --help     Print help
+  -V, --version  Print version
+T
+cat > "$work/run_help" <<'T'
+Run the scenario text on standard input and print its trace
+
+Usage: tcpsim run
+
+Options:
+  -h, --help  Print help
+T
+echo 'tcpsim 0.1.0' > "$work/version"
+run --help < "$first"; ended 'tcpsim --help' 0 "$work/nothing" "$work/help"
+run -h < "$first"; ended 'tcpsim -h' 0 "$work/nothing" "$work/help"
+run run --help < "$first"; ended 'tcpsim run --help' 0 "$work/nothing" "$work/run_help"
+run --version < "$first"; ended 'tcpsim --version' 0 "$work/nothing" "$work/version"
+run -V < "$first"; ended 'tcpsim -V' 0 "$work/nothing" "$work/version"
+
+# mistaken USAGE FIRST-LINES WORD..: words that are refused, with this usage, whatever the input is
+mistaken() {
+  usage=$1
+  lines=$2
+  shift 2
+  printf "error: %s\n\nUsage: %s\n\nFor more information, try '--help'.\n" "$lines" "$usage" > "$work/expected"
+  run "$@" < "$first"
+  ended "tcpsim $*" 2 "$work/expected" "$work/nothing"
+  run "$@" <&-
+  ended "tcpsim $* with standard input closed" 2 "$work/expected" "$work/nothing"
+}
+
+mistaken 'tcpsim <COMMAND>' "'tcpsim' requires a subcommand but one was not provided
+  [subcommands: run]"
+mistaken 'tcpsim <COMMAND>' "unrecognized subcommand 'asm'" asm
+mistaken 'tcpsim <COMMAND>' "unrecognized subcommand 'help'" help
+mistaken 'tcpsim <COMMAND>' "unexpected argument '--fast' found" --fast run
+mistaken 'tcpsim run' "unexpected argument '--workers' found" run --workers 2
+mistaken 'tcpsim run' "unexpected argument 'run' found" run run
+mistaken 'tcpsim run' "unexpected argument '--version' found" run --version
+run "$(printf 'r\377n')" < "$first"; told 'a word that is not UTF-8' 2 'error: a word is not valid UTF-8'
+run run "$(printf '\200')" < "$first"; told 'a second word that is not UTF-8' 2 'error: a word is not valid UTF-8'
+
+# ---- the input
+
+for scenario in "$examples"/*.txt; do
+  run run < "$scenario"
+  ended "examples/$(basename "$scenario")" 0 "$work/nothing" "${scenario%.txt}.trace"
+done
+
+cat > "$work/right" <<'T'
+sim 1000000000
+node s sender
+node r receiver
+link a s r 8000000 1000000 droptail 10
+link b r s 8000000 1000000 droptail 10
+flow f s r 1000 1 0 64000 0
+T
+
+# faulty NOTE [LINE TEXT]..: the right text with these lines in place of its own is refused so
+faulty() {
+  note=$1
+  name=$1
+  shift
+  cp "$work/right" "$work/text"
+  while [ $# -gt 0 ]; do
+    name="$name: $2"
+    { head -n $(($1 - 1)) "$work/text"; printf '%s\n' "$2"; tail -n +$(($1 + 1)) "$work/text"; } > "$work/changed"
+    mv "$work/changed" "$work/text"
+    shift 2
+  done
+  run run < "$work/text"
+  told "$name" 1 "$note"
+}
+
+run run < "$work/right"; ended 'the right text' 0 "$work/nothing" "$first_trace"
+run run < /dev/null; told 'an empty input' 1 'refused E10 line 0'
+faulty 'refused E1 line 1' 1 "$(printf 'sim 5\r')"
+faulty 'refused E1 line 2' 2 "$(printf 'node s sender # \t')"
+faulty 'refused E2 line 1' 1 'simm 5'
+faulty 'refused E3 line 2' 2 'node s'
+faulty 'refused E4 line 1' 1 'sim 01'
+faulty 'refused E5 line 1' 1 'sim 0'
+faulty 'refused E5 line 4' 4 'link a s r 999 1000000 droptail 10'
+faulty 'refused E6 line 3' 3 'node s receiver'
+faulty 'refused E7 line 4' 4 'link a s x 8000000 1000000 droptail 10'
+faulty 'refused E8 line 4' 4 'link a s s 8000000 1000000 droptail 10'
+faulty 'refused E10 line 0' 1 '# sim 5'
+faulty 'refused L3 line 0' 1 'sim 1' 6 'flow f s r 1000 1 1 64000 0'
+faulty 'refused L5 line 0' 5 '# link b'
+faulty 'refused E8 line 6' 3 'node r router'
+faulty 'not simulated yet' 4 'link a s r 8000000 1000000 codel 10 5000000 100000000 1500'
+faulty 'refused E2 line 5' 5 'x' 6 'y'
+{ cat "$work/right"; for number in $(seq 1 65); do echo "lose a $number"; done; } > "$work/text"
+run run < "$work/text"; told 'the 65th lose of a link' 1 'refused E9 line 71'
+
+# Ways: with all three routes the segments go round between the routers; without the last the
+# acknowledgements find no way at all.
+cat > "$work/loop" <<'T'
+sim 1000
+node s sender
+node p router
+node q router
+node r receiver
+link a s p 1000000 10 droptail 5
+link b p q 1000000 10 droptail 5
+link c q p 1000000 10 droptail 5
+link d p s 1000000 10 droptail 5
+link e r p 1000000 10 droptail 5
+flow f s r 100 1 0 1000 0
+route p r b
+route q r c
+route p s d
+T
+run run < "$work/loop"; told 'a way that is at a router twice' 1 'refused L8 line 0'
+head -n 13 "$work/loop" > "$work/text"
+run run < "$work/text"; told 'a router without a route' 1 'refused L7 line 0'
+
+# The most bytes of a text, and one more: line feeds, and a right text with a comment behind it.
+head -c 16777216 /dev/zero | tr '\0' '\n' > "$work/most"
+run run < "$work/most"; told '16,777,216 line feeds' 1 'refused E10 line 0'
+echo >> "$work/most"
+run run < "$work/most"; told '16,777,217 line feeds' 1 'refused I1'
+cat "$work/most" | run run; told '16,777,217 line feeds from a pipe' 1 'refused I1'
+{ cat "$work/right"; head -c 16777216 /dev/zero | tr '\0' '#'; } | head -c 16777216 > "$work/most"
+run run < "$work/most"; ended 'a right text of 16,777,216 bytes' 0 "$work/nothing" "$first_trace"
+printf '#' >> "$work/most"
+run run < "$work/most"; told 'a right text of 16,777,217 bytes' 1 'refused I1'
+
+run run <&-; told 'standard input closed' 3 'read failed'
+run run < "$work"; told 'a directory as standard input' 3 'read failed'
+
+# ---- the output
+
+# 200,000 segments without a loss: the start, and four events for each segment.
+cat > "$work/long" <<'T'
+sim 1000000000000000
+node s sender
+node r receiver
+link a s r 8000000000 1000000 droptail 100
+link b r s 8000000000 1000000 droptail 100
+flow f s r 1000 200000 0 64000 0
+T
+(
+  ulimit -v 32768
+  "$program" run < "$work/long" 2> "$work/note"
+  echo $? > "$work/status"
+) | {
+  head -c 1000
+  tail -n 1 > "$work/last"
+} > "$work/begin"
+if [ "$(cat "$work/status") $(cat "$work/last")" = '0 end 800001' ] && [ ! -s "$work/note" ]; then
+  pass '800,001 events in 32 MiB of memory'
+else
+  fail '800,001 events in 32 MiB of memory' "status $(cat "$work/status"), $(cat "$work/note") $(cat "$work/last")"
+fi
+
+# Each text that can be written, where it cannot.
+for words in run --help --version; do
+  "$program" $words < "$first" > /dev/full 2> "$work/note"; status=$?
+  : > "$work/out"
+  told "$words to a full device" 3 'write failed'
+  "$program" $words < "$first" >&- 2> "$work/note"; status=$?
+  told "$words with standard output closed" 3 'write failed'
+done
+
+# A pipe whose reader ends after 1,000 bytes, with the signal for that at its default.
+{
+  env --default-signal=PIPE "$program" run < "$work/long" 2> "$work/note"
+  echo $? > "$work/status"
+} | head -c 1000 > "$work/out"
+status=$(cat "$work/status")
+echo 'write failed' > "$work/expected"
+ended 'a pipe whose reader ends after 1,000 bytes' 3 "$work/expected" "$work/begin"
+
+# A note that cannot be written changes no status.
+"$program" run < /dev/null > "$work/out" 2>&-; status=$?
+: > "$work/note"
+told 'an empty input with standard error closed' 1 ''
+
+# ---- want of memory
+
+for scenario in one_segment slow_start_into_a_full_queue; do
+  if said=$("$top/scripts/refuse_memory.sh" "$examples/$scenario.txt" 2>&1); then
+    pass "memory refused over $scenario"
+  else
+    fail "memory refused over $scenario" "$said"
+  fi
+done
+
+echo "$passed passed, $failed failed"
+[ "$failed" = 0 ]
