@@ -1,0 +1,128 @@
+#!/usr/bin/env python3
+"""Writes the scenarios that are measured: bench/scenarios.py [--out DIR] [NAME ..]
+
+Without names all of them, to bench/work. Each is read again by the model of scripts/model before it
+is written, so that none is refused; what is printed is its size.
+"""
+import argparse
+import os
+import sys
+
+TOP = os.path.dirname(os.path.dirname(os.path.abspath(__file__)))
+sys.path.insert(0, os.path.join(TOP, 'scripts', 'model'))
+
+from nets import Net, codel, droptail  # noqa: E402
+from scenario import RECEIVER, ROUTER, SENDER, Flow  # noqa: E402
+from text import assemble, disassemble  # noqa: E402
+
+EVER = 10**15                           # ns: the flows end long before
+MBIT, GBIT, MS, US = 10**6, 10**9, 10**6, 10**3
+MSS = 1460
+
+
+def two_ends(segments, forth, back, window, delack=0, mss=MSS):
+    """One flow over a pair of links; its receiver's window in segments."""
+    net = Net()
+    sender, receiver = net.node(SENDER), net.node(RECEIVER)
+    net.link(sender, receiver, *forth)
+    net.link(receiver, sender, *back)
+    net.flows.append(Flow(sender, receiver, mss, segments, 0, window * mss, delack))
+    return net.scenario(EVER)
+
+
+def one_flow(segments, delack=0):
+    """100 Mbit/s, 1 ms each way, a queue of 20 packets, overflown now and then."""
+    link = 100 * MBIT, MS, droptail(20)
+    return two_ends(segments, link, link, 44, delack)
+
+
+def under_way(packets, segments):
+    """So many packets under way at once, 100 ms there and 50 ms back; nothing is lost."""
+    return two_ends(segments, (10 * GBIT, 100 * MS, droptail(65_535)), (10 * GBIT, 50 * MS, droptail(65_535)), packets)
+
+
+def dumbbell(flows, segments, bottleneck):
+    """Two routers and a bottleneck of 50 Mbit/s between them; each flow has a delay of its own."""
+    net = Net()
+    near, far = net.node(ROUTER), net.node(ROUTER)
+    net.link(near, far, 50 * MBIT, 5 * MS, bottleneck)
+    net.link(far, near, 50 * MBIT, 5 * MS, droptail(1000))
+    for n in range(flows):
+        cable = 100 * MBIT, (1 + 3 * n) * MS, droptail(1000)
+        net.flow(near, far, cable, (100 * MBIT, MS, droptail(1000)), MSS, segments, n * 7 * MS, 500 * MSS, n % 2 * 40 * MS)
+    return net.scenario(EVER)
+
+
+def tree(flows, segments):
+    """On each side of one bottleneck a router, seven routers below it, and 15 ends at most at each."""
+    net = Net()
+    tops = [net.node(ROUTER), net.node(ROUTER)]
+    net.link(*tops, 100 * MBIT, 10 * MS, codel(1000, 5 * MS, 100 * MS, 1500))
+    net.link(*reversed(tops), 100 * MBIT, 10 * MS, droptail(1000))
+    leaves = [[net.node(ROUTER) for _ in range(7)] for _ in tops]
+    for top, below in zip(tops, leaves):
+        for leaf in below:
+            net.cable(leaf, top, GBIT, 500 * US, droptail(1000))
+    for n in range(flows):
+        cable = GBIT, (100 + 37 * n) * US, droptail(1000)
+        net.flow(leaves[0][n % 7], leaves[1][n // 15], cable, cable, MSS, segments, n * MS, 200 * MSS)
+    return net.scenario(EVER)
+
+
+def chain(routers, segments):
+    """One flow through routers in a row, the last cable the slowest."""
+    net = Net()
+    row = [net.node(ROUTER) for _ in range(routers)]
+    for a, b in zip(row, row[1:]):
+        net.cable(a, b, 100 * MBIT, MS, droptail(50))
+    net.flow(row[0], row[-1], (100 * MBIT, MS, droptail(50)), (90 * MBIT, MS, droptail(50)), MSS, segments,
+             rwnd=400 * MSS)
+    return net.scenario(EVER)
+
+
+def largest(segments):
+    """256 nodes of which 128 are routers in a ring, each with one end and with cables to its three
+    neighbours on either side; 1,024 links with 64 losses each; every route."""
+    net = Net()
+    ring = [net.node(ROUTER) for _ in range(128)]
+    for n in range(128):
+        for far in (1, 2, 3):
+            net.cable(ring[n], ring[(n + far) % 128], GBIT, (100 + n) * US, droptail(65_535))
+    for n in range(0, 128, 2):
+        cable = 100 * MBIT, MS, droptail(65_535)
+        net.flow(ring[n], ring[(n + 31) % 128], cable, cable, MSS, segments, n * MS)
+    for link in net.links:
+        link.lose = [999_935 + 1000 * k for k in range(1, 65)]
+    return net.scenario(EVER, every_route=True)
+
+
+SCENARIOS = {
+    'one_flow': lambda: one_flow(200_000),
+    'one_flow_delayed_acks': lambda: one_flow(200_000, 50 * MS),
+    'under_way_10000': lambda: under_way(10_000, 200_000),
+    'under_way_100000': lambda: under_way(100_000, 400_000),
+    'dumbbell_droptail': lambda: dumbbell(14, 10_000, droptail(200)),
+    'dumbbell_codel': lambda: dumbbell(14, 10_000, codel(1000, 5 * MS, 100 * MS, 1500)),
+    'tree': lambda: tree(100, 1_000),
+    'chain': lambda: chain(16, 20_000),
+    'largest': lambda: largest(100),
+}
+
+
+def main():
+    parser = argparse.ArgumentParser(description=__doc__, formatter_class=argparse.RawDescriptionHelpFormatter)
+    parser.add_argument('--out', default=os.path.join(TOP, 'bench', 'work'))
+    parser.add_argument('names', nargs='*', metavar='NAME', help=', '.join(SCENARIOS))
+    args = parser.parse_args()
+    os.makedirs(args.out, exist_ok=True)
+    for name in args.names or SCENARIOS:
+        text = disassemble(SCENARIOS[name]())
+        s = assemble(text)
+        with open(os.path.join(args.out, name + '.txt'), 'wb') as file:
+            file.write(text)
+        print(f'{name}: {len(text)} bytes, {len(s.nodes)} nodes, {len(s.links)} links, {len(s.flows)} flows, '
+              f'{len(s.routes)} routes, {sum(len(k.lose) for k in s.links)} lose')
+
+
+if __name__ == '__main__':
+    main()

@@ -1,0 +1,368 @@
+#!/usr/bin/env python3
+"""Compares the built program with the model of scripts/model on many inputs: status, output, note.
+
+Usage: scripts/compare.py [--kind texts,runs,images,debug] [--seed S] [--count N] [--jobs J]
+                          [--program PATH] [--one-flow] [--options] [--systematic | --random]
+
+  texts    mutated and systematic texts, most of them refused     (tcpsim run)
+  runs     random scenarios: one flow, dumbbells, chains, trees   (tcpsim run)
+  images   images whole, cut, changed                             (tcpsim run, dis, asm)
+  debug    random commands on random scenarios                    (tcpsim debug)
+
+--one-flow keeps random inputs to one flow without CoDel, for a program that runs no more yet: of the
+texts that it answers with `not simulated yet` only that both accept them is compared. --options gives
+random --groups and --workers besides.
+
+What differs is printed, the smallest case first, each made smaller by leaving out what isn't needed.
+The status is 1 where anything differs.
+"""
+import argparse
+import itertools
+import multiprocessing
+import os
+import random
+import subprocess
+import sys
+import threading
+import time
+
+TOP = os.path.dirname(os.path.dirname(os.path.abspath(__file__)))
+sys.path.insert(0, os.path.join(TOP, 'scripts', 'model'))
+
+import debugger  # noqa: E402
+import image  # noqa: E402
+import nets  # noqa: E402
+import simulate  # noqa: E402
+import spelling  # noqa: E402
+import tcpsim_model  # noqa: E402
+from smaller import smaller  # noqa: E402
+from text import assemble, disassemble, lines_of  # noqa: E402
+
+SHOWN = 12              # differences that are printed
+SHRINKING = 20          # seconds for making a case smaller
+LONGEST = 60            # seconds that the program may take
+MOST_BYTES = 1_000_000  # of an output, that are compared; the program is then stopped
+MOST_SHRUNK = 100_000   # the same while a case is made smaller
+NOT_YET = 'not simulated yet'   # the note of a program that accepts more than it runs
+PROGRAM = os.path.join(TOP, 'crates', 'tcpsim', 'out', 'tcpsim')
+
+
+class Enough(Exception):
+    """As much was written as is compared."""
+
+
+def program_answers(path, words, data, most):
+    """Status, output and note; a longer output is cut off at `most` bytes, its status then `long`."""
+    with open(os.memfd_create('input'), 'wb+') as given:
+        given.write(data)
+        given.seek(0)
+        process = subprocess.Popen([path, *words], stdin=given, stdout=subprocess.PIPE, stderr=subprocess.PIPE,
+                                   env={'PATH': '/usr/bin:/bin', 'LC_ALL': 'C'})
+    silence = threading.Timer(LONGEST, process.kill)
+    silence.start()
+    out = process.stdout.read(most)
+    if len(out) == most:
+        process.kill()
+        process.communicate()
+        silence.cancel()
+        return 'long', out, ''
+    _, note = process.communicate()
+    silence.cancel()
+    return process.returncode, out, note.decode(errors='replace').rstrip('\n')
+
+
+def model_answers(words, data, most):
+    written, left = [], most
+
+    def write(piece):
+        nonlocal left
+        written.append(piece)
+        left -= len(piece)
+        if left <= 0:
+            raise Enough
+    try:
+        status, note = tcpsim_model.main(words, data, write)
+    except Enough:
+        return 'long', b''.join(written)[:most], ''
+    return status, b''.join(written), note
+
+
+def agree(one, other):
+    """Notes of status 2 are the command line reader's own text, but for `refused groups`."""
+    if one[0] == other[0] == 2 and 'refused groups' not in (one[2], other[2]):
+        return one[1] == other[1]
+    return one == other
+
+
+def compared(job, most=MOST_BYTES):
+    """(case, the program's answer, the model's), the answers None where they agree; `unrun` in the case's
+    place where the program says that it can't run this yet."""
+    path, (words, data) = job
+    real = program_answers(path, words, data, most)
+    unrun = real == (1, b'', NOT_YET)
+    model = model_answers(words, data, 1 if unrun else most)
+    if unrun and model[0] == 'long':
+        return 'unrun', None, None
+    return ((words, data), None, None) if agree(real, model) else ((words, data), real, model)
+
+
+def differs(job):
+    found = compared(job, MOST_SHRUNK)
+    return found if found[1] is not None else None
+
+
+def shrunk(job):
+    """The case made as small as it goes in a while so that it stays different."""
+    path, (words, data) = job
+    best = differs(job)
+    if best is None:            # the difference comes late in a long output
+        return compared(job)
+    stop = time.monotonic() + SHRINKING
+    if words[0] == 'run' and best[2][0] in (0, 'long'):
+        return fewer_things(job, best, stop)
+    return best if data.startswith(b'TCB') or len(data) > 100_000 else fewer_lines(job, best, stop)
+
+
+def fewer_things(job, best, stop):
+    """Leaves out flows, losses, segments and more of an accepted scenario."""
+    path, (words, data) = job
+    scenario, found = (image.load if data.startswith(b'TCB') else assemble)(data), True
+    while found and time.monotonic() < stop:
+        found = None
+        for less in smaller(scenario):
+            found = differs((path, (words[:1], disassemble(less))))
+            if found:
+                best, scenario = found, less
+                break
+            if time.monotonic() > stop:
+                break
+    return best
+
+
+def fewer_lines(job, best, stop):
+    path, (words, _) = job
+    size = 64
+    while size:
+        lines, at = lines_of(best[0][1]), 0
+        while at < len(lines) and time.monotonic() < stop:
+            fewer = lines[:at] + lines[at + size:]
+            found = differs((path, (words, spelling.joined(fewer))))
+            best, lines, at = (found, fewer, at) if found else (best, lines, at + size)
+        size //= 2
+    return best
+
+
+# The inputs.
+
+def systematic_texts():
+    for text in (spelling.SMALL, spelling.FULL):
+        yield text
+        yield from spelling.around_lines(text)
+        yield from spelling.around_words(text)
+        yield from spelling.around_bytes(text)
+        yield from spelling.two_faults_in_a_line(text)
+        yield from spelling.again_with_a_fault(text)
+    yield from spelling.counts_at_limits()
+    yield from spelling.great()
+
+
+def short_scenario(pick, one_flow):
+    """One that runs a short time, for texts and sessions."""
+    scenario = (nets.one_flow(pick, ('droptail',) if one_flow else ('droptail', 'codel'), 20)
+                if one_flow or pick.random() < 0.4 else nets.many_flows(pick, most_segments=10))
+    return scenario
+
+
+def random_texts(pick, count, one_flow):
+    two = max(count // 4, 1)
+    for text in (spelling.SMALL,) if one_flow else (spelling.SMALL, spelling.FULL):
+        yield from spelling.two_faults_in_two_lines(text, pick, two)
+    for _ in range(count):
+        yield spelling.mutated(spelling.spelt(short_scenario(pick, one_flow), pick), pick)
+        if not one_flow:
+            yield spelling.spelt(nets.broken(nets.many_flows(pick, most_segments=5), pick), pick)
+
+
+def texts(pick, args):
+    if args.systematic:
+        yield from ((('run',), text) for text in systematic_texts())
+    if args.random:
+        yield from ((('run',), text) for text in random_texts(pick, args.count, args.one_flow))
+
+
+def long_scenario(pick, one_flow):
+    many = pick.choice((5, 50, 50, 300, 2000))
+    if not one_flow and pick.random() < 0.2:
+        return nets.slow_queue(pick)
+    if one_flow or pick.random() < 0.3:
+        return nets.one_flow(pick, ('droptail',) if one_flow else ('droptail', 'codel'), many)
+    return nets.many_flows(pick, most_segments=many)
+
+
+def runs(pick, args):
+    for _ in range(args.count):
+        scenario = long_scenario(pick, args.one_flow)
+        yield ('run', *options(pick, args, len(scenario.nodes))), spelling.spelt(scenario, pick)
+
+
+def options(pick, args, nodes):
+    if not args.options:
+        return ()
+    groups = pick.choice(('one', 'each', 'each', 'list', 'list', 'wrong'))
+    if groups == 'list':
+        most = pick.choice((1, 2, 5, 63))
+        groups = ','.join(str(pick.randint(0, most)) for _ in range(nodes))
+    elif groups == 'wrong':
+        groups = pick.choice(('0', '0,01', '0,64', ',', '0,', ',0', '0 ,0', 'On', 'a', '0,' * nodes + '0'))
+    words = ['--groups', groups] if pick.random() < 0.9 else []
+    return (*words, '--workers', pick.choice(('1', '2', '3', '64'))) if pick.random() < 0.8 else tuple(words)
+
+
+def changed_image(pick, data):
+    """Cut, stretched, with bytes changed, or with a field at a bound."""
+    change = pick.randrange(6)
+    if change == 0:
+        return data[:pick.randrange(len(data))]
+    if change == 1:
+        return data + pick.randbytes(pick.choice((1, 1, 2, 30)))
+    data = bytearray(data)
+    for _ in range(pick.choice((1, 1, 2))):
+        at = pick.randrange(len(data))
+        if change in (2, 3):
+            data[at] = pick.choice((0, 1, 2, 3, 255, data[at] ^ 1 << pick.randrange(8), pick.randrange(256)))
+        else:
+            size = min(pick.choice((2, 4, 8)), len(data) - at)
+            least, greatest = pick.choice(list(spelling.RANGES.values()))
+            value = max(pick.choice((least - 1, least, greatest, greatest + 1, pick.randrange(6))), 0)
+            data[at:at + size] = (value % 256**size).to_bytes(size, 'big')
+    return bytes(data)
+
+
+def images(pick, args):
+    small = image.save(assemble(spelling.SMALL))
+    for data in (small,) if args.one_flow else (small, image.save(assemble(spelling.FULL))):
+        for size in range(len(data) + 1 if args.systematic else 0):
+            yield ('run',), data[:size]
+        for at in range(len(data) if args.systematic else 0):
+            for byte in {0, 1, 2, 3, 255, data[at] + 1 & 255, data[at] - 1 & 255, data[at] ^ 128}:
+                yield ('dis',), data[:at] + bytes((byte,)) + data[at + 1:]
+    for _ in range(args.count if args.random else 0):
+        scenario = short_scenario(pick, args.one_flow)
+        data = image.save(scenario)
+        yield ('asm',), spelling.spelt(scenario, pick)
+        yield (pick.choice(('dis', 'asm', 'run')),), data
+        yield ('dis',), disassemble(scenario)
+        for _ in range(3):
+            yield (pick.choice(('dis', 'asm', 'run')),), changed_image(pick, data)
+        if not args.one_flow:
+            yield ('run',), image.save(nets.broken(nets.many_flows(pick, most_segments=5), pick))
+
+
+def moments(scenario):
+    """Times of the first events."""
+    net = simulate.Network(scenario)
+    return [line.time for line in itertools.islice(iter(net.step, None), 300)]
+
+
+def any_command(pick, scenario, times):
+    moment = pick.choice((pick.choice(times) + pick.choice((0, 0, 0, 1)), scenario.end, 10**15, 10**15 + 1))
+    number = str(pick.choice((0, 1, 1, 2, 5, 30, 200, 10**15, 10**15 + 1)))
+    node, flow = pick.randrange(len(scenario.nodes) + 1), pick.randrange(len(scenario.flows) + 1)
+    return pick.choice((
+        f'step {number}', f'back {number}', f'until {moment}', 'run', 'run', 'state', 'step 1',
+        f'break node {node}', f'break flow {flow}', 'break drop', 'clear',
+        'break kind ' + pick.choice(('start', 'rto', 'delack', 'free', 'data', 'ack', 'tx')),
+        pick.choice(('', ' ', 'bak 1', 'break', 'break node', 'break bus 1', 'step', 'step 01', 'step 1 2', 'run 1', '---',
+                     'break node 1 2', 'until -1', 'clear 1', 'state # x', 'step\t1', 'stop', 'break drop 1', 'break tx'))))
+
+
+def debug(pick, args):
+    for _ in range(args.count):
+        scenario = short_scenario(pick, args.one_flow)
+        text = spelling.spelt(scenario, pick)
+        if not text.endswith(b'\n'):
+            text += b'\n'
+        times = moments(scenario) or [0]
+        commands = [any_command(pick, scenario, times) for _ in range(pick.choice((0, 1, 3, 10, 30)))]
+        many = []
+        if pick.random() < 0.2:
+            many = [f'break node {n}' for n in range(len(scenario.nodes))]
+            many += [f'break flow {n}' for n in range(len(scenario.flows))]
+            many += [f'break kind {kind.decode()}' for kind in debugger.KINDS] + ['break drop']
+            pick.shuffle(many)
+        session = '\n'.join(['---'] + many + commands) + pick.choice(('', '\n'))
+        yield ('debug', *options(pick, args, len(scenario.nodes))), text + session.encode()
+
+
+KINDS = {'texts': texts, 'runs': runs, 'images': images, 'debug': debug}
+
+
+# What is printed.
+
+def shortened(data, most=2000):
+    text = data.decode(errors='backslashreplace')
+    return text if len(text) <= most else f'{text[:most]}.. ({len(data)} bytes)\n'
+
+
+def first_difference(real, model):
+    for n, (a, b) in enumerate(zip(lines_of(real), lines_of(model)), 1):
+        if a != b:
+            return f'line {n} of the output\n  program: {shortened(a, 300)}\n  model:   {shortened(b, 300)}'
+    return f'outputs of {len(lines_of(real))} and {len(lines_of(model))} lines' if real != model else 'same output'
+
+
+def show(found):
+    (words, data), real, model = found
+    print(f'--- {" ".join(words)}, {len(data)} bytes of input')
+    print(shortened(data) if not data.startswith(b'TCB') else data[:500].hex(' '))
+    for name, answer in (('program', real), ('model', model)):
+        print(f'{name}: status {answer[0]}, note {answer[2][:200]!r}, {len(answer[1])} bytes')
+    print(first_difference(real[1], model[1]), flush=True)
+
+
+def arguments():
+    parser = argparse.ArgumentParser(description=__doc__, formatter_class=argparse.RawDescriptionHelpFormatter)
+    parser.add_argument('--kind', default='texts,runs')
+    parser.add_argument('--seed', type=int, default=1)
+    parser.add_argument('--count', type=int, default=1000)
+    parser.add_argument('--jobs', type=int, default=2)
+    parser.add_argument('--program', default=PROGRAM)
+    parser.add_argument('--one-flow', action='store_true')
+    parser.add_argument('--options', action='store_true')
+    parser.add_argument('--systematic', action='store_true', help='only the systematic inputs')
+    parser.add_argument('--random', action='store_true', help='only the random inputs')
+    args = parser.parse_args()
+    if not (args.systematic or args.random):
+        args.systematic = args.random = True
+    if not os.path.exists(args.program):
+        sys.exit(f'{args.program}: no such program; build it with `make run`')
+    return args
+
+
+def main():
+    args = arguments()
+    differences, count, not_yet = [], 0, {'unrun': 0}
+    with multiprocessing.get_context('fork').Pool(args.jobs) as pool:
+        for kind in args.kind.split(','):
+            cases = KINDS[kind](random.Random(f'{kind} {args.seed}'), args)
+            jobs = ((args.program, case) for case in cases)
+            before = count
+            for found in pool.imap_unordered(compared, jobs, 8):
+                if found[0] in not_yet:
+                    not_yet[found[0]] += 1
+                count += 1
+                if found[1] is not None:
+                    differences.append((args.program, found[0]))
+            print(f'{kind}: {count - before} compared', flush=True)
+        differences.sort(key=lambda job: len(job[1][1]))
+        shortest = pool.map(shrunk, differences[:SHOWN], 1)
+    for found in sorted(filter(None, shortest), key=lambda found: len(found[0][1])):
+        show(found)
+    if not_yet['unrun']:
+        print(f'{not_yet["unrun"]} accepted by both, but the program does not simulate them yet')
+    print(f'{count} compared, {len(differences)} different')
+    sys.exit(1 if differences else 0)
+
+
+if __name__ == '__main__':
+    main()

@@ -1,0 +1,109 @@
+"""Binary images of scenarios, version 1: `load` and `save`. All numbers are big-endian."""
+import struct
+
+from scenario import (MOST_FLOWS, MOST_LINKS, MOST_LOSSES, MOST_NODES, MOST_ROUTES, Flow, Link, Refused,
+                      Scenario, fault_of_whole, in_range)
+
+MAGIC = b'TCB1'
+HEADER = struct.Struct('>4sQHHHI')      # magic, end, numbers of nodes, links, flows, routes
+LINK = struct.Struct('>HHQQBHQQHB')     # from, to, rate, delay, queue, capacity, target, interval,
+#                                         maxpacket, number of `lose` entries, which follow
+LOSE = struct.Struct('>I')
+FLOW = struct.Struct('>HHHIQII')        # sender, receiver, mss, segments, start, rwnd, delack
+ROUTE = struct.Struct('>HHH')           # router, destination, link
+
+
+class TooShort(Exception):
+    """The bytes end before the layout does."""
+
+
+class Reader:
+    def __init__(self, data):
+        self.data, self.at = data, 0
+
+    def one(self, layout):
+        if self.at + layout.size > len(self.data):
+            raise TooShort
+        found = layout.unpack_from(self.data, self.at)
+        self.at += layout.size
+        return found
+
+    def many(self, layout, count):
+        """So many records; their bytes have to be there before any is read."""
+        if self.at + layout.size * count > len(self.data):
+            raise TooShort
+        return [self.one(layout) for _ in range(count)]
+
+
+def split(data):
+    """The numbers of an image as they stand, and how many bytes are left over."""
+    read = Reader(data)
+    header = read.one(HEADER)
+    nodes, links, flows, routes = header[2:]
+    kinds = [kind for kind, in read.many(struct.Struct('>B'), nodes)]
+    cables = []
+    for _ in range(links):
+        link = read.one(LINK)
+        cables.append((link[:-1], [number for number, in read.many(LOSE, link[-1])]))
+    return header, kinds, cables, read.many(FLOW, flows), read.many(ROUTE, routes), len(data) - read.at
+
+
+def strictly_rises(numbers):
+    return all(a < b for a, b in zip(numbers, numbers[1:]))
+
+
+def link_is_right(link, lose, nodes):
+    source, to, rate, delay, queue, capacity, target, interval, maxpacket = link
+    control = ('target', target), ('interval', interval), ('maxpacket', maxpacket)
+    return (source < nodes and to < nodes and in_range('rate', rate) and in_range('delay', delay)
+            and queue <= 1 and in_range('capacity', capacity)
+            and all(in_range(name, value) if queue else value == 0 for name, value in control)
+            and len(lose) <= MOST_LOSSES and strictly_rises(lose) and all(in_range('lose', n) for n in lose))
+
+
+def flow_is_right(flow, nodes, end):
+    sender, receiver, mss, segments, start, rwnd, delack = flow
+    return (sender < nodes and receiver < nodes and in_range('mss', mss) and in_range('segments', segments)
+            and start < end and in_range('rwnd', rwnd) and rwnd >= mss and in_range('delack', delack))
+
+
+def numbers_are_right(header, kinds, links, flows, routes):
+    _, end, node_count, link_count, flow_count, route_count = header
+    return (in_range('end', end) and 2 <= node_count <= MOST_NODES and 1 <= link_count <= MOST_LINKS
+            and 1 <= flow_count <= MOST_FLOWS and route_count <= MOST_ROUTES and all(kind <= 2 for kind in kinds)
+            and all(link_is_right(link, lose, node_count) for link, lose in links)
+            and all(flow_is_right(flow, node_count, end) for flow in flows)
+            and all(r < node_count and d < node_count and k < link_count for r, d, k in routes)
+            and strictly_rises([route[:2] for route in routes]))
+
+
+def load(data):
+    """The scenario of an image; raises `Refused` with its first fault."""
+    try:
+        header, kinds, links, flows, routes, left = split(data)
+    except TooShort:
+        raise Refused('L1') from None
+    if header[0] != MAGIC:
+        raise Refused('L2')
+    if not numbers_are_right(header, kinds, links, flows, routes):
+        raise Refused('L3')
+    if left:
+        raise Refused('L4')
+    scenario = Scenario(header[1], kinds,
+                        [Link(*link[:4], link[4] == 1, *link[5:], lose) for link, lose in links],
+                        [Flow(*flow) for flow in flows], routes)
+    fault = fault_of_whole(scenario)
+    if fault:
+        raise Refused(fault)
+    return scenario
+
+
+def save(s):
+    out = [HEADER.pack(MAGIC, s.end, len(s.nodes), len(s.links), len(s.flows), len(s.routes)), bytes(s.nodes)]
+    for k in s.links:
+        out.append(LINK.pack(k.source, k.to, k.rate, k.delay, k.codel, k.capacity, k.target, k.interval,
+                             k.maxpacket, len(k.lose)))
+        out += [LOSE.pack(number) for number in k.lose]
+    out += [FLOW.pack(f.sender, f.receiver, f.mss, f.segments, f.start, f.rwnd, f.delack) for f in s.flows]
+    out += [ROUTE.pack(*route) for route in s.routes]
+    return b''.join(out)

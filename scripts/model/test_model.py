@@ -1,0 +1,520 @@
+#!/usr/bin/env python3
+"""Worked examples for the model: python3 scripts/model/test_model.py."""
+import os
+import random
+import sys
+import unittest
+from collections import namedtuple
+
+HERE = os.path.dirname(os.path.abspath(__file__))
+sys.path.insert(0, HERE)
+
+import image  # noqa: E402
+import tcpsim_model  # noqa: E402
+from queues import COUNT_STOPS, Codel, gap  # noqa: E402
+from receiver import Receiver  # noqa: E402
+from scenario import Refused  # noqa: E402
+from sender import Sender, after_sample, initial_window  # noqa: E402
+from text import assemble, disassemble  # noqa: E402
+
+ONE_SEGMENT = '''sim 1000000000
+node s sender
+node r receiver
+link a s r 8000000 1000000 droptail 10
+link b r s 8000000 1000000 droptail 10
+flow f s r 1000 1 0 64000 0
+'''
+ONE_SEGMENT_TRACE = '''1 0 0 0 0 start 0 una=0 nxt=1000 cwnd=4000 ssthresh=64000 phase=ss tx=0:0:0
+2 1040000 0 0 3 free 0 una=0 nxt=1000 cwnd=4000 ssthresh=64000 phase=ss
+3 2040000 1 1 1 data 0 0 next=1000 tx=1:0:1000
+4 2080000 1 0 3 free 1 next=1000
+5 3080000 0 2 1 ack 0 1000 una=1000 nxt=1000 cwnd=5000 ssthresh=64000 phase=ss
+end 5
+'''
+ONE_SEGMENT_IMAGE = bytes.fromhex(
+    '54434231 000000003b9aca00 0002 0002 0001 00000000 00 01'
+    '0000 0001 00000000007a1200 00000000000f4240 00 000a 0000000000000000 0000000000000000 0000 00'
+    '0001 0000 00000000007a1200 00000000000f4240 00 000a 0000000000000000 0000000000000000 0000 00'
+    '0000 0001 03e8 00000001 0000000000000000 0000fa00 00000000')
+SLOW_TRACE = '''1 0 0 0 0 start 0 una=0 nxt=1000 cwnd=4000 ssthresh=64000 phase=ss tx=0:0:0
+2 1040000 0 0 3 free 0 una=0 nxt=1000 cwnd=4000 ssthresh=64000 phase=ss
+3 501040000 1 1 1 data 0 0 next=1000 tx=1:0:1000
+4 501080000 1 0 3 free 1 next=1000
+5 1000000000 0 0 1 rto 0 una=0 nxt=1000 cwnd=1000 ssthresh=2000 phase=ss tx=0:0:0
+6 1001040000 0 0 3 free 0 una=0 nxt=1000 cwnd=1000 ssthresh=2000 phase=ss
+7 1001080000 0 2 1 ack 0 1000 una=1000 nxt=1000 cwnd=2000 ssthresh=2000 phase=ca
+8 1501040000 1 1 2 data 0 0 next=1000 tx=1:0:1000
+9 1501080000 1 0 3 free 1 next=1000
+10 2001080000 0 2 2 ack 0 1000 una=1000 nxt=1000 cwnd=2000 ssthresh=2000 phase=ca
+end 10
+'''
+DELAYED_TRACE = '''1 0 0 0 0 start 0 una=0 nxt=2000 cwnd=4000 ssthresh=64000 phase=ss tx=0:0:0
+2 1040000 0 0 3 free 0 una=0 nxt=2000 cwnd=4000 ssthresh=64000 phase=ss tx=0:0:1000
+3 2040000 1 1 1 data 0 0 next=1000
+4 2080000 0 0 3 free 0 una=0 nxt=2000 cwnd=4000 ssthresh=64000 phase=ss
+5 3080000 1 1 2 data 0 1000 next=2000 tx=1:0:2000
+6 3120000 1 0 3 free 1 next=2000
+7 4120000 0 2 1 ack 0 2000 una=2000 nxt=2000 cwnd=5000 ssthresh=64000 phase=ss
+end 7
+'''
+CODEL = (ONE_SEGMENT.replace('sim 1000000000', 'sim 2080001').replace('1000 1 0', '1000 4 0')
+         .replace('link a s r 8000000 1000000 droptail 10', 'link a s r 8000000 1000000 codel 10 1 1 1'))
+CODEL_TRACE = '''1 0 0 0 0 start 0 una=0 nxt=4000 cwnd=4000 ssthresh=64000 phase=ss tx=0:0:0
+2 1040000 0 0 3 free 0 una=0 nxt=4000 cwnd=4000 ssthresh=64000 phase=ss tx=0:0:1000
+3 2040000 1 1 1 data 0 0 next=1000 tx=1:0:1000
+4 2080000 0 0 3 free 0 una=0 nxt=4000 cwnd=4000 ssthresh=64000 phase=ss drop=codel:0:2000 tx=0:0:3000
+5 2080000 1 0 3 free 1 next=1000
+end 5
+'''
+CODEL_DUMP = '''at 1
+node 0 sender 0 una=0 nxt=4000 high=4000 cwnd=4000 ssthresh=64000 dups=0 lt=0 fr=0 timing=1000@0 srtt=- rttvar=0 rto=1000000000 resent=0
+node 1 receiver 0 next=0 held=-
+link 0 offered=4 sent=1 queue=0:d:1000@0,0:d:2000@0,0:d:3000@0 first=- next=0 count=0 last=0 drop=0
+link 1 offered=0 sent=0 queue=-
+event 1040000 0 0 3 free 0
+event 2040000 1 1 1 data 0 0
+event 1000000000 0 0 1 rto 0
+'''
+LOOP = '''sim 1000
+node s sender
+node p router
+node q router
+node r receiver
+link a s p 1000000 10 droptail 5
+link b p q 1000000 10 droptail 5
+link c q p 1000000 10 droptail 5
+link d p s 1000000 10 droptail 5
+link e r p 1000000 10 droptail 5
+flow f s r 100 1 0 1000 0
+route p r b
+route q r c
+route p s d
+'''
+EQUAL_TIMES = '''sim 2040001
+node s sender
+node t sender
+node q router
+node u receiver
+node v receiver
+link a s q 8000000 1000000 droptail 10
+link b t q 8000000 1000000 droptail 10
+link c q u 8000000 1000000 droptail 10
+link d u q 8000000 1000000 droptail 10
+link e q v 8000000 1000000 droptail 10
+link g v q 8000000 1000000 droptail 10
+link h q s 8000000 1000000 droptail 10
+link i q t 8000000 1000000 droptail 10
+flow x s u 1000 1 0 64000 0
+flow y t v 1000 1 0 64000 0
+route q u c
+route q v e
+route q s h
+route q t i
+'''
+EQUAL_TIMES_TRACE = '''1 0 0 0 0 start 0 una=0 nxt=1000 cwnd=4000 ssthresh=64000 phase=ss tx=0:0:0
+2 0 1 0 0 start 1 una=0 nxt=1000 cwnd=4000 ssthresh=64000 phase=ss tx=1:1:0
+3 1040000 0 0 3 free 0 una=0 nxt=1000 cwnd=4000 ssthresh=64000 phase=ss
+4 1040000 1 0 3 free 1 una=0 nxt=1000 cwnd=4000 ssthresh=64000 phase=ss
+5 2040000 2 1 1 data 0 0 tx=2:0:0
+6 2040000 2 2 1 data 1 0 tx=4:1:0
+end 6
+'''
+
+
+def program(data, *words):
+    """Status, output and note."""
+    written = []
+    data = data.encode() if isinstance(data, str) else data
+    status, note = tcpsim_model.main(words, data, written.append)
+    return status, b''.join(written), note
+
+
+def positions(output):
+    return [int(line[3:]) for line in output.decode().splitlines() if line.startswith('at ')]
+
+
+class Case(unittest.TestCase):
+    def runs(self, text, trace, *options):
+        self.assertEqual(program(text, 'run', *options), (0, trace.encode(), ''))
+
+    def refuses(self, text, note, command='run'):
+        self.assertEqual(program(text, command), (1, b'', note))
+
+
+class Numbers(unittest.TestCase):
+    def test_gap(self):
+        self.assertEqual([gap(10**8, c) for c in range(1, 7)],
+                         [100000000, 70710678, 57735026, 50000000, 44721359, 40824829])
+        self.assertEqual([gap(1, 2), gap(10**10, 2)], [0, 7071067811])
+
+    def test_gap_is_the_greatest(self):
+        pick = random.Random(1)
+        for _ in range(5000):
+            interval, count = pick.randint(1, 10**pick.randint(1, 10)), pick.randint(1, 10**pick.randint(1, 9))
+            d = gap(interval, count)
+            self.assertTrue(d * d * count <= interval * interval < (d + 1) ** 2 * count)
+
+    def test_initial_window(self):
+        self.assertEqual([initial_window(m) for m in (1095, 1096, 2190, 2191)], [4380, 3288, 6570, 4382])
+
+    def test_round_trip_samples(self):
+        first = after_sample(None, 0, 400000000)
+        self.assertEqual(first[2], 1200000000)
+        self.assertEqual(after_sample(*first[:2], 400000000)[1:], (150000000, 1000000000))
+        self.assertEqual(after_sample(None, 0, 200000000)[2], 1000000000)
+
+
+class SenderAlone(unittest.TestCase):
+    def setUp(self):
+        self.sender = s = Sender(1000, 10**9, 64000)
+        s.nxt = s.high = s.cwnd = 10000
+        s.deadline = 10**9
+
+    def test_fast_retransmit_and_recovery(self):
+        s = self.sender
+        self.assertEqual([s.on_ack(0, 5) for _ in range(2)], [[10000], [11000]])
+        self.assertEqual((s.on_ack(0, 5), s.ssthresh, s.cwnd, s.recovery), ([0], 5000, 8000, True))
+        self.assertEqual((s.on_ack(0, 5), s.cwnd), ([], 9000))
+        self.assertEqual((s.on_ack(0, 5), s.cwnd), ([], 10000))
+        self.assertEqual((s.on_ack(12000, 5), s.cwnd, s.recovery),
+                         ([12000, 13000, 14000, 15000, 16000], 5000, False))
+
+    def test_two_timeouts(self):
+        s = self.sender
+        for rto in (2, 4):
+            self.assertEqual(s.on_rto(10**9), [0])
+            self.assertEqual((s.ssthresh, s.cwnd, s.rto, s.nxt, s.deadline),
+                             (5000, 1000, rto * 10**9, 1000, (rto + 1) * 10**9))
+
+    def test_congestion_avoidance(self):
+        for cwnd, wider in ((10000, 10100), (1000001, 1000002)):
+            s = Sender(1000, 10**9, 2**30)
+            s.ssthresh, s.nxt, s.high, s.cwnd = 2000, 10000, 10000, cwnd
+            s.on_ack(1000, 5)
+            self.assertEqual(s.cwnd, wider)
+
+
+class ReceiverAlone(unittest.TestCase):
+    def test_delayed_acknowledgements(self):
+        r = Receiver(1000, 500000000)
+        self.assertEqual((r.on_data(0, 7), r.alarm), (None, 500000007))
+        self.assertEqual((r.on_data(2000, 8), r.alarm), (1000, None))
+        self.assertEqual((r.on_data(1000, 9), r.on_data(0, 10)), (3000, 3000))
+
+    def test_against_the_set_of_numbers_received(self):
+        """The rule said over the whole set of numbers received."""
+        pick = random.Random(2)
+        for _ in range(300):
+            delack = pick.choice((0, 50))
+            r, seen, waits = Receiver(10, delack), set(), False
+            for now in range(40):
+                seq = 10 * pick.randint(0, 15)
+                old = least_missing(seen)
+                wait = seq == old and not any(x > seq for x in seen) and delack > 0 and not waits
+                seen.add(seq)
+                self.assertEqual(r.on_data(seq, now), None if wait else least_missing(seen))
+                self.assertEqual(r.alarm, now + delack if wait else None)
+                self.assertEqual(r.held, {x for x in seen if x > least_missing(seen)})
+                waits = wait
+                if waits and pick.random() < 0.3:
+                    self.assertEqual(r.on_delack(), least_missing(seen))
+                    waits = False
+
+
+def least_missing(seen):
+    return next(x for x in range(0, 10**6, 10) if x not in seen)
+
+
+def packets(first, count):
+    return [(0, False, n, 1040) for n in range(first, first + count)]
+
+
+def numbers(taken):
+    dropped, given = taken
+    return [packet[2] for packet in dropped], None if given is None else given[2]
+
+
+class CodelAlone(unittest.TestCase):
+    def test_first_drop_state(self):
+        q = Codel(100, 5000000, 100000000, 1000)
+        for packet in packets(0, 3):
+            q.offer(packet, 0)
+        self.assertEqual(numbers(q.take(10000000)), ([], 0))
+        self.assertEqual(numbers(q.take(110000000)), ([1], 2))
+        self.assertEqual((q.dropping, q.count, q.drop_next), (True, 1, 210000000))
+        self.assertEqual((numbers(q.take(120000000)), q.dropping), (([], None), False))
+        q.offer(*packets(3, 1), 120000000)
+        self.assertEqual(numbers(q.take(900000000)), ([], 3))
+
+    def test_drop_states_one_after_another(self):
+        q = Codel(100, 5000000, 100000000, 1500)
+        for packet in packets(0, 12):
+            q.offer(packet, 0)
+        for now, dropped, given, count, drop_next, dropping in (
+                (10000000, [], 0, 0, 0, False),
+                (110000000, [1], 2, 1, 210000000, True),
+                (210000000, [3], 4, 2, 280710678, True),
+                (400000000, [5, 6, 7], 8, 5, 433167063, True),
+                (420000000, [], 9, 5, 433167063, True),
+                (425000000, [], 10, 5, 433167063, False),
+                (430000000, [], 11, 5, 433167063, False),
+                (530000000, [12], 13, 4, 580000000, True)):
+            self.assertEqual(numbers(q.take(now)), (dropped, given))
+            self.assertEqual((q.count, q.drop_next, q.dropping), (count, drop_next, dropping))
+            if now == 425000000:
+                for packet in packets(12, 6):
+                    q.offer(packet, now)
+
+    def test_against_the_take_said_over_the_whole_list(self):
+        pick, drops = random.Random(3), 0
+        for _ in range(400):
+            q = Codel(pick.choice((5, 30)), pick.choice((1, 40)), pick.choice((1, 10, 100)), pick.choice((1, 50)))
+            q.count = pick.choice((0, COUNT_STOPS - 2)) if pick.random() < 0.1 else 0
+            now = 0
+            for n in range(150):
+                now += pick.choice((0, 1, 3, 20, 300)) if pick.random() < 0.3 else 1
+                if pick.random() < 0.6:
+                    q.offer((0, pick.random() < 0.1, n, pick.choice((40, 41))), now)
+                else:
+                    wanted = taken_whole(q, now)
+                    dropped, given = q.take(now)
+                    drops += len(dropped)
+                    self.assertEqual(wanted, (list(dropped), given, list(q.entries), state(q)))
+                    self.assertEqual(q.bytes, sum(packet[3] for packet, _ in q.entries))
+        self.assertGreater(drops, 2000)
+
+
+State = namedtuple('State', 'first_above drop_next count lastcount dropping')
+
+
+def state(q):
+    return State(q.first_above, q.drop_next, q.count, q.lastcount, q.dropping)
+
+
+def judgements(q, now):
+    """Of each waiting packet in turn, and once past the list: first_above after it, and whether it
+    may be dropped."""
+    first, waiting = q.first_above, list(q.entries)
+    for j, (_, entry) in enumerate(waiting):
+        left = sum(packet[3] for packet, _ in waiting[j + 1:])
+        if now - entry < q.target or left <= q.maxpacket:
+            first = None
+            yield first, False
+        elif first is None:
+            first = now + q.interval
+            yield first, False
+        else:
+            yield first, now >= first
+    while True:
+        yield None, False
+
+
+def taken_whole(q, now):
+    """A take said at once: k is how many are dropped."""
+    s, judged, waiting = state(q), judgements(q, now), list(q.entries)
+    if s.dropping:
+        k, due, before = 0, s.drop_next, s.drop_next
+        first, ok = next(judged)
+        while ok and now >= due:
+            k += 1
+            before, due = due, due + gap(q.interval, min(s.count + k, COUNT_STOPS))
+            first, ok = next(judged)
+        after = State(first, due if ok else before, min(s.count + k, COUNT_STOPS), s.lastcount, ok)
+    else:
+        first, ok = next(judged)
+        k = int(ok)
+        after = s._replace(first_above=first)
+        if ok:
+            delta = s.count - s.lastcount
+            count = delta if delta > 1 and now - s.drop_next < 16 * q.interval else 1
+            after = State(next(judged)[0], now + gap(q.interval, count), count, count, True)
+    given = waiting[k][0] if k < len(waiting) else None
+    return [packet for packet, _ in waiting[:k]], given, waiting[k + 1:], after
+
+
+class Runs(Case):
+    def test_one_segment(self):
+        self.runs(ONE_SEGMENT, ONE_SEGMENT_TRACE)
+        self.runs(ONE_SEGMENT_IMAGE, ONE_SEGMENT_TRACE)
+
+    def test_groups_and_workers_change_nothing(self):
+        for groups in ('one', 'each', '1,0', '63,63'):
+            for workers in ('1', '2', '64'):
+                self.runs(ONE_SEGMENT, ONE_SEGMENT_TRACE, '--groups', groups, '--workers', workers)
+        for groups in ('0', '0,64', '0,01', '0,', '0,1,2', ''):
+            self.assertEqual(program(ONE_SEGMENT, 'run', '--groups=' + groups)[:2], (2, b''))
+
+    def test_the_end_is_not_in_the_run(self):
+        lines = ONE_SEGMENT_TRACE.splitlines(keepends=True)
+        self.runs(ONE_SEGMENT.replace('sim 1000000000', 'sim 2040000'), ''.join(lines[:2]) + 'end 2\n')
+
+    def test_a_timeout_before_the_acknowledgement(self):
+        self.runs(ONE_SEGMENT.replace('sim 1', 'sim 3').replace(' 1000000 ', ' 500000000 '), SLOW_TRACE)
+
+    def test_a_delayed_acknowledgement(self):
+        self.runs(ONE_SEGMENT.replace('1000 1 0 64000 0', '1000 2 0 64000 500000000'), DELAYED_TRACE)
+
+    def test_codel(self):
+        self.runs(CODEL, CODEL_TRACE)
+
+    def test_equal_times(self):
+        self.runs(EQUAL_TIMES, EQUAL_TIMES_TRACE)
+        self.runs(EQUAL_TIMES, EQUAL_TIMES_TRACE, '--groups=0,1,0,0,0')
+
+    def test_a_loss(self):
+        self.runs(ONE_SEGMENT.replace('sim 1000000000', 'sim 1000000001') + 'lose a 1\n',
+                  '1 0 0 0 0 start 0 una=0 nxt=1000 cwnd=4000 ssthresh=64000 phase=ss drop=lost:0:0\n'
+                  '2 1000000000 0 0 1 rto 0 una=0 nxt=1000 cwnd=1000 ssthresh=2000 phase=ss tx=0:0:0\nend 2\n')
+
+    def test_a_full_queue(self):
+        self.runs(ONE_SEGMENT.replace('sim 1000000000', 'sim 1').replace('1000 1 0', '1000 4 0')
+                  .replace('link a s r 8000000 1000000 droptail 10', 'link a s r 8000000 1000000 droptail 1'),
+                  '1 0 0 0 0 start 0 una=0 nxt=4000 cwnd=4000 ssthresh=64000 phase=ss'
+                  ' tx=0:0:0 drop=full:0:2000 drop=full:0:3000\nend 1\n')
+
+    def test_stored_traces(self):
+        """The networks in data/, and those in examples/ that have a trace beside them."""
+        for folder in ('data', '../../examples'):
+            for name in sorted(os.listdir(os.path.join(HERE, folder))):
+                stem = os.path.join(HERE, folder, name.removesuffix('.txt'))
+                if name.endswith('.txt') and os.path.exists(stem + '.trace'):
+                    with open(stem + '.txt') as text, open(stem + '.trace') as wanted:
+                        self.runs(text.read(), wanted.read())
+
+
+class Texts(Case):
+    def test_ways(self):
+        self.refuses(LOOP, 'refused L8 line 0')
+        self.refuses(LOOP[:LOOP.rindex('route')], 'refused L7 line 0')
+
+    def test_refused(self):
+        for text, note in (
+                ('', 'E10 line 0'), ('sim 01', 'E4 line 1'), ('sim 0', 'E5 line 1'), ('sim 5', 'L3 line 0'),
+                ('node s sender\nnode s router\n', 'E6 line 2'),
+                ('sim 5\nnode a sender\nlink x a a 1000 1 droptail 1\n', 'E8 line 3'),
+                (ONE_SEGMENT.replace('1 0 64000', '1 1000000000 64000'), 'L3 line 0'),
+                (ONE_SEGMENT + 'node x router\n', 'L5 line 0'),
+                (EQUAL_TIMES + 'route q s h\n', 'E6 line 21'),
+                (EQUAL_TIMES + 'route q q h\n', 'E8 line 21'),
+                (EQUAL_TIMES + 'route q s a\n', 'E6 line 21'),
+                (EQUAL_TIMES.replace('route q s h', 'route q s a'), 'E8 line 19'),
+                ('link a b c d e codel 1 2 3', 'E3 line 1'), ('link a b c d e fast 1', 'E7 line 1'),
+                ('link a b c d e fast 1 2', 'E3 line 1'), ('simm\t', 'E1 line 1'), ('simm 5', 'E2 line 1'),
+                (ONE_SEGMENT + ''.join(f'lose a {n}\n' for n in range(1, 66)), 'E9 line 71'),
+                ('node s sender\n' * 2 + 'sim\n', 'E6 line 2')):
+            self.refuses(text, 'refused ' + note)
+
+    def test_input_of_the_most_bytes(self):
+        self.refuses(b'\n' * 16777216, 'refused E10 line 0')
+        self.refuses(b'\n' * 16777217, 'refused I1')
+
+    def test_disassembled(self):
+        text = ONE_SEGMENT.replace('node s', 'node n0').replace('node r', 'node n1')
+        text = text.replace('link a s r', 'link l0 n0 n1').replace('link b r s', 'link l1 n1 n0')
+        text = text.replace('flow f s r', 'flow f0 n0 n1')
+        for given in (ONE_SEGMENT, ONE_SEGMENT_IMAGE):
+            self.assertEqual(program(given, 'dis'), (0, text.encode(), ''))
+        for text in (ONE_SEGMENT, EQUAL_TIMES, CODEL + 'lose b 3\nlose a 1\nlose b 7\n'):
+            scenario = assemble(text.encode())
+            self.assertEqual(assemble(disassemble(scenario)), scenario)
+
+
+class Images(Case):
+    def with_bytes(self, at, new):
+        data = bytearray(ONE_SEGMENT_IMAGE)
+        new = bytes.fromhex(new)
+        data[at:at + len(new)] = new
+        return bytes(data)
+
+    def test_one_segment(self):
+        self.assertEqual(program(ONE_SEGMENT, 'asm'), (0, ONE_SEGMENT_IMAGE, ''))
+        self.assertEqual(len(ONE_SEGMENT_IMAGE), 134)
+
+    def test_there_and_back(self):
+        for text in (ONE_SEGMENT, EQUAL_TIMES, CODEL + 'lose b 3\nlose a 1\nlose b 7\n'):
+            scenario = assemble(text.encode())
+            self.assertEqual(image.load(image.save(scenario)), scenario)
+
+    def test_cut_and_stretched(self):
+        for size in range(134):
+            cut = ONE_SEGMENT_IMAGE[:size]
+            self.refuses(cut, 'refused ' + ('E10 line 0' if size == 0 else 'E2 line 1' if size < 3 else 'L1'))
+            with self.assertRaisesRegex(Refused, 'L1'):
+                image.load(cut)
+        self.refuses(ONE_SEGMENT_IMAGE + b'\0', 'refused L4')
+
+    def test_changed_fields(self):
+        first, second, flow = 24, 66, 108
+        for at, new, note in (
+                (3, '58', 'L2'), (12, '0001', 'L3'), (18, '00000001', 'L1'), (22, '03', 'L3'),
+                (first + 20, '02', 'L3'), (first + 23, '0000000000000001', 'L3'), (first + 21, '0000', 'L3'),
+                (first + 12, '00000002540be401', 'L3'), (first + 12, '0000000000000000', 'L3'),
+                (flow + 18, '000003e7', 'L3'), (flow + 4, '2329', 'L3'), (flow + 6, '00000000', 'L3'),
+                (flow + 10, '000000003b9aca00', 'L3'), (4, '00038d7ea4c68001', 'L3'),
+                (flow, '0001 0000', 'L6'), (flow, '0001 0001', 'L5'), (first, '0000 0000', 'L6'),
+                (second, '0000 0001', 'L5'), (22, '02', 'L6')):
+            self.refuses(self.with_bytes(at, new), 'refused ' + note)
+        for at, new in ((first + 12, '00000002540be400'), (4, '00038d7ea4c68000')):
+            self.assertEqual(program(self.with_bytes(at, new), 'run')[0], 0)
+
+
+class Sessions(Case):
+    def session(self, text, *commands):
+        status, out, note = program(text + '---\n' + '\n'.join(commands), 'debug')
+        self.assertEqual((status, note), (0, ''))
+        return out
+
+    def test_steps_both_ways(self):
+        out = self.session(ONE_SEGMENT, 'step 3', 'back 2', 'back 9', 'run')
+        self.assertEqual(positions(out), [3, 1, 0, 5])
+        self.assertTrue(out.decode().startswith('''at 3
+node 0 sender 0 una=0 nxt=1000 high=1000 cwnd=4000 ssthresh=64000 dups=0 lt=0 fr=0 timing=1000@0 srtt=- rttvar=0 rto=1000000000 resent=0
+node 1 receiver 0 next=1000 held=-
+link 0 offered=1 sent=1 queue=-
+link 1 offered=1 sent=1 queue=-
+event 2080000 1 0 3 free 1
+event 3080000 0 2 1 ack 0 1000
+event 1000000000 0 0 1 rto 0
+at 1
+'''))
+        last = out.decode().split('at 5\n')[1]
+        self.assertTrue(last.startswith(
+            'node 0 sender 0 una=1000 nxt=1000 high=1000 cwnd=5000 ssthresh=64000 dups=0 lt=0 fr=0 timing=-'
+            ' srtt=3080000 rttvar=1540000 rto=1000000000 resent=0\n'))
+        self.assertNotIn('event', last)
+
+    def test_codel_dump(self):
+        self.assertEqual(self.session(CODEL, 'step 1').decode(), CODEL_DUMP)
+
+    def test_breakpoints(self):
+        out = self.session(ONE_SEGMENT, 'break kind data', 'run', 'run', 'back 1', 'until 2040000', 'bak 1')
+        self.assertTrue(out.startswith(b'break 1\nat 3\n') and out.endswith(b'refused B1\n'))
+        self.assertEqual(positions(out), [3, 5, 4, 4])
+        out = self.session(EQUAL_TIMES, 'break flow 1', 'run', 'run', 'run', 'back 1', 'until 2040000')
+        self.assertEqual(positions(out), [2, 6, 6, 5, 5])
+
+    def test_refused_commands(self):
+        for command, code in (
+                ('steps 1', 'B1'), ('break', 'B2'), ('break bus 1', 'B1'), ('break bus', 'B1'), ('break node', 'B2'),
+                ('break drop 1', 'B2'), ('step', 'B2'), ('step 1 2', 'B2'), ('state 1', 'B2'), ('step 01', 'B3'),
+                ('step 1000000000000001', 'B3'), ('break node 2', 'B3'), ('break flow 1', 'B3'),
+                ('break kind tx', 'B3'), ('back -1', 'B3'), ('step\t1', 'B1'), ('# step 1', 'B1')):
+            self.assertEqual(self.session(ONE_SEGMENT, command).decode(), f'refused {code}\n', command)
+        self.assertEqual(self.session(ONE_SEGMENT, '', '   ', 'break drop', ' break  node 1 ', 'break drop', 'clear',
+                                      'break drop').decode(), 'break 1\nbreak 2\nbreak 2\nclear\nbreak 1\n')
+
+    def test_too_many_breakpoints(self):
+        nodes = ''.join(f'node x{n} router\n' for n in range(64))
+        links = ''.join(f'link y{n} x{n} r 1000 1 droptail 1\n' for n in range(64))
+        out = self.session(ONE_SEGMENT + nodes + links, *(f'break node {n}' for n in range(65)), 'break node 63')
+        self.assertEqual(out.decode().splitlines()[-3:], ['break 64', 'refused B4', 'break 64'])
+
+    def test_no_commands(self):
+        self.assertEqual(program(ONE_SEGMENT, 'debug'), (0, b'', ''))
+        self.assertEqual(program(ONE_SEGMENT + '---', 'debug'), (0, b'', ''))
+        self.assertEqual(program('---\nstate\n', 'debug'), (1, b'', 'refused E10 line 0'))
+        self.assertEqual(program(ONE_SEGMENT_IMAGE, 'debug')[0], 1)
+
+
+if __name__ == '__main__':
+    unittest.main()
