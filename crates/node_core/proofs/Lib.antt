@@ -5,3 +5,8 @@ pub mod Fresh
 pub mod Runs
 pub mod Passages
 pub mod Steps
+pub mod Numbered
+pub mod OneFlow
+pub mod AtFirst
+pub mod InOrder
+pub mod Entries

@@ -1,5 +1,6 @@
 -- A node's agenda: what is pending at it, kept in slots, one for each alarm and one for each incoming link.
 use Rattle.std.specs.Prelude.{◌≡◌, ◌≢◌, ◌<◌, ◌≤◌, ◌+◌, ◌-◌, ◌==◌, if◌then◌else◌, ℕ, List, [], ◌∷◌, ◌++◌, map, length, replicate, slice_index, slice_index_or, slice_set, Option, None, Some}
+use Rattle.std.specs.List.{position_or_len}
 use Rattle.sim_time.specs.declared.key.Key.{Key}
 use Rattle.packet_chain.specs.Stamped.{Stamped}
 use Rattle.ranking.specs.Keyed.{next_key, changed, apply, entering, nothing_due}
@@ -86,6 +87,10 @@ no_incoming = record { link = 0; came = 0 }
 -- the incoming link of an index
 abbrev pub incoming_at : List Incoming → ℕ → Incoming
 incoming_at incoming index = slice_index_or incoming index no_incoming
+
+-- which of the incoming links has this number, counted from 0; how many there are, where none has
+abbrev pub entry_of : List Incoming → ℕ → ℕ
+entry_of incoming link = position_or_len (λ (over : Incoming). over.link == link) incoming
 
 -- packets come over an incoming link, and are pending from now on
 abbrev pub come_over : AgendaState → ℕ → List Stamped → AgendaState

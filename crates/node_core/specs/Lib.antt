@@ -18,5 +18,6 @@ pub mod Running
 pub mod NodeCode
 pub mod NodeOf
 pub mod Ready
+pub mod OpeningAgenda
 pub use Rattle.ranking.specs.Keyed
 pub use Rattle.ranking.specs.Gathered

@@ -1,5 +1,5 @@
 -- The nodes of a scenario, before anything is sent.
-use Rattle.std.specs.Prelude.{ℕ, ◌==◌, List, [], map, filter, find, unwrap_or, Option, Some}
+use Rattle.std.specs.Prelude.{ℕ, ◌==◌, List, [], map, filter, find, slice_index_or, unwrap_or, Option, Some}
 use Rattle.std.specs.List.{enumerate_from, position}
 use Rattle.std.specs.Option.{option_and_then}
 use Rattle.scenario_image.specs.declared.parts.NodeKind.{NodeKind}
@@ -25,6 +25,10 @@ use Rattle.node_core.specs.declared.routes.FlowExits.{FlowExits}
 use Rattle.node_core.specs.Alarms.{alarm_key}
 use Rattle.node_core.specs.Pending.{Change}
 use Rattle.node_core.specs.Part.{LinkState, PartState}
+
+-- what a scenario's node is
+abbrev pub node_kind : ScenarioParts → ℕ → NodeKind
+node_kind p node = slice_index_or p.nodes node Router
 
 -- nothing waits, and so many packets may
 abbrev pub empty_fifo : ℕ → DropTailState

@@ -7,7 +7,7 @@ ghost use Rattle.sim_time.specs.declared.key.Key.{Key};
 ghost use Rattle.ranking.specs.Keyed.{least, next_key, apply, entering, EachKey};
 ghost use Rattle.node_core.specs.Alarms.{numbered_key, alarm_cleared, alarm_set};
 ghost use Rattle.node_core.specs.WireState.{stamps_of};
-ghost use Rattle.node_core.specs.AgendaState.{alarm_event, cleared, incoming_at, come_over, AreApart, fresh_wire, fresh_agenda, IsDue};
+ghost use Rattle.node_core.specs.AgendaState.{alarm_event, cleared, incoming_at, entry_of, come_over, AreApart, fresh_wire, fresh_agenda, IsDue};
 ghost use Rattle.packet_chain.specs.declared.packet.Packet.{Packet};
 ghost use Rattle.node_core.specs.declared.event.Event.{Event};
 ghost use Rattle.node_core.specs.declared.event.Event.TheVariants.{Arrive};
@@ -144,6 +144,17 @@ impl Agenda {
         ensures { result ≡ (incoming_at self.now.incoming index).link }
     {
         self.wires[index].link()
+    }
+
+    /// Which incoming link has this number, counted from 0.
+    pub fn entry(&self, link: u16) -> usize
+        requires { entry_of self.now.incoming link < length self.now.incoming }
+        ensures { result ≡ entry_of self.now.incoming link }
+    {
+        self.wires
+            .iter()
+            .position(|wire| wire.link() == link)
+            .unwrap()
     }
 
     /// How many incoming links there are.

@@ -8,21 +8,28 @@ ghost use Rattle.sim_time.specs.declared.key.Key.{Key};
 ghost use Rattle.packet_chain.specs.Stamped.{Stamped};
 ghost use Rattle.ranking.specs.Keyed.{least, next_key, EachKey};
 ghost use Rattle.node_core.specs.declared.event.Event.{Event};
-ghost use Rattle.node_core.specs.AgendaState.{incoming_at};
+ghost use Rattle.node_core.specs.AgendaState.{incoming_at, entry_of};
 ghost use Rattle.node_core.specs.WireState.{stamps_of};
-ghost use Rattle.node_core.specs.Part.{link_at};
+ghost use Rattle.node_core.specs.Part.{link_at, sender_in, receiver_in};
 ghost use Rattle.node_core.specs.Row.{Leaving, row};
 ghost use Rattle.node_core.specs.Ready.{IsRunnable};
 ghost use Rattle.node_core.specs.TraceLine.{shown};
-ghost use Rattle.node_core.specs.Node.{delivered, HasFired};
+ghost use Rattle.node_core.specs.Node.{delivered, opening_node, HasFired};
+ghost use Rattle.node_core.specs.Opening.{node_kind};
 
 use crate::agenda::Agenda;
+use crate::event::Event;
 use crate::events::run;
 use crate::line::Line;
 use crate::link::Link;
+use crate::opening::{leaving_numbers, opening_agenda, opening_links, opening_role};
 use crate::outbox::Outbox;
+use crate::pending::in_order;
 use crate::role::Role;
 use packet_chain::PacketChain;
+use reno_receiver::Receiver;
+use reno_sender::Sender;
+use scenario_image::scenario::Scenario;
 use sim_time::Key;
 use std::alloc::{AllocError, Global};
 use std::marker::Model;
@@ -68,6 +75,24 @@ fn copies_of(alloc: Global, links: &[Link]) -> Result<Vec<Link>, AllocError>
 }
 
 impl Node {
+    /// The node of a number of a scenario, before anything is sent.
+    pub fn new(alloc: Global, scenario: &Scenario, number: u16) -> Result<Node, AllocError>
+        requires { number < length scenario.now.nodes }
+        ensures { IfOk result (λ node. node ≡ opening_node scenario.now (number, node_kind scenario.now number)) }
+    {
+        let parts = scenario.parts();
+        let leaving = leaving_numbers(alloc, parts.links.as_slice(), number)?;
+        let role = opening_role(alloc, parts, &leaving, number)?;
+        let links = opening_links(alloc, parts, number)?;
+        let agenda = opening_agenda(alloc, parts, number, role.flow(), leaving)?;
+        Ok(Node {
+            role,
+            links,
+            agenda,
+            alloc,
+        })
+    }
+
     /// Its number.
     pub fn number(&self) -> u16
         ensures { result ≡ self.now.number }
@@ -120,8 +145,55 @@ impl Node {
         self.agenda.incoming_link(index)
     }
 
+    /// Its sender, with the flow's number; none at other nodes.
+    pub fn sender(&self) -> Option<(u16, &Sender)>
+        ensures { option_map (λ found. (found.0, found.1.now)) result ≡ sender_in self.now.part.role }
+    {
+        match &self.role {
+            Role::Sends(flow, sender) => Some((*flow, sender)),
+            Role::Receives(_, _) | Role::Routes(_) => None,
+        }
+    }
+
+    /// Its receiver, with the flow's number; none at other nodes.
+    pub fn receiver(&self) -> Option<(u16, &Receiver)>
+        ensures { option_map (λ found. (found.0, found.1.now)) result ≡ receiver_in self.now.part.role }
+    {
+        match &self.role {
+            Role::Receives(flow, receiver) => Some((*flow, receiver)),
+            Role::Sends(_, _) | Role::Routes(_) => None,
+        }
+    }
+
+    /// Its outgoing links, in rising number: each knows its number, and what waits at it.
+    pub fn ports(&self) -> &[Link]
+        ensures { result.now ≡ self.now.part.links }
+    {
+        &self.links
+    }
+
+    /// The events that are pending at it, in the order of keys.
+    pub fn pending(&self) -> Result<Vec<(Key, Event)>, AllocError>
+        ensures { IfOk result (λ all. all.items ≡ map.entries self.now.pending) }
+    {
+        in_order(self.alloc, &self.agenda)
+    }
+
     /// Packets come over an incoming link, after all that came over it before; the chain is then
     /// empty. It takes no memory.
+    pub fn deliver(&mut self, link: u16, chain: &mut PacketChain)
+        requires ends_here { entry_of self.old.incoming link < length self.old.incoming }
+        requires rising { IsStrictlyIncreasing (stamps_of chain.old) }
+        requires later { All (λ stamp. EachKey (λ k. k.source ≡ link + 1 → k.time < stamp) self.old.pending) (stamps_of chain.old) }
+        requires few { (incoming_at self.old.incoming (entry_of self.old.incoming link)).came + length chain.old ≤ 2 ^ 50 }
+        ensures node { self.new ≡ delivered self.old (entry_of self.old.incoming link) chain.old }
+        ensures emptied { chain.new ≡ [] }
+    {
+        let index = self.agenda.entry(link);
+        self.deliver_at(index, chain);
+    }
+
+    /// The same, over the incoming link of an index.
     pub fn deliver_at(&mut self, index: usize, chain: &mut PacketChain)
         requires within { index < length self.old.incoming }
         requires rising { IsStrictlyIncreasing (stamps_of chain.old) }
@@ -167,6 +239,21 @@ impl Node {
         line.event = event;
         line.after = self.role.after();
         Ok(left)
+    }
+
+    /// Runs the event of the least key, as `fire_into` does, and answers the line.
+    pub fn fire(&mut self, out: &mut Outbox) -> Result<Line, AllocError>
+        requires pending { next_key self.old.pending ≢ None }
+        requires due { (k : Key) (v : Event) → least self.old.pending ≡ Some (k, v) → IsRunnable self.old.part k v }
+        requires chains { length self.old.part.links ≤ length out.old }
+        requires room { All (λ chain. length chain < 1000000000000000) out.old }
+        ensures fired { IfOk result (λ line. HasFired self.old self.new out.old out.new (shown line)) }
+        ensures same { OnErr result (self.new ≡ self.old) }
+        ensures same_out { OnErr result (out.new ≡ out.old) }
+    {
+        let mut line = Line::new(self.alloc);
+        self.fire_into(out, &mut line)?;
+        Ok(line)
     }
 
     /// A node in the same state, with packets in cells of its own.

@@ -20,6 +20,17 @@ pub enum Role {
 
 impl Role {
     ghost use Rattle.node_core.specs.Row.{after_of};
+    ghost use Rattle.node_core.specs.InStep.{flow_of};
+
+    /// The number of its flow; 0 at a router.
+    pub(crate) fn flow(&self) -> u16
+        ensures { result ≡ flow_of self.now }
+    {
+        match self {
+            Role::Sends(flow, _) | Role::Receives(flow, _) => *flow,
+            Role::Routes(_) => 0,
+        }
+    }
 
     /// What a line shows of it.
     pub fn after(&self) -> After

@@ -38,7 +38,12 @@ fn settle(nodes: &mut [Standing], from: usize)
 {
     let mut at = from;
     while at > 0 {
-        nodes[at] = winner(nodes, at);
+        let first = winner(nodes, at);
+        // Where another stays first, nothing above changes.
+        if nodes[at] == first {
+            return;
+        }
+        nodes[at] = first;
         at /= 2;
     }
 }
@@ -53,6 +58,10 @@ fn stand(nodes: &mut [Standing], places: usize, standing: Standing)
     ensures others { (i : ℕ) → length nodes.old ≤ 2 * i → i ≢ places + standing.place → standing_at nodes.new i ≡ standing_at nodes.old i }
 {
     let leaf = places + standing.place as usize;
+    // An alarm often stays, and a packet mostly comes behind others.
+    if nodes[leaf] == standing {
+        return;
+    }
     nodes[leaf] = standing;
     settle(nodes, leaf / 2);
 }

@@ -6,7 +6,7 @@ ghost use Rattle.ranking.specs.Tournament.{standing_cmp, first_of, standing_at};
 use sim_time::{Key, key_order};
 
 /// What a place has: a key, or none.
-#[derive(Clone, Copy, Debug)]
+#[derive(Clone, Copy, Debug, PartialEq, Eq)]
 pub struct Standing {
     /// The key, where there is one.
     pub key: Key,

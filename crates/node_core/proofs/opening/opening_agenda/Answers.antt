@@ -1,0 +1,52 @@
+use Rattle.std.proofs.Common.{◌≡◌, ◌==◌, ℕ, ◌<◌, ◌≤◌, length, get_or, sym, ap, subst, ◌∙◌, arith, List}
+use Rattle.std.proofs.lemmas.List.{length-map}
+use Rattle.std.proofs.lemmas.List.Sums.{count_by-le-length}
+use Rattle.scenario_image.specs.declared.parts.LinkPart.{LinkPart}
+use Rattle.scenario_image.specs.declared.parts.FlowPart.{FlowPart}
+use Rattle.node_core.specs.AgendaState.{AgendaState, AreApart, fresh_agenda}
+use Rattle.node_core.specs.Opening.{coming_links}
+use Rattle.node_core.specs.OpeningAgenda.{numbers_of, start_at}
+use Rattle.node_core.proofs.Numbered.{all_at, numbers_within, numbers_apart, passing_count}
+use Rattle.node_core.proofs.AtFirst.{opened_agenda, with_start, same_owner}
+use Rattle.node_core.proofs.opening.opening_agenda.Goals as goal
+
+come : (links parts_links : List LinkPart) (node : ℕ) (numbers slice : List ℕ) → slice ≡ numbers → numbers ≡ numbers_of (coming_links links node) → links ≡ parts_links → slice ≡ numbers_of (coming_links parts_links node)
+come links parts_links node numbers slice e f g = e ∙ f ∙ ap (λ ls. numbers_of (coming_links ls node)) g
+
+within : (links : List LinkPart) (node : ℕ) → length links ≤ 1024 → (i : ℕ) → i < length (numbers_of (coming_links links node)) → get_or (numbers_of (coming_links links node)) i 0 < 65535
+within links node few i under =
+    let at = all_at (λ n. (0 ≤ n) × (n < 1024)) (numbers_of (coming_links links node)) (numbers_within (λ (link : LinkPart). link.to == node) 0 1024 links (omega (arith, few))) i under in
+    let below : get_or (numbers_of (coming_links links node)) i 0 < 1024 = at.1 in
+    omega (arith, below)
+
+few_come : (links : List LinkPart) (node : ℕ) → length (numbers_of (coming_links links node)) ≤ length links
+few_come links node =
+    let count = passing_count (λ (link : LinkPart). link.to == node) 0 links in
+    omega (arith, length-map (coming_links links node) (λ (x : ℕ × LinkPart). x.0), count, count_by-le-length (λ (link : LinkPart). link.to == node) links)
+
+pub new-requires-clause-few : goal.new-requires-clause-few
+new-requires-clause-few c =
+    let all = c.args.parts.now.links in
+    let numbers = ap length (come c.as_slice.result.now all c.args.node _ _ c.deref.ensures.value c.in_ok-coming.ensures c.as_slice.ensures.value) in
+    omega (arith, numbers, few_come all c.args.node, c.requires.scenario.in_limits.counts.link_count.1, c.requires.few, c.args.leaving.ok.0)
+
+pub new-requires-clause-links : goal.new-requires-clause-links
+new-requires-clause-links c =
+    let all = c.args.parts.now.links in
+    subst (λ (ns : List ℕ). (i : ℕ) → i < length ns → get_or ns i 0 < 65535) (sym (come c.as_slice.result.now all c.args.node _ _ c.deref.ensures.value c.in_ok-coming.ensures c.as_slice.ensures.value))
+    (within all c.args.node c.requires.scenario.in_limits.counts.link_count.1)
+
+pub new-requires-clause-apart : goal.new-requires-clause-apart
+new-requires-clause-apart c =
+    let all = c.args.parts.now.links in
+    subst AreApart (sym (come c.as_slice.result.now all c.args.node _ _ c.deref.ensures.value c.in_ok-coming.ensures c.as_slice.ensures.value)) (numbers_apart (λ (link : LinkPart). link.to == c.args.node) 0 all)
+
+pub returns : goal.returns
+returns c =
+    let all = c.args.parts.now.links in
+    let coming = c.deref.result.now in
+    c.set_alarm.ensures
+    ∙ ap (λ (agenda : AgendaState). with_start agenda c.start_at.result) (c.in_ok-agenda.ensures ∙ ap (λ o. fresh_agenda o coming) (same_owner c.requires.flow c.requires.leaving))
+    ∙ opened_agenda c.args.parts.now c.requires.scenario c.args.node c.requires.within coming c.start_at.result
+    (come c.as_slice.result.now all c.args.node _ _ c.deref.ensures.value c.in_ok-coming.ensures c.as_slice.ensures.value)
+    (c.start_at.ensures ∙ ap (λ (flows : List FlowPart). start_at flows c.args.node) c.as_slice-2.ensures.value)

@@ -1,0 +1,30 @@
+use Rattle.std.proofs.Common.{◌==◌, ◌++◌, drop, sym, ap, ◌∙◌, ◌+◌}
+use Rattle.std.proofs.lemmas.Bool.{eq-eqb, ne_eqb}
+use Rattle.scenario_image.specs.declared.parts.LinkPart.{LinkPart}
+use Rattle.node_core.specs.Opening.{opening_link, opening_links}
+use Rattle.node_core.proofs.Numbered.{picked, pick_yes, pick_no, picked_all}
+use Rattle.node_core.proofs.opening.opening_links.Goals.{then-part-node+in_ok-link+in_ok-push, else-part-node}
+use Rattle.node_core.proofs.opening.opening_links.Goals as goal
+
+pub loop-number-preserved : goal.loop-number-preserved
+loop-number-preserved c =
+    let node_is = λ (link : LinkPart). link.from == c.args.node in
+    let i = c.loop-number.number in
+    let parts = c.as_slice-part-items.result.now in
+    let within = c.loop-number-test.true in
+    let part = c.part-item in
+    let so_far = c.loop-number.links.items in
+    elim c.if-part-node.branch [
+      | then-part-node+in_ok-link+in_ok-push w ↦
+          ap (λ ls. ls ++ picked node_is opening_link (i + 1) (drop (i + 1) parts)) (ap (λ v. v.items) w.links-is ∙ w.in_ok-push.ensures.items)
+          ∙ pick_yes node_is opening_link i i parts part.result so_far w.in_ok-link.link within part.is (eq-eqb part.result.from c.args.node w.if-part-node.true) w.in_ok-link.ensures ∙ c.loop-number.invariant
+      | else-part-node w ↦
+          ap (λ v. v.items ++ picked node_is opening_link (i + 1) (drop (i + 1) parts)) w.links-is
+          ∙ pick_no node_is opening_link i i parts part.result so_far within part.is (ne_eqb part.result.from c.args.node w.if-part-node.false) ∙ c.loop-number.invariant
+    ]
+
+pub returns : goal.returns
+returns c =
+    let parts = c.as_slice-part-items.result.now in
+    sym (picked_all (λ (link : LinkPart). link.from == c.args.node) opening_link c.loop-number.number c.loop-number.number parts c.loop-number.links.items c.loop-number-test.false)
+    ∙ c.loop-number.invariant ∙ ap (λ links. opening_links links c.args.node) c.as_slice-part-items.ensures.value

@@ -1,0 +1,44 @@
+use Rattle.std.proofs.Common.{sym, ap, subst, ◌∙◌, arith, List, IsSome}
+use Rattle.scenario_image.specs.declared.parts.NodeKind.TheVariants.{Sender, Receiver}
+use Rattle.scenario_image.specs.declared.parts.FlowPart.{FlowPart}
+use Rattle.node_core.specs.OpeningAgenda.{flow_sent, flow_received}
+use Rattle.node_core.proofs.OneFlow.{IsFlowOf, sender_finds, receiver_finds, sent_is, received_is, sender_limits, kind_read}
+use Rattle.node_core.proofs.opening.opening_role.Goals as goal
+
+pub unwrap-number-requires : goal.unwrap-number-requires
+unwrap-number-requires c =
+    let p = c.args.parts.now in
+    let kind = kind_read p c.args.node c.from.result c.as_slice.result.now Sender Sender c.as_slice.ensures.value c.from.ensures c.requires.within c.in-Sender.is in
+    let found = c.flow_from.ensures ∙ ap (λ (flows : List FlowPart). flow_sent flows c.args.node) c.as_slice-flows.ensures.value in
+    subst IsSome (sym found) (sender_finds p c.requires.scenario c.args.node c.requires.within kind)
+
+pub new-sender-requires : goal.new-sender-requires
+new-sender-requires c =
+    let p = c.args.parts.now in
+    let found = sym c.unwrap-number.ensures ∙ c.flow_from.ensures ∙ ap (λ (flows : List FlowPart). flow_sent flows c.args.node) c.as_slice-flows.ensures.value in
+    let flow = c.unwrap-number.result in
+    let is = sent_is p c.requires.scenario c.args.node c.requires.within flow.0 flow.1 (sym found) in
+    sender_limits _ _ c.from-mss.result c.from-segments.result c.from-in-Sender.result flow.1 is.limits c.from-mss.ensures c.from-segments.ensures c.from-in-Sender.ensures
+
+pub unwrap-number-requires-in-Receiver : goal.unwrap-number-requires-in-Receiver
+unwrap-number-requires-in-Receiver c =
+    let p = c.args.parts.now in
+    let kind = kind_read p c.args.node c.from.result c.as_slice.result.now Sender Receiver c.as_slice.ensures.value c.from.ensures c.requires.within c.in-Receiver.is in
+    let found = c.flow_to.ensures ∙ ap (λ (flows : List FlowPart). flow_received flows c.args.node) c.as_slice-flows.ensures.value in
+    subst IsSome (sym found) (receiver_finds p c.requires.scenario c.args.node c.requires.within kind)
+
+-- the flow that a receiver has is within its limits
+received : (c : goal.After-from-in-Receiver-2) → IsFlowOf c.args.parts.now c.args.node Receiver c.unwrap-number-in-Receiver.result.1
+received c =
+    let found = sym c.unwrap-number-in-Receiver.ensures ∙ c.flow_to.ensures ∙ ap (λ (flows : List FlowPart). flow_received flows c.args.node) c.as_slice-flows.ensures.value in
+    let flow = c.unwrap-number-in-Receiver.result in
+    received_is c.args.parts.now c.requires.scenario c.args.node c.requires.within flow.0 flow.1 (sym found)
+
+pub new-receiver-requires-clause-mss_least : goal.new-receiver-requires-clause-mss_least
+new-receiver-requires-clause-mss_least c = omega (arith, (received c).limits.mss_range.0, c.from-in-Receiver.ensures)
+
+pub new-receiver-requires-clause-mss_greatest : goal.new-receiver-requires-clause-mss_greatest
+new-receiver-requires-clause-mss_greatest c = omega (arith, (received c).limits.mss_range.1, c.from-in-Receiver.ensures)
+
+pub new-receiver-requires-clause-delack_greatest : goal.new-receiver-requires-clause-delack_greatest
+new-receiver-requires-clause-delack_greatest c = omega (arith, (received c).limits.delack_range, c.from-in-Receiver-2.ensures)
