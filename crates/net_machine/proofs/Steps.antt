@@ -1,304 +1,329 @@
--- What one event of a flow keeps: the rows of the sender, of the receiver and of a link that has sent a packet.
-use Rattle.std.proofs.Common.{◌*◌, ◌≡◌, ◌≢◌, ℕ, ◌+◌, ◌%◌, ◌<◌, ◌≤◌, List, [], ◌∷◌, length, map, get_or, set, refl, sym, ap, subst, ◌∙◌, Option, Some, None, ◌⊎◌, inl, inr, ⊎_elim, arith, get_or-set_same, get_or-set_other}
-use Rattle.std.proofs.lemmas.List.{length-set, length-map}
-use Rattle.std.specs.List.{AllByRecursion}
-use Rattle.std.specs.Option.{IfSome}
-use Rattle.std.specs.FinMap as map
+-- A net's step: what its first node needs to run its event, and that the nodes after it are in the state that the tables say.
+use Rattle.std.proofs.Common.{◌≡◌, ◌≢◌, ℕ, zero, suc, ◌+◌, ◌<◌, ◌≤◌, ◌^◌, cond, List, [], ◌∷◌, ◌++◌, length, set, get_or, replicate, refl, sym, ap, subst, ◌∙◌, Some, None, Option, All, arith}
+use Rattle.std.proofs.lemmas.Bool.{lt-ltb}
+use Rattle.std.proofs.lemmas.List.{get_or-set_same, get_or-set_other, length-set, map-set, set-set, set-get_or, get_or-replicate}
+use Rattle.std.proofs.Math.ListN.{get_or-map}
+use Rattle.std.specs.Option.{option_map, option_and_then}
+use Rattle.std.specs.FinMap as fin
+use Rattle.std.specs.List.Sorted.{IsStrictlyIncreasing}
 use Rattle.sim_time.specs.declared.key.Key.{Key}
-use Rattle.packet_chain.specs.declared.packet.Packet.{Packet}
-use Rattle.reno_sender.specs.declared.fields.SenderFields.{SenderFields}
-use Rattle.reno_sender.specs.Sending.{Planned}
-use Rattle.reno_sender.specs.Laws.{RowKeeps, IsSegment, IsDeadlineSetAt}
-use Rattle.reno_receiver.specs.Received.{next_of}
-use Rattle.net_machine.specs.declared.event.Event.{Event}
-use Rattle.net_machine.specs.declared.event.Event.TheVariants.{Start, Rto, DelAck, Free, Arrive}
-use Rattle.net_machine.specs.declared.port.Place.{Place}
-use Rattle.net_machine.specs.declared.role.Role.TheVariants.{Sends}
-use Rattle.net_machine.specs.Pending.{Events, Change, apply}
-use Rattle.net_machine.specs.Port.{PortState, offered_all}
-use Rattle.net_machine.specs.Part.{PartState, Effect, alarm_key, alarm_moved, data_packet, sender_row}
-use Rattle.net_machine.specs.State.{State, part_at, no_part, stepped}
-use Rattle.net_machine.specs.Sound.{EachEvent, IsSent, IsAnswerable, IsGiven, Ends, Parts, Belongs, IsPendingWhereSet, IsPortTo, IsSoundAt}
-use Rattle.net_machine.specs.Rising.{RoleRises}
-use Rattle.net_machine.proofs.Offered.{apply-append}
-use Rattle.net_machine.proofs.Events.{not_some, same_some, each_remove, each_apply, each_map}
-use Rattle.net_machine.proofs.PortSteps.{all_append, all_map, IsSoon, IsLink, AreSized, IsMade, PortMoves, all_offers}
-use Rattle.net_machine.proofs.Alarms.{moved_events, moved_changes}
-use Rattle.net_machine.proofs.SetAlarms.{set_kept, row_alarms, all_alarm}
-use Rattle.net_machine.proofs.Least.{IsDue}
+use Rattle.packet_chain.specs.Stamped.{Stamped}
+use Rattle.ranking.specs.Keyed.{apply, changed, least, next_key, entering, EachKey}
+use Rattle.ranking.proofs.Maps.{not_some, same_some}
+use Rattle.node_core.specs.declared.event.Event.{Event}
+use Rattle.node_core.specs.declared.event.Event.TheVariants.{Arrive}
+use Rattle.node_core.specs.Pending.{Events, Change}
+use Rattle.node_core.specs.Alarms.{arrival_key}
+use Rattle.node_core.specs.AgendaState.{Incoming, incoming_at}
+use Rattle.node_core.specs.WireState.{arrivals}
+use Rattle.node_core.specs.Part.{LinkState, PartState, link_at}
+use Rattle.node_core.specs.Row.{Effect, Leaving, row, home_changes, sent_away}
+use Rattle.node_core.specs.Ready.{IsRunnable}
+use Rattle.node_core.specs.TraceLine.{TraceLine}
+use Rattle.node_core.specs.Node.{NodeState, delivered, put_out, HasFired}
+use Rattle.table_run.specs.State.{State, part_at, below as below_end, due, effect_of, stepped, line_of, step_at, step, one_more, run, opening}
+use Rattle.net_machine.specs.declared.places.Place.{Place}
+use Rattle.net_machine.specs.declared.places.LinkEnds.{LinkEnds}
+use Rattle.net_machine.specs.Run.{Reached, IsRun, Stepped}
+use Rattle.net_machine.specs.Nodes.{no_node, node_at, net_pending, parts_of, net_state, reached, IsPlaced, IsFirst}
+use Rattle.net_machine.specs.Wiring.{from_of, exit_of, to_of, entry_of, leaving_at, coming_at, place_at, IsWire, IsExit, IsWired}
+use Rattle.net_machine.specs.NetOf.{IsNet}
+use Rattle.net_machine.proofs.AtNodes.{node_key}
+use Rattle.net_machine.proofs.Home.{its_node, fired_placed, fired_pending, come_pending}
+use Rattle.table_run.proofs.Ready.{LinksStay, IsDelivery, runnable, links_stay, delivery}
+use Rattle.net_machine.proofs.Wired.{wired_fired, wired_delivered}
 
--- two nodes, and they differ
-pub record ArePair (e : Ends) : Type 0 where
-  pub differ : e.sender ≢ e.receiver
-  pub sender_below : e.sender < 2
-  pub receiver_below : e.receiver < 2
+apply_both : (cs ds : List Change) (m : Events) → apply (cs ++ ds) m ≡ apply ds (apply cs m)
+apply_both [] ds m = refl
+apply_both (c ∷ cs) ds m = apply_both cs ds (changed m c.0 c.1)
 
--- all that an event makes is due later, within 100 seconds
-abbrev pub AreSoon : ℕ → List Change → Type 0
-AreSoon now cs = AllByRecursion (λ (c : Change). IfSome c.1 (λ _. IsSoon now c.0)) cs
-
-pub link_of : (node n : ℕ) (port : PortState) → IsPortTo node n port → IsLink port
-link_of node n port p = record { rate_range = p.rate_range; delay_least = p.delay_least; delay_most = p.delay_most }
-
-pub later_port : (node n : ℕ) (port : PortState) → IsPortTo node n port → IsPortTo node (n + 1) port
-later_port node n port p = record {
-  ends_at = p.ends_at;
-  link_number = p.link_number;
-  rate_range = p.rate_range;
-  delay_least = p.delay_least;
-  delay_most = p.delay_most;
-  sent_most = omega (arith, p.sent_most);
-  offered_most = omega (arith, p.offered_most);
+-- one step more is a run too
+abbrev pub run_step : (r : Reached) (line : TraceLine) (new : State) → IsRun r → r.position < 1000000000000000 → step r.state ≡ Some (line, new) → IsRun record { state = new; position = r.position + 1 }
+run_step r line new is_run fits is = record {
+  scenario = is_run.scenario;
+  lines = is_run.lines ++ line ∷ [];
+  is_scenario = is_run.is_scenario;
+  position_fits = omega (arith, fits);
+  is = subst (λ n. run (opening is_run.scenario) n ≡ Some (is_run.lines ++ line ∷ [], new)) {x = suc r.position} {y = r.position + 1} (omega arith)
+      (ap (option_and_then one_more) is_run.is ∙ ap (option_map {U = List TraceLine × State} (λ (next : TraceLine × State). (is_run.lines ++ next.0 ∷ [], next.1))) is);
 }
 
--- a port after an event that offered it so few packets
-pub moved_port : (D : Packet → Type 0) (place : Place) (now node n : ℕ) (old new : PortState) (cs : List Change) → PortMoves D place now old new cs → IsPortTo node n old → new.offered ≤ old.offered + 2147483648 → IsPortTo node (n + 1) new
-moved_port D place now node n old new cs moves p few = record {
-  ends_at = moves.same_to ∙ p.ends_at;
-  link_number = subst (λ l. l < 1024) (sym moves.same_link) p.link_number;
-  rate_range = subst (λ (r : ℕ). Rattle.sim_time.specs.Serial.IsRate r) (sym moves.same_rate) p.rate_range;
-  delay_least = subst (λ l. 1 ≤ l) (sym moves.same_delay) p.delay_least;
-  delay_most = subst (λ l. l ≤ 10000000000) (sym moves.same_delay) p.delay_most;
-  sent_most = omega (arith, moves.sendings, p.sent_most);
-  offered_most = omega (arith, few, p.offered_most);
-}
+-- what holds of the only one
+pub one_all : (P : ℕ → Type 0) (x : ℕ) → P x → All P (x ∷ [])
+one_all P x h zero d under = h
+one_all P x h (suc k) d under = absurd (omega (arith, under))
 
--- what is pending after the event: what was, but for the event, and what it made
-pub soon_after : (s : State) (k : Key) (v : Event) (cs : List Change) → IsDue s k v → AreSoon k.time cs → EachEvent (λ q w. k.time ≤ q.time) (apply cs (map.remove s.pending k))
-soon_after s k v cs due soon =
-    each_apply (λ q w. k.time ≤ q.time) cs _ (all_map (λ (c : Change). IfSome c.1 (λ _. IsSoon k.time c.0)) (λ (c : Change). IfSome c.1 (λ _. k.time ≤ c.0.time)) (λ c h. at c.0 c.1 h) cs soon)
-    (each_map (λ q w. (k.time ≤ q.time) × (q ≢ k)) (λ q w. k.time ≤ q.time) _ (each_remove (λ q w. k.time ≤ q.time) s.pending k due.first) (λ q w h. h.0))
-  where
-    at : (q : Key) (o : Option Event) → IfSome o (λ _. IsSoon k.time q) → IfSome o (λ _. k.time ≤ q.time)
-    at q None h = h
-    at q (Some w) h = omega (arith, h.later)
+pub one_rising : (x : ℕ) → IsStrictlyIncreasing (x ∷ [])
+one_rising x k under = absurd (omega (arith, under))
 
-pub made_soon : (D : Packet → Type 0) (place : Place) (now : ℕ) (port : PortState) (cs : List Change) → AllByRecursion (λ (c : Change). IfSome c.1 (IsMade D place now port c.0)) cs → AreSoon now cs
-made_soon D place now port cs all = all_map (λ (c : Change). IfSome c.1 (IsMade D place now port c.0)) (λ (c : Change). IfSome c.1 (λ _. IsSoon now c.0)) (λ c h. at c.0 c.1 h) cs all
-  where
-    one : (q : Key) (w : Event) → IsMade D place now port q w → IsSoon now q
-    one q (Start flow) h = absurd h
-    one q (Rto flow) h = absurd h
-    one q (DelAck flow) h = absurd h
-    one q (Free link) h = h.2
-    one q (Arrive x) h = h.2
+-- the leaving packet of an index
+pub record Left (o : Option Leaving) (index : ℕ) : Type 0 where
+  pub packet : Leaving
+  pub is : o ≡ Some packet
+  pub at : packet.index ≡ index
 
-    at : (q : Key) (o : Option Event) → IfSome o (IsMade D place now port q) → IfSome o (λ _. IsSoon now q)
-    at q None h = h
-    at q (Some w) h = one q w h
+pub has_left : (o : Option Leaving) (index : ℕ) → Some index ≡ option_map (λ (l : Leaving). l.index) o → Left o index
+has_left None index e = absurd (not_some (sym e))
+has_left (Some l) index e = record { packet = l; is = refl; at = same_some l.index index (sym e) }
 
-abbrev pub IsRto : Event → Type 0
-IsRto (Start flow) = ⊥
-IsRto (Rto flow) = Unit {0}
-IsRto (DelAck flow) = ⊥
-IsRto (Free link) = ⊥
-IsRto (Arrive x) = ⊥
+pub none_left : (o : Option Leaving) → None ≡ option_map (λ (l : Leaving). l.index) o → o ≡ None
+none_left None e = refl
+none_left (Some l) e = absurd (not_some e)
 
-pub is_rto : (v : Event) → IsRto v ⊎ ¬ IsRto v
-is_rto (Start flow) = inr (λ h. h)
-is_rto (Rto flow) = inl tt
-is_rto (DelAck flow) = inr (λ h. h)
-is_rto (Free link) = inr (λ h. h)
-is_rto (Arrive x) = inr (λ h. h)
+module _ (nodes : List NodeState) (ends : List LinkEnds) (out : List (List Stamped)) (end position : ℕ) (is : IsNet nodes ends out end position) (place : ℕ) (first : IsFirst nodes place) where
+  -- the least key is the first node's
+  pub its_key : (key : Key) → Some key ≡ next_key (net_pending nodes) → (k : Key) (v : Event) → least (node_at nodes place).pending ≡ Some (k, v) → key ≡ k
+  its_key key next k v here = same_some key k (next ∙ ap (option_map (λ (entry : Key × Event). entry.0)) (first.same ∙ here))
 
-abbrev pub IsDelAck : Event → Type 0
-IsDelAck (Start flow) = ⊥
-IsDelAck (Rto flow) = ⊥
-IsDelAck (DelAck flow) = Unit {0}
-IsDelAck (Free link) = ⊥
-IsDelAck (Arrive x) = ⊥
+  module _ (k : Key) (v : Event) (here : least (node_at nodes place).pending ≡ Some (k, v)) (early : k.time < end) where
+    due_here : due (net_state nodes end) ≡ Some (k, v)
+    due_here = ap (below_end end) (first.same ∙ here) ∙ ap (λ b. cond b (Some (k, v)) None) (lt-ltb k.time end early)
 
-pub is_delack : (v : Event) → IsDelAck v ⊎ ¬ IsDelAck v
-is_delack (Start flow) = inr (λ h. h)
-is_delack (Rto flow) = inr (λ h. h)
-is_delack (DelAck flow) = inl tt
-is_delack (Free link) = inr (λ h. h)
-is_delack (Arrive x) = inr (λ h. h)
+    node_is : k.node ≡ place
+    node_is = its_node nodes is.placed place first.within k v here
 
--- what one event leaves of a sound state
-pub record Kept (e : Ends) (n : ℕ) (s : State) (k : Key) (effect : Effect) : Type 0 where
-  pub sound : IsSoundAt e (n + 1) k.time (stepped s k effect)
-  pub soon : AreSoon k.time effect.changes
-  pub rises : RoleRises (part_at s k.node).role effect.part.role
+    part_is : part_at (net_state nodes end) k.node ≡ (node_at nodes place).part
+    part_is = ap (part_at (net_state nodes end)) node_is ∙ get_or-map (λ (n : NodeState). n.part) nodes place no_node
 
--- an event of a sender, but for its link's: a timer's end leaves no timer set at its own moment
-pub record IsSenderEvent (v : Event) (now : ℕ) (deadline : Option ℕ) : Type 0 where
-  pub not_free : (link : ℕ) → v ≢ Free link
-  pub not_delack : (flow : ℕ) → v ≢ DelAck flow
-  pub timer_moves : (flow : ℕ) → v ≡ Rto flow → deadline ≢ Some now
+    effect_is : effect_of (net_state nodes end) (k, v) ≡ row (node_at nodes place).part k v
+    effect_is = ap (λ (p : PartState). row p k v) part_is
 
-module _ (e : Ends) (pair : ArePair e) (n now : ℕ) (s : State) (k : Key) (v : Event) (S : IsSoundAt e n now s) (due : IsDue s k v) where
-  abbrev p : Parts
-  p = S.p
+    -- the event can be run
+    pub ready : position < 1000000000000000 → IsRunnable (node_at nodes place).part k v
+    ready few = subst (λ (p : PartState). IsRunnable p k v) part_is (runnable is.run.scenario position is.run.lines (net_state nodes end) is.run.is_scenario is.run.is k v due_here few)
 
-  ahead : now ≤ k.time
-  ahead = S.not_past k v due.pending
+    stay : LinksStay (node_at nodes place).part.links (row (node_at nodes place).part k v).part.links (row (node_at nodes place).part k v).leaving
+    stay = subst (λ (p : PartState). LinksStay p.links (row p k v).part.links (row p k v).leaving) part_is
+        (links_stay is.run.scenario position is.run.lines (net_state nodes end) is.run.is_scenario is.run.is k v due_here)
 
-  -- the parts when the sender's node changes
-  pub sender_changes : (effect : Effect) → k.node ≡ e.sender → (part_at (stepped s k effect) e.sender ≡ effect.part) × (part_at (stepped s k effect) e.receiver ≡ part_at s e.receiver)
-  sender_changes effect at =
-      let within : e.sender < length s.parts = subst (λ l. e.sender < l) (sym S.two_parts) pair.sender_below in
-      let other : e.receiver ≢ e.sender = λ h. pair.differ (sym h) in (
-        ap (λ i. get_or (set s.parts i effect.part) e.sender no_part) at ∙ get_or-set_same s.parts e.sender effect.part no_part within,
-        ap (λ i. get_or (set s.parts i effect.part) e.receiver no_part) at ∙ get_or-set_other s.parts e.sender e.receiver effect.part no_part other,
-      )
+    leaves : (l : Leaving) → (row (node_at nodes place).part k v).leaving ≡ Some l → IsDelivery (net_state nodes end) position k (row (node_at nodes place).part k v).part.links l
+    leaves l left = subst (λ (e : Effect). IsDelivery (net_state nodes end) position k e.part.links l) effect_is
+        (delivery is.run.scenario position is.run.lines (net_state nodes end) is.run.is_scenario is.run.is k v due_here l (ap (λ (e : Effect). e.leaving) effect_is ∙ left))
 
-  pub receiver_changes : (effect : Effect) → k.node ≡ e.receiver → (part_at (stepped s k effect) e.receiver ≡ effect.part) × (part_at (stepped s k effect) e.sender ≡ part_at s e.sender)
-  receiver_changes effect at =
-      let within : e.receiver < length s.parts = subst (λ l. e.receiver < l) (sym S.two_parts) pair.receiver_below in (
-        ap (λ i. get_or (set s.parts i effect.part) e.receiver no_part) at ∙ get_or-set_same s.parts e.receiver effect.part no_part within,
-        ap (λ i. get_or (set s.parts i effect.part) e.sender no_part) at ∙ get_or-set_other s.parts e.receiver e.sender effect.part no_part pair.differ,
-      )
+    step_is : step (net_state nodes end) ≡ Some (line_of (k, v) (row (node_at nodes place).part k v), stepped (net_state nodes end) k (row (node_at nodes place).part k v))
+    step_is = ap (option_map {U = TraceLine × State} (step_at (net_state nodes end))) due_here
+        ∙ ap (λ (e : Effect). Some (line_of (k, v) e, stepped (net_state nodes end) k e)) effect_is
 
-  pub same_length : (effect : Effect) → length (stepped s k effect).parts ≡ 2
-  same_length effect = length-set s.parts k.node effect.part ∙ S.two_parts
+  -- the first node has run its event
+  module _ (ns : List NodeState) (after : List (List Stamped)) (line : TraceLine) (has : HasFired (node_at nodes place) (node_at ns place) out after line) (others : ns ≡ set nodes place (node_at ns place)) (early : line.key.time < end)
+      (fits : position < 1000000000000000) where
+    abbrev pub eff : Effect
+    eff = row (node_at nodes place).part line.key line.event
 
-  -- a row of the sender's table
-  pub sender_kept : (planned : Planned) → k.node ≡ e.sender → RowKeeps p.fields planned.fields planned.sent k.time → IsSenderEvent v k.time planned.fields.deadline
-      → Kept e n s k (sender_row (record { role = Sends 0 p.fields; ports = p.forward ∷ [] }) k 0 p.fields planned)
-  sender_kept planned at keeps of_sender =
-      let f = p.fields in
-      let g = planned.fields in
-      let D : Packet → Type 0 = IsSent g.mss g.high in
-      let place : Place = record { node = k.node; index = 0 } in
-      let packets = map (data_packet 0 g.mss) planned.sent in
-      let sized : AreSized D = λ x h. (subst (λ b. 1 ≤ b) (sym h.bytes_are) (omega arith), subst (λ b. b ≤ 9040) (sym h.bytes_are) (omega (arith, keeps.sound.mss_most))) in
-      let queue : AllByRecursion (λ x. D x.0) p.forward.queue = all_map (λ x. IsSent f.mss f.high x.0) (λ x. D x.0) (λ x h. raised x.0 keeps.mss_same keeps.high_rises h) p.forward.queue S.queued in
-      let those : AllByRecursion D packets = sent_packets g planned.sent keeps.sends in
-      let offers = all_offers D sized place k.time p.forward packets (link_of _ _ _ S.forward_port) those queue in
-      let sending = offered_all place k.time p.forward packets in
-      let q : Parts = record p { fields = g; forward = sending.port } in
-      let effect = sender_row (record { role = Sends 0 f; ports = p.forward ∷ [] }) k 0 f planned in
-      let moved = alarm_moved (alarm_key k.node 1) (Rto 0) f.deadline g.deadline in
-      let moved_soon : AreSoon k.time moved = moved_changes (IsSoon k.time) (alarm_key k.node 1) (Rto 0) f.deadline g.deadline (λ t is. deadline_soon t f.deadline g.deadline keeps.deadline is) in
-      let soon : AreSoon k.time effect.changes = all_append (λ (c : Change). IfSome c.1 (λ _. IsSoon k.time c.0)) moved sending.changes moved_soon (made_soon D place k.time sending.port sending.changes offers.moves.made) in
-      let parts = sender_changes effect at in
-      let rest : Events = map.remove s.pending k in
-      let alarms = row_alarms place 1 (Rto 0) f.deadline g.deadline p.forward sending.port sending.changes rest (λ one. omega (arith, one)) (all_alarm place k.time p.forward packets)
-      (λ same. timer_stays g.deadline (subst (λ (o : Option ℕ). IsPendingWhereSet s.pending (alarm_key e.sender 1) (Rto 0) o) (sym same) S.alarms.timer) of_sender.timer_moves at)
-      (subst (λ i. IsPendingWhereSet rest (alarm_key i 3) (Free p.forward.link) p.forward.next_free) (sym at) (set_kept (alarm_key e.sender 3) (Free p.forward.link) p.forward.next_free k v s.pending due.pending (λ same. absurd (of_sender.not_free p.forward.link same)) S.alarms.forward_busy)) in
-      record {
-        soon = soon;
-        rises = subst (λ (part : PartState). RoleRises part.role (Sends 0 g)) (sym (ap (part_at s) at ∙ S.sender_part)) (refl, record { una_rises = keeps.una_rises; high_rises = keeps.high_rises });
-        sound = record {
-          p = q;
-          two_parts = same_length effect;
-          sender_part = parts.0;
-          receiver_part = parts.1 ∙ S.receiver_part;
-          sound = keeps.sound;
-          well_formed = S.well_formed;
-          same_mss = S.same_mss ∙ sym keeps.mss_same;
-          same_segments = keeps.segments_same ∙ S.same_segments;
-          forward_port = moved_port D place k.time e.receiver n p.forward sending.port sending.changes offers.moves S.forward_port (few_offered _ _ packets planned.sent offers.offered_are (length-map planned.sent (data_packet 0 g.mss)) keeps.few);
-          back_port = later_port e.sender n p.back S.back_port;
-          queued = offers.moves.queued;
-          acks_queued = all_map (λ x. IsGiven f.mss f.high (next_of p.received) x.0) (λ x. IsGiven g.mss g.high (next_of p.received) x.0) (λ x h. same_given x.0 keeps.mss_same keeps.high_rises h) p.back.queue S.acks_queued;
-          received_sent = λ seq is. omega (arith, S.received_sent seq is, keeps.mss_same, keeps.high_rises);
-          belongs =
-              subst (EachEvent (Belongs e q)) (sym (apply-append moved sending.changes (map.remove s.pending k)))
-              (each_apply (Belongs e q) sending.changes _
-              (all_map (λ (c : Change). IfSome c.1 (IsMade D place k.time sending.port c.0)) (λ (c : Change). IfSome c.1 (Belongs e q c.0)) (λ c h. made_some c.0 c.1 q D at (λ x is. is) (offers.moves.same_to ∙ S.forward_port.ends_at) h) sending.changes offers.moves.made)
-              (moved_events IsRto is_rto (λ j w. Belongs e p j w × (j ≢ k)) (Belongs e q) (alarm_key k.node 1) (λ t. refl) (Rto 0) tt
-              (λ j w h isnt. stays q j w keeps.mss_same keeps.high_rises offers.busy_stays h.0 isnt)
-              f.deadline g.deadline
-              (λ j w h is. was_rto j w h.0 is at)
-              (λ j w key_is is given. now_rto q j w is (key_is ∙ ap (λ i. alarm_key i 1 j.time) at) given)
-              _ (each_remove (Belongs e p) s.pending k S.belongs)));
-          alarms = record {
-            timer = subst (λ i. IsPendingWhereSet (apply effect.changes rest) (alarm_key i 1) (Rto 0) g.deadline) at alarms.own_alarm;
-            delayed =
-                alarms.others e.receiver 2 (DelAck 0) p.received.alarm (λ here. absurd (pair.differ (sym (here ∙ at))))
-                (set_kept (alarm_key e.receiver 2) (DelAck 0) p.received.alarm k v s.pending due.pending (λ same. absurd (of_sender.not_delack 0 same)) S.alarms.delayed);
-            forward_busy = subst (λ i. IsPendingWhereSet (apply effect.changes rest) (alarm_key i 3) (Free sending.port.link) sending.port.next_free) at alarms.busy;
-            back_busy =
-                alarms.others e.receiver 3 (Free p.back.link) p.back.next_free (λ here. absurd (pair.differ (sym (here ∙ at))))
-                (set_kept (alarm_key e.receiver 3) (Free p.back.link) p.back.next_free k v s.pending due.pending (λ same. absurd (of_sender.not_free p.back.link same)) S.alarms.back_busy);
-          };
-          not_past = soon_after s k v effect.changes due soon;
-          answer_waits = answer_waits p.received.alarm keeps.mss_same keeps.high_rises S.answer_waits;
-          timed_before = timed_later f.timing g.timing keeps.timing S.timed_before;
-        };
-      }
-    where
-      timer_stays : (o : Option ℕ) → IsPendingWhereSet s.pending (alarm_key e.sender 1) (Rto 0) o → ((flow : ℕ) → v ≡ Rto flow → o ≢ Some k.time) → k.node ≡ e.sender → IsPendingWhereSet (map.remove s.pending k) (alarm_key k.node 1) (Rto 0) o
-      timer_stays o pending moves here =
-          subst (λ i. IsPendingWhereSet (map.remove s.pending k) (alarm_key i 1) (Rto 0) o) (sym here)
-          (set_kept (alarm_key e.sender 1) (Rto 0) o k v s.pending due.pending (λ is t set same. moves 0 is (set ∙ ap (λ (q : Key). Some q.time) same)) pending)
+    line_is : line ≡ line_of (line.key, line.event) eff
+    line_is = λ i. record { key = line.key; event = line.event; after = has.shows i; acts = has.did i }
 
-      raised : (x : Packet) → planned.fields.mss ≡ p.fields.mss → p.fields.high ≤ planned.fields.high → IsSent p.fields.mss p.fields.high x → IsSent planned.fields.mss planned.fields.high x
-      raised x same rises h = record {
-        is_data = h.is_data;
-        bytes_are = h.bytes_are ∙ ap (λ m. m + 40) (sym same);
-        multiple = subst (λ m. x.number % m ≡ 0) (sym same) h.multiple;
-        by_high = omega (arith, h.by_high, same, rises);
+    placed_ns : IsPlaced (set nodes place (node_at ns place))
+    placed_ns = fired_placed nodes is.placed place first.within line.key line.event has.is_least (node_at ns place) has.node
+
+    pub links_ns : LinksStay (node_at nodes place).part.links (node_at ns place).part.links eff.leaving
+    links_ns = subst (λ (n : NodeState). LinksStay (node_at nodes place).part.links n.part.links eff.leaving) (sym has.node) (stay line.key line.event has.is_least early)
+
+    incoming_ns : (node_at ns place).incoming ≡ (node_at nodes place).incoming
+    incoming_ns = ap (λ (n : NodeState). n.incoming) has.node
+
+    parts_ns : parts_of (set nodes place (node_at ns place)) ≡ set (parts_of nodes) line.key.node eff.part
+    parts_ns = map-set (λ (n : NodeState). n.part) nodes place (node_at ns place) ∙ ap (λ (n : NodeState). set (parts_of nodes) place n.part) has.node
+        ∙ ap (λ i. set (parts_of nodes) i eff.part) (sym (node_is line.key line.event has.is_least early))
+
+    pending_ns : net_pending (set nodes place (node_at ns place)) ≡ apply (home_changes line.key.node eff) (fin.remove (net_pending nodes) line.key)
+    pending_ns = fired_pending nodes is.placed place first.within line.key line.event has.is_least (node_at ns place) has.node
+
+    -- a step, where what is pending at last is what the row says
+    stepped_to : (last : List NodeState) → parts_of last ≡ set (parts_of nodes) line.key.node eff.part → net_pending last ≡ apply (sent_away eff.part.links eff.leaving) (apply (home_changes line.key.node eff) (fin.remove (net_pending nodes) line.key))
+        → step (net_state nodes end) ≡ Some (line, net_state last end)
+    stepped_to last parts pending =
+        let same : net_state last end ≡ stepped (net_state nodes end) line.key eff =
+        let all = pending ∙ sym (apply_both (home_changes line.key.node eff) (sent_away eff.part.links eff.leaving) (fin.remove (net_pending nodes) line.key)) in
+        λ i. record { parts = parts i; pending = all i; end = end } in
+        step_is line.key line.event has.is_least early ∙ (λ i. Some (sym line_is i, sym same i))
+
+    abbrev run_to : (last : List NodeState) → step (net_state nodes end) ≡ Some (line, net_state last end) → IsRun (reached last end (position + 1))
+    run_to last e = run_step (reached nodes end position) line (net_state last end) is.run fits e
+
+    -- nothing left
+    module _ (none : eff.leaving ≡ None) where
+      none_step : step (net_state nodes end) ≡ Some (line, net_state ns end)
+      none_step = subst (λ (all : List NodeState). step (net_state nodes end) ≡ Some (line, net_state all end)) (sym others)
+          (stepped_to (set nodes place (node_at ns place)) parts_ns (pending_ns ∙ ap (λ o. apply (sent_away eff.part.links o) (apply (home_changes line.key.node eff) (fin.remove (net_pending nodes) line.key))) (sym none)))
+
+      pub none_stepped : Stepped (reached nodes end position) (Some line) (reached ns end (position + 1))
+      none_stepped = (none_step, refl)
+
+      pub none_net : IsNet ns ends after end (position + 1)
+      none_net = record {
+        run = run_to ns none_step;
+        placed = subst IsPlaced (sym others) placed_ns;
+        wired = subst (IsWired is.run.scenario.links) (sym others) (wired_fired is.run.scenario.links nodes is.wired place first.within (node_at ns place) incoming_ns eff.leaving links_ns none);
+        ends_are = is.ends_are;
+        out_empty = has.out ∙ ap (λ o. put_out o out) none ∙ is.out_empty;
       }
 
-      answers : (next : ℕ) → planned.fields.mss ≡ p.fields.mss → p.fields.high ≤ planned.fields.high → IsAnswerable p.fields.mss p.fields.high next → IsAnswerable planned.fields.mss planned.fields.high next
-      answers next same rises h = ⊎_elim (λ (l : p.fields.mss ≤ next). inl (omega (arith, l, same))) (λ (r : 2 * p.fields.mss ≤ p.fields.high). inr (omega (arith, r, same, rises))) h
+    -- a packet left over a link
+    module _ (index link : ℕ) (to : Place) (chain : List Stamped) (index_is : Some index ≡ option_map (λ (l : Leaving). l.index) eff.leaving) (link_is : link ≡ (link_at (node_at ns place).part.links index).port.link) (to_is : to ≡ place_at ends link)
+        (chain_is : chain ≡ get_or after index []) where
+      abbrev pub it : Left eff.leaving index
+      it = has_left eff.leaving index index_is
 
-      answer_waits : (o : Option ℕ) → planned.fields.mss ≡ p.fields.mss → p.fields.high ≤ planned.fields.high → IfSome o (λ _. IsAnswerable p.fields.mss p.fields.high (next_of p.received)) → IfSome o (λ _. IsAnswerable planned.fields.mss planned.fields.high (next_of p.received))
-      answer_waits None same rises h = tt
-      answer_waits (Some t) same rises h = answers (next_of p.received) same rises h
+      gone : IsDelivery (net_state nodes end) position line.key eff.part.links it.packet
+      gone = leaves line.key line.event has.is_least early it.packet it.is
 
-      same_given : (x : Packet) → planned.fields.mss ≡ p.fields.mss → p.fields.high ≤ planned.fields.high → IsGiven p.fields.mss p.fields.high (next_of p.received) x → IsGiven planned.fields.mss planned.fields.high (next_of p.received) x
-      same_given x same rises h = record {
-        is_ack = h.is_ack;
-        bytes_are = h.bytes_are;
-        multiple = subst (λ m. x.number % m ≡ 0) (sym same) h.multiple;
-        by_next = h.by_next;
-        early = answers x.number same rises h.early;
-      }
+      within_old : index < length (node_at nodes place).part.links
+      within_old = subst (λ (p : PartState). index < length p.links) (part_is line.key line.event has.is_least early) (subst (λ n. n < length (part_at (net_state nodes end) line.key.node).links) it.at gone.within)
 
-      sent_packets : (g : SenderFields) (xs : List ℕ) → AllByRecursion (IsSegment g) xs → AllByRecursion (IsSent g.mss g.high) (map (data_packet 0 g.mss) xs)
-      sent_packets g [] all = tt
-      sent_packets g (x ∷ xs) all = (record { is_data = refl; bytes_are = refl; multiple = all.0.multiple; by_high = all.0.by_high }, sent_packets g xs all.1)
+      pub index_within : index < length (node_at ns place).part.links
+      index_within = subst (λ n. index < n) (sym links_ns.same_length) within_old
 
-      few_offered : (a b : ℕ) (packets : List Packet) (xs : List ℕ) → a ≡ b + length packets → length packets ≡ length xs → length xs ≤ 1073741825 → a ≤ b + 2147483648
-      few_offered a b packets xs is same few = omega (arith, is, same, few)
+      link_old : link ≡ (link_at (node_at nodes place).part.links index).port.link
+      link_old = link_is ∙ (links_ns.same_links index).same_number
 
-      deadline_soon : (t : ℕ) (old new : Option ℕ) → (new ≡ None) ⊎ ((new ≡ old) ⊎ IsDeadlineSetAt k.time new) → new ≡ Some t → (new ≡ old) ⊎ IsSoon k.time (alarm_key k.node 1 t)
-      deadline_soon t old new h is =
-          ⊎_elim (λ (none : new ≡ None). absurd (not_some (sym none ∙ is)))
-          (λ (rest : (new ≡ old) ⊎ IsDeadlineSetAt k.time new). ⊎_elim (λ (same : new ≡ old). inl same)
-          (λ (fresh : IsDeadlineSetAt k.time new). let time : t ≡ k.time + fresh.after = same_some t (k.time + fresh.after) (sym is ∙ fresh.is_then) in inr (record { later = omega (arith, time, fresh.after_least); bounded = omega (arith, time, fresh.after_most) })) rest) h
+      its_exit : IsExit is.run.scenario.links nodes place index
+      its_exit = is.wired.exits place index within_old
 
-      timed_later : (old new : Option Rattle.reno_sender.specs.declared.fields.Timing.Timing) → (new ≡ old) ⊎ IfSome new (λ t. t.sent_at ≤ k.time) → IfSome old (λ t. t.sent_at ≤ now) → IfSome new (λ t. t.sent_at ≤ k.time)
-      timed_later old new h before = ⊎_elim (λ (same : new ≡ old). subst (λ (o : Option Rattle.reno_sender.specs.declared.fields.Timing.Timing). IfSome o (λ t. t.sent_at ≤ k.time)) (sym same) (later old before)) (λ (is : IfSome new (λ t. t.sent_at ≤ k.time)). is) h
-        where
-          later : (o : Option Rattle.reno_sender.specs.declared.fields.Timing.Timing) → IfSome o (λ t. t.sent_at ≤ now) → IfSome o (λ t. t.sent_at ≤ k.time)
-          later None h = tt
-          later (Some t) h = omega (arith, h, ahead)
+      known : link < length is.run.scenario.links
+      known = subst (λ n. n < length is.run.scenario.links) (sym link_old) its_exit.known
 
-      made_one : (j : Key) (w : Event) (q : Parts) (D : Packet → Type 0) → k.node ≡ e.sender → ((x : Packet) → D x → IsSent q.fields.mss q.fields.high x) → q.forward.to ≡ e.receiver → IsMade D (record { node = k.node; index = 0 }) k.time q.forward j w → Belongs e q j w
-      made_one j (Start flow) q D at give to h = absurd h
-      made_one j (Rto flow) q D at give to h = absurd h
-      made_one j (DelAck flow) q D at give to h = absurd h
-      made_one j (Free link) q D at give to h = inl (h.0 ∙ ap (λ i. alarm_key i 3 j.time) at, h.1)
-      made_one j (Arrive x) q D at give to h = inl (h.0 ∙ to, give x h.1)
+      from_here : from_of is.run.scenario.links link ≡ place
+      from_here = ap (from_of is.run.scenario.links) link_old ∙ its_exit.from_here
 
-      made_some : (j : Key) (o : Option Event) (q : Parts) (D : Packet → Type 0) → k.node ≡ e.sender → ((x : Packet) → D x → IsSent q.fields.mss q.fields.high x) → q.forward.to ≡ e.receiver → IfSome o (IsMade D (record { node = k.node; index = 0 }) k.time q.forward j) → IfSome o (Belongs e q j)
-      made_some j None q D at give to h = tt
-      made_some j (Some w) q D at give to h = made_one j w q D at give to h
+      exit_here : exit_of is.run.scenario.links link ≡ it.packet.index
+      exit_here = ap (exit_of is.run.scenario.links) link_old ∙ its_exit.exit_here ∙ sym it.at
 
-      stays : (q : Parts) (j : Key) (w : Event) → planned.fields.mss ≡ p.fields.mss → p.fields.high ≤ planned.fields.high → ((t : ℕ) → p.forward.next_free ≡ Some t → (offered_all (record { node = k.node; index = 0 }) k.time p.forward (map (data_packet 0 planned.fields.mss) planned.sent)).port.next_free ≡ Some t)
-          → Belongs e p j w → ¬ IsRto w → Belongs e (record p { fields = planned.fields; forward = (offered_all (record { node = k.node; index = 0 }) k.time p.forward (map (data_packet 0 planned.fields.mss) planned.sent)).port }) j w
-      stays q j (Start flow) same rises busy h isnt = h
-      stays q j (Rto flow) same rises busy h isnt = absurd (isnt tt)
-      stays q j (DelAck flow) same rises busy h isnt = h
-      stays q j (Free link) same rises busy h isnt = ⊎_elim (λ (l : (j ≡ alarm_key e.sender 3 j.time) × (p.forward.next_free ≡ Some j.time)). inl (l.0, busy j.time l.1)) (λ (r : (j ≡ alarm_key e.receiver 3 j.time) × (p.back.next_free ≡ Some j.time)). inr r) h
-      stays q j (Arrive x) same rises busy h isnt =
-          ⊎_elim (λ (l : (j.node ≡ e.receiver) × IsSent p.fields.mss p.fields.high x). inl (l.0, raised x same rises l.1)) (λ (r : (j.node ≡ e.sender) × IsGiven p.fields.mss p.fields.high (next_of p.received) x). inr (r.0, same_given x same rises r.1)) h
+      wire : IsWire is.run.scenario.links nodes link
+      wire = is.wired.wires link known
 
-      was_rto : (j : Key) (w : Event) → Belongs e p j w → IsRto w → k.node ≡ e.sender → (j ≡ alarm_key k.node 1 j.time) × (p.fields.deadline ≡ Some j.time)
-      was_rto j (Start flow) h is at = absurd is
-      was_rto j (Rto flow) h is at = (h.0 ∙ ap (λ i. alarm_key i 1 j.time) (sym at), h.1)
-      was_rto j (DelAck flow) h is at = absurd is
-      was_rto j (Free link) h is at = absurd is
-      was_rto j (Arrive x) h is at = absurd is
+      pub link_within : link < length ends
+      link_within = subst (λ n. link < n) (sym is.ends_are.size) known
 
-      now_rto : (q : Parts) (j : Key) (w : Event) → IsRto w → j ≡ alarm_key e.sender 1 j.time → q.fields.deadline ≡ Some j.time → Belongs e q j w
-      now_rto q j (Start flow) is key given = absurd is
-      now_rto q j (Rto flow) is key given = (key, given)
-      now_rto q j (DelAck flow) is key given = absurd is
-      now_rto q j (Free link) is key given = absurd is
-      now_rto q j (Arrive x) is key given = absurd is
+      to_node : to.node ≡ to_of is.run.scenario.links link
+      to_node = ap (λ (p : Place). p.node) (to_is ∙ ap (λ (e : LinkEnds). e.to) (is.ends_are.each_link link known))
+
+      to_index : to.index ≡ entry_of is.run.scenario.links link
+      to_index = ap (λ (p : Place). p.index) (to_is ∙ ap (λ (e : LinkEnds). e.to) (is.ends_are.each_link link known))
+
+      -- the link after the event
+      abbrev used : LinkState
+      used = link_at eff.part.links it.packet.index
+
+      used_is : link_at (node_at ns place).part.links index ≡ used
+      used_is = ap (λ (n : NodeState). link_at n.part.links index) has.node ∙ ap (link_at eff.part.links) (sym it.at)
+
+      used_number : used.port.link ≡ link
+      used_number = ap (λ (l : LinkState). l.port.link) (sym used_is) ∙ sym link_is
+
+      -- the sending side of the link before the event
+      old_is : link_at (node_at nodes place).part.links index ≡ leaving_at is.run.scenario.links nodes link
+      old_is = λ i. link_at (node_at nodes (sym from_here i)).part.links (sym (exit_here ∙ it.at) i)
+
+      used_to : used.to ≡ to.node
+      used_to = ap (λ (l : LinkState). l.to) (sym used_is) ∙ (links_ns.same_links index).same_to ∙ ap (λ (l : LinkState). l.to) old_is ∙ wire.ends ∙ sym to_node
+
+      elsewhere : to.node ≢ place
+      elsewhere same = gone.elsewhere (used_to ∙ same ∙ sym (node_is line.key line.event has.is_least early))
+
+      same_there : node_at ns to.node ≡ node_at nodes to.node
+      same_there = ap (λ (all : List NodeState). node_at all to.node) others ∙ get_or-set_other nodes place to.node (node_at ns place) no_node elsewhere
+
+      pub to_within : to.node < length ns
+      to_within = subst (λ n. to.node < n) (sym (ap length others ∙ length-set nodes place (node_at ns place))) (subst (λ n. n < length nodes) (sym to_node) wire.within)
+
+      pub entry_within : to.index < length (node_at ns to.node).incoming
+      entry_within = subst (λ (n : NodeState). to.index < length n.incoming) (sym same_there)
+          (subst (λ n. n < length (node_at nodes to.node).incoming) (sym to_index) (subst (λ n. entry_of is.run.scenario.links link < length (node_at nodes n).incoming) (sym to_node) wire.entry))
+
+      coming_is : incoming_at (node_at ns to.node).incoming to.index ≡ coming_at is.run.scenario.links nodes link
+      coming_is = ap (λ (n : NodeState). incoming_at n.incoming to.index) same_there ∙ (λ i. incoming_at (node_at nodes (to_node i)).incoming (to_index i))
+
+      over_is : (incoming_at (node_at ns to.node).incoming to.index).link ≡ used.port.link
+      over_is = ap (λ (i : Incoming). i.link) coming_is ∙ wire.over ∙ sym used_number
+
+      sent_next : used.port.sent ≡ (link_at (node_at nodes place).part.links index).port.sent + 1
+      sent_next = gone.is_next ∙ ap (λ (p : PartState). (link_at p.links it.packet.index).port.sent + 1) (part_is line.key line.event has.is_least early) ∙ ap (λ j. (link_at (node_at nodes place).part.links j).port.sent + 1) it.at
+
+      came_next : (incoming_at (node_at ns to.node).incoming to.index).came + 1 ≡ used.port.sent
+      came_next = ap (λ (i : Incoming). i.came + 1) coming_is ∙ ap (λ n. n + 1) wire.came ∙ ap (λ (l : LinkState). l.port.sent + 1) (sym old_is) ∙ sym sent_next
+
+      -- the packet, alone in the chain
+      abbrev pub packets : List Stamped
+      packets = (it.packet.departure.packet, it.packet.departure.arrival) ∷ []
+
+      few_links : length (node_at nodes place).part.links ≤ 16
+      few_links = is.wired.few place
+
+      abbrev no_packets : List Stamped
+      no_packets = []
+
+      empty_at : get_or (replicate 16 no_packets) index no_packets ≡ no_packets
+      empty_at = get_or-replicate 16 index no_packets no_packets (omega (arith, within_old, few_links))
+
+      out_size : length out ≡ 16
+      out_size = ap length is.out_empty
+
+      after_is : after ≡ set out index packets
+      after_is = has.out ∙ ap (λ o. put_out o out) it.is
+          ∙ (λ i. set out (it.at i) (get_or out (it.at i) [] ++ packets))
+          ∙ ap (λ all. set out index (all ++ packets)) (ap (λ all. get_or all index []) is.out_empty ∙ empty_at)
+
+      out_within : index < length out
+      out_within = omega (arith, within_old, few_links, out_size)
+
+      pub chain_within : index < length after
+      chain_within = subst (λ n. index < n) (sym (ap length after_is ∙ length-set out index packets)) out_within
+
+      pub chain_one : chain ≡ packets
+      chain_one = chain_is ∙ ap (λ all. get_or all index []) after_is ∙ get_or-set_same out index packets [] out_within
+
+      pub later : EachKey (λ q. q.source ≡ (incoming_at (node_at ns to.node).incoming to.index).link + 1 → q.time < it.packet.departure.arrival) (node_at ns to.node).pending
+      later q w there source =
+          (gone.last q w (node_key nodes is.placed to.node q w (ap (λ (n : NodeState). fin.get n.pending q) (sym same_there) ∙ there)) (source ∙ ap (λ n. n + 1) over_is)).0
+
+      pub few : (incoming_at (node_at ns to.node).incoming to.index).came + 1 ≤ 2 ^ 50
+      few = omega (arith, came_next, gone.sent_most, fits)
+
+      -- the packet has come to the end of the link
+      module _ (last : List NodeState) (come : last ≡ set ns to.node (delivered (node_at ns to.node) to.index packets)) where
+        abbrev y : NodeState
+        y = delivered (node_at ns to.node) to.index packets
+
+        placed_ns_is : IsPlaced ns
+        placed_ns_is = subst IsPlaced (sym others) placed_ns
+
+        parts_last : parts_of last ≡ set (parts_of nodes) line.key.node eff.part
+        parts_last =
+            ap parts_of come ∙ map-set (λ (n : NodeState). n.part) ns to.node y
+            ∙ ap (set (parts_of ns) to.node) (sym (get_or-map (λ (n : NodeState). n.part) ns to.node no_node))
+            ∙ set-get_or (parts_of ns) to.node no_node.part
+            ∙ ap parts_of others ∙ parts_ns
+
+        made_is : entering (arrivals to.node (incoming_at (node_at ns to.node).incoming to.index).link (incoming_at (node_at ns to.node).incoming to.index).came packets) ≡ sent_away eff.part.links eff.leaving
+        made_is =
+            (λ i. (arrival_key (sym used_to i) (over_is i) it.packet.departure.arrival (came_next i), Some (Arrive it.packet.departure.packet)) ∷ [])
+            ∙ ap (sent_away eff.part.links) (sym it.is)
+
+        pending_last : net_pending last ≡ apply (sent_away eff.part.links eff.leaving) (apply (home_changes line.key.node eff) (fin.remove (net_pending nodes) line.key))
+        pending_last =
+            ap net_pending come ∙ come_pending ns placed_ns_is to.node to_within to.index packets y refl
+            ∙ ap (λ cs. apply cs (net_pending ns)) made_is
+            ∙ ap (apply (sent_away eff.part.links eff.leaving)) (ap net_pending others ∙ pending_ns)
+
+        some_step : step (net_state nodes end) ≡ Some (line, net_state last end)
+        some_step = stepped_to last parts_last pending_last
+
+        pub some_stepped : Stepped (reached nodes end position) (Some line) (reached last end (position + 1))
+        some_stepped = (some_step, refl)
+
+        wired_last : IsWired is.run.scenario.links last
+        wired_last = subst (IsWired is.run.scenario.links) (sym (come ∙ (λ i. set (others i) (to_node i) (delivered (node_at (others i) (to_node i)) (to_index i) packets))))
+            (wired_delivered is.run.scenario.links nodes is.wired place first.within (node_at ns place) incoming_ns eff.leaving links_ns it.packet it.is link known from_here exit_here
+            (ap (λ j. (link_at (node_at ns place).part.links j).port.sent) it.at ∙ ap (λ (l : LinkState). l.port.sent) used_is ∙ sent_next ∙ ap (λ j. (link_at (node_at nodes place).part.links j).port.sent + 1) (sym it.at))
+            packets refl _ refl)
+
+        pub some_net : IsPlaced last → (empty : List (List Stamped)) → empty ≡ set after index [] → IsNet last ends empty end (position + 1)
+        some_net placed empty emptied = record {
+          run = run_to last some_step;
+          placed = placed;
+          wired = wired_last;
+          ends_are = is.ends_are;
+          out_empty = emptied ∙ ap (λ all. set all index []) after_is ∙ set-set out index packets []
+              ∙ (λ i. set (is.out_empty i) index (sym (empty_at) i)) ∙ set-get_or (replicate 16 []) index [];
+        }

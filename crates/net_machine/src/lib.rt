@@ -1,23 +1,15 @@
-//! The network, one event at a time: the pending events, the nodes with their rows, and the step.
+//! The network: its nodes, ranked by their next keys, and one event at a time.
 #![tactic(auto)]
 
-pub mod acts;
-mod agenda;
-pub mod event;
-pub mod line;
 pub mod net;
-mod offer;
-pub mod one_flow;
+pub mod nodes;
 mod opening;
-mod part;
-mod port;
-mod receiver_node;
-mod role;
-mod room;
-mod sender_node;
+pub mod places;
 
-pub use acts::{Act, Acts, DropReason};
-pub use event::Event;
-pub use line::{After, Line};
+pub use net::parts::{NetParts, Spare};
 pub use net::{Net, StepFault};
-pub use one_flow::is_one_flow;
+pub use nodes::Nodes;
+pub use places::{LinkEnds, Place};
+
+#[cfg(test)]
+mod tests;

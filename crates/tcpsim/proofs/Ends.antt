@@ -6,11 +6,10 @@ use Rattle.scenario_asm.specs.declared.fault.Fault.{Fault}
 use Rattle.scenario_asm.specs.declared.fault.AsmFault.{AsmFault}
 use Rattle.scenario_asm.specs.declared.fault.AsmFault.TheVariants.{At, NoMemory as text_NoMemory}
 use Rattle.scenario_asm.specs.Meaning.{MeansScenario, MeansFault}
-use Rattle.net_machine.specs.OneFlow.{IsOneFlow}
-use Rattle.net_machine.specs.State.{State, opening, run, step, one_more}
-use Rattle.net_machine.specs.TraceLine.{TraceLine}
+use Rattle.table_run.specs.State.{State, opening, run, step, one_more}
+use Rattle.node_core.specs.TraceLine.{TraceLine}
 use Rattle.tcpsim.specs.declared.fault.SessionFault.{SessionFault}
-use Rattle.tcpsim.specs.declared.fault.SessionFault.TheVariants.{TooLong, Refused, NotSimulated, ReadFailed, WriteFailed, NoMemory, CountFull}
+use Rattle.tcpsim.specs.declared.fault.SessionFault.TheVariants.{TooLong, Refused, ReadFailed, WriteFailed, NoMemory, CountFull}
 use Rattle.tcpsim.specs.Faults.{of_text}
 use Rattle.tcpsim.specs.Trace.{IsTrace, IsFullTrace}
 use Rattle.tcpsim.specs.Written.{Writes}
@@ -76,7 +75,7 @@ pub record Assembles (text : List ℕ) (made : Assembled) : Type 0 where
 
 -- where the assembler answers so, the session ends so, or something hinders it
 abbrev EndsBy : Assembled → Ended → List ℕ → Type 0
-EndsBy (Ok parts) ended out = (IsOneFlow parts × IsRunOutput (opening parts) ended out) ⊎ ((¬ IsOneFlow parts) × (ended ≡ Err NotSimulated))
+EndsBy (Ok parts) ended out = IsRunOutput (opening parts) ended out
 EndsBy (Err (At number fault)) ended out = ended ≡ Err (Refused number fault)
 EndsBy (Err text_NoMemory) ended out = IsHindered ended
 
@@ -87,55 +86,40 @@ by made other ended out is ends = subst (λ m. EndsBy m ended out) is ends
 no_other : (text : List ℕ) (made : Assembled) (ended other : Ended) (out : List ℕ) → IsWithin text → Assembles text made → EndsBy made ended out → IsDue text other → (ended ≡ other) ⊎ IsHindered ended
 no_other text made ended (Ok u) out within says ends due =
     let other = due.1.1.1 in elim (says.only_scenario other.0 other.1) [
-      | inl is ↦ elim (by made (Ok other.0) ended out is ends) [ inl runs ↦ one_trace (opening other.0) ended out due.1.0 runs.1 other.3 | inr stops ↦ absurd (stops.0 other.2) ]
+      | inl is ↦ one_trace (opening other.0) ended out due.1.0 (by made (Ok other.0) ended out is ends) other.2
       | inr is ↦ inr (by made (Err text_NoMemory) ended out is ends)
     ]
 no_other text made ended (Err CountFull) out within says ends due =
     let other = due.1.1.1 in elim (says.only_scenario other.0 other.1) [
-      | inl is ↦ elim (by made (Ok other.0) ended out is ends) [ inl runs ↦ one_full (opening other.0) ended out due.1.0 runs.1 other.3 | inr stops ↦ absurd (stops.0 other.2) ]
+      | inl is ↦ one_full (opening other.0) ended out due.1.0 (by made (Ok other.0) ended out is ends) other.2
       | inr is ↦ inr (by made (Err text_NoMemory) ended out is ends)
     ]
 no_other text made ended (Err (Refused line fault)) out within says ends due = elim (says.only_fault line fault due.1.1.1) [
   | inl is ↦ inl (by made (Err (At line fault)) ended out is ends)
   | inr is ↦ inr (by made (Err text_NoMemory) ended out is ends)
 ]
-no_other text made ended (Err NotSimulated) out within says ends due =
-    let other = due.1.1.1 in elim (says.only_scenario other.0 other.1) [
-      | inl is ↦ elim (by made (Ok other.0) ended out is ends) [ inl runs ↦ absurd (other.2 runs.0) | inr stops ↦ inl stops.1 ]
-      | inr is ↦ inr (by made (Err text_NoMemory) ended out is ends)
-    ]
 no_other text made ended (Err TooLong) out within says ends due = let long = due.1.1.0 in absurd (omega (arith, within, long))
 no_other text made ended (Err ReadFailed) out within says ends due = absurd (due.0 tt)
 no_other text made ended (Err WriteFailed) out within says ends due = absurd (due.0 tt)
 no_other text made ended (Err NoMemory) out within says ends due = absurd (due.0 tt)
-no_other text made ended _ out within says ends due = absurd due.1.1.1.3
+no_other text made ended _ out within says ends due = absurd due.1.1.1.2
 
 -- a run of the text's scenario is an ending of the session
-run_ending : (text : List ℕ) (parts : ScenarioParts) (ended : Ended) (out : List ℕ) → IsWithin text → MeansScenario text parts → IsOneFlow parts → IsRunOutput (opening parts) ended out → IsEnding text ended out
-run_ending text parts (Ok u) out within means one made = (within, (parts, means, one, made))
-run_ending text parts (Err CountFull) out within means one made = (within, (parts, means, one, made))
-run_ending text parts (Err WriteFailed) out within means one made = (within, (parts, means, one, made))
-run_ending text parts (Err NoMemory) out within means one made = inr (within, (parts, means, one, made))
-run_ending text parts _ out within means one made = absurd made
+run_ending : (text : List ℕ) (parts : ScenarioParts) (ended : Ended) (out : List ℕ) → IsWithin text → MeansScenario text parts → IsRunOutput (opening parts) ended out → IsEnding text ended out
+run_ending text parts (Ok u) out within means made = (within, (parts, means, made))
+run_ending text parts (Err CountFull) out within means made = (within, (parts, means, made))
+run_ending text parts (Err WriteFailed) out within means made = (within, (parts, means, made))
+run_ending text parts (Err NoMemory) out within means made = inr (within, (parts, means, made))
+run_ending text parts _ out within means made = absurd made
 
 -- the text means a scenario, which was run
 pub ran : (text : List ℕ) (parts : ScenarioParts) (made : Assembled) (ended : Ended) (old new : Option (List ℕ)) → IsWithin text → made ≡ Ok parts → Assembles text made
-    → IsOneFlow parts → Writes (IsRunOutput (opening parts) ended) old new → IsSession text ended old new
-ran text parts made ended old new within is says one written =
+    → Writes (IsRunOutput (opening parts) ended) old new → IsSession text ended old new
+ran text parts made ended old new within is says written =
     let means : MeansScenario text parts = subst (λ m. IfOk m (MeansScenario text)) is says.scenario in
     record {
-      ending = (written.0, written.1, run_ending text parts ended written.0 within means one written.2);
-      only_due = λ other due. no_other text made ended other written.0 within says (by (Ok parts) made ended written.0 (sym is) (inl (one, written.2))) due;
-    }
-
--- the text means a scenario that is not run, and nothing was written
-pub not_run : (text : List ℕ) (parts : ScenarioParts) (made : Assembled) (known : Option (List ℕ)) → IsWithin text → made ≡ Ok parts → Assembles text made
-    → ¬ IsOneFlow parts → IsSession text (Err NotSimulated) known known
-not_run text parts made known within is says other =
-    let means : MeansScenario text parts = subst (λ m. IfOk m (MeansScenario text)) is says.scenario in
-    record {
-      ending = ([], appends_nothing known, (within, (parts, means, other), refl));
-      only_due = λ another due. no_other text made (Err NotSimulated) another [] within says (by (Ok parts) made (Err NotSimulated) [] (sym is) (inr (other, refl))) due;
+      ending = (written.0, written.1, run_ending text parts ended written.0 within means written.2);
+      only_due = λ other due. no_other text made ended other written.0 within says (by (Ok parts) made ended written.0 (sym is) written.2) due;
     }
 
 -- the text was refused, and nothing was written

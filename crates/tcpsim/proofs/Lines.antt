@@ -1,22 +1,22 @@
 -- The lines that a net has made.
-use Rattle.std.proofs.Common.{◌≡◌, ◌≢◌, ℕ, ◌+◌, ◌≤◌, suc, List, [], ◌∷◌, ◌++◌, length, refl, sym, ◌∙◌, ap, subst, append_assoc, arith, length-append, Option, None, Some, inl, inr, Ok, Err}
+use Rattle.std.proofs.Common.{◌≡◌, ◌≢◌, ℕ, ◌+◌, ◌≤◌, suc, List, [], ◌∷◌, ◌++◌, length, refl, sym, ◌∙◌, ap, subst, append_assoc, arith, length-append, Bool, true, false, if◌then◌else◌, Option, None, Some, inl, inr, Ok, Err}
 use Rattle.std.proofs.lemmas.List.{append-nil}
 use Rattle.std.proofs.lemmas.Grind.{flat_map-append}
 use Rattle.std.specs.List.{flat_map, enumerate_from}
 use Rattle.std.specs.Option.{option_map, option_and_then}
 use Rattle.std.specs.Io.KnownBytes.{Appends}
 use Rattle.sim_time.specs.declared.key.Key.{Key}
-use Rattle.net_machine.specs.declared.event.Event.{Event}
+use Rattle.node_core.specs.declared.event.Event.{Event}
 use Rattle.net_machine.specs.declared.net.StepFault.{StepFault}
 use Rattle.net_machine.specs.declared.net.StepFault.TheVariants.{NoMemory as step_NoMemory, CountFull as step_CountFull}
-use Rattle.net_machine.specs.State.{State, due, run, step, step_at, one_more}
+use Rattle.table_run.specs.State.{State, due, run, step, step_at, one_more}
 use Rattle.net_machine.specs.Run.{Reached, Stepped}
-use Rattle.net_machine.specs.TraceLine.{TraceLine, shown}
-use Rattle.net_machine.specs.declared.line.Line.{Line}
+use Rattle.node_core.specs.TraceLine.{TraceLine, shown}
+use Rattle.node_core.specs.declared.line.Line.{Line}
 use Rattle.trace_text.specs.Line.{line_bytes}
 use Rattle.trace_text.specs.End.{end_bytes}
 use Rattle.tcpsim.specs.Trace.{lines_bytes, IsTrace, IsTraceStart, IsFullTrace, IsTraceOrStart}
-use Rattle.tcpsim.specs.declared.fault.SessionFault.TheVariants.{TooLong, Refused, CommandLine, WordsNotUtf8, ReadFailed, WriteFailed, NoMemory, CountFull}
+use Rattle.tcpsim.specs.declared.fault.SessionFault.TheVariants.{WriteFailed, NoMemory, CountFull}
 use Rattle.tcpsim.specs.Faults.{of_step}
 use Rattle.tcpsim.specs.Ended.{Ended, IsRunOutput}
 use Rattle.tcpsim.specs.Written.{Writes, WritesBefore, IsBeginningOf}
@@ -158,24 +158,22 @@ pub page_failed : (r : Ended) (s : State) (page : List ℕ) (a b c : Option (Lis
     → Writes (IsBeginningOf (IsTraceOrStart s)) a c
 page_failed r s page a b c other made part = begun (IsRunOutput s r) (IsTraceOrStart s) page a b c (λ l. trace_or_start r s l other) made part
 
--- what a step answered
-pub stepped_some : (old new : Reached) (o : Option Line) (line : Line) → o ≡ Some line → Stepped old (option_map shown o) new → Stepped old (Some (shown line)) new
-stepped_some old new o line e h = let P : Option Line → Type 0 = λ x. Stepped old (option_map shown x) new in subst P e h
-
-pub stepped_none : (old new : Reached) (o : Option Line) → o ≡ None → Stepped old (option_map shown o) new → Stepped old None new
-stepped_none old new o e h = let P : Option Line → Type 0 = λ x. Stepped old (option_map shown x) new in subst P e h
+-- a line where a step was made, as the code has it
+abbrev pub line_if : Bool → Line → Option TraceLine
+line_if fired line = if fired then Some (shown line) else None
 
 -- a line more, with its number as the code has it
-pub made_line_at : (s : State) (old new : Reached) (page page' : List ℕ) (o : Option Line) (line : Line) (n : ℕ) (a b : Option (List ℕ)) → Made s old page a b → o ≡ Some line
-    → Stepped old (option_map shown o) new → n ≡ new.position → page' ≡ page ++ line_bytes n (shown line) → Made s new page' a b
-made_line_at s old new page page' o line n a b made is h count e =
-    made_line s old new page page' (shown line) a b made (stepped_some old new o line is h) (e ∙ ap (λ k. page ++ line_bytes k (shown line)) count)
+pub made_line_at : (s : State) (old new : Reached) (page page' : List ℕ) (fired : Bool) (line : Line) (n : ℕ) (a b : Option (List ℕ)) → Made s old page a b → fired ≡ true
+    → Stepped old (line_if fired line) new → n ≡ new.position → page' ≡ page ++ line_bytes n (shown line) → Made s new page' a b
+made_line_at s old new page page' fired line n a b made is h count e =
+    let stepped : Stepped old (Some (shown line)) new = subst (λ f. Stepped old (line_if f line) new) is h in
+    made_line s old new page page' (shown line) a b made stepped (e ∙ ap (λ k. page ++ line_bytes k (shown line)) count)
 
 -- the end, with the number as the code has it
-pub made_end : (s : State) (old new : Reached) (page page' : List ℕ) (o : Option Line) (n : ℕ) (a b : Option (List ℕ)) → Made s old page a b → new.position ≤ 1000000000000000 → o ≡ None
-    → Stepped old (option_map shown o) new → n ≡ new.position → page' ≡ page ++ end_bytes n → WritesBefore page' (IsTrace s) a b
-made_end s old new page page' o n a b made few is h count e =
-    let last = stepped_none old new o is h in
+pub made_end : (s : State) (old new : Reached) (page page' : List ℕ) (fired : Bool) (line : Line) (n : ℕ) (a b : Option (List ℕ)) → Made s old page a b → new.position ≤ 1000000000000000 → fired ≡ false
+    → Stepped old (line_if fired line) new → n ≡ new.position → page' ≡ page ++ end_bytes n → WritesBefore page' (IsTrace s) a b
+made_end s old new page page' fired line n a b made few is h count e =
+    let last : Stepped old None new = subst (λ f. Stepped old (line_if f line) new) is h in
     let stays : new.position ≡ old.position = ap (λ (r : Reached). r.position) last.1 in
     let few_old : old.position ≤ 1000000000000000 = omega (arith, few, stays) in
     made_all s old page page' a b made few_old last.0 (e ∙ ap (λ k. page ++ end_bytes k) (count ∙ stays))

@@ -1,6 +1,6 @@
 -- The ways in which a session ends, and what they tell of its run and its streams.
 use Rattle.std.specs.Prelude.{ℕ, ◌<◌, List, length, Result, Ok, Err}
-use Rattle.net_machine.specs.State.{State}
+use Rattle.table_run.specs.State.{State}
 use Rattle.tcpsim.specs.declared.fault.SessionFault.{SessionFault}
 use Rattle.tcpsim.specs.declared.fault.SessionFault.TheVariants.{TooLong, ReadFailed, WriteFailed, NoMemory, CountFull}
 use Rattle.tcpsim.specs.Trace.{IsTrace, IsTraceStart, IsFullTrace, IsTraceOrStart}

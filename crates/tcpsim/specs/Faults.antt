@@ -6,13 +6,12 @@ use Rattle.scenario_asm.specs.Faults.{code_of}
 use Rattle.scenario_asm.specs.declared.fault.AsmFault.{AsmFault}
 use Rattle.scenario_asm.specs.declared.fault.AsmFault.TheVariants.{At, NoMemory as text_NoMemory}
 use Rattle.tcpsim.specs.declared.fault.SessionFault.{SessionFault}
-use Rattle.tcpsim.specs.declared.fault.SessionFault.TheVariants.{TooLong, Refused, NotSimulated, CommandLine, WordsNotUtf8, ReadFailed, WriteFailed, NoMemory, CountFull}
+use Rattle.tcpsim.specs.declared.fault.SessionFault.TheVariants.{TooLong, Refused, CommandLine, WordsNotUtf8, ReadFailed, WriteFailed, NoMemory, CountFull}
 
--- input refused, or not simulated yet; command line refused; reading or writing failed; no room to go on
+-- input refused; command line refused; reading or writing failed; no room to go on
 abbrev pub status_of : SessionFault → ℕ
 status_of TooLong = 1
 status_of (Refused line fault) = 1
-status_of NotSimulated = 1
 status_of (CommandLine error) = 2
 status_of WordsNotUtf8 = 2
 status_of ReadFailed = 3
@@ -24,7 +23,6 @@ status_of CountFull = 4
 abbrev pub note_of : SessionFault → Option (List ℕ)
 note_of TooLong = Some (codes "refused I1\n")
 note_of (Refused line fault) = Some (codes "refused " ++ code_of fault ++ codes " line " ++ decimal line ++ codes "\n")
-note_of NotSimulated = Some (codes "not simulated yet\n")
 note_of (CommandLine error) = None
 note_of WordsNotUtf8 = Some (codes "error: a word is not valid UTF-8\n")
 note_of ReadFailed = Some (codes "read failed\n")

@@ -3,10 +3,9 @@ use Rattle.std.specs.Prelude.{◌≡◌, ◌⊎◌, ◌<◌, ◌≤◌, ℕ, Lis
 use Rattle.tcpsim.specs.declared.outcome.Outcome.{Outcome}
 use Rattle.tcpsim.specs.Outcome.{outcome_of}
 use Rattle.scenario_image.specs.declared.parts.ScenarioParts.{ScenarioParts}
-use Rattle.net_machine.specs.OneFlow.{IsOneFlow}
-use Rattle.net_machine.specs.State.{opening}
+use Rattle.table_run.specs.State.{opening}
 use Rattle.scenario_asm.specs.Meaning.{MeansScenario, MeansFault}
-use Rattle.tcpsim.specs.declared.fault.SessionFault.TheVariants.{TooLong, Refused, NotSimulated, ReadFailed, NoMemory}
+use Rattle.tcpsim.specs.declared.fault.SessionFault.TheVariants.{TooLong, Refused, ReadFailed, NoMemory}
 use Rattle.tcpsim.specs.Ended.{Ended, IsHindered, IsRunOutput, reads_after, writes_after}
 use Rattle.tcpsim.specs.Streams.{Streams, IsTextOf}
 use Rattle.tcpsim.specs.Written.{Writes}
@@ -15,15 +14,14 @@ use Rattle.tcpsim.specs.Written.{Writes}
 abbrev pub IsWithin : List ℕ → Type 0
 IsWithin text = length text ≤ 16777216
 
--- the text means a scenario of the form that is run, whose run ended so and wrote this
+-- the text means a scenario, whose run ended so and wrote this
 abbrev pub IsOfRun : List ℕ → Ended → List ℕ → Type 0
-IsOfRun text ended out = IsWithin text × ((p : ScenarioParts) × MeansScenario text p × IsOneFlow p × IsRunOutput (opening p) ended out)
+IsOfRun text ended out = IsWithin text × ((p : ScenarioParts) × MeansScenario text p × IsRunOutput (opening p) ended out)
 
 -- why a session on this text ends so, and what it has written by then: each end has its row
 abbrev pub IsEnding : List ℕ → Ended → List ℕ → Type 0
 IsEnding text (Err TooLong) out = (16777216 < length text) × (out ≡ [])
 IsEnding text (Err (Refused line fault)) out = IsWithin text × MeansFault text line fault × (out ≡ [])
-IsEnding text (Err NotSimulated) out = IsWithin text × ((p : ScenarioParts) × MeansScenario text p × ¬ IsOneFlow p) × (out ≡ [])
 IsEnding text (Err ReadFailed) out = out ≡ []
 IsEnding text (Err NoMemory) out = (out ≡ []) ⊎ IsOfRun text (Err NoMemory) out
 IsEnding text ended out = IsOfRun text ended out

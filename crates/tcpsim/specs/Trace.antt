@@ -1,8 +1,8 @@
 -- The trace of a run, as bytes.
 use Rattle.std.specs.Prelude.{◌≡◌, ◌≢◌, ◌≤◌, ℕ, List, ◌++◌, ◌⊎◌, Some, None}
 use Rattle.std.specs.List.{flat_map, enumerate_from}
-use Rattle.net_machine.specs.State.{State, run, step}
-use Rattle.net_machine.specs.TraceLine.{TraceLine}
+use Rattle.table_run.specs.State.{State, run, step}
+use Rattle.node_core.specs.TraceLine.{TraceLine}
 use Rattle.trace_text.specs.Line.{line_bytes}
 use Rattle.trace_text.specs.End.{end_bytes}
 

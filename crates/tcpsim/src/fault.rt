@@ -22,8 +22,6 @@ pub enum SessionFault {
         /// What is wrong there.
         fault: Fault,
     },
-    /// The text means a scenario of another form than is run today.
-    NotSimulated,
     /// The command line is not one of this program.
     CommandLine(clap::Error),
     /// A word of the command line is not UTF-8.
@@ -44,7 +42,7 @@ impl SessionFault {
         ensures { result ≡ status_of self.now }
     {
         match self {
-            SessionFault::TooLong | SessionFault::Refused { .. } | SessionFault::NotSimulated => 1,
+            SessionFault::TooLong | SessionFault::Refused { .. } => 1,
             SessionFault::CommandLine(_) | SessionFault::WordsNotUtf8 => 2,
             SessionFault::ReadFailed | SessionFault::WriteFailed => 3,
             SessionFault::NoMemory | SessionFault::CountFull => 4,
@@ -64,7 +62,6 @@ impl fmt::Display for SessionFault {
                 let code = fault.code();
                 write!(f, "refused {code} line {line}\n")
             }
-            SessionFault::NotSimulated => f.write_str("not simulated yet\n"),
             SessionFault::CommandLine(error) => write!(f, "{error}"),
             SessionFault::WordsNotUtf8 => f.write_str("error: a word is not valid UTF-8\n"),
             SessionFault::ReadFailed => f.write_str("read failed\n"),

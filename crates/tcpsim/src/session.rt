@@ -17,12 +17,11 @@ use crate::sink::Sink;
 use crate::source::Source;
 use crate::trace::run_scenario;
 use clap::error::ErrorKind;
-use net_machine::is_one_flow;
 use scenario_asm::assemble;
 use std::alloc::Global;
 use std::convert::AsStr;
 
-/// Runs a text, and writes its trace, where the text means a scenario of the form that is run.
+/// Runs a text, and writes its trace, where the text means a scenario.
 fn run_text<W: Sink>(alloc: Global, text: &[u8], writer: &mut W) -> Result<(), SessionFault>
     requires { IsWithin text.now }
     ensures session { IsSession text.now result (W.contents writer.old) (W.contents writer.new) }
@@ -30,9 +29,6 @@ fn run_text<W: Sink>(alloc: Global, text: &[u8], writer: &mut W) -> Result<(), S
     ensures no_read { result ≢ Err SessionFault.ReadFailed }
 {
     let scenario = assemble(alloc, text)?;
-    if !is_one_flow(&scenario) {
-        return Err(SessionFault::NotSimulated);
-    }
     run_scenario(alloc, &scenario, writer)
 }
 

@@ -1,6 +1,7 @@
 //! Whole sessions over memory, and what texts are refused for.
 
 mod broken;
+mod networks;
 mod texts;
 pub(crate) mod traces;
 
@@ -145,31 +146,6 @@ route p r b
 route q r c
 ";
 
-/// A flow over a router.
-const OVER_A_ROUTER: &str = "\
-sim 1000
-node s sender
-node p router
-node r receiver
-link a s p 1000000 10 droptail 5
-link b p r 1000000 10 droptail 5
-link c p s 1000000 10 droptail 5
-link d r p 1000000 10 droptail 5
-flow f s r 100 1 0 1000 0
-route p r b
-route p s c
-";
-
-/// A flow whose data goes through a queue with CoDel.
-const WITH_CODEL: &str = "\
-sim 1000
-node s sender
-node r receiver
-link a s r 1000000 10 codel 5 5000000 100000000 1500
-link b r s 1000000 10 droptail 5
-flow f s r 100 1 0 1000 0
-";
-
 #[test]
 fn a_refused_text_has_its_first_fault_in_the_note(rt: HostRuntime) -> Result<(), Fail> {
     for (text, note) in [
@@ -177,6 +153,7 @@ fn a_refused_text_has_its_first_fault_in_the_note(rt: HostRuntime) -> Result<(),
         ("sim 01", "refused E4 line 1\n"),
         ("sim 0", "refused E5 line 1\n"),
         ("sim 5", "refused L3 line 0\n"),
+        ("node s sender\nnode s router", "refused E6 line 2\n"),
         (
             "sim 5\nnode a sender\nlink x a a 1000 1 droptail 1",
             "refused E8 line 3\n",
@@ -192,14 +169,6 @@ fn a_way_that_breaks_is_told_before_one_that_returns(rt: HostRuntime) -> Result<
     expect_run(&rt, TO_AND_FRO, 1, "refused L7 line 0\n", "")?;
     let with_a_way_back = format!(in rt.alloc(); "{TO_AND_FRO}route p s d\n")?;
     expect_run(&rt, with_a_way_back.as_str(), 1, "refused L8 line 0\n", "")
-}
-
-#[test]
-fn a_scenario_of_another_form_is_not_simulated_yet(rt: HostRuntime) -> Result<(), Fail> {
-    for text in [OVER_A_ROUTER, WITH_CODEL] {
-        expect_run(&rt, text, 1, "not simulated yet\n", "")?;
-    }
-    Ok(())
 }
 
 /// Words that are refused. The input, a right text, plays no part.

@@ -3,7 +3,7 @@ use Rattle.std.proofs.Common.{◌≡◌, ◌≤◌, ℕ, List, ◌∷◌, ◌++�
 use Rattle.std.proofs.Math.Seq.{take-append_seam}
 use Rattle.std.proofs.lemmas.List.{take-take}
 use Rattle.std.proofs.lemmas.List.Concat.{flat_map-append}
-use Rattle.net_machine.specs.TraceLine.{TraceLine}
+use Rattle.node_core.specs.TraceLine.{TraceLine}
 use Rattle.trace_text.specs.Words.{line_of, spaced}
 use Rattle.trace_text.specs.Line.{line_bytes, key_words, event_words, after_words, act_word}
 

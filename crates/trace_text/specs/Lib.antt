@@ -1,4 +1,4 @@
 pub mod Words
 pub mod Line
 pub mod End
-pub use Rattle.net_machine.specs.TraceLine
+pub use Rattle.node_core.specs.TraceLine

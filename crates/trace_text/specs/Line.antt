@@ -5,15 +5,15 @@ use Rattle.packet_chain.specs.declared.packet.Kind.TheVariants.{Data, Ack}
 use Rattle.packet_chain.specs.declared.packet.Packet.{Packet}
 use Rattle.reno_sender.specs.declared.fields.SenderFields.{SenderFields}
 use Rattle.sim_time.specs.declared.key.Key.{Key}
-use Rattle.net_machine.specs.declared.acts.Act.{Act}
-use Rattle.net_machine.specs.declared.acts.Act.TheVariants.{Tx, Dropped}
-use Rattle.net_machine.specs.declared.acts.DropReason.{DropReason}
-use Rattle.net_machine.specs.declared.acts.DropReason.TheVariants.{Lost, Full, Codel}
-use Rattle.net_machine.specs.declared.event.Event.{Event}
-use Rattle.net_machine.specs.declared.event.Event.TheVariants.{Start, Rto, DelAck, Free, Arrive}
-use Rattle.net_machine.specs.declared.line.After.{After}
-use Rattle.net_machine.specs.declared.line.After.TheVariants.{AtSender, AtReceiver, AtRouter}
-use Rattle.net_machine.specs.TraceLine.{TraceLine}
+use Rattle.port.specs.declared.acts.Act.{Act}
+use Rattle.port.specs.declared.acts.Act.TheVariants.{Tx, Dropped}
+use Rattle.port.specs.declared.acts.DropReason.{DropReason}
+use Rattle.port.specs.declared.acts.DropReason.TheVariants.{Lost, Full, Codel}
+use Rattle.node_core.specs.declared.event.Event.{Event}
+use Rattle.node_core.specs.declared.event.Event.TheVariants.{Start, Rto, DelAck, Free, Arrive}
+use Rattle.node_core.specs.declared.line.After.{After}
+use Rattle.node_core.specs.declared.line.After.TheVariants.{AtSender, AtReceiver, AtRouter}
+use Rattle.node_core.specs.TraceLine.{TraceLine}
 use Rattle.trace_text.specs.Words.{line_of}
 
 -- the four numbers that order the event

@@ -4,7 +4,7 @@ ghost use Rattle.trace_text.specs.Words.{spaced};
 ghost use Rattle.trace_text.specs.Line.{act_word, packet_name, reason_name};
 
 use crate::backward::{put_number, put_small, put_text};
-use net_machine::{Act, DropReason};
+use node_core::{Act, DropReason};
 use packet_chain::Packet;
 use std::alloc::AllocError;
 

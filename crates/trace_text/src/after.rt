@@ -4,7 +4,7 @@ ghost use Rattle.trace_text.specs.Words.{spaced};
 ghost use Rattle.trace_text.specs.Line.{after_words, phase_name};
 
 use crate::backward::{put_number, put_text};
-use net_machine::After;
+use node_core::After;
 use reno_sender::SenderFields;
 
 /// Writes a node's state before `end`, and answers where it starts.

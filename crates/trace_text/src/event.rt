@@ -4,7 +4,7 @@ ghost use Rattle.trace_text.specs.Words.{spaced};
 ghost use Rattle.trace_text.specs.Line.{key_words, event_words};
 
 use crate::backward::{put_number, put_small, put_text};
-use net_machine::Event;
+use node_core::Event;
 use packet_chain::{Kind, Packet};
 use sim_time::Key;
 

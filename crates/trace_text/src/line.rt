@@ -1,6 +1,6 @@
 //! A whole line of the trace.
 ghost use Rattle.std.specs.Prelude.{◌≡◌, ◌++◌, take, decimal, vec_len, OnOk, OnErr};
-ghost use Rattle.net_machine.specs.TraceLine.{shown};
+ghost use Rattle.node_core.specs.TraceLine.{shown};
 ghost use Rattle.trace_text.specs.Words.{spaced};
 ghost use Rattle.trace_text.specs.Line.{line_bytes, key_words, event_words, after_words};
 
@@ -8,7 +8,7 @@ use crate::act::append_acts;
 use crate::after::put_after;
 use crate::backward::put_number;
 use crate::event::{put_event, put_key};
-use net_machine::Line;
+use node_core::Line;
 use std::alloc::AllocError;
 
 /// No less than the greatest length of what stands before the acts.

@@ -1,7 +1,7 @@
 //! That the definitions say what a reader of a trace sees.
 
 use crate::{end_text, line_text};
-use net_machine::{Act, Acts, After, DropReason, Event, Line};
+use node_core::{Act, Acts, After, DropReason, Event, Line};
 use packet_chain::{Kind, Packet, PacketBytes};
 use reno_sender::SenderFields;
 use sim_time::Key;

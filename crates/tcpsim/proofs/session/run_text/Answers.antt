@@ -1,8 +1,8 @@
-use Rattle.std.proofs.Common.{◌≡◌, Err, refl, sym, subst, rules}
+use Rattle.std.proofs.Common.{◌≡◌, Err, sym, subst, rules}
 use Rattle.tcpsim.specs.Session.{IsSession}
 use Rattle.tcpsim.specs.Ended.{Ended}
 use Rattle.tcpsim.specs.Faults.{of_text}
-use Rattle.tcpsim.proofs.Ends.{ran, not_run, refused}
+use Rattle.tcpsim.proofs.Ends.{ran, refused}
 use Rattle.tcpsim.proofs.session.run_text.Goals as goal
 
 pub returns-in_err-scenario-clause-session : goal.returns-in_err-scenario-clause-session
@@ -16,14 +16,8 @@ returns-in_err-scenario-clause-session g c =
     (refused c.args.text.now fault c.assemble.result known c.requires c.in_err-scenario.was
     (record { scenario = says.scenario; only_scenario = says.only_scenario; fault = says.fault; only_fault = says.only_fault }))
 
-pub returns-then-not-is_one_flow-clause-session : goal.returns-then-not-is_one_flow-clause-session
-returns-then-not-is_one_flow-clause-session g c =
-    let says = c.assemble.ensures in
-    not_run c.args.text.now c.in_ok-scenario.scenario c.assemble.result (g.W.Sink.contents c.args.writer.now) c.requires c.in_ok-scenario.was
-    (record { scenario = says.scenario; only_scenario = says.only_scenario; fault = says.fault; only_fault = says.only_fault }) (λ one. let holds = c.if-not-is_one_flow.ensures.1 one in cc)
-
 pub returns-clause-session : goal.returns-clause-session
 returns-clause-session g c =
     let says = c.assemble.ensures in
     ran c.args.text.now c.in_ok-scenario.scenario c.assemble.result c.run_scenario.result (g.W.Sink.contents c.args.writer.now) (g.W.Sink.contents c.run_scenario.new.writer) c.requires c.in_ok-scenario.was
-    (record { scenario = says.scenario; only_scenario = says.only_scenario; fault = says.fault; only_fault = says.only_fault }) (c.if-not-is_one_flow.ensures.0 refl) c.run_scenario.ensures.output
+    (record { scenario = says.scenario; only_scenario = says.only_scenario; fault = says.fault; only_fault = says.only_fault }) c.run_scenario.ensures.output

@@ -3,9 +3,9 @@ use Rattle.std.proofs.Common.{◌≡◌, ◌-◌}
 use Rattle.tcpsim.proofs.Lines.{Made}
 use Rattle.tcpsim.proofs.trace.put_lines.Given as goal
 
-abbrev pub invariant-loop-line : goal.invariant-loop-line
-invariant-loop-line g l =
+abbrev pub invariant-loop-net : goal.invariant-loop-net
+invariant-loop-net g l =
     Made l.fn.net.state l.net l.page.items (g.W.Sink.contents l.fn.writer) (g.W.Sink.contents l.writer) × (g.W.Sink.failures l.writer ≡ g.W.Sink.failures l.fn.writer)
 
-abbrev pub decreases-loop-line : goal.decreases-loop-line
-decreases-loop-line g l = 1000000000000000 - l.net.position
+abbrev pub decreases-loop-net : goal.decreases-loop-net
+decreases-loop-net g l = 1000000000000000 - l.net.position

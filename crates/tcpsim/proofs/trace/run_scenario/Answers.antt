@@ -1,5 +1,5 @@
 use Rattle.std.proofs.Common.{◌≡◌, Err, sym, subst, rules}
-use Rattle.net_machine.specs.State.{opening}
+use Rattle.table_run.specs.State.{opening}
 use Rattle.tcpsim.specs.declared.fault.SessionFault.TheVariants.{NoMemory}
 use Rattle.tcpsim.specs.Ended.{Ended, IsRunOutput}
 use Rattle.tcpsim.specs.Written.{Writes}

@@ -1,5 +1,5 @@
 use Rattle.std.proofs.Common.{arith}
-use Rattle.net_machine.specs.TraceLine.{shown}
+use Rattle.node_core.specs.TraceLine.{shown}
 use Rattle.trace_text.proofs.Lines.{line_appended, take_shorter}
 use Rattle.std.proofs.lemmas.Grind.{common_steps}
 use Rattle.trace_text.proofs.line.append_line.Goals as goal

@@ -1,0 +1,80 @@
+-- What a change of one node does to what is pending at all.
+use Rattle.std.proofs.Common.{◌≡◌, ◌≢◌, ℕ, ◌<◌, List, length, set, map, sym, ap, subst, ◌∙◌, Some, None, Option, ⊎_elim, arith}
+use Rattle.std.proofs.lemmas.Bool.{cases_eq}
+use Rattle.std.proofs.lemmas.List.{get_or-set_same, get_or-set_other, length-set, length-map, map-set}
+use Rattle.std.proofs.Math.ListN.{get_or-map}
+use Rattle.std.specs.FinMap as fin
+use Rattle.std.specs.List.{AllByRecursion}
+use Rattle.sim_time.specs.declared.key.Key.{Key}
+use Rattle.ranking.specs.Leading.{rank_at, Leads}
+use Rattle.ranking.specs.Keyed.{apply, least, next_key, EachKey}
+use Rattle.ranking.specs.Gathered.{gathered, map_at, AtHome}
+use Rattle.ranking.proofs.Maps.{each_apply}
+use Rattle.ranking.proofs.Gathered.{home_set, gathered-apply, gathered_has, none_gathered, IsFirst as IsFirstMap, is_first}
+use Rattle.node_core.specs.declared.event.Event.{Event}
+use Rattle.node_core.specs.Pending.{Events, Change}
+use Rattle.node_core.specs.Node.{NodeState}
+use Rattle.net_machine.specs.Nodes.{no_node, node_at, pendings, net_pending, IsPlaced, IsRanked, IsFirst}
+
+pub pending_at : (nodes : List NodeState) (i : ℕ) → map_at (pendings nodes) i ≡ (node_at nodes i).pending
+pending_at nodes i = get_or-map (λ (n : NodeState). n.pending) nodes i no_node
+
+module _ (nodes : List NodeState) (placed : IsPlaced nodes) where
+  -- a node changes by changes at it
+  module _ (i : ℕ) (within : i < length nodes) (x : NodeState) (number : x.number ≡ (node_at nodes i).number) (cs : List Change) (here : AllByRecursion (λ (c : Change). c.0.node ≡ i) cs)
+      (change : x.pending ≡ apply cs (node_at nodes i).pending) where
+    pending_within : i < length (pendings nodes)
+    pending_within = omega (arith, within, length-map nodes (λ (n : NodeState). n.pending))
+
+    changed_map : x.pending ≡ apply cs (map_at (pendings nodes) i)
+    changed_map = change ∙ ap (apply cs) (sym (pending_at nodes i))
+
+    pub placed_set : IsPlaced (set nodes i x)
+    placed_set = record {
+      number = λ j under.
+          let inside : j < length nodes = subst (λ n. j < n) (length-set nodes i x) under in
+          ⊎_elim
+          (λ (at : j ≡ i). ap (λ (n : NodeState). n.number) (ap (node_at (set nodes i x)) at ∙ get_or-set_same nodes i x no_node within) ∙ number ∙ placed.number i within ∙ sym at)
+          (λ (apart : j ≢ i). ap (λ (n : NodeState). n.number) (get_or-set_other nodes i j x no_node apart) ∙ placed.number j inside)
+          (cases_eq j i);
+      at_home = subst (AtHome (λ k. k.node)) (sym (map-set (λ (n : NodeState). n.pending) nodes i x))
+          (home_set (λ k. k.node) (pendings nodes) placed.at_home i pending_within x.pending
+          (subst (EachKey (λ k. k.node ≡ i)) (sym changed_map) (each_apply (λ k. k.node ≡ i) cs (map_at (pendings nodes) i) here (placed.at_home i))));
+    }
+
+    pub pending_set : net_pending (set nodes i x) ≡ apply cs (net_pending nodes)
+    pending_set =
+        ap gathered (map-set (λ (n : NodeState). n.pending) nodes i x ∙ ap (set (pendings nodes) i) changed_map)
+        ∙ gathered-apply (λ k. k.node) cs (pendings nodes) placed.at_home i pending_within here
+
+  -- a key of a node is pending in the net
+  pub node_key : (i : ℕ) (k : Key) (v : Event) → fin.get (node_at nodes i).pending k ≡ Some v → fin.get (net_pending nodes) k ≡ Some v
+  node_key i k v there = gathered_has (λ q. q.node) (pendings nodes) placed.at_home i k v (ap (λ (m : Events). fin.get m k) (pending_at nodes i) ∙ there)
+
+-- the ranking follows a node
+pub ranked_set : (nodes : List NodeState) (ranks : List (Option Key)) (i : ℕ) (x : NodeState) → IsRanked nodes ranks → IsPlaced (set nodes i x) → IsRanked (set nodes i x) (set ranks i (next_key x.pending))
+ranked_set nodes ranks i x is placed = record {
+  ranked = ap (λ r. set r i (next_key x.pending)) is.ranked ∙ sym (map-set next_key (pendings nodes) i x.pending) ∙ ap (map next_key) (sym (map-set (λ (n : NodeState). n.pending) nodes i x));
+  placed = placed;
+}
+
+module _ (nodes : List NodeState) (ranks : List (Option Key)) (is : IsRanked nodes ranks) where
+  pub net_none : ((place : ℕ) → rank_at ranks place ≡ None) → least (net_pending nodes) ≡ None
+  net_none none = none_gathered (λ k. k.node) (pendings nodes) is.placed.at_home (subst (λ (r : List (Option Key)). (place : ℕ) → rank_at r place ≡ None) is.ranked none)
+
+  first_map : (i : ℕ) (key : Key) → Leads ranks i key → IsFirstMap (λ k. k.node) (pendings nodes) i key
+  first_map i key leads = is_first (λ k. k.node) (pendings nodes) is.placed.at_home i key (subst (λ (r : List (Option Key)). Leads r i key) is.ranked leads)
+
+  -- the node that leads
+  pub first_node : (i : ℕ) (key : Key) → Leads ranks i key → IsFirst nodes i
+  first_node i key leads =
+      let first = first_map i key leads in
+      record {
+        within = omega (arith, first.within, length-map nodes (λ (n : NodeState). n.pending));
+        same = first.same ∙ ap least (pending_at nodes i);
+      }
+
+  pub first_key : (i : ℕ) (key : Key) → Leads ranks i key → Some key ≡ next_key (net_pending nodes)
+  first_key i key leads =
+      let first = first_map i key leads in
+      sym first.next ∙ sym (ap (Rattle.std.specs.Option.option_map (λ (entry : Key × Event). entry.0)) first.same)

@@ -1,0 +1,57 @@
+-- The nodes of a net, and what is pending at all of them.
+use Rattle.std.specs.Prelude.{◌≡◌, ◌<◌, ℕ, List, [], map as each, length, slice_index_or, Option}
+use Rattle.std.specs.List.{enumerate_from}
+use Rattle.sim_time.specs.declared.key.Key.{Key}
+use Rattle.scenario_image.specs.declared.parts.ScenarioParts.{ScenarioParts}
+use Rattle.ranking.specs.Keyed.{least, next_key, nothing_due}
+use Rattle.ranking.specs.Gathered.{gathered, AtHome}
+use Rattle.node_core.specs.declared.event.Event.{Event}
+use Rattle.node_core.specs.Pending.{Events}
+use Rattle.node_core.specs.Part.{PartState}
+use Rattle.node_core.specs.Node.{NodeState, opening_node}
+use Rattle.table_run.specs.State.{State, no_part}
+use Rattle.net_machine.specs.Run.{Reached}
+
+abbrev pub no_node : NodeState
+no_node = record { number = 0; part = no_part; incoming = []; pending = nothing_due Event }
+
+abbrev pub node_at : List NodeState → ℕ → NodeState
+node_at nodes i = slice_index_or nodes i no_node
+
+-- the nodes of a scenario, before anything is sent
+abbrev pub opening_nodes : ScenarioParts → List NodeState
+opening_nodes p = each (opening_node p) (enumerate_from 0 p.nodes)
+
+-- what is pending at each
+abbrev pub pendings : List NodeState → List Events
+pendings nodes = each (λ (n : NodeState). n.pending) nodes
+
+-- what is pending at all of them
+abbrev pub net_pending : List NodeState → Events
+net_pending nodes = gathered (pendings nodes)
+
+abbrev pub parts_of : List NodeState → List PartState
+parts_of nodes = each (λ (n : NodeState). n.part) nodes
+
+-- the state that nodes are in
+abbrev pub net_state : List NodeState → ℕ → State
+net_state nodes end = record { parts = parts_of nodes; pending = net_pending nodes; end = end }
+
+-- and how many events were run to it
+abbrev pub reached : List NodeState → ℕ → ℕ → Reached
+reached nodes end position = record { state = net_state nodes end; position = position }
+
+-- node i is the i-th, and each key names its node
+pub record IsPlaced (nodes : List NodeState) : Type 0 where
+  pub number : (i : ℕ) → i < length nodes → (node_at nodes i).number ≡ i
+  pub at_home : AtHome (λ k. k.node) (pendings nodes)
+
+-- the ranking has each node's next key
+pub record IsRanked (nodes : List NodeState) (ranks : List (Option Key)) : Type 0 where
+  pub ranked : ranks ≡ each next_key (pendings nodes)
+  pub placed : IsPlaced nodes
+
+-- what is pending first at a node is what is pending first at all
+pub record IsFirst (nodes : List NodeState) (place : ℕ) : Type 0 where
+  pub within : place < length nodes
+  pub same : least (net_pending nodes) ≡ least (node_at nodes place).pending

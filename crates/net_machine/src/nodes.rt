@@ -1,0 +1,174 @@
+//! The nodes, ranked by their next keys.
+ghost use Rattle.std.specs.Prelude.{◌≡◌, ◌≢◌, ◌+◌, ◌<◌, ◌≤◌, ◌^◌, [], ℕ, All, IfOk, OnOk, OnErr, MatchOption, Option, Some, None, length, map as each, slice_set};
+ghost use Rattle.std.specs.Option.{option_map};
+ghost use Rattle.std.specs.List.Sorted.{IsStrictlyIncreasing};
+ghost use Rattle.sim_time.specs.declared.key.Key.{Key};
+ghost use Rattle.ranking.specs.Keyed.{least, next_key, EachKey};
+ghost use Rattle.node_core.specs.declared.event.Event.{Event};
+ghost use Rattle.node_core.specs.AgendaState.{incoming_at};
+ghost use Rattle.node_core.specs.WireState.{stamps_of};
+ghost use Rattle.node_core.specs.Part.{link_at};
+ghost use Rattle.node_core.specs.Row.{Leaving, row};
+ghost use Rattle.node_core.specs.Ready.{IsRunnable};
+ghost use Rattle.node_core.specs.TraceLine.{shown};
+ghost use Rattle.node_core.specs.Node.{delivered, HasFired};
+ghost use Rattle.net_machine.specs.Nodes.{node_at, pendings, net_pending, IsPlaced, IsFirst};
+
+use node_core::{Line, Node, Outbox};
+use packet_chain::PacketChain;
+use ranking::Ranking;
+use sim_time::Key;
+use std::alloc::{AllocError, Global};
+use std::marker::Model;
+
+/// The nodes of a net, each at its number.
+#[derive(Drop)]
+pub struct Nodes {
+    nodes: Vec<Node>,
+    /// The next key of each node.
+    ranking: Ranking,
+}
+
+impl Model for Nodes {
+    ghost use Rattle.std.specs.Prelude.{List};
+    ghost use Rattle.node_core.specs.Node.{NodeState};
+
+    ghost Value = { List NodeState };
+
+    ghost use Rattle.net_machine.specs.Codes.{nodes_code};
+
+    ghost coded = { nodes_code };
+
+    ghost use Rattle.net_machine.specs.Nodes.{IsRanked};
+
+    ghost view = { λ n. n.nodes.items };
+
+    ghost invariant = { λ n. IsRanked n.nodes.items n.ranking };
+}
+
+// Ranks nodes by their next keys.
+fn rank(nodes: &[Node], ranking: &mut Ranking)
+    requires { length ranking.old ≡ length nodes.now }
+    ensures { ranking.new ≡ each next_key (pendings nodes.now) }
+{
+    for at in 0..nodes.len() {
+        let node = &nodes[at];
+        ranking.set(at, node.least());
+    }
+}
+
+impl Nodes {
+    /// These nodes, each at its number.
+    pub fn new(alloc: Global, nodes: Vec<Node>) -> Result<Nodes, AllocError>
+        requires few { length nodes.items ≤ 2 ^ 31 }
+        requires placed { IsPlaced nodes.items }
+        ensures { IfOk result (λ all. all ≡ nodes.items) }
+    {
+        let ranking = Ranking::new(alloc, nodes.len())?;
+        Ok(Nodes::of_parts(nodes, ranking))
+    }
+
+    /// These nodes, each at its number, with a ranking of as many places, whatever it holds.
+    pub fn of_parts(nodes: Vec<Node>, mut ranking: Ranking) -> Nodes
+        requires placed { IsPlaced nodes.items }
+        requires room { length ranking ≡ length nodes.items }
+        ensures { result ≡ nodes.items }
+    {
+        rank(&nodes, &mut ranking);
+        Nodes { nodes, ranking }
+    }
+
+    /// The nodes, and their ranking.
+    pub fn into_parts(self) -> (Vec<Node>, Ranking)
+        ensures nodes { result.0.items ≡ self }
+        ensures placed { IsPlaced self }
+        ensures room { length result.1 ≡ length self }
+    {
+        (self.nodes, self.ranking)
+    }
+
+    /// The node at which the least key is pending, and the key.
+    pub fn first(&self) -> Option<(usize, Key)>
+        ensures first { MatchOption result (least (net_pending self.now) ≡ None) (λ entry. IsFirst self.now entry.0) }
+        ensures key { option_map (λ entry. entry.1) result ≡ next_key (net_pending self.now) }
+    {
+        match self.ranking.first() {
+            Some((place, key)) => Some((place, key)),
+            None => None,
+        }
+    }
+
+    /// Runs the event of the least key of the node at which the least of all is pending. What it
+    /// says and promises is that of [`Node::fire_into`].
+    pub fn fire_into(
+        &mut self,
+        place: usize,
+        out: &mut Outbox,
+        line: &mut Line,
+    ) -> Result<Option<u16>, AllocError>
+        requires within { place < length self.old }
+        requires pending { next_key (node_at self.old place).pending ≢ None }
+        requires due { (k : Key) (v : Event) → least (node_at self.old place).pending ≡ Some (k, v) → IsRunnable (node_at self.old place).part k v }
+        requires chains { length (node_at self.old place).part.links ≤ length out.old }
+        requires room { All (λ chain. length chain < 1000000000000000) out.old }
+        ensures fired { OnOk result (HasFired (node_at self.old place) (node_at self.new place) out.old out.new (shown line.new)) }
+        ensures others { OnOk result (self.new ≡ slice_set self.old place (node_at self.new place)) }
+        ensures placed { OnOk result (IsPlaced self.new) }
+        ensures leaving { IfOk result (λ index. index ≡ option_map (λ (leaving : Leaving). leaving.index) (row (node_at self.old place).part line.new.key line.new.event).leaving) }
+        ensures same { OnErr result (self.new ≡ self.old) }
+        ensures same_out { OnErr result (out.new ≡ out.old) }
+    {
+        let node = &mut self.nodes[place];
+        let leaving = node.fire_into(out, line)?;
+        let next = node.least();
+        self.ranking.set(place, next);
+        Ok(leaving)
+    }
+
+    /// The number of an outgoing link of a node.
+    pub fn link_number(&self, place: usize, index: usize) -> u16
+        requires within { place < length self.now }
+        requires index { index < length (node_at self.now place).part.links }
+        ensures { result ≡ (link_at (node_at self.now place).part.links index).port.link }
+    {
+        let node = &self.nodes[place];
+        node.link_number(index)
+    }
+
+    /// Packets come to a node over one of its incoming links, after all that came over it before;
+    /// the chain is then empty. It takes no memory.
+    pub fn deliver(&mut self, place: usize, index: usize, chain: &mut PacketChain)
+        requires place { place < length self.old }
+        requires within { index < length (node_at self.old place).incoming }
+        requires rising { IsStrictlyIncreasing (stamps_of chain.old) }
+        requires later { All (λ stamp. EachKey (λ k. k.source ≡ (incoming_at (node_at self.old place).incoming index).link + 1 → k.time < stamp) (node_at self.old place).pending) (stamps_of chain.old) }
+        requires few { (incoming_at (node_at self.old place).incoming index).came + length chain.old ≤ 2 ^ 50 }
+        ensures nodes { self.new ≡ slice_set self.old place (delivered (node_at self.old place) index chain.old) }
+        ensures placed { IsPlaced self.new }
+        ensures emptied { chain.new ≡ [] }
+    {
+        let node = &mut self.nodes[place];
+        node.deliver_at(index, chain);
+        let next = node.least();
+        self.ranking.set(place, next);
+    }
+
+    /// Nodes in the same states, with packets in cells of their own.
+    pub fn copy(&self) -> Result<Nodes, AllocError>
+        ensures { IfOk result (λ copy. copy ≡ self.now) }
+    {
+        let mut nodes = Vec::new(*self.nodes.allocator());
+        for node in &self.nodes {
+            nodes.push(node.copy()?)?;
+        }
+        let ranking = self.ranking.copy()?;
+        Ok(Nodes { nodes, ranking })
+    }
+
+    /// The nodes.
+    pub fn as_slice(&self) -> &[Node]
+        ensures { result.now ≡ self.now }
+    {
+        &self.nodes
+    }
+}

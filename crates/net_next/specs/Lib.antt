@@ -1,5 +1,0 @@
-pub mod Run
-pub mod Nodes
-pub mod Wiring
-pub mod Codes
-pub mod NetOf
