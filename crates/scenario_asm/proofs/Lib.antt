@@ -14,3 +14,11 @@ pub mod Read
 pub mod Progress
 pub mod OneMeaning
 pub mod OneAnswer
+pub mod Decimals
+pub mod SpeltLines
+pub mod Numbered
+pub mod SaidAgain
+pub mod CanonicalMeaning
+pub mod Spelt
+pub mod Restated
+pub mod Sections

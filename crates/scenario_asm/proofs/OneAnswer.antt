@@ -5,7 +5,7 @@ use Rattle.std.specs.List.{filter_map}
 use Rattle.std.specs.Option.{ForSome}
 use Rattle.scenario_image.specs.Fault.{IsFreeOf, judged_faults, IsFirstOf, IsFirstFault}
 use Rattle.scenario_image.specs.declared.fault.LoadFault.{LoadFault}
-use Rattle.scenario_image.specs.declared.fault.LoadFault.TheVariants.{L3 as image_L3, L5 as image_L5, L6 as image_L6, L7 as image_L7, L8 as image_L8, NoMemory as image_NoMemory}
+use Rattle.scenario_image.specs.declared.fault.LoadFault.TheVariants.{L1 as image_L1, L2 as image_L2, L3 as image_L3, L4 as image_L4, L5 as image_L5, L6 as image_L6, L7 as image_L7, L8 as image_L8, NoMemory as image_NoMemory}
 use Rattle.scenario_image.specs.declared.parts.ScenarioParts.{ScenarioParts}
 use Rattle.scenario_asm.specs.declared.fault.Fault.{Fault}
 use Rattle.scenario_asm.specs.declared.fault.Fault.TheVariants.{E10, L3, L5, L7, L8}
@@ -102,6 +102,9 @@ parts_fault : (text : List ℕ) (judged : AreJudged text) (end : ℕ) → HaveEn
 parts_fault text judged end one_end image_L6 first none =
     no_wrong_kind end (known_of (statements_of judged.said)) (parts_of end (statements_of judged.said)) image_L6 judged.kept.kinds refl first refl
 parts_fault text judged end one_end image_NoMemory first none = not_free (parts_of end (statements_of judged.said)) judged_faults image_NoMemory first tt
+parts_fault text judged end one_end image_L1 first none = not_free (parts_of end (statements_of judged.said)) judged_faults image_L1 first tt
+parts_fault text judged end one_end image_L2 first none = not_free (parts_of end (statements_of judged.said)) judged_faults image_L2 first tt
+parts_fault text judged end one_end image_L4 first none = not_free (parts_of end (statements_of judged.said)) judged_faults image_L4 first tt
 parts_fault text judged end one_end image_L3 first none = none 0 L3 (whole_at text judged L3 (inr (record { end = end; one_end = one_end; load = image_L3; first = first; same = refl })))
 parts_fault text judged end one_end image_L5 first none = none 0 L5 (whole_at text judged L5 (inr (record { end = end; one_end = one_end; load = image_L5; first = first; same = refl })))
 parts_fault text judged end one_end image_L7 first none = none 0 L7 (whole_at text judged L7 (inr (record { end = end; one_end = one_end; load = image_L7; first = first; same = refl })))

@@ -6,7 +6,7 @@ use Rattle.scenario_image.specs.declared.parts.ScenarioParts.{ScenarioParts}
 use Rattle.scenario_image.specs.Scenario.{IsScenario}
 use Rattle.scenario_image.specs.Fault.{IsFreeOf, judged_faults, IsFirstOf, IsFirstFault}
 use Rattle.scenario_image.specs.declared.fault.LoadFault.{LoadFault}
-use Rattle.scenario_image.specs.declared.fault.LoadFault.TheVariants.{L3 as image_L3, L5 as image_L5, L6 as image_L6, L7 as image_L7, L8 as image_L8, NoMemory as image_NoMemory}
+use Rattle.scenario_image.specs.declared.fault.LoadFault.TheVariants.{L1 as image_L1, L2 as image_L2, L3 as image_L3, L4 as image_L4, L5 as image_L5, L6 as image_L6, L7 as image_L7, L8 as image_L8, NoMemory as image_NoMemory}
 use Rattle.scenario_asm.specs.declared.fault.AsmFault.{AsmFault}
 use Rattle.scenario_asm.specs.declared.fault.AsmFault.TheVariants.{At, NoMemory}
 use Rattle.scenario_asm.specs.declared.fault.Fault.{Fault}
@@ -141,7 +141,10 @@ none_first parts (next ∷ later) fault free (inl first) = first.1 (free next)
 none_first parts (next ∷ later) fault free (inr first) = none_first parts later fault free first.1
 
 free_of : (parts : ScenarioParts) → IsScenario parts → (fault : LoadFault) → IsFreeOf parts fault
+free_of parts is image_L1 = tt
+free_of parts is image_L2 = tt
 free_of parts is image_L3 = is.in_limits
+free_of parts is image_L4 = tt
 free_of parts is image_L5 = is.ends
 free_of parts is image_L6 = is.kinds
 free_of parts is image_L7 = is.unbroken

@@ -4,7 +4,7 @@ use Rattle.std.proofs.lemmas.Bool.{cases_Bool}
 use Rattle.std.specs.List.{before_first, after_first, onto_first}
 use Rattle.scenario_asm.specs.Lines.{pieces}
 
-one_plus : (n : ℕ) → 1 + n ≡ suc n
+pub one_plus : (n : ℕ) → 1 + n ≡ suc n
 one_plus n = omega arith
 
 -- a byte that doesn't end the piece is the first of it

@@ -27,7 +27,7 @@ both_none None b none = (refl, none)
 both_none (Some fault) b none = absurd (let never : Some fault ≡ None = none in cc)
 
 -- each of these verdicts is none
-abbrev AreNone : List Verdict → Type 0
+abbrev pub AreNone : List Verdict → Type 0
 AreNone [] = Unit {0}
 AreNone (verdict ∷ verdicts) = (verdict ≡ None) × AreNone verdicts
 
@@ -91,7 +91,7 @@ receiver_is (Some Receiver) is = refl
 receiver_is (Some Router) is = absurd (false_not is)
 receiver_is None is = absurd (false_not is)
 
-router_is : (o : Option NodeKind) → is_router o ≡ true → o ≡ Some Router
+pub router_is : (o : Option NodeKind) → is_router o ≡ true → o ≡ Some Router
 router_is (Some Sender) is = absurd (false_not is)
 router_is (Some Receiver) is = absurd (false_not is)
 router_is (Some Router) is = refl

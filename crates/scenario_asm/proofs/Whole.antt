@@ -1,8 +1,8 @@
 -- What a text is answered whose lines are right.
-use Rattle.std.proofs.Common.{◌≡◌, inl, inr, ℕ, List, [], ◌∷◌, Err, ap, sym, ◌∙◌, subst}
+use Rattle.std.proofs.Common.{◌≡◌, ◌≢◌, inl, inr, ℕ, List, [], ◌∷◌, Err, ap, sym, ◌∙◌, subst}
 use Rattle.scenario_image.specs.Fault.{IsFreeOf, judged_faults, IsFirstOf, IsFirstFault}
 use Rattle.scenario_image.specs.declared.fault.LoadFault.{LoadFault}
-use Rattle.scenario_image.specs.declared.fault.LoadFault.TheVariants.{L6}
+use Rattle.scenario_image.specs.declared.fault.LoadFault.TheVariants.{L1, L2, L4, L6}
 use Rattle.scenario_image.specs.declared.parts.ScenarioParts.{ScenarioParts}
 use Rattle.scenario_asm.specs.declared.fault.AsmFault.{AsmFault}
 use Rattle.scenario_asm.specs.declared.fault.AsmFault.TheVariants.{At, NoMemory}
@@ -22,6 +22,14 @@ pub not_free : (parts : ScenarioParts) (faults : List LoadFault) (fault : LoadFa
 not_free parts [] fault first free = first
 not_free parts (next ∷ later) fault (inl first) free = first.1 (subst (IsFreeOf parts) first.0 free)
 not_free parts (next ∷ later) fault (inr first) free = not_free parts later fault first.1 free
+
+-- only bytes have these faults
+pub no_byte_fault : (parts : ScenarioParts) (fault : LoadFault) → IsFirstFault parts fault → (fault ≢ L1) × (fault ≢ L2) × (fault ≢ L4)
+no_byte_fault parts fault first = (
+  λ is. not_free parts judged_faults fault first (subst (IsFreeOf parts) (sym is) tt),
+  λ is. not_free parts judged_faults fault first (subst (IsFreeOf parts) (sym is) tt),
+  λ is. not_free parts judged_faults fault first (subst (IsFreeOf parts) (sym is) tt),
+)
 
 -- that a node is of the wrong kind shows in a line
 pub no_wrong_kind : (end : ℕ) (known : Known) (parts : ScenarioParts) (fault : LoadFault) → AreOfKinds known → parts ≡ known_parts end known → IsFirstFault parts fault → fault ≡ L6 → ⊥

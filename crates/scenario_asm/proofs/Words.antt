@@ -84,7 +84,7 @@ first_words_say known words =
           long_is known (take 12 words) front ∙ (ap (λ w. if is_statement w then Err E3 else Err E2) (first_same words) ∙ sym (long_is known words many))
     ]
 
-suc_not : (n : ℕ) → (suc n == 0) ≡ false
+pub suc_not : (n : ℕ) → (suc n == 0) ≡ false
 suc_not n = grind (arith, nat_tests)
 
 none_left : (words : List Word) → (length (take 12 words) == 0) ≡ (length words == 0)

@@ -4,7 +4,7 @@ use Rattle.std.specs.List.{filter_map, slice_index_or}
 use Rattle.scenario_image.specs.Scenario.{IsScenario}
 use Rattle.scenario_image.specs.Fault.{IsFirstFault}
 use Rattle.scenario_image.specs.declared.fault.LoadFault.{LoadFault}
-use Rattle.scenario_image.specs.declared.fault.LoadFault.TheVariants.{L3 as image_L3, L5 as image_L5, L6 as image_L6, L7 as image_L7, L8 as image_L8, NoMemory as image_NoMemory}
+use Rattle.scenario_image.specs.declared.fault.LoadFault.TheVariants.{L1 as image_L1, L2 as image_L2, L3 as image_L3, L4 as image_L4, L5 as image_L5, L6 as image_L6, L7 as image_L7, L8 as image_L8, NoMemory as image_NoMemory}
 use Rattle.scenario_image.specs.declared.parts.ScenarioParts.{ScenarioParts}
 use Rattle.scenario_asm.specs.declared.fault.Fault.{Fault}
 use Rattle.scenario_asm.specs.declared.fault.Fault.TheVariants.{E10, L3, L5, L7, L8}
@@ -37,9 +37,12 @@ pub record IsLineFault (text : List ℕ) (number : ℕ) (fault : Fault) : Type 0
 pub record HaveEnd (statements : List Statement) (end : ℕ) : Type 0 where
   pub one_end : filter_map said_end statements ≡ end ∷ []
 
--- the fault of a text whose parts have this fault; that a node is of the wrong kind shows in its line
+-- the fault of a text whose parts have this fault; that a node is of the wrong kind shows in its line, and only bytes have the first, the second and the fourth
 abbrev pub as_text_fault : LoadFault → Option Fault
+as_text_fault image_L1 = None
+as_text_fault image_L2 = None
 as_text_fault image_L3 = Some L3
+as_text_fault image_L4 = None
 as_text_fault image_L5 = Some L5
 as_text_fault image_L6 = None
 as_text_fault image_L7 = Some L7

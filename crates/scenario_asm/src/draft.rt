@@ -64,13 +64,14 @@ fn new_link(alloc: Global, line: LinkLine) -> LinkPart
 
 /// What is wrong with a text whose lines are right, by what is wrong with its parts.
 fn whole_fault(fault: LoadFault) -> AsmFault
-    requires { fault ≢ LoadFault.L6 }
+    requires bytes { (fault ≢ LoadFault.L1) × (fault ≢ LoadFault.L2) × (fault ≢ LoadFault.L4) }
+    requires kinds { fault ≢ LoadFault.L6 }
     ensures { IsWholeAnswer fault result }
 {
     let fault = match fault {
         LoadFault::L3 => Fault::L3,
         LoadFault::L5 => Fault::L5,
-        LoadFault::L6 => unreachable!(),
+        LoadFault::L1 | LoadFault::L2 | LoadFault::L4 | LoadFault::L6 => unreachable!(),
         LoadFault::L7 => Fault::L7,
         LoadFault::L8 => Fault::L8,
         LoadFault::NoMemory => return AsmFault::NoMemory,

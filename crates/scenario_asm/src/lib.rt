@@ -2,15 +2,18 @@
 #![tactic(auto)]
 
 pub mod assembler;
+pub mod disassembler;
 mod draft;
 pub mod fault;
 pub mod guarantees;
 mod lexer;
 mod name;
 mod number;
+mod spelling;
 mod statement;
 mod table;
 
 pub use assembler::assemble;
+pub use disassembler::disassemble;
 pub use fault::{AsmFault, Fault};
 pub use guarantees::texts_have_one_answer;

@@ -5,3 +5,9 @@ pub mod Courses
 pub mod OnlyOne
 pub mod Arrivals
 pub mod FirstFault
+pub mod Appends
+pub mod Loops
+pub mod Numbers
+pub mod Takes
+pub mod Again
+pub mod Judged

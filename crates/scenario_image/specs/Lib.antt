@@ -9,4 +9,9 @@ pub mod Ways
 pub mod Scenario
 pub mod Fault
 pub mod WayLaws
+pub mod Image
+pub mod Layout
+pub mod Reading
+pub mod ImageFault
 pub use Rattle.sim_time.specs.Serial
+pub use Rattle.byteorder.specs.Endian

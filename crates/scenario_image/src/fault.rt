@@ -1,12 +1,22 @@
-//! Why parts are refused.
+//! Why bytes or parts are refused.
+ghost use Rattle.std.specs.Prelude.{◌≡◌};
+ghost use Rattle.scenario_image.specs.declared.fault.LoadFault.TheVariants.{NoMemory};
+
+use std::alloc::{AllocError, AllocFailed};
 use std::error::Error;
 use std::fmt;
 
-/// Why parts make no scenario.
+/// Why bytes or parts make no scenario.
 #[derive(Clone, Copy, Debug, PartialEq, Eq)]
 pub enum LoadFault {
+    /// There are fewer bytes than the layout takes, by the counts in them as they stand.
+    L1,
+    /// The bytes do not begin as an image does.
+    L2,
     /// A number is out of its range.
     L3,
+    /// Bytes are left over.
+    L4,
     /// A sender or receiver is without exactly one flow that names it or exactly one outgoing link,
     /// or a router has no or more than 16 outgoing links.
     L5,
@@ -30,7 +40,10 @@ impl fmt::Display for LoadFault {
 
     fn fmt<W: fmt::Write>(&self, f: &mut fmt::Formatter<W>) -> fmt::Result {
         match self {
+            LoadFault::L1 => write!(f, "L1"),
+            LoadFault::L2 => write!(f, "L2"),
             LoadFault::L3 => write!(f, "L3"),
+            LoadFault::L4 => write!(f, "L4"),
             LoadFault::L5 => write!(f, "L5"),
             LoadFault::L6 => write!(f, "L6"),
             LoadFault::L7 => write!(f, "L7"),
@@ -42,6 +55,22 @@ impl fmt::Display for LoadFault {
 
 impl Error for LoadFault {}
 
+impl From<AllocError> for LoadFault {
+    ghost from_gives = { λ _ fault. fault ≡ NoMemory };
+
+    fn from(_error: AllocError) -> LoadFault {
+        LoadFault::NoMemory
+    }
+}
+
+impl<T: Drop> From<AllocFailed<T>> for LoadFault {
+    ghost from_gives = { λ _ fault. fault ≡ NoMemory };
+
+    fn from(_error: AllocFailed<T>) -> LoadFault {
+        LoadFault::NoMemory
+    }
+}
+
 #[cfg(test)]
 mod tests {
     use super::*;
@@ -50,7 +79,10 @@ mod tests {
     #[test]
     fn a_fault_has_a_name(rt: HostRuntime) -> Result<(), Fail> {
         for (fault, name) in [
+            (LoadFault::L1, "L1"),
+            (LoadFault::L2, "L2"),
             (LoadFault::L3, "L3"),
+            (LoadFault::L4, "L4"),
             (LoadFault::L5, "L5"),
             (LoadFault::L6, "L6"),
             (LoadFault::L7, "L7"),

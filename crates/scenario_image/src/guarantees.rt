@@ -1,6 +1,7 @@
 //! What is so of each scenario: laws over the definitions alone, each the contract of a function
 //! that does nothing.
 ghost use Rattle.scenario_image.specs.WayLaws.{WaysArrive, WaysBegin, WaysGoOnOrEnd, EndsHaveOneFlow};
+ghost use Rattle.scenario_image.specs.ImageFault.{ImagesDiffer, ImagesHaveNoFault, BytesHaveOneFault};
 
 /// Each way comes to its end after fewer hops than there are nodes, comes only where it may, is at
 /// no node twice, and goes no further.
@@ -22,4 +23,19 @@ pub fn ways_go_on_or_end()
 /// Only one flow names a sender or a receiver.
 pub fn ends_have_one_flow()
     ensures { EndsHaveOneFlow }
+{}
+
+/// No bytes are the image of two scenarios.
+pub fn images_differ()
+    ensures { ImagesDiffer }
+{}
+
+/// The image of a scenario has no fault: what is saved is loaded again.
+pub fn images_have_no_fault()
+    ensures { ImagesHaveNoFault }
+{}
+
+/// Bytes have one first fault at most.
+pub fn bytes_have_one_fault()
+    ensures { BytesHaveOneFault }
 {}

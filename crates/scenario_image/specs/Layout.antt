@@ -1,0 +1,30 @@
+-- How many bytes the layout of an image takes, by the counts in the bytes as they stand. A byte that is not there counts as 0.
+use Rattle.std.specs.Prelude.{ℕ, zero, suc, ◌+◌, ◌*◌, List, drop, slice_index}
+use Rattle.byteorder.specs.Endian.{big_number}
+
+-- the counts in the header
+abbrev pub node_count : List ℕ → ℕ
+node_count bytes = big_number 2 (drop 12 bytes)
+
+abbrev pub link_count : List ℕ → ℕ
+link_count bytes = big_number 2 (drop 14 bytes)
+
+abbrev pub flow_count : List ℕ → ℕ
+flow_count bytes = big_number 2 (drop 16 bytes)
+
+abbrev pub route_count : List ℕ → ℕ
+route_count bytes = big_number 4 (drop 18 bytes)
+
+-- the bytes that the first link of some bytes takes, the last but its lost packets being their count
+abbrev pub link_size : List ℕ → ℕ
+link_size bytes = 42 + 4 * slice_index bytes 41
+
+-- the bytes that so many links take, one after the other
+abbrev pub links_size : ℕ → List ℕ → ℕ
+links_size zero bytes = 0
+links_size (suc more) bytes = link_size bytes + links_size more (drop (link_size bytes) bytes)
+
+-- the header's 22 bytes, 1 for each node, the links' bytes, 26 for each flow and 6 for each route
+abbrev pub layout_size : List ℕ → ℕ
+layout_size bytes =
+    22 + node_count bytes + links_size (link_count bytes) (drop (22 + node_count bytes) bytes) + 26 * flow_count bytes + 6 * route_count bytes

@@ -1,0 +1,117 @@
+-- What the functions that read an image answer, part by part. No public contract cites these.
+use Rattle.std.specs.Prelude.{◌≡◌, ℕ, zero, suc, ◌+◌, ◌*◌, ◌==◌, ◌&&◌, if◌then◌else◌, List, [], ◌∷◌, take, drop, slice_index, Option, Some, None, Result, Ok, Err}
+use Rattle.std.specs.Option.{option_map, option_and_then}
+use Rattle.byteorder.specs.Endian.{big_number}
+use Rattle.scenario_image.specs.Layout.{node_count, link_count, flow_count, route_count, link_size}
+use Rattle.scenario_image.specs.declared.fault.LoadFault.{LoadFault}
+use Rattle.scenario_image.specs.declared.fault.LoadFault.TheVariants.{L1, L2, L3, L4, L5, L6, L7, L8, NoMemory}
+use Rattle.scenario_image.specs.declared.parts.NodeKind.{NodeKind}
+use Rattle.scenario_image.specs.declared.parts.NodeKind.TheVariants.{Sender, Receiver, Router}
+use Rattle.scenario_image.specs.declared.parts.Codel.{Codel as CodelNumbers}
+use Rattle.scenario_image.specs.declared.parts.QueueKind.{QueueKind}
+use Rattle.scenario_image.specs.declared.parts.QueueKind.TheVariants.{DropTail, Codel}
+use Rattle.scenario_image.specs.declared.parts.LinkPart.{LinkPart}
+use Rattle.scenario_image.specs.declared.parts.FlowPart.{FlowPart}
+use Rattle.scenario_image.specs.declared.parts.RoutePart.{RoutePart}
+use Rattle.scenario_image.specs.declared.parts.ScenarioParts.{ScenarioParts}
+
+-- so many items, one after the other, each of which takes so many bytes
+abbrev pub each_at : {X : Type 0} → ℕ → (List ℕ → X) → ℕ → List ℕ → List X
+each_at size read zero bytes = []
+each_at size read (suc more) bytes = read bytes ∷ each_at size read more (drop size bytes)
+
+-- the node that a byte stands for
+abbrev pub node_of_byte : ℕ → Option NodeKind
+node_of_byte zero = Some Sender
+node_of_byte (suc zero) = Some Receiver
+node_of_byte (suc (suc zero)) = Some Router
+node_of_byte (suc (suc (suc byte))) = None
+
+-- the nodes that bytes stand for
+abbrev pub nodes_at : List ℕ → Option (List NodeKind)
+nodes_at [] = Some []
+nodes_at (byte ∷ bytes) = option_and_then (λ kind. option_map (λ kinds. kind ∷ kinds) (nodes_at bytes)) (node_of_byte byte)
+
+-- the numbers where CoDel's stand in a link's bytes
+abbrev pub codel_at : List ℕ → CodelNumbers
+codel_at bytes = record { target = big_number 8 (drop 23 bytes); interval = big_number 8 (drop 31 bytes); maxpacket = big_number 2 (drop 39 bytes) }
+
+-- the queue that a byte stands for, with these numbers where CoDel's stand
+abbrev pub queue_of_byte : ℕ → CodelNumbers → Option QueueKind
+queue_of_byte zero codel = if ((codel.target == 0) && (codel.interval == 0)) && (codel.maxpacket == 0) then Some DropTail else None
+queue_of_byte (suc zero) codel = Some (Codel codel)
+queue_of_byte (suc (suc byte)) codel = None
+
+-- the link at the front, with its queue
+abbrev pub link_with : List ℕ → QueueKind → LinkPart
+link_with bytes queue = record {
+  from = big_number 2 bytes;
+  to = big_number 2 (drop 2 bytes);
+  rate = big_number 8 (drop 4 bytes);
+  delay = big_number 8 (drop 12 bytes);
+  queue = queue;
+  capacity = big_number 2 (drop 21 bytes);
+  lose = each_at 4 (big_number 4) (slice_index bytes 41) (drop 42 bytes);
+}
+
+-- the link at the front
+abbrev pub link_at : List ℕ → Option LinkPart
+link_at bytes = option_map (link_with bytes) (queue_of_byte (slice_index bytes 20) (codel_at bytes))
+
+-- so many links, and the bytes behind them
+abbrev pub links_at : ℕ → List ℕ → Option (List LinkPart × List ℕ)
+links_at zero bytes = Some ([], bytes)
+links_at (suc more) bytes =
+    option_and_then (λ link. option_map (λ others. (link ∷ others.0, others.1)) (links_at more (drop (link_size bytes) bytes))) (link_at bytes)
+
+-- the flow at the front
+abbrev pub flow_at : List ℕ → FlowPart
+flow_at bytes = record {
+  sender = big_number 2 bytes;
+  receiver = big_number 2 (drop 2 bytes);
+  mss = big_number 2 (drop 4 bytes);
+  segments = big_number 4 (drop 6 bytes);
+  start = big_number 8 (drop 10 bytes);
+  rwnd = big_number 4 (drop 18 bytes);
+  delack = big_number 4 (drop 22 bytes);
+}
+
+-- the route at the front
+abbrev pub route_at : List ℕ → RoutePart
+route_at bytes = record { router = big_number 2 bytes; destination = big_number 2 (drop 2 bytes); link = big_number 2 (drop 4 bytes) }
+
+-- the parts that these are with the nodes and links, and the bytes behind them
+abbrev pub parts_with : List ℕ → List NodeKind → List LinkPart × List ℕ → ScenarioParts × List ℕ
+parts_with bytes nodes links =
+    let routes : List ℕ = drop (26 * flow_count bytes) links.1 in (
+      record {
+        end = big_number 8 (drop 4 bytes);
+        nodes = nodes;
+        links = links.0;
+        flows = each_at 26 flow_at (flow_count bytes) links.1;
+        routes = each_at 6 route_at (route_count bytes) routes;
+      },
+      drop (6 * route_count bytes) routes,
+    )
+
+-- all parts, and the bytes behind them
+abbrev pub parts_at : List ℕ → Option (ScenarioParts × List ℕ)
+parts_at bytes =
+    option_and_then (λ nodes. option_map (parts_with bytes nodes) (links_at (link_count bytes) (drop (22 + node_count bytes) bytes)))
+    (nodes_at (take (node_count bytes) (drop 22 bytes)))
+
+-- what a function answered, seen by view, is what reading gives, unless memory ran out
+abbrev pub Fails : {Y : Type 0} → LoadFault → Option Y → Type 0
+Fails L1 read = ⊥
+Fails L2 read = ⊥
+Fails L3 read = read ≡ None
+Fails L4 read = ⊥
+Fails L5 read = ⊥
+Fails L6 read = ⊥
+Fails L7 read = ⊥
+Fails L8 read = ⊥
+Fails NoMemory read = Unit {0}
+
+abbrev pub Gives : {X Y : Type 0} → (X → Y) → Result X LoadFault → Option Y → Type 0
+Gives view (Ok x) read = read ≡ Some (view x)
+Gives view (Err fault) read = Fails fault read

@@ -1,0 +1,109 @@
+//! How many bytes the layout of an image takes.
+ghost use Rattle.std.specs.Prelude.{◌≡◌, ◌↔◌, ◌≤◌, ◌<◌, ◌+◌, ◌*◌, ℕ, IsTrue, IfSome, IfNone, length, drop};
+ghost use Rattle.scenario_image.specs.Layout.{node_count as nodes_in, link_count as links_in, flow_count as flows_in, route_count as routes_in, link_size as size_of_link, links_size as size_of_links, layout_size};
+
+use byteorder::{BigEndian, ByteOrder};
+
+/// The bytes of the header.
+pub(crate) const HEADER: usize = 22;
+
+/// The bytes of a link without its lost packets.
+pub(crate) const LINK: usize = 42;
+
+/// The bytes of the number of a lost packet.
+pub(crate) const LOST: usize = 4;
+
+/// The bytes of a flow.
+pub(crate) const FLOW: usize = 26;
+
+/// The bytes of a route.
+pub(crate) const ROUTE: usize = 6;
+
+/// The bytes behind the first of them.
+pub(crate) fn behind(bytes: &[u8], first: usize) -> &[u8]
+    requires { first ≤ length bytes.now }
+    ensures { result.now ≡ drop first bytes.now }
+{
+    &bytes[first..]
+}
+
+/// How many nodes an image has by its header.
+pub(crate) fn node_count(bytes: &[u8]) -> usize
+    requires { 22 ≤ length bytes.now }
+    ensures value { result ≡ nodes_in bytes.now }
+    ensures bound { result < 65536 }
+{
+    usize::from(BigEndian::read_u16(&bytes[12..]))
+}
+
+/// How many links an image has by its header.
+pub(crate) fn link_count(bytes: &[u8]) -> usize
+    requires { 22 ≤ length bytes.now }
+    ensures value { result ≡ links_in bytes.now }
+    ensures bound { result < 65536 }
+{
+    usize::from(BigEndian::read_u16(&bytes[14..]))
+}
+
+/// How many flows an image has by its header.
+pub(crate) fn flow_count(bytes: &[u8]) -> usize
+    requires { 22 ≤ length bytes.now }
+    ensures value { result ≡ flows_in bytes.now }
+    ensures bound { result < 65536 }
+{
+    usize::from(BigEndian::read_u16(&bytes[16..]))
+}
+
+/// How many routes an image has by its header.
+pub(crate) fn route_count(bytes: &[u8]) -> usize
+    requires { 22 ≤ length bytes.now }
+    ensures value { result ≡ routes_in bytes.now }
+    ensures bound { result < 4294967296 }
+{
+    BigEndian::read_u32(&bytes[18..]) as usize
+}
+
+/// The bytes that the link at the front takes.
+pub(crate) fn link_size(bytes: &[u8]) -> usize
+    requires { 42 ≤ length bytes.now }
+    ensures value { result ≡ size_of_link bytes.now }
+    ensures bound { result ≤ 1062 }
+{
+    LINK + LOST * usize::from(bytes[LINK - 1])
+}
+
+/// The bytes behind so many links, if there are enough bytes for these.
+fn after_links(count: usize, bytes: &[u8]) -> Option<&[u8]>
+    ensures some { IfSome result (λ rest. size_of_links count bytes.now + length rest.now ≡ length bytes.now) }
+    ensures none { IfNone result (length bytes.now < size_of_links count bytes.now) }
+{
+    let mut rest = bytes;
+    for _ in 0..count {
+        if rest.len() < LINK {
+            return None;
+        }
+        let size = link_size(rest);
+        if rest.len() < size {
+            return None;
+        }
+        rest = behind(rest, size);
+    }
+    Some(rest)
+}
+
+/// Whether there are as many bytes as the layout takes, by the counts in them as they stand.
+pub(crate) fn has_its_layout(bytes: &[u8]) -> bool
+    ensures { IsTrue result ↔ (layout_size bytes.now ≤ length bytes.now) }
+{
+    if bytes.len() < HEADER {
+        return false;
+    }
+    let nodes = node_count(bytes);
+    if bytes.len() - HEADER < nodes {
+        return false;
+    }
+    match after_links(link_count(bytes), behind(bytes, HEADER + nodes)) {
+        Some(rest) => FLOW * flow_count(bytes) + ROUTE * route_count(bytes) <= rest.len(),
+        None => false,
+    }
+}

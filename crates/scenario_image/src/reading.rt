@@ -1,0 +1,226 @@
+//! Reading the parts of an image, whose bytes are known to be there.
+ghost use Rattle.std.specs.Prelude.{◌≡◌, ◌≤◌, ◌*◌, ◌+◌, IfOk, length, take, drop, slice_index};
+ghost use Rattle.byteorder.specs.Endian.{big_number};
+ghost use Rattle.scenario_image.specs.Layout.{node_count as node_count_of, flow_count as flow_count_of, route_count as route_count_of, link_size as size_of_link, links_size, layout_size};
+ghost use Rattle.scenario_image.specs.Reading.{Gives, each_at, node_of_byte, nodes_at, codel_at, queue_of_byte, link_with, link_at, links_at, flow_at, route_at, parts_with, parts_at};
+
+use crate::fault::LoadFault;
+use crate::layout::{
+    FLOW, HEADER, LINK, LOST, ROUTE, behind, flow_count, link_count, link_size, node_count,
+    route_count,
+};
+use crate::parts::{Codel, FlowPart, LinkPart, NodeKind, QueueKind, RoutePart, ScenarioParts};
+use crate::records::Records;
+use byteorder::{BigEndian, ByteOrder};
+use std::alloc::{AllocError, Global};
+
+/// The node that a byte stands for.
+fn node_of(byte: u8) -> Option<NodeKind>
+    ensures { result ≡ node_of_byte byte }
+{
+    match byte {
+        0 => Some(NodeKind::Sender),
+        1 => Some(NodeKind::Receiver),
+        2 => Some(NodeKind::Router),
+        _ => None,
+    }
+}
+
+/// The nodes that bytes stand for.
+fn nodes_of(alloc: Global, bytes: &[u8]) -> Result<Vec<NodeKind>, LoadFault>
+    ensures { Gives (λ nodes. nodes.items) result (nodes_at bytes.now) }
+{
+    let mut nodes = Vec::new(alloc);
+    for byte in bytes {
+        match node_of(*byte) {
+            Some(kind) => nodes.push(kind)?,
+            None => return Err(LoadFault::L3),
+        }
+    }
+    Ok(nodes)
+}
+
+/// The numbers where CoDel's stand in a link's bytes.
+fn codel_of(bytes: &[u8]) -> Codel
+    requires { 42 ≤ length bytes.now }
+    ensures { result ≡ codel_at bytes.now }
+{
+    Codel {
+        target: BigEndian::read_u64(&bytes[23..]),
+        interval: BigEndian::read_u64(&bytes[31..]),
+        maxpacket: BigEndian::read_u16(&bytes[39..]),
+    }
+}
+
+/// The queue that a byte stands for, with these numbers where CoDel's stand.
+fn queue_of(byte: u8, codel: Codel) -> Option<QueueKind>
+    ensures { result ≡ queue_of_byte byte codel }
+{
+    let is_unset = codel.target == 0 && codel.interval == 0 && codel.maxpacket == 0;
+    match byte {
+        0 if is_unset => Some(QueueKind::DropTail),
+        1 => Some(QueueKind::Codel(codel)),
+        _ => None,
+    }
+}
+
+/// So many numbers of lost packets.
+fn lose_of(alloc: Global, count: usize, bytes: &[u8]) -> Result<Vec<u32>, AllocError>
+    requires { 4 * count ≤ length bytes.now }
+    ensures { IfOk result (λ lose. lose.items ≡ each_at 4 (big_number 4) count bytes.now) }
+{
+    let mut lose = Vec::new(alloc);
+    let mut rest = bytes;
+    for _ in 0..count {
+        lose.push(BigEndian::read_u32(rest))?;
+        rest = behind(rest, LOST);
+    }
+    Ok(lose)
+}
+
+/// The link at the front, with its queue and its lost packets.
+fn new_link(bytes: &[u8], queue: QueueKind, lose: Records<u32>) -> LinkPart
+    requires enough { 42 ≤ length bytes.now }
+    requires lose { lose ≡ each_at 4 (big_number 4) (slice_index bytes.now 41) (drop 42 bytes.now) }
+    ensures { result ≡ link_with bytes.now queue }
+{
+    LinkPart {
+        from: BigEndian::read_u16(bytes),
+        to: BigEndian::read_u16(&bytes[2..]),
+        rate: BigEndian::read_u64(&bytes[4..]),
+        delay: BigEndian::read_u64(&bytes[12..]),
+        queue,
+        capacity: BigEndian::read_u16(&bytes[21..]),
+        lose,
+    }
+}
+
+/// The link at the front.
+fn link_of(alloc: Global, bytes: &[u8]) -> Result<LinkPart, LoadFault>
+    requires { size_of_link bytes.now ≤ length bytes.now }
+    ensures { Gives (λ link. link) result (link_at bytes.now) }
+{
+    let Some(queue) = queue_of(bytes[20], codel_of(bytes)) else {
+        return Err(LoadFault::L3);
+    };
+    let lose = lose_of(alloc, usize::from(bytes[41]), behind(bytes, LINK))?;
+    Ok(new_link(bytes, queue, Records::new(lose)))
+}
+
+/// So many links, and the bytes behind them.
+fn links_of(alloc: Global, count: usize, bytes: &[u8]) -> Result<(Vec<LinkPart>, &[u8]), LoadFault>
+    requires { links_size count bytes.now ≤ length bytes.now }
+    ensures { Gives (λ links. (links.0.items, links.1.now)) result (links_at count bytes.now) }
+{
+    let mut links = Vec::new(alloc);
+    let mut rest = bytes;
+    for _ in 0..count {
+        links.push(link_of(alloc, rest)?)?;
+        rest = behind(rest, link_size(rest));
+    }
+    Ok((links, rest))
+}
+
+/// The flow at the front.
+fn flow_of(bytes: &[u8]) -> FlowPart
+    requires { 26 ≤ length bytes.now }
+    ensures { result ≡ flow_at bytes.now }
+{
+    FlowPart {
+        sender: BigEndian::read_u16(bytes),
+        receiver: BigEndian::read_u16(&bytes[2..]),
+        mss: BigEndian::read_u16(&bytes[4..]),
+        segments: BigEndian::read_u32(&bytes[6..]),
+        start: BigEndian::read_u64(&bytes[10..]),
+        rwnd: BigEndian::read_u32(&bytes[18..]),
+        delack: BigEndian::read_u32(&bytes[22..]),
+    }
+}
+
+/// So many flows.
+fn flows_of(alloc: Global, count: usize, bytes: &[u8]) -> Result<Vec<FlowPart>, AllocError>
+    requires { 26 * count ≤ length bytes.now }
+    ensures { IfOk result (λ flows. flows.items ≡ each_at 26 flow_at count bytes.now) }
+{
+    let mut flows = Vec::new(alloc);
+    let mut rest = bytes;
+    for _ in 0..count {
+        flows.push(flow_of(rest))?;
+        rest = behind(rest, FLOW);
+    }
+    Ok(flows)
+}
+
+/// The route at the front.
+fn route_of(bytes: &[u8]) -> RoutePart
+    requires { 6 ≤ length bytes.now }
+    ensures { result ≡ route_at bytes.now }
+{
+    RoutePart {
+        router: BigEndian::read_u16(bytes),
+        destination: BigEndian::read_u16(&bytes[2..]),
+        link: BigEndian::read_u16(&bytes[4..]),
+    }
+}
+
+/// So many routes.
+fn routes_of(alloc: Global, count: usize, bytes: &[u8]) -> Result<Vec<RoutePart>, AllocError>
+    requires { 6 * count ≤ length bytes.now }
+    ensures { IfOk result (λ routes. routes.items ≡ each_at 6 route_at count bytes.now) }
+{
+    let mut routes = Vec::new(alloc);
+    let mut rest = bytes;
+    for _ in 0..count {
+        routes.push(route_of(rest))?;
+        rest = behind(rest, ROUTE);
+    }
+    Ok(routes)
+}
+
+/// The bytes of the nodes.
+fn node_bytes(bytes: &[u8]) -> &[u8]
+    requires header { 22 ≤ length bytes.now }
+    requires enough { node_count_of bytes.now ≤ length (drop 22 bytes.now) }
+    ensures { result.now ≡ take (node_count_of bytes.now) (drop 22 bytes.now) }
+{
+    let (nodes, _) = behind(bytes, HEADER).split_at(node_count(bytes));
+    nodes
+}
+
+/// The parts with these nodes and links, and the bytes behind them. The flows and routes stand at
+/// the front of the rest.
+fn parts_from<'a>(
+    alloc: Global,
+    bytes: &[u8],
+    nodes: Records<NodeKind>,
+    links: Records<LinkPart>,
+    rest: &'a [u8],
+) -> Result<(ScenarioParts, &'a [u8]), AllocError>
+    requires header { 22 ≤ length bytes.now }
+    requires enough { 26 * flow_count_of bytes.now + 6 * route_count_of bytes.now ≤ length rest.now }
+    ensures { IfOk result (λ parts. (parts.0, parts.1.now) ≡ parts_with bytes.now nodes (links, rest.now)) }
+{
+    let flows = flows_of(alloc, flow_count(bytes), rest)?;
+    let rest = behind(rest, FLOW * flow_count(bytes));
+    let routes = routes_of(alloc, route_count(bytes), rest)?;
+    let parts = ScenarioParts {
+        end: BigEndian::read_u64(&bytes[4..]),
+        nodes,
+        links,
+        flows: Records::new(flows),
+        routes: Records::new(routes),
+    };
+    Ok((parts, behind(rest, ROUTE * route_count(bytes))))
+}
+
+/// All parts of an image, and the bytes behind them.
+pub(crate) fn parts_of(alloc: Global, bytes: &[u8]) -> Result<(ScenarioParts, &[u8]), LoadFault>
+    requires { layout_size bytes.now ≤ length bytes.now }
+    ensures { Gives (λ parts. (parts.0, parts.1.now)) result (parts_at bytes.now) }
+{
+    let nodes = nodes_of(alloc, node_bytes(bytes))?;
+    let link_bytes = behind(bytes, HEADER + node_count(bytes));
+    let (links, rest) = links_of(alloc, link_count(bytes), link_bytes)?;
+    let (nodes, links) = (Records::new(nodes), Records::new(links));
+    Ok(parts_from(alloc, bytes, nodes, links, rest)?)
+}
