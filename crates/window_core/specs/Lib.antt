@@ -1,0 +1,9 @@
+pub mod Partition
+pub mod Seats
+pub mod Held
+pub mod Lookahead
+pub mod Groups
+pub mod Windows
+pub mod Standing
+pub mod Calls
+pub mod Schedules

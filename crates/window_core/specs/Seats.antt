@@ -1,0 +1,32 @@
+-- The nodes of a group, each at its number, and how what is missing is read.
+use Rattle.std.specs.Prelude.{ℕ, ◌+◌, Bool, List, [], ◌∷◌, map as each, is_some, Option}
+use Rattle.std.specs.Coded.{Coded, coded_list, coded_option}
+use Rattle.std.specs.Option.{unwrap_or}
+use Rattle.ranking.specs.Keyed.{nothing_due}
+use Rattle.node_core.specs.declared.event.Event.{Event}
+use Rattle.node_core.specs.Node.{NodeState}
+use Rattle.node_core.specs.NodeCode.{node_code}
+use Rattle.table_run.specs.State.{no_part}
+
+-- a node for each number of the net, where it is the group's
+abbrev pub Seats : Type 0
+Seats = List (Option NodeState)
+
+abbrev pub seats_code : Coded Seats
+seats_code = coded_list (coded_option node_code)
+
+-- in the place of a node that is another group's: no link, and nothing pending
+abbrev pub absent : ℕ → NodeState
+absent number = record { number = number; part = no_part; incoming = []; pending = nothing_due Event }
+
+abbrev pub seated_from : ℕ → Seats → List NodeState
+seated_from number [] = []
+seated_from number (seat ∷ seats) = unwrap_or seat (absent number) ∷ seated_from (number + 1) seats
+
+-- all nodes by number, those of other groups absent
+abbrev pub seated : Seats → List NodeState
+seated seats = seated_from 0 seats
+
+-- which nodes are the group's
+abbrev pub taken : Seats → List Bool
+taken seats = each (λ (seat : Option NodeState). is_some seat) seats
