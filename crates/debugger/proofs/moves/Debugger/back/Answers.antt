@@ -1,0 +1,47 @@
+use Rattle.std.proofs.Common.{◌≡◌, ◌≤◌, ◌-◌, sym, ap, subst, ◌∙◌, arith, IfOk, IfErr, OnErr}
+use Rattle.table_run.specs.State.{State}
+use Rattle.net_machine.specs.declared.net.StepFault.{StepFault}
+use Rattle.net_machine.specs.declared.net.StepFault.TheVariants.{CountFull}
+use Rattle.debugger.specs.Moves.{Passes, IsTooLong}
+use Rattle.debugger.specs.Debugging.{Debugging, HasMoved}
+use Rattle.debugger.specs.DebuggerOf.{IsDebugger}
+use Rattle.debugger.proofs.Walks.{has_earlier}
+use Rattle.debugger.proofs.Shown.{ok_shown, err_shown}
+use Rattle.debugger.proofs.moves.Debugger.back.Goals as goal
+
+pub net_at-found-requires-clause-on_run : goal.net_at-found-requires-clause-on_run
+net_at-found-requires-clause-on_run c = c.self.invariant.shown
+
+pub net_at-found-requires-clause-position : goal.net_at-found-requires-clause-position
+net_at-found-requires-clause-position c =
+    let upto : c.saturating_sub-target.result ≤ c.self.inside.net.position = omega (arith, c.saturating_sub-target.ensures, c.position.ensures.count) in
+    has_earlier c.self.inside.saved c.self.inside.net c.saturating_sub-target.result c.self.invariant.shown upto
+
+pub invariant_of-self : goal.invariant_of-self
+invariant_of-self c = subst (λ (s : State). IsDebugger (record { start = s; shown = c.self.inside.net; left = c.self.inside.left; breaks = c.self.inside.breaks })) (sym c.net_at-found.ensures.same) c.self.invariant
+
+pub show-requires : goal.show-requires
+show-requires c = subst (λ (s : State). IfOk c.net_at-found.result (Passes s)) (sym c.net_at-found.ensures.same) c.net_at-found.ensures.on_run
+
+pub returns-clause-moved : goal.returns-clause-moved
+returns-clause-moved c =
+    let same = c.net_at-found.ensures.same in
+    let kept : ◌≡◌ {A = Debugging} (record { start = c.net_at-found.new.saved; shown = c.self.inside.net; left = c.self.inside.left; breaks = c.self.inside.breaks }) c.args.self.now = (λ i. record { start = same i; shown = c.self.inside.net; left = c.self.inside.left; breaks = c.self.inside.breaks }) ∙ c.self.view_is in
+    subst (λ (d : Debugging). IfOk c.show.result (HasMoved d c.show.new.self)) kept c.show.ensures.moved
+
+pub returns-clause-goes : goal.returns-clause-goes
+returns-clause-goes c =
+    let here = ok_shown (λ p. p ≡ c.saturating_sub-target.result) c.net_at-found.result c.show.result c.show.ensures.answer c.net_at-found.ensures.goes in
+    let target = c.saturating_sub-target.ensures ∙ ap (λ p. p - c.args.count) (c.position.ensures.count ∙ ap (λ (d : Debugging). d.shown.position) c.self.view_is) in
+    subst (λ t. IfOk c.show.result (λ p. p ≡ t)) target here
+
+pub returns-clause-full : goal.returns-clause-full
+returns-clause-full c =
+    let here = err_shown (λ (fault : StepFault). fault ≡ CountFull → IsTooLong c.self.inside.saved) c.net_at-found.result c.show.result c.show.ensures.answer c.net_at-found.ensures.full in
+    subst (λ (d : Debugging). IfErr c.show.result (λ (fault : StepFault). fault ≡ CountFull → IsTooLong d.start)) c.self.view_is here
+
+pub returns-clause-err : goal.returns-clause-err
+returns-clause-err c =
+    let same = c.net_at-found.ensures.same in
+    let kept : ◌≡◌ {A = Debugging} (record { start = c.net_at-found.new.saved; shown = c.self.inside.net; left = c.self.inside.left; breaks = c.self.inside.breaks }) c.args.self.now = (λ i. record { start = same i; shown = c.self.inside.net; left = c.self.inside.left; breaks = c.self.inside.breaks }) ∙ c.self.view_is in
+    subst (λ (d : Debugging). OnErr c.show.result (c.show.new.self ≡ d)) kept c.show.ensures.err

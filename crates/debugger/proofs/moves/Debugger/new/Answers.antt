@@ -1,0 +1,27 @@
+use Rattle.std.proofs.Common.{sym, ap, subst, refl, ◌∙◌, None}
+use Rattle.ranking.proofs.Maps.{not_some}
+use Rattle.table_run.specs.State.{State, opening}
+use Rattle.net_machine.specs.Run.{Reached}
+use Rattle.debugger.specs.Moves.{Passes}
+use Rattle.debugger.proofs.Walks.{passes_start}
+use Rattle.debugger.proofs.moves.Debugger.new.Goals as goal
+
+pub new-requires-2 : goal.new-requires-2
+new-requires-2 c = ap (λ (r : Reached). r.position) (c.in-Ok-copy.ensures ∙ c.in-Ok.ensures.state)
+
+pub invariant_of-result : goal.invariant_of-result
+invariant_of-result c =
+    let start = opening c.args.scenario.now in
+    let saved_is = c.new-2.ensures ∙ ap (λ (r : Reached). r.state) (c.in-Ok-copy.ensures ∙ c.in-Ok.ensures.state) in
+    record {
+      shown = subst (λ (s : State). Passes s c.in-Ok.net) (sym saved_is) (subst (Passes start) (sym c.in-Ok.ensures.state) (passes_start start));
+      left = λ was e. absurd (not_some e);
+    }
+
+pub returns : goal.returns
+returns c =
+    let saved_is = c.new-2.ensures ∙ ap (λ (r : Reached). r.state) (c.in-Ok-copy.ensures ∙ c.in-Ok.ensures.state) in
+    λ i. record { start = saved_is i; shown = c.in-Ok.ensures.state i; left = None; breaks = c.new-3.ensures i }
+
+pub same-net : goal.same-net
+same-net c = refl

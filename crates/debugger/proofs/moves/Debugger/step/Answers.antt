@@ -1,0 +1,40 @@
+use Rattle.std.proofs.Common.{◌≡◌, sym, subst, ◌∙◌, IfOk, IfErr, OnErr}
+use Rattle.table_run.specs.State.{State}
+use Rattle.net_machine.specs.declared.net.StepFault.{StepFault}
+use Rattle.net_machine.specs.declared.net.StepFault.TheVariants.{CountFull}
+use Rattle.debugger.specs.Moves.{Passes, StepGoesTo, IsTooLong}
+use Rattle.debugger.specs.Debugging.{Debugging, HasMoved}
+use Rattle.debugger.specs.DebuggerOf.{IsDebugger}
+use Rattle.debugger.proofs.Shown.{ok_shown, err_shown}
+use Rattle.debugger.proofs.moves.Debugger.step.Goals as goal
+
+pub net_after-found-requires : goal.net_after-found-requires
+net_after-found-requires c = c.self.invariant.shown
+
+pub invariant_of-self : goal.invariant_of-self
+invariant_of-self c = subst (λ (s : State). IsDebugger (record { start = s; shown = c.self.inside.net; left = c.self.inside.left; breaks = c.self.inside.breaks })) (sym c.net_after-found.ensures.same) c.self.invariant
+
+pub show-requires : goal.show-requires
+show-requires c = subst (λ (s : State). IfOk c.net_after-found.result (Passes s)) (sym c.net_after-found.ensures.same) c.net_after-found.ensures.on_run
+
+pub returns-clause-moved : goal.returns-clause-moved
+returns-clause-moved c =
+    let same = c.net_after-found.ensures.same in
+    let kept : ◌≡◌ {A = Debugging} (record { start = c.net_after-found.new.saved; shown = c.self.inside.net; left = c.self.inside.left; breaks = c.self.inside.breaks }) c.args.self.now = (λ i. record { start = same i; shown = c.self.inside.net; left = c.self.inside.left; breaks = c.self.inside.breaks }) ∙ c.self.view_is in
+    subst (λ (d : Debugging). IfOk c.show.result (HasMoved d c.show.new.self)) kept c.show.ensures.moved
+
+pub returns-clause-goes : goal.returns-clause-goes
+returns-clause-goes c =
+    let here = ok_shown (StepGoesTo c.self.inside.saved c.self.inside.net.position c.args.count) c.net_after-found.result c.show.result c.show.ensures.answer c.net_after-found.ensures.goes in
+    subst (λ (d : Debugging). IfOk c.show.result (StepGoesTo d.start d.shown.position c.args.count)) c.self.view_is here
+
+pub returns-clause-full : goal.returns-clause-full
+returns-clause-full c =
+    let here = err_shown (λ (fault : StepFault). fault ≡ CountFull → IsTooLong c.self.inside.saved) c.net_after-found.result c.show.result c.show.ensures.answer c.net_after-found.ensures.full in
+    subst (λ (d : Debugging). IfErr c.show.result (λ (fault : StepFault). fault ≡ CountFull → IsTooLong d.start)) c.self.view_is here
+
+pub returns-clause-err : goal.returns-clause-err
+returns-clause-err c =
+    let same = c.net_after-found.ensures.same in
+    let kept : ◌≡◌ {A = Debugging} (record { start = c.net_after-found.new.saved; shown = c.self.inside.net; left = c.self.inside.left; breaks = c.self.inside.breaks }) c.args.self.now = (λ i. record { start = same i; shown = c.self.inside.net; left = c.self.inside.left; breaks = c.self.inside.breaks }) ∙ c.self.view_is in
+    subst (λ (d : Debugging). OnErr c.show.result (c.show.new.self ≡ d)) kept c.show.ensures.err

@@ -1,0 +1,26 @@
+-- What the fields of a debugger, and of its saved states, stand for.
+use Rattle.std.specs.Prelude.{◌≡◌, List, All, Some}
+use Rattle.net_machine.specs.Run.{Reached}
+use Rattle.debugger.specs.declared.saved.Saved.TheInside.{Inside as SavedInside}
+use Rattle.debugger.specs.declared.moves.Debugger.TheInside.{Inside}
+use Rattle.debugger.specs.Moves.{Passes}
+use Rattle.debugger.specs.Debugging.{Debugging}
+
+-- all are states of the run from the first
+pub record IsSaved (opening : Reached) (later : List Reached) : Type 0 where
+  pub at_start : opening.position ≡ 0
+  pub on_run : All (Passes opening.state) later
+
+abbrev pub IsSavedInside : SavedInside → Type 0
+IsSavedInside s = IsSaved s.opening s.later.items
+
+abbrev pub debugging_of : Inside → Debugging
+debugging_of d = record { start = d.saved; shown = d.net; left = d.left; breaks = d.breaks }
+
+-- the state shown, and the one to go back to, are states of the run
+pub record IsDebugger (d : Debugging) : Type 0 where
+  pub shown : Passes d.start d.shown
+  pub left : (was : Reached) → d.left ≡ Some was → Passes d.start was
+
+abbrev pub IsDebuggerInside : Inside → Type 0
+IsDebuggerInside d = IsDebugger (debugging_of d)

@@ -1,0 +1,4 @@
+pub mod Breaks
+pub mod Moves
+pub mod Debugging
+pub mod DebuggerOf

@@ -1,0 +1,68 @@
+-- Where each move of the debugger goes, over the run from an opening state.
+use Rattle.std.specs.Prelude.{◌≡◌, ◌≢◌, ◌<◌, ◌≤◌, ◌+◌, ◌⊎◌, ℕ, List, None, Some}
+use Rattle.sim_time.specs.declared.key.Key.{Key}
+use Rattle.node_core.specs.declared.event.Event.{Event}
+use Rattle.node_core.specs.TraceLine.{TraceLine}
+use Rattle.table_run.specs.State.{State, due, step, run}
+use Rattle.table_run.specs.Sound.{EachEvent}
+use Rattle.net_machine.specs.Run.{Reached}
+use Rattle.debugger.specs.declared.breaks.Break.{Break}
+use Rattle.debugger.specs.Breaks.{IsHit}
+
+-- the run comes to this state after so many steps
+pub record Passes (start : State) (at : Reached) : Type 0 where
+  pub lines : List TraceLine
+  pub comes : run start at.position ≡ Some (lines, at.state)
+
+-- the run has so many steps at least
+abbrev pub HasPosition : State → ℕ → Type 0
+HasPosition start p = (s : State) × Passes start (record { state = s; position = p })
+
+-- the run's end: after so many steps no event below the end is left
+pub record EndsAt (start : State) (p : ℕ) : Type 0 where
+  pub last : State
+  pub passes : Passes start (record { state = last; position = p })
+  pub none_due : due last ≡ None
+
+-- the step to a position gives this line
+pub record GivesAt (start : State) (line : TraceLine) (p : ℕ) : Type 0 where
+  pub before : Reached
+  pub after : State
+  pub passes : Passes start before
+  pub gives : step before.state ≡ Some (line, after)
+  pub is_next : p ≡ before.position + 1
+
+-- a breakpoint matches the last line of the run to a position
+pub record StopsAt (start : State) (breaks : List Break) (p : ℕ) : Type 0 where
+  pub line : TraceLine
+  pub given : GivesAt start line p
+  pub hit : IsHit breaks line
+
+-- at a position no event is pending below a time and below the end
+pub record NoneBefore (start : State) (time : ℕ) (p : ℕ) : Type 0 where
+  pub state : State
+  pub passes : Passes start (record { state = state; position = p })
+  pub none : EachEvent (λ (k : Key) (v : Event). k.time < time → state.end ≤ k.time) state.pending
+
+-- the least number with a property
+pub record IsLeast (P : ℕ → Type 0) (p : ℕ) : Type 0 where
+  pub holds : P p
+  pub least : (q : ℕ) → P q → p ≤ q
+
+-- `step` by k from m: to m + k, or to the run's end where that comes first
+abbrev pub StepGoesTo : State → ℕ → ℕ → ℕ → Type 0
+StepGoesTo start m k = IsLeast (λ p. (p ≡ m + k) ⊎ EndsAt start p)
+
+-- `run` from m: to the least position past m whose line matches, or to the run's end where there is none
+abbrev pub RunGoesTo : State → List Break → ℕ → ℕ → Type 0
+RunGoesTo start breaks m = IsLeast (λ p. ((m < p) × StopsAt start breaks p) ⊎ EndsAt start p)
+
+-- `until` a time from m: to the least position from m on at which no event before it is pending below the end
+abbrev pub UntilGoesTo : State → ℕ → ℕ → ℕ → Type 0
+UntilGoesTo start time m = IsLeast (λ p. (m ≤ p) × NoneBefore start time p)
+
+-- the run has more than 10^15 events
+pub record IsTooLong (start : State) : Type 0 where
+  pub last : State
+  pub passes : Passes start (record { state = last; position = 1000000000000000 })
+  pub one_due : due last ≢ None

@@ -1,0 +1,192 @@
+//! The debugger: it stands at a position of a scenario's run, and moves both ways.
+ghost use Rattle.std.specs.Prelude.{◌≡◌, ◌-◌, ◌<◌, ◌≤◌, [], ◌∷◌, ◌++◌, true, false, Contains, IfOk, IfErr, OnErr, MatchResult, Some, None, Ok, Err, length};
+ghost use Rattle.table_run.specs.State.{opening};
+ghost use Rattle.net_machine.specs.Run.{Reached};
+ghost use Rattle.debugger.specs.Moves.{Passes, StepGoesTo, RunGoesTo, UntilGoesTo, IsTooLong};
+ghost use Rattle.debugger.specs.Debugging.{opened, HasMoved};
+
+use crate::breaks::{Break, BreakFault, Breaks};
+use crate::reached::{net_after, net_at, net_at_break, net_at_time};
+use crate::saved::Saved;
+use net_machine::{Net, StepFault};
+use node_core::{After, Event, Line};
+use port::Acts;
+use scenario_image::scenario::Scenario;
+use sim_time::{Key, Time};
+use std::alloc::{AllocError, Global};
+use std::marker::Model;
+use std::mem;
+
+/// A debugger of one scenario.
+#[derive(Drop)]
+pub struct Debugger {
+    /// The net that is shown.
+    net: Net,
+    /// The net that the last move left, where that can be gone back to.
+    left: Option<Net>,
+    /// States from which going back begins.
+    saved: Saved,
+    /// What `run` stops at.
+    breaks: Breaks,
+    /// What the last event was, lent to each step.
+    line: Line,
+}
+
+#[tactic(none)]
+impl Model for Debugger {
+    ghost use Rattle.debugger.specs.Debugging.{Debugging, debugging_code};
+
+    ghost Value = { Debugging };
+
+    ghost coded = { debugging_code };
+
+    ghost use Rattle.debugger.specs.DebuggerOf.{debugging_of, IsDebuggerInside};
+
+    ghost view = { debugging_of };
+
+    ghost invariant = { IsDebuggerInside };
+}
+
+// A line that no event has written yet.
+fn unwritten(alloc: Global) -> Line {
+    Line {
+        key: Key {
+            time: 0,
+            node: 0,
+            source: 0,
+            number: 0,
+        },
+        event: Event::Start(0),
+        after: After::AtRouter,
+        acts: Acts::new(alloc),
+    }
+}
+
+#[tactic(none)]
+impl Debugger {
+    /// At position 0 of a scenario's run, with no breakpoint.
+    pub fn new(alloc: Global, scenario: &Scenario) -> Result<Debugger, AllocError>
+        ensures { IfOk result (λ debugger. debugger ≡ opened (opening scenario.now)) }
+    {
+        let Ok(net) = Net::new(alloc, scenario) else {
+            return Err(AllocError);
+        };
+        let Ok(opening) = net.copy() else {
+            return Err(AllocError);
+        };
+        Ok(Debugger {
+            net,
+            left: None,
+            saved: Saved::new(alloc, opening),
+            breaks: Breaks::new(alloc),
+            line: unwritten(alloc),
+        })
+    }
+
+    /// How many events were run to the state that is shown.
+    pub fn position(&self) -> u64
+        ensures count { result ≡ self.now.shown.position }
+        ensures on_run { Passes self.now.start self.now.shown }
+    {
+        self.net.position()
+    }
+
+    /// So many events on, or at the run's end where that comes first. The answer of this and of
+    /// each other move is the new position; on a fault nothing changes.
+    pub fn step(&mut self, count: u64) -> Result<u64, StepFault>
+        ensures moved { IfOk result (HasMoved self.old self.new) }
+        ensures goes { IfOk result (StepGoesTo self.old.start self.old.shown.position count) }
+        ensures full { IfErr result (λ fault. fault ≡ StepFault.CountFull → IsTooLong self.old.start) }
+        ensures err { OnErr result (self.new ≡ self.old) }
+    {
+        let found = net_after(&self.net, count, &mut self.saved, &mut self.line);
+        self.show(found)
+    }
+
+    /// So many events back, or at position 0 where there are fewer.
+    pub fn back(&mut self, count: u64) -> Result<u64, StepFault>
+        ensures moved { IfOk result (HasMoved self.old self.new) }
+        ensures goes { IfOk result (λ p. p ≡ self.old.shown.position - count) }
+        ensures full { IfErr result (λ fault. fault ≡ StepFault.CountFull → IsTooLong self.old.start) }
+        ensures err { OnErr result (self.new ≡ self.old) }
+    {
+        let target = self.net.position().saturating_sub(count);
+        let found = net_at(&self.net, target, &mut self.saved, &mut self.line);
+        self.show(found)
+    }
+
+    /// At the next position whose line a breakpoint matches, or at the run's end.
+    pub fn run(&mut self) -> Result<u64, StepFault>
+        ensures moved { IfOk result (HasMoved self.old self.new) }
+        ensures goes { IfOk result (RunGoesTo self.old.start self.old.breaks self.old.shown.position) }
+        ensures full { IfErr result (λ fault. fault ≡ StepFault.CountFull → IsTooLong self.old.start) }
+        ensures err { OnErr result (self.new ≡ self.old) }
+    {
+        let found = net_at_break(&self.net, &self.breaks, &mut self.saved, &mut self.line);
+        self.show(found)
+    }
+
+    /// At the first position, from the present one on, where all events before a time are run.
+    pub fn until(&mut self, time: Time) -> Result<u64, StepFault>
+        ensures moved { IfOk result (HasMoved self.old self.new) }
+        ensures goes { IfOk result (UntilGoesTo self.old.start time self.old.shown.position) }
+        ensures full { IfErr result (λ fault. fault ≡ StepFault.CountFull → IsTooLong self.old.start) }
+        ensures err { OnErr result (self.new ≡ self.old) }
+    {
+        let found = net_at_time(&self.net, time, &mut self.saved, &mut self.line);
+        self.show(found)
+    }
+
+    /// Goes back to the state that the last move left, once, and takes no memory. The answer is
+    /// whether there was one.
+    pub fn undo_move(&mut self) -> bool
+        ensures none { self.old.left ≡ None → (result ≡ false) × (self.new ≡ self.old) }
+        ensures undone { (was : Reached) → self.old.left ≡ Some was → (result ≡ true) × (self.new ≡ record self.old { shown = was; left = None }) }
+    {
+        match self.left.take() {
+            Some(net) => {
+                self.net = net;
+                true
+            }
+            None => false,
+        }
+    }
+
+    /// Sets a breakpoint, and answers how many are set then. One that is set already stays.
+    pub fn add_break(&mut self, b: Break) -> Result<usize, BreakFault>
+        ensures same { self.new ≡ record self.old { breaks = self.new.breaks } }
+        ensures count { IfOk result (λ n. n ≡ length self.new.breaks) }
+        ensures again { Contains self.old.breaks b → (self.new ≡ self.old) × (result ≡ Ok (length self.old.breaks)) }
+        ensures fresh { ¬ Contains self.old.breaks b → IfOk result (λ _. self.new.breaks ≡ self.old.breaks ++ b ∷ []) }
+        ensures full { ¬ Contains self.old.breaks b → length self.old.breaks ≡ 64 → result ≡ Err BreakFault.TooMany }
+        ensures room { length self.old.breaks < 64 → IfErr result (λ fault. fault ≡ BreakFault.NoMemory) }
+        ensures err { OnErr result (self.new ≡ self.old) }
+    {
+        self.breaks.add(b)
+    }
+
+    /// Takes all breakpoints away.
+    pub fn clear_breaks(&mut self)
+        ensures { self.new ≡ record self.old { breaks = [] } }
+    {
+        self.breaks.clear();
+    }
+
+    // Shows the net that a move came to in the place of the present one, which can be gone back
+    // to. The answer is its position. Where the move failed, nothing changes.
+    fn show(&mut self, found: Result<Net, StepFault>) -> Result<u64, StepFault>
+        requires { IfOk found (Passes self.old.start) }
+        ensures moved { IfOk result (HasMoved self.old self.new) }
+        ensures answer { MatchResult found (λ net. result ≡ Ok net.position) (λ fault. result ≡ Err fault) }
+        ensures err { OnErr result (self.new ≡ self.old) }
+    {
+        match found {
+            Ok(net) => {
+                let position = net.position();
+                self.left = Some(mem::replace(&mut self.net, net));
+                Ok(position)
+            }
+            Err(fault) => Err(fault),
+        }
+    }
+}
