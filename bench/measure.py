@@ -1,9 +1,11 @@
 #!/usr/bin/env python3
-"""Measures the built program on long flows and writes bench/RESULTS.md. Run by `make bench`.
+"""Measures the built program and writes bench/RESULTS.md: bench/measure.py [--jobs N] [--program PATH] [NAME ..]
 
-Instructions and bytes of heap are counted by valgrind and do not depend on the machine's speed.
-Seconds do, and say only what the machine at hand did.
+Run by `make bench`. With names of scenarios (bench/scenarios.py) only what their events cost is counted
+and printed. Instructions and bytes of heap are counted by valgrind and do not depend on the machine's
+speed. Seconds do, and say only what the machine at hand did.
 """
+import argparse
 import os
 import re
 import shutil
@@ -12,6 +14,8 @@ import sys
 import time
 from collections import namedtuple
 from concurrent.futures import ThreadPoolExecutor
+
+from scenarios import SCENARIOS, disassemble, started
 
 TOP = os.path.dirname(os.path.dirname(os.path.abspath(__file__)))
 CRATE = os.path.join(TOP, 'crates', 'tcpsim')
@@ -26,12 +30,25 @@ FLOWS = (  # name, delayed acknowledgement in nanoseconds, losses
     ('the same, delayed ACKs', 200_000_000, LOSSES),
 )
 UNDER_WAY = (40, 400, 4_000)
+# Each scenario, what it is, and the most instructions that one of its events is to cost.
+BARS = (
+    ('one_flow', 'one flow, 100 Mbit/s, 1 ms each way', 1_000),
+    ('one_flow_delayed_acks', 'the same with delayed acknowledgements', 1_000),
+    ('under_way_10000', '10,000 packets under way, 100 ms there and 50 ms back', 1_100),
+    ('under_way_10000_delayed_acks', 'the same, acknowledgements delayed by 50 ms', 1_100),
+    ('under_way_100000', '100,000 packets under way, 100 ms there and 50 ms back', 1_200),
+    ('dumbbell_droptail', '14 flows, two routers, a drop-tail bottleneck', 1_200),
+    ('dumbbell_codel', 'the same with CoDel', 1_200),
+    ('tree', '100 flows through a tree of routers, one bottleneck', 1_300),
+    ('chain', 'one flow through a chain of 16 routers', 1_000),
+)
 # Fixed, since a starting program looks through its environment.
 ENVIRONMENT = {'PATH': '/usr/bin:/bin', 'LC_ALL': 'C'}
 CALLGRIND = ('valgrind', '--tool=callgrind', '--callgrind-out-file=/dev/null')
 DHAT = ('valgrind', '--tool=dhat', '--dhat-out-file=/dev/null')
 Case = namedtuple('Case', 'name segments path')
 Run = namedtuple('Run', 'name segments events packets written resident seconds instructions heap')
+Cost = namedtuple('Cost', 'name what events an_event bar')
 
 
 def text(segments, delack=0, losses='', end=10**15, link='100000000 1000000 droptail 20', window=44):
@@ -41,20 +58,28 @@ def text(segments, delack=0, losses='', end=10**15, link='100000000 1000000 drop
             f'flow f s r 1460 {segments} 0 {1460 * window} {delack}\n{losses}')
 
 
-def case(name, segments, scenario):
+def saved(name, scenario):
+    """The path of a scenario's file in bench/work."""
     work = os.path.join(BENCH, 'work')
     os.makedirs(work, exist_ok=True)
-    path = os.path.join(work, re.sub('[^a-z0-9]+', '_', name.lower()) + f'_{segments}.txt')
+    path = os.path.join(work, re.sub('[^a-z0-9]+', '_', name.lower()) + '.txt')
     with open(path, 'w') as file:
         file.write(scenario)
-    return Case(name, segments, path)
+    return path
+
+
+def case(name, segments, scenario):
+    return Case(name, segments, saved(f'{name} {segments}', scenario))
 
 
 def run(path, before=()):
     """A whole run, its trace thrown away; what `before` (valgrind) wrote."""
     with open(path) as scenario:
-        return subprocess.run([*before, PROGRAM, 'run'], stdin=scenario, stdout=subprocess.DEVNULL,
-                              stderr=subprocess.PIPE, text=True, env=ENVIRONMENT, check=True).stderr
+        done = subprocess.run([*before, PROGRAM, 'run'], stdin=scenario, stdout=subprocess.DEVNULL,
+                              stderr=subprocess.PIPE, text=True, env=ENVIRONMENT, check=False)
+    if done.returncode != 0:
+        sys.exit(f'{path}: status {done.returncode}: {done.stderr.strip()}')
+    return done.stderr
 
 
 def number(pattern, said):
@@ -97,10 +122,30 @@ def seconds(path):
     return min(took)
 
 
-def measured(cases):
+def costs(names, jobs):
+    """What an event of each scenario costs: the instructions of its run less those of a run that ends
+    where its last flow starts, divided by the events that lie between both."""
+    bars = [bar for bar in BARS if bar[0] in names]
+    paths = [saved(name + ' started', disassemble(started(SCENARIOS[name]())).decode()) for name, *_ in bars]
+    paths += [saved(name, disassemble(SCENARIOS[name]()).decode()) for name, *_ in bars]
+    events = [watch(path)[0] for path in paths]
+    with ThreadPoolExecutor(jobs) as pool:
+        counts = list(pool.map(lambda path: number(r'Collected : (\d+)', run(path, CALLGRIND)), paths))
+    for at, (name, what, bar) in enumerate(bars):
+        (few, many), (start, whole) = events[at::len(bars)], counts[at::len(bars)]
+        yield Cost(name, what, many, (whole - start) / (many - few), bar)
+
+
+def cost_table(rows):
+    yield from table(('Scenario', 'Events', 'Instructions an event', 'At most', 'Within'),
+                     [(f'`{r.name}`: {r.what}', f'{r.events:,}', f'{r.an_event:,.0f}', f'{r.bar:,}',
+                       'yes' if r.an_event <= r.bar else f'no, by {r.an_event - r.bar:,.0f}') for r in rows])
+
+
+def measured(cases, jobs):
     """Times the cases one after another, then counts, which may run side by side."""
     seen = [(*watch(c.path), seconds(c.path)) for c in cases]
-    with ThreadPoolExecutor(os.cpu_count()) as pool:
+    with ThreadPoolExecutor(jobs) as pool:
         counts = list(pool.map(lambda c: run(c.path, CALLGRIND), cases))
         heaps = list(pool.map(lambda c: run(c.path, DHAT), cases))
     return [Run(c.name, c.segments, *s, number(r'Collected : (\d+)', i), number(r't-gmax: ([\d,]+) bytes', h))
@@ -137,7 +182,7 @@ def table(heads, rows):
     yield ''
 
 
-def report(start, runs, crowded, other):
+def report(start, runs, crowded, networks, other):
     def an_event(r):
         return (r.instructions - start.instructions) / (r.events - start.events)
 
@@ -167,6 +212,10 @@ def report(start, runs, crowded, other):
     yield from table(('Packets under way', 'Events', 'Instructions an event', 'Heap, bytes'),
                      [(f'{w:,}', f'{r.events:,}', f'{an_event(r):,.1f}', f'{r.heap:,}')
                       for w, r in zip(UNDER_WAY, crowded)])
+    yield ('What an event costs in scenarios of each kind (bench/scenarios.py), and what it is to cost at most. '
+           'Text of the trace included; taken off is a run of the same scenario that ends where its last flow '
+           'starts.\n')
+    yield from cost_table(networks)
     yield '## What this machine took, for information\n'
     yield f'{processor()}; seconds are the least of three runs; resident memory has the C library in it.\n'
     yield from table(
@@ -185,21 +234,46 @@ def report(start, runs, crowded, other):
                           ('ns-2', f'{theirs:,}', f'{theirs / FEW:,.0f}')])
 
 
+def build():
+    print('building the program: rt run', flush=True)
+    with open(os.path.join(TOP, 'examples', 'one_segment.txt')) as scenario:
+        subprocess.run(['rt', 'run', '--', 'run'], cwd=CRATE, stdin=scenario, check=True, stdout=subprocess.DEVNULL)
+
+
+def scenario_name(word):
+    if word not in (name for name, *_ in BARS):
+        raise argparse.ArgumentTypeError(f'no scenario {word}')
+    return word
+
+
+def words_of():
+    words = argparse.ArgumentParser(description='Measures the built program and writes bench/RESULTS.md.')
+    words.add_argument('names', nargs='*', metavar='NAME', type=scenario_name,
+                       help='count these scenarios only, and write nothing: ' + ', '.join(name for name, *_ in BARS))
+    words.add_argument('--jobs', type=int, default=os.cpu_count(), help='counts that run side by side')
+    words.add_argument('--program', default=PROGRAM, help='else the built one')
+    return words.parse_args()
+
+
 def main():
+    global PROGRAM
+    given = words_of()
+    PROGRAM = given.program
     if not shutil.which('valgrind', path=ENVIRONMENT['PATH']):
         sys.exit('valgrind is not installed')
     if not os.path.exists(PROGRAM):
-        print('building the program: rt run', flush=True)
-        with open(os.path.join(TOP, 'examples', 'one_segment.txt')) as scenario:
-            subprocess.run(['rt', 'run', '--', 'run'], cwd=CRATE, stdin=scenario, check=True,
-                           stdout=subprocess.DEVNULL)
+        build()
+    if given.names:
+        print('\n'.join(cost_table(list(costs(given.names, given.jobs)))))
+        return
     start, *runs = measured(
         [case('start', 1, text(1, end=1))]
         + [case(name, n, text(n, delack, losses)) for name, delack, losses in FLOWS for n in (FEW, MANY)]
         + [case(f'{w} under way', FEW, text(FEW, link='10000000000 100000000 droptail 65535', window=w))
-           for w in UNDER_WAY])
+           for w in UNDER_WAY], given.jobs)
     crowded = runs[-len(UNDER_WAY):]
-    results = '\n'.join(report(start, runs[:-len(UNDER_WAY)], crowded, ns2(FEW)))
+    networks = list(costs([name for name, *_ in BARS], given.jobs))
+    results = '\n'.join(report(start, runs[:-len(UNDER_WAY)], crowded, networks, ns2(FEW)))
     with open(os.path.join(BENCH, 'RESULTS.md'), 'w') as file:
         file.write(results.rstrip('\n') + '\n')
     print(results)

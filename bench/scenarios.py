@@ -36,9 +36,10 @@ def one_flow(segments, delack=0):
     return two_ends(segments, link, link, 44, delack)
 
 
-def under_way(packets, segments):
+def under_way(packets, segments, delack=0):
     """So many packets under way at once, 100 ms there and 50 ms back; nothing is lost."""
-    return two_ends(segments, (10 * GBIT, 100 * MS, droptail(65_535)), (10 * GBIT, 50 * MS, droptail(65_535)), packets)
+    forth, back = ((10 * GBIT, delay * MS, droptail(65_535)) for delay in (100, 50))
+    return two_ends(segments, forth, back, packets, delack)
 
 
 def dumbbell(flows, segments, bottleneck):
@@ -100,6 +101,7 @@ SCENARIOS = {
     'one_flow': lambda: one_flow(200_000),
     'one_flow_delayed_acks': lambda: one_flow(200_000, 50 * MS),
     'under_way_10000': lambda: under_way(10_000, 200_000),
+    'under_way_10000_delayed_acks': lambda: under_way(10_000, 200_000, 50 * MS),
     'under_way_100000': lambda: under_way(100_000, 400_000),
     'dumbbell_droptail': lambda: dumbbell(14, 10_000, droptail(200)),
     'dumbbell_codel': lambda: dumbbell(14, 10_000, codel(1000, 5 * MS, 100 * MS, 1500)),
@@ -107,6 +109,13 @@ SCENARIOS = {
     'chain': lambda: chain(16, 20_000),
     'largest': lambda: largest(100),
 }
+
+
+def started(s):
+    """The scenario with an end just behind its last flow's start: what a run of it costs besides what
+    its events cost is this one's, or nearly."""
+    s.end = max(flow.start for flow in s.flows) + 1
+    return s
 
 
 def main():

@@ -2,16 +2,14 @@
 """Compares the built program with the model of scripts/model on many inputs: status, output, note.
 
 Usage: scripts/compare.py [--kind texts,runs,images,debug] [--seed S] [--count N] [--jobs J]
-                          [--program PATH] [--one-flow] [--options] [--systematic | --random]
+                          [--program PATH] [--options] [--systematic | --random]
 
   texts    mutated and systematic texts, most of them refused     (tcpsim run)
   runs     random scenarios: one flow, dumbbells, chains, trees   (tcpsim run)
   images   images whole, cut, changed                             (tcpsim run, dis, asm)
   debug    random commands on random scenarios                    (tcpsim debug)
 
---one-flow keeps random inputs to one flow without CoDel, for a program that runs no more yet: of the
-texts that it answers with `not simulated yet` only that both accept them is compared. --options gives
-random --groups and --workers besides.
+--options gives random --groups and --workers besides.
 
 What differs is printed, the smallest case first, each made smaller by leaving out what isn't needed.
 The status is 1 where anything differs.
@@ -43,7 +41,6 @@ SHRINKING = 20          # seconds for making a case smaller
 LONGEST = 60            # seconds that the program may take
 MOST_BYTES = 1_000_000  # of an output, that are compared; the program is then stopped
 MOST_SHRUNK = 100_000   # the same while a case is made smaller
-NOT_YET = 'not simulated yet'   # the note of a program that accepts more than it runs
 PROGRAM = os.path.join(TOP, 'crates', 'tcpsim', 'out', 'tcpsim')
 
 
@@ -95,14 +92,10 @@ def agree(one, other):
 
 
 def compared(job, most=MOST_BYTES):
-    """(case, the program's answer, the model's), the answers None where they agree; `unrun` in the case's
-    place where the program says that it can't run this yet."""
+    """(case, the program's answer, the model's), the answers None where they agree."""
     path, (words, data) = job
     real = program_answers(path, words, data, most)
-    unrun = real == (1, b'', NOT_YET)
-    model = model_answers(words, data, 1 if unrun else most)
-    if unrun and model[0] == 'long':
-        return 'unrun', None, None
+    model = model_answers(words, data, most)
     return ((words, data), None, None) if agree(real, model) else ((words, data), real, model)
 
 
@@ -166,42 +159,40 @@ def systematic_texts():
     yield from spelling.great()
 
 
-def short_scenario(pick, one_flow):
+def short_scenario(pick):
     """One that runs a short time, for texts and sessions."""
-    scenario = (nets.one_flow(pick, ('droptail',) if one_flow else ('droptail', 'codel'), 20)
-                if one_flow or pick.random() < 0.4 else nets.many_flows(pick, most_segments=10))
-    return scenario
+    return (nets.one_flow(pick, ('droptail', 'codel'), 20)
+            if pick.random() < 0.4 else nets.many_flows(pick, most_segments=10))
 
 
-def random_texts(pick, count, one_flow):
+def random_texts(pick, count):
     two = max(count // 4, 1)
-    for text in (spelling.SMALL,) if one_flow else (spelling.SMALL, spelling.FULL):
+    for text in (spelling.SMALL, spelling.FULL):
         yield from spelling.two_faults_in_two_lines(text, pick, two)
     for _ in range(count):
-        yield spelling.mutated(spelling.spelt(short_scenario(pick, one_flow), pick), pick)
-        if not one_flow:
-            yield spelling.spelt(nets.broken(nets.many_flows(pick, most_segments=5), pick), pick)
+        yield spelling.mutated(spelling.spelt(short_scenario(pick), pick), pick)
+        yield spelling.spelt(nets.broken(nets.many_flows(pick, most_segments=5), pick), pick)
 
 
 def texts(pick, args):
     if args.systematic:
         yield from ((('run',), text) for text in systematic_texts())
     if args.random:
-        yield from ((('run',), text) for text in random_texts(pick, args.count, args.one_flow))
+        yield from ((('run',), text) for text in random_texts(pick, args.count))
 
 
-def long_scenario(pick, one_flow):
+def long_scenario(pick):
     many = pick.choice((5, 50, 50, 300, 2000))
-    if not one_flow and pick.random() < 0.2:
+    if pick.random() < 0.2:
         return nets.slow_queue(pick)
-    if one_flow or pick.random() < 0.3:
-        return nets.one_flow(pick, ('droptail',) if one_flow else ('droptail', 'codel'), many)
+    if pick.random() < 0.3:
+        return nets.one_flow(pick, ('droptail', 'codel'), many)
     return nets.many_flows(pick, most_segments=many)
 
 
 def runs(pick, args):
     for _ in range(args.count):
-        scenario = long_scenario(pick, args.one_flow)
+        scenario = long_scenario(pick)
         yield ('run', *options(pick, args, len(scenario.nodes))), spelling.spelt(scenario, pick)
 
 
@@ -240,22 +231,21 @@ def changed_image(pick, data):
 
 def images(pick, args):
     small = image.save(assemble(spelling.SMALL))
-    for data in (small,) if args.one_flow else (small, image.save(assemble(spelling.FULL))):
+    for data in (small, image.save(assemble(spelling.FULL))):
         for size in range(len(data) + 1 if args.systematic else 0):
             yield ('run',), data[:size]
         for at in range(len(data) if args.systematic else 0):
             for byte in {0, 1, 2, 3, 255, data[at] + 1 & 255, data[at] - 1 & 255, data[at] ^ 128}:
                 yield ('dis',), data[:at] + bytes((byte,)) + data[at + 1:]
     for _ in range(args.count if args.random else 0):
-        scenario = short_scenario(pick, args.one_flow)
+        scenario = short_scenario(pick)
         data = image.save(scenario)
         yield ('asm',), spelling.spelt(scenario, pick)
         yield (pick.choice(('dis', 'asm', 'run')),), data
         yield ('dis',), disassemble(scenario)
         for _ in range(3):
             yield (pick.choice(('dis', 'asm', 'run')),), changed_image(pick, data)
-        if not args.one_flow:
-            yield ('run',), image.save(nets.broken(nets.many_flows(pick, most_segments=5), pick))
+        yield ('run',), image.save(nets.broken(nets.many_flows(pick, most_segments=5), pick))
 
 
 def moments(scenario):
@@ -278,7 +268,7 @@ def any_command(pick, scenario, times):
 
 def debug(pick, args):
     for _ in range(args.count):
-        scenario = short_scenario(pick, args.one_flow)
+        scenario = short_scenario(pick)
         text = spelling.spelt(scenario, pick)
         if not text.endswith(b'\n'):
             text += b'\n'
@@ -327,7 +317,6 @@ def arguments():
     parser.add_argument('--count', type=int, default=1000)
     parser.add_argument('--jobs', type=int, default=2)
     parser.add_argument('--program', default=PROGRAM)
-    parser.add_argument('--one-flow', action='store_true')
     parser.add_argument('--options', action='store_true')
     parser.add_argument('--systematic', action='store_true', help='only the systematic inputs')
     parser.add_argument('--random', action='store_true', help='only the random inputs')
@@ -341,15 +330,13 @@ def arguments():
 
 def main():
     args = arguments()
-    differences, count, not_yet = [], 0, {'unrun': 0}
+    differences, count = [], 0
     with multiprocessing.get_context('fork').Pool(args.jobs) as pool:
         for kind in args.kind.split(','):
             cases = KINDS[kind](random.Random(f'{kind} {args.seed}'), args)
             jobs = ((args.program, case) for case in cases)
             before = count
             for found in pool.imap_unordered(compared, jobs, 8):
-                if found[0] in not_yet:
-                    not_yet[found[0]] += 1
                 count += 1
                 if found[1] is not None:
                     differences.append((args.program, found[0]))
@@ -358,8 +345,6 @@ def main():
         shortest = pool.map(shrunk, differences[:SHOWN], 1)
     for found in sorted(filter(None, shortest), key=lambda found: len(found[0][1])):
         show(found)
-    if not_yet['unrun']:
-        print(f'{not_yet["unrun"]} accepted by both, but the program does not simulate them yet')
     print(f'{count} compared, {len(differences)} different')
     sys.exit(1 if differences else 0)
 

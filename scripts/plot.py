@@ -4,9 +4,11 @@
 Usage: scripts/plot.py SCENARIO [TRACE] -o FILE.png|.svg|.pdf
                        [--panels window,sequence,queue,delay,utilization] [--flows NAMES] [--links NAMES]
                        [--from SECONDS] [--to SECONDS] [--title TEXT] [--program PATH]
+                       [--beside SCENARIO [TRACE]]
 
 Without TRACE the built program is run. Without --links the links are drawn at which packets waited
-longest, four at most. Wants matplotlib: apt-get install python3-matplotlib.
+longest, four at most. With --beside the links of two runs are drawn in the same panels, of each the one
+at which packets waited longest. Wants matplotlib: apt-get install python3-matplotlib.
 """
 import argparse
 import io
@@ -124,8 +126,8 @@ def link_text(link):
 class Picture:
     """What every panel needs: the run, what is chosen of it, and the window of time."""
 
-    def __init__(self, run, flows, links, window):
-        self.run, self.flows, self.links, self.window = run, flows, links, window
+    def __init__(self, run, flows, links, window, beside=False):
+        self.run, self.flows, self.links, self.window, self.beside = run, flows, links, window, beside
         self.scale, self.unit = time_unit(window)
 
     def x(self, times):
@@ -251,8 +253,7 @@ def queue_panel(picture, axes, links):
                 if reason not in [why for why, _ in seen]:
                     seen.append((reason, len(times)))
     text = {'full': 'dropped: queue full', 'codel': 'dropped by CoDel', 'lost': 'lost by name'}
-    handles = [Line2D([], [], **series(n), label=link.link.name) for n, link in enumerate(links)] \
-        if len(links) > 1 else []
+    handles = link_lines(links) if len(links) > 1 else []
     handles += [Line2D([], [], color=REASONS[why][1], marker=REASONS[why][0], ls='none', label=text[why])
                 for why, _ in seen]
     axes.set_ylim(0, 1.25 * greatest + .5)
@@ -261,6 +262,10 @@ def queue_panel(picture, axes, links):
     axes.set_title('packets that wait in the queue', **TITLE)
     if handles:
         axes.legend(handles=handles, **LEGEND)
+
+
+def link_lines(links):
+    return [Line2D([], [], **series(n), label=link.link.name) for n, link in enumerate(links)]
 
 
 def drop_heights(link, times, reason):
@@ -274,6 +279,7 @@ def drop_heights(link, times, reason):
 
 def delay_panel(picture, axes, links):
     greatest, few = 1, sum(len(link.waits) for link in links) < 400
+    targets = {link.link.target for link in links if link.link.queue == 'codel'}
     for number, link in enumerate(links):
         waits = np.asarray(link.waits, dtype=np.int64)
         style = {**series(number), 'ls': 'none'}
@@ -281,10 +287,10 @@ def delay_panel(picture, axes, links):
         axes.plot(picture.x(times), values / 10**6, marker='.', ms=4 if few else 2,
                   rasterized=len(times) > 400, **style)
         greatest = max(greatest, waits.max(initial=0))
-        if link.link.queue == 'codel':
-            axes.axhline(link.link.target / 10**6, color='#000000', lw=.8, ls=':')
-            axes.annotate('target', (1, link.link.target / 10**6), xycoords=('axes fraction', 'data'),
-                          xytext=(2, 0), textcoords='offset points', va='center', fontsize=8)
+    for target in targets:
+        axes.axhline(target / 10**6, color='#000000', lw=.8, ls=':')
+        axes.annotate('target', (1, target / 10**6), xycoords=('axes fraction', 'data'),
+                      xytext=(2, 0), textcoords='offset points', va='center', fontsize=8)
     axes.set_ylim(-.04 * greatest / 10**6, 1.12 * greatest / 10**6)
     axes.set_ylabel('ms')
     axes.set_title('delay in the queue of each packet sent', **TITLE)
@@ -367,9 +373,12 @@ def draw_links(picture, figure, panels):
         drawing[panel](picture, axes, picture.links)
         finish(picture, axes)
         axes.tick_params(labelbottom=axes is all_axes[-1])
+    if len(picture.links) > 1 and panels[0] != 'queue':     # whose key names the links already
+        all_axes[0].legend(handles=link_lines(picture.links), **LEGEND)
     all_axes[-1].set_xlabel(f'time, {picture.unit}', fontsize=9)
     texts = [link_text(link.link) for link in picture.links]
-    figure.suptitle('link ' + texts[0] if len(texts) == 1 else 'links ' + '\n'.join(texts),
+    links = '' if picture.beside else 'link ' if len(texts) == 1 else 'links '
+    figure.suptitle(links + '\n'.join(texts),
                     fontsize=9 if len(texts) == 1 else 8)
 
 
@@ -388,7 +397,7 @@ def draw(picture, panels, title):
     link_panels = [panel for panel in LINK_PANELS if panel in panels and picture.links]
     if not flow_panels and not link_panels:
         raise Unreadable('there is nothing to draw')
-    figure = plt.figure(figsize=(14, 8), layout='constrained')
+    figure = plt.figure(figsize=(10, 2 + 2 * len(link_panels)) if picture.beside else (14, 8), layout='constrained')
     figure.suptitle(title, fontsize=11, fontweight='bold')
     if not flow_panels or not link_panels:
         parts = [figure.subfigures(1, 1)]
@@ -457,14 +466,22 @@ def words_of(given=None):
     words.add_argument('--from', dest='begin', type=seconds, help='seconds; else the first flow\'s start')
     words.add_argument('--to', dest='end', type=seconds, help='seconds; else a little after the end of the run')
     words.add_argument('--title', help='else the scenario\'s name and what is in it')
+    words.add_argument('--beside', nargs='+', metavar=('SCENARIO', 'TRACE'),
+                       help='a second run, whose links are drawn in the same panels')
     words.add_argument('--program', default=PROGRAM, help='the program that is run where no trace is given')
-    return words.parse_args(given)
+    given = words.parse_args(given)
+    if len(given.beside or ()) > 2:
+        words.error('--beside takes a scenario and at most a trace')
+    return given
+
+
+def name_of(path):
+    return os.path.splitext(os.path.basename(path))[0]
 
 
 def title_of(path, run):
-    name = os.path.splitext(os.path.basename(path))[0]
     count = len(run.flows)
-    return f'{name}: {count} flow{"" if count == 1 else "s"}, {run.lines:,} events'
+    return f'{name_of(path)}: {count} flow{"" if count == 1 else "s"}, {run.lines:,} events'
 
 
 def save(figure, path):
@@ -498,22 +515,48 @@ def shorter(found):
     return f' d="{"".join(words)}"'
 
 
+def window_of(given, runs):
+    """The picture's begin and end: those asked for, else from the first start to a little after the end."""
+    begin, end = min(run.begin() for run in runs), max(run.end() for run in runs)
+    margin = (end - begin) // 40 if end < max(run.scenario.end for run in runs) else 0
+    window = (begin if given.begin is None else given.begin, end + margin if given.end is None else given.end)
+    if window[0] >= window[1]:
+        raise Unreadable('no time lies between the begin and the end of the picture')
+    return window
+
+
 def picture_of(given, run):
     flows = range(len(run.flows)) if given.flows is None else named(given.flows, run.scenario.flows, 'flow')
     links = worst_links(run) if given.links is None else named(given.links, run.scenario.links, 'link')
-    margin = (run.end() - run.begin()) // 40 if run.end() < run.scenario.end else 0
-    window = (run.begin() if given.begin is None else given.begin,
-              run.end() + margin if given.end is None else given.end)
-    if window[0] >= window[1]:
-        raise Unreadable('no time lies between the begin and the end of the picture')
-    return Picture(run, [run.flows[n] for n in flows], [run.links[n] for n in links], window)
+    return Picture(run, [run.flows[n] for n in flows], [run.links[n] for n in links], window_of(given, (run,)))
+
+
+def beside(given, runs):
+    """Two runs: of each the link at which packets waited longest, or the one asked for, under the name of
+    its scenario."""
+    links = []
+    for run, path in zip(runs, (given.scenario, given.beside[0])):
+        chosen = worst_links(run)[:1] if given.links is None else named(given.links, run.scenario.links, 'link')
+        for link in (run.links[number] for number in chosen):
+            link.link = link.link._replace(name=name_of(path) + ('' if len(chosen) == 1 else ' ' + link.link.name))
+            links.append(link)
+    return Picture(runs[0], [], links, window_of(given, runs), True)
+
+
+def figure_of(given):
+    """The figure that the words ask for."""
+    run = read_run(given.scenario, given.trace, given.program)
+    if given.beside is None:
+        return draw(picture_of(given, run), given.panels, given.title or title_of(given.scenario, run))
+    other = read_run(given.beside[0], (given.beside[1:] or [None])[0], given.program)
+    title = given.title or f'{title_of(given.scenario, run)}; {title_of(given.beside[0], other)}'
+    return draw(beside(given, (run, other)), given.panels, title)
 
 
 def main():
     given = words_of()
     try:
-        run = read_run(given.scenario, given.trace, given.program)
-        figure = draw(picture_of(given, run), given.panels, given.title or title_of(given.scenario, run))
+        figure = figure_of(given)
         save(figure, given.file)
     except (Unreadable, OSError) as wrong:
         print(f'plot.py: {wrong}', file=sys.stderr)

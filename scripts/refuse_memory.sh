@@ -1,7 +1,7 @@
 #!/usr/bin/env bash
 # Refuses each request for memory in turn, with the built program on a scenario (the first example,
 # or the file that is named): every refusal has to end with status 4, the note 'no memory' and a
-# beginning of the trace in whole lines. scripts/try_shell.sh runs it over two scenarios; by hand it
+# beginning of the trace in whole lines. scripts/try_shell.sh runs it over three scenarios; by hand it
 # goes after `make run`. It wants a C compiler, `cc`. Usage: scripts/refuse_memory.sh [SCENARIO]
 set -u
 top=$(cd "$(dirname "$0")/.." && pwd)

@@ -226,7 +226,9 @@ class Pictures(unittest.TestCase):
     def test_words_that_are_refused(self):
         for ending, words, status, note in (('.gif', (), 2, '.png, .svg or .pdf'), ('.png', ('--flows', 'x'), 1, 'x'),
                                             ('.png', ('--links', 'f'), 1, 'f'), ('.png', ('--panels', 'cwnd'), 2, 'cwnd'),
-                                            ('.png', ('--from', '2', '--to', '1'), 1, 'time')):
+                                            ('.png', ('--from', '2', '--to', '1'), 1, 'time'),
+                                            ('.png', ('--beside', 'a', 'b', 'c'), 2, '--beside'),
+                                            ('.png', ('--beside', 'no such'), 1, 'no such')):
             done, path = self.draw(ending, *words)
             self.assertEqual(done.returncode, status, done.stderr)
             self.assertIn(note, done.stderr)
@@ -253,6 +255,21 @@ class Pictures(unittest.TestCase):
     def test_panels_that_are_asked_for(self):
         self.assertEqual(list(self.panels('--panels', 'queue,window', '--links', 'b')),
                          ['flow f: congestion window', 'packets that wait in the queue'])
+
+    def test_two_runs_in_the_same_panels(self):
+        other = os.path.join(self.folder.name, 'other.txt')
+        with open(other, 'w', encoding='ascii') as file:
+            file.write(BY_HAND.replace('droptail 2', 'codel 2 1000000 9000000 1040', 1))
+        given = plot.words_of([self.scenario, self.trace, '--beside', other, self.trace, '--panels', 'delay,utilization',
+                               '-o', 'x.png'])
+        figure = plot.figure_of(given)
+        delay, utilization = figure.get_axes()
+        plot.plt.close(figure)
+        self.assertEqual([text.get_text() for text in delay.get_legend().get_texts()], ['run', 'other'])
+        waits = [list(line.get_ydata()) for line in delay.lines]
+        self.assertEqual(waits[:2], [[0, 1.04, 2.08, .04, 1.08, 1.08, 0]] * 2)
+        self.assertEqual(waits[2], [1, 1])      # the target of the one that has it
+        self.assertEqual(utilization.get_xlabel(), 'time, ms')
 
     def test_fewer_points_keep_the_extremes(self):
         times = range(0, 10**6)

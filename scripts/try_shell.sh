@@ -153,8 +153,9 @@ faulty 'refused E10 line 0' 1 '# sim 5'
 faulty 'refused L3 line 0' 1 'sim 1' 6 'flow f s r 1000 1 1 64000 0'
 faulty 'refused L5 line 0' 5 '# link b'
 faulty 'refused E8 line 6' 3 'node r router'
-faulty 'not simulated yet' 4 'link a s r 8000000 1000000 codel 10 5000000 100000000 1500'
 faulty 'refused E2 line 5' 5 'x' 6 'y'
+sed 's/^link a .*/link a s r 8000000 1000000 codel 10 5000000 100000000 1500/' "$work/right" > "$work/text"
+run run < "$work/text"; ended 'the right text with CoDel at its first link' 0 "$work/nothing" "$first_trace"
 { cat "$work/right"; for number in $(seq 1 65); do echo "lose a $number"; done; } > "$work/text"
 run run < "$work/text"; told 'the 65th lose of a link' 1 'refused E9 line 71'
 
@@ -244,7 +245,7 @@ told 'an empty input with standard error closed' 1 ''
 
 # ---- want of memory
 
-for scenario in one_segment slow_start_into_a_full_queue; do
+for scenario in one_segment slow_start_into_a_full_queue four_flows_before_codel; do
   if said=$("$top/scripts/refuse_memory.sh" "$examples/$scenario.txt" 2>&1); then
     pass "memory refused over $scenario"
   else
