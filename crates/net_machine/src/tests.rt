@@ -1,5 +1,10 @@
+mod star;
+mod two_flows;
+
 use crate::{LinkEnds, Net, Place};
-use scenario_image::{FlowPart, LinkPart, NodeKind, QueueKind, Records, Scenario, ScenarioParts};
+use scenario_image::{
+    FlowPart, LinkPart, NodeKind, QueueKind, Records, RoutePart, Scenario, ScenarioParts,
+};
 use sim_time::Key;
 use std::alloc::Global;
 use std::process::Abort;
@@ -15,6 +20,15 @@ fn link(alloc: Global, from: u16, to: u16) -> LinkPart {
         queue: QueueKind::DropTail,
         capacity: 10,
         lose: Records::new(Vec::new(alloc)),
+    }
+}
+
+// A router's route for a destination.
+fn route(router: u16, destination: u16, link: u16) -> RoutePart {
+    RoutePart {
+        router,
+        destination,
+        link,
     }
 }
 

@@ -7,7 +7,8 @@ use Rattle.packet_chain.specs.Stamped.{Stamped}
 use Rattle.packet_chain.specs.declared.packet.Packet.{Packet}
 use Rattle.sim_time.specs.declared.key.Key.{Key}
 use Rattle.reno_sender.specs.Sending.{spaced}
-use Rattle.node_core.specs.Links.{packets_of}
+use Rattle.reno_sender.specs.PlanView.{PlanView, sent_of}
+use Rattle.node_core.specs.Links.{packets_of, behind_first}
 use Rattle.node_core.specs.AgendaState.{cleared}
 
 -- the next number of a run stays below what the last one's end stays below
@@ -43,3 +44,41 @@ few_cells f cells resent first step count e =
 
 pub length_cleared : (key : Key) (alarms : List (Option ℕ)) → length (cleared key alarms) ≡ length alarms
 length_cleared key alarms = elim (key.source == 0) as (λ b. length (cond b (set alarms key.number None) alarms) ≡ length alarms) [ true ↦ length-set alarms key.number None | false ↦ refl ]
+
+-- a run without its first number
+behind_run : (first step count : ℕ) → 0 < count → behind_first (spaced first step count) ≡ spaced (first + step) step (count - 1)
+behind_run first step zero some = absurd (omega (arith, some))
+behind_run first step (suc n) some = ap (spaced (first + step) step) {x = n} {y = suc n - 1} (omega arith)
+
+-- a run that has a first number
+run_begins : (first step count : ℕ) → 0 < count → spaced first step count ≡ first ∷ behind_first (spaced first step count)
+run_begins first step zero some = absurd (omega (arith, some))
+run_begins first step (suc n) some = refl
+
+-- a plan that sends nothing again, without its first number
+pub later_run : (p : PlanView) → p.resent ≡ None → 0 < p.count → behind_first (sent_of p) ≡ spaced (p.first + p.fields.mss) p.fields.mss (p.count - 1)
+later_run p none some = ap (λ r. behind_first (option_to_list r ++ spaced p.first p.fields.mss p.count)) none ∙ behind_run p.first p.fields.mss p.count some
+
+-- what is sent again comes first
+pub resent_first : (f : ℕ → Packet) (p : PlanView) (n : ℕ) (later : List Packet) → p.resent ≡ Some n → later ≡ map f (behind_first (sent_of p)) → f n ∷ later ≡ map f (sent_of p)
+resent_first f p n later is rest =
+    let run = spaced p.first p.fields.mss p.count in
+    ap (λ ps. f n ∷ ps) (rest ∙ ap (λ r. map f (behind_first (option_to_list r ++ run))) is) ∙ sym (ap (λ r. map f (option_to_list r ++ run)) is)
+
+-- where nothing is, the run's first number does
+pub run_first : (f : ℕ → Packet) (p : PlanView) (later : List Packet) → p.resent ≡ None → 0 < p.count → later ≡ map f (behind_first (sent_of p)) → f p.first ∷ later ≡ map f (sent_of p)
+run_first f p later none some rest =
+    let run = spaced p.first p.fields.mss p.count in
+    ap (λ ps. f p.first ∷ ps) (rest ∙ ap (λ r. map f (behind_first (option_to_list r ++ run))) none) ∙ ap (map f) (sym (run_begins p.first p.fields.mss p.count some)) ∙ sym (ap (λ r. map f (option_to_list r ++ run)) none)
+
+behind_less : {A : Type 0} (xs : List A) → length (behind_first xs) ≤ length xs
+behind_less [] = omega arith
+behind_less (x ∷ xs) = omega arith
+
+-- how many cells the later packets of a plan have
+pub few_later : (f : ℕ → Packet) (cells : List Stamped) (p : PlanView) → packets_of cells ≡ map f (behind_first (sent_of p)) → length cells ≤ p.count + 1
+few_later f cells p e =
+    let run = spaced p.first p.fields.mss p.count in
+    let all = sent_of p in
+    let same : length (packets_of cells) ≡ length (map f (behind_first all)) = ap length e in
+    omega (arith, same, length-map cells (λ (c : Stamped). c.0), length-map (behind_first all) f, behind_less all, length-append (option_to_list p.resent) run, length_spaced p.first p.fields.mss p.count, one_at_most p.resent)

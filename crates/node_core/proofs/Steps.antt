@@ -31,7 +31,7 @@ use Rattle.node_core.specs.InStep.{IsInStep, alarms_of, frees_of, deadline_of, d
 use Rattle.node_core.specs.Row.{with_step, leaving_over, made_at_home, quiet, sender_row, receiver_row, timer_moved, data_packet, ack_of}
 use Rattle.node_core.specs.Node.{put_out}
 use Rattle.node_core.specs.Running.{HasRun, IsTimed, part}
-use Rattle.node_core.proofs.Slots.{cleared_alarm}
+use Rattle.node_core.proofs.Slots.{cleared_alarm, same_agenda}
 use Rattle.node_core.proofs.Passages.{all_link}
 
 pub apply-append : (cs ds : List Change) (m : Events) → apply (cs ++ ds) m ≡ apply ds (apply cs m)
@@ -126,6 +126,23 @@ timer_out agenda key number some within at timed rest =
     ∙ ap goes (sym own.set_for))
     alarm)
     timed
+
+-- an agenda, once an alarm is taken out and set anew
+abbrev pub renewing : AgendaState → ℕ → Option ℕ → AgendaState
+renewing agenda which time = record agenda {
+  alarms = set agenda.alarms which time;
+  pending = apply (alarm_cleared (numbered_key agenda.owner.node which) (get_or agenda.alarms which None) ++ alarm_set (numbered_key agenda.owner.node which) (alarm_event agenda.owner which) time) agenda.pending;
+}
+
+-- an alarm's own event leaves as the alarm is set anew
+pub renewed : (agenda : AgendaState) (key : Key) (which : ℕ) (time : Option ℕ) → key.node ≡ agenda.owner.node → IsAlarm agenda key which → renewing agenda which time ≡ moved_to (after_take agenda key) which time
+renewed agenda key which time at own =
+    let set_it = alarm_set (numbered_key agenda.owner.node which) (alarm_event agenda.owner which) time in
+    let gone : cleared key agenda.alarms ≡ set agenda.alarms which None = cleared_alarm key agenda.alarms which own.source own.number_is in
+    same_agenda agenda.owner (sym (ap (λ a. set a which time) gone ∙ set-set agenda.alarms which None time)) refl
+    (ap (λ old. apply (alarm_cleared (numbered_key agenda.owner.node which) old ++ set_it) agenda.pending) own.set_for
+    ∙ ap (λ k. apply set_it (fin.remove agenda.pending k)) (same_key key agenda.owner.node which at own.source own.number_is)
+    ∙ ap (λ old. apply (alarm_cleared (numbered_key agenda.owner.node which) old ++ set_it) (fin.remove agenda.pending key)) (sym (ap (λ a. get_or a which None) gone ∙ get_or-set_same agenda.alarms which None None own.within)))
 
 -- the alarms, once the event has left and the timer is set
 pub sender_alarms : (agenda : AgendaState) (key : Key) (s r d time : Option ℕ) (frees : List (Option ℕ)) → agenda.alarms ≡ s ∷ r ∷ d ∷ frees → IsTimed agenda key 1 → (start : Option ℕ) × (set (cleared key agenda.alarms) 1 time ≡ start ∷ time ∷ d ∷ frees)

@@ -7,7 +7,8 @@ ghost use Rattle.sim_time.specs.declared.key.Key.{Key};
 ghost use Rattle.ranking.specs.Keyed.{least, next_key, apply, entering, EachKey};
 ghost use Rattle.node_core.specs.Alarms.{numbered_key, alarm_cleared, alarm_set};
 ghost use Rattle.node_core.specs.WireState.{stamps_of};
-ghost use Rattle.node_core.specs.AgendaState.{alarm_event, cleared, incoming_at, entry_of, come_over, AreApart, fresh_wire, fresh_agenda, IsDue};
+ghost use Rattle.node_core.specs.AgendaState.{alarm_event, cleared, incoming_at, entry_of, come_over, AreApart, fresh_wire, fresh_agenda, IsAlarm, IsDue};
+ghost use Rattle.node_core.specs.Passing.{after_take, moved_to};
 ghost use Rattle.packet_chain.specs.declared.packet.Packet.{Packet};
 ghost use Rattle.node_core.specs.declared.event.Event.{Event};
 ghost use Rattle.node_core.specs.declared.event.Event.TheVariants.{Arrive};
@@ -56,6 +57,7 @@ impl Model for Agenda {
 }
 
 // The key of an alarm of a node, where it is set.
+#[inline(always)]
 fn key_of(node: u16, number: usize, time: Option<Time>) -> Option<Key>
     ensures { result ≡ option_map (numbered_key node number) time }
 {
@@ -196,6 +198,18 @@ impl Agenda {
     {
         self.alarms[which] = time;
         self.ranking.set(which, key_of(self.node, which, time));
+    }
+
+    /// The event of a key, which is this alarm's, leaves, and the alarm is set to this time, or is
+    /// set no more.
+    pub fn reset(&mut self, key: Key, which: usize, time: Option<Time>)
+        requires at_node { key.node ≡ self.old.owner.node }
+        requires alarm { IsAlarm self.old key which }
+        ensures { self.new ≡ moved_to (after_take self.old key) which time }
+    {
+        self.alarms[which] = time;
+        let next = key_of(self.node, which, time);
+        self.ranking.set(which, next);
     }
 
     /// The event of the least key.

@@ -1,10 +1,12 @@
 //! The packets of a flow, in cells.
 ghost use Rattle.std.specs.Prelude.{◌≡◌, ◌+◌, ◌*◌, ◌^◌, ◌<◌, ◌≤◌, [], ◌∷◌, ◌++◌, IfOk, OnOk, length, map, option_to_list};
+ghost use Rattle.reno_sender.specs.PlanView.{sent_of};
 ghost use Rattle.reno_sender.specs.Sending.{spaced};
-ghost use Rattle.node_core.specs.Links.{packets_of};
+ghost use Rattle.node_core.specs.Links.{packets_of, behind_first};
 ghost use Rattle.node_core.specs.Row.{data_packet, ack_packet};
 
 use packet_chain::{Kind, Packet, PacketBytes, PacketCell, PacketChain};
+use reno_sender::Plan;
 use std::alloc::{AllocError, Global};
 
 // The segment of this number.
@@ -76,6 +78,57 @@ pub(crate) fn segments(
     }
     push_run(alloc, &mut cells, flow, mss, first, count)?;
     Ok(cells)
+}
+
+/// The segments of a plan but the first.
+pub(crate) fn later_segments(
+    alloc: Global,
+    flow: u16,
+    plan: &Plan,
+) -> Result<PacketChain, AllocError>
+    ensures { IfOk result (λ cells. packets_of cells ≡ map (data_packet flow plan.now.fields.mss) (behind_first (sent_of plan.now))) }
+{
+    let (mss, first, count) = (plan.as_fields().mss, plan.first(), plan.count());
+    if plan.resent().is_some() {
+        return segments(alloc, flow, mss, None, first, count);
+    }
+    if count == 0 {
+        return Ok(PacketChain::new(alloc));
+    }
+    segments(alloc, flow, mss, None, first + mss, count - 1)
+}
+
+// A segment, in this cell, and others behind it.
+fn in_front(alloc: Global, cell: PacketCell, segment: Packet, mut later: PacketChain) -> PacketChain
+    requires { length later ≤ 2 ^ 40 }
+    ensures { packets_of result ≡ segment ∷ packets_of later }
+{
+    let mut cells = alone(alloc, cell, segment);
+    cells.append(&mut later);
+    cells
+}
+
+/// The segments of a plan: the first, if there is one, takes this cell, and the later ones are in
+/// theirs.
+pub(crate) fn segments_from(
+    alloc: Global,
+    flow: u16,
+    plan: &Plan,
+    cell: PacketCell,
+    later: PacketChain,
+) -> PacketChain
+    requires few { length later ≤ 2 ^ 40 }
+    requires later { packets_of later ≡ map (data_packet flow plan.now.fields.mss) (behind_first (sent_of plan.now)) }
+    ensures { packets_of result ≡ map (data_packet flow plan.now.fields.mss) (sent_of plan.now) }
+{
+    let mss = plan.as_fields().mss;
+    if let Some(number) = plan.resent() {
+        return in_front(alloc, cell, segment(flow, mss, number), later);
+    }
+    if plan.count() == 0 {
+        return later;
+    }
+    in_front(alloc, cell, segment(flow, mss, plan.first()), later)
 }
 
 /// A chain of one cell, which gets this packet.

@@ -1,8 +1,10 @@
 //! The events of a sender's or a receiver's node at which packets are offered.
-ghost use Rattle.std.specs.Prelude.{◌≡◌, ◌+◌, ◌^◌, ◌<◌, ◌≤◌, ◌++◌, None, Some, OnOk, OnErr, IfOk, length, map, slice_index_or, is_some};
+ghost use Rattle.std.specs.Prelude.{◌≡◌, ◌≢◌, ◌+◌, ◌^◌, ◌<◌, ◌≤◌, ◌++◌, None, Some, OnOk, OnErr, IfOk, length, map, slice_index_or, is_some};
 ghost use Rattle.sim_time.specs.Moment.{IsMoment};
-ghost use Rattle.ranking.specs.Keyed.{next_key};
-ghost use Rattle.reno_sender.specs.PlanView.{IsPlanOf, IsWellMade, sent_of};
+ghost use Rattle.ranking.specs.Keyed.{next_key, least};
+ghost use Rattle.packet_chain.specs.declared.packet.Packet.{Packet};
+ghost use Rattle.node_core.specs.declared.event.Event.TheVariants.{Arrive};
+ghost use Rattle.reno_sender.specs.PlanView.{IsPlanOf, sent_of};
 ghost use Rattle.port.specs.Port.{offered_all, departed};
 ghost use Rattle.node_core.specs.Passing.{passed, after_take, moved_to};
 ghost use Rattle.node_core.specs.AgendaState.{cleared};
@@ -10,7 +12,7 @@ ghost use Rattle.node_core.specs.Row.{data_packet, ack_of};
 ghost use Rattle.node_core.specs.Links.{packets_of};
 
 use crate::agenda::Agenda;
-use crate::cells::{acknowledgement, alone, segments};
+use crate::cells::{acknowledgement, alone, later_segments, segments, segments_from};
 use crate::link::Link;
 use crate::passing::offer;
 use packet_chain::{PacketCell, PacketChain};
@@ -26,9 +28,36 @@ const RETRANSMISSION: usize = 1;
 /// The number of the delayed acknowledgement among a node's alarms.
 const DELAYED_ACKNOWLEDGEMENT: usize = 2;
 
+// The segments of a plan in cells, the first in that of the packet that arrives, if one does. The
+// event leaves once there is memory for all.
+fn take_cells(
+    alloc: Global,
+    flow: u16,
+    plan: &Plan,
+    key: Key,
+    agenda: &mut Agenda,
+) -> Result<PacketChain, AllocError>
+    requires due { next_key agenda.old.pending ≡ Some key }
+    requires arrives { key.source ≢ 0 → (packet : Packet) × (least agenda.old.pending ≡ Some (key, Arrive packet)) }
+    requires few { plan.now.count ≤ 2 ^ 31 }
+    ensures cells { IfOk result (λ cells. packets_of cells ≡ map (data_packet flow plan.now.fields.mss) (sent_of plan.now)) }
+    ensures agenda { OnOk result (agenda.new ≡ after_take agenda.old key) }
+    ensures same { OnErr result (agenda.new ≡ agenda.old) }
+{
+    if key.source == 0 {
+        let mss = plan.as_fields().mss;
+        let cells = segments(alloc, flow, mss, plan.resent(), plan.first(), plan.count())?;
+        let _cell = agenda.take(key);
+        return Ok(cells);
+    }
+    let later = later_segments(alloc, flow, plan)?;
+    let cell = agenda.take(key).unwrap();
+    Ok(segments_from(alloc, flow, plan, cell, later))
+}
+
 /// Runs a row of the sender's table: its packets are offered to the node's link, and the
 /// retransmission timer is its deadline. Whether a packet begins to be sent. All memory is taken
-/// before anything changes.
+/// before anything changes, and the first packet takes the cell of one that arrives.
 pub(crate) fn run_plan(
     alloc: Global,
     flow: u16,
@@ -42,8 +71,8 @@ pub(crate) fn run_plan(
 ) -> Result<bool, AllocError>
     requires moment { IsMoment key.time }
     requires due { next_key agenda.old.pending ≡ Some key }
+    requires arrives { key.source ≢ 0 → (packet : Packet) × (least agenda.old.pending ≡ Some (key, Arrive packet)) }
     requires made { IsPlanOf sender.old plan }
-    requires well_made { IsWellMade plan }
     requires sent { link.old.port.sent < 1000000000000000 }
     requires offered { link.old.port.offered < 2 ^ 90 }
     requires chain { length out.old < 1000000000000000 }
@@ -61,11 +90,8 @@ pub(crate) fn run_plan(
     ensures same_agenda { OnErr result (agenda.new ≡ agenda.old) }
     ensures same_out { OnErr result (out.new ≡ out.old) }
 {
-    let count = plan.count();
-    let mss = plan.as_fields().mss;
-    acts.reserve(count as usize + 2)?;
-    let cells = segments(alloc, flow, mss, plan.resent(), plan.first(), count)?;
-    let _cell = agenda.take(key);
+    acts.reserve(plan.count() as usize + 2)?;
+    let cells = take_cells(alloc, flow, &plan, key, agenda)?;
     agenda.set_alarm(RETRANSMISSION, plan.as_fields().deadline);
     let departs = offer(link, 0, cells, agenda, key.time, acts, out);
     sender.commit(plan);

@@ -13,7 +13,7 @@ ghost use Rattle.node_core.specs.Row.{Leaving, start_row, rto_row, delack_row, a
 
 use crate::agenda::Agenda;
 use crate::event::Event;
-use crate::fire::run_sender;
+use crate::fire::{run_ack, run_sender};
 use crate::link::Link;
 use crate::outbox::Outbox;
 use crate::receiver_node::{run_data, run_delayed};
@@ -169,8 +169,8 @@ pub(crate) fn run_arrival(
     match role {
         Role::Sends(flow, sender) => match packet.kind {
             Kind::Ack => {
-                let plan = sender.on_ack(packet.number, key.time);
-                run_sender(alloc, *flow, sender, plan, links, key, agenda, acts, out)
+                let number = packet.number;
+                run_ack(alloc, *flow, sender, number, links, key, agenda, acts, out)
             }
             Kind::Data => {
                 let _cell = agenda.take(key);

@@ -237,7 +237,7 @@ impl Node {
         )?;
         line.key = key;
         line.event = event;
-        line.after = self.role.after();
+        self.role.show(&mut line.after);
         Ok(left)
     }
 
@@ -271,3 +271,6 @@ impl Node {
         })
     }
 }
+
+#[cfg(test)]
+mod tests;

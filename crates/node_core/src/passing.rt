@@ -4,13 +4,14 @@ ghost use Rattle.sim_time.specs.Moment.{IsMoment};
 ghost use Rattle.port.specs.Port.{offered_all, taken, departed};
 ghost use Rattle.port.specs.Room.{drops_at};
 ghost use Rattle.node_core.specs.Links.{packets_of};
-ghost use Rattle.node_core.specs.Passing.{passed};
+ghost use Rattle.node_core.specs.Passing.{passed, after_take};
+ghost use Rattle.node_core.specs.AgendaState.{IsAlarm};
 
 use crate::agenda::Agenda;
 use crate::link::Link;
 use packet_chain::PacketChain;
 use port::Acts;
-use sim_time::Time;
+use sim_time::{Key, Time};
 
 /// Offers packets to the link of an index, one after another; whether one begins to be sent.
 pub(crate) fn offer(
@@ -47,33 +48,33 @@ pub(crate) fn offer(
     next_free.is_some()
 }
 
-/// The link of an index, whose alarm was this event, has sent a packet whole, and takes the next;
-/// whether it has one.
+/// The link of an index, whose alarm is this event, has sent a packet whole, and takes the next;
+/// whether it has one. The event leaves.
 pub(crate) fn free(
     link: &mut Link,
     index: usize,
     agenda: &mut Agenda,
-    now: Time,
+    key: Key,
     acts: &mut Acts,
     out: &mut PacketChain,
 ) -> bool
-    requires moment { IsMoment now }
-    requires due { link.old.port.next_free ≡ Some now }
-    requires room { drops_at now link.old.port + 2 ≤ acts.old.room }
+    requires moment { IsMoment key.time }
+    requires due { link.old.port.next_free ≡ Some key.time }
+    requires room { drops_at key.time link.old.port + 2 ≤ acts.old.room }
     requires sent { link.old.port.sent < 1000000000000000 }
     requires chain { length out.old < 1000000000000000 }
-    requires within { 3 + index < length agenda.old.alarms }
     requires small { index < 65536 }
-    requires alarm { slice_index_or agenda.old.alarms (3 + index) None ≡ None }
+    requires at_node { key.node ≡ agenda.old.owner.node }
+    requires alarm { IsAlarm agenda.old key (3 + index) }
     requires exit { slice_index_or agenda.old.owner.exits index 0 ≡ link.old.port.link }
-    ensures link { link.new ≡ record link.old { port = (taken now link.old.port).port } }
-    ensures agenda { agenda.new ≡ passed agenda.old index (taken now link.old.port) }
-    ensures departed { out.new ≡ out.old ++ departed (taken now link.old.port).departure }
-    ensures acts { acts.new.acts ≡ acts.old.acts ++ (taken now link.old.port).acts }
-    ensures departs { result ≡ is_some (taken now link.old.port).departure }
+    ensures link { link.new ≡ record link.old { port = (taken key.time link.old.port).port } }
+    ensures agenda { agenda.new ≡ passed (after_take agenda.old key) index (taken key.time link.old.port) }
+    ensures departed { out.new ≡ out.old ++ departed (taken key.time link.old.port).departure }
+    ensures acts { acts.new.acts ≡ acts.old.acts ++ (taken key.time link.old.port).acts }
+    ensures departs { result ≡ is_some (taken key.time link.old.port).departure }
 {
-    link.free(now, acts, out);
+    link.free(key.time, acts, out);
     let next_free = link.port().next_free();
-    agenda.set_alarm(3 + index, next_free);
+    agenda.reset(key, 3 + index, next_free);
     next_free.is_some()
 }

@@ -43,6 +43,31 @@ impl Role {
         }
     }
 
+    /// Writes what a line shows of it, where that lies.
+    pub fn show(&self, after: &mut After)
+        ensures { after.new ≡ after_of self.now }
+    {
+        // Two states of one kind share their place, so that nothing else is written.
+        match self {
+            Role::Sends(_, sender) => match after {
+                After::AtSender(fields) => *fields = *sender.as_fields(),
+                After::AtReceiver(_) | After::AtRouter => {
+                    *after = After::AtSender(*sender.as_fields());
+                }
+            },
+            Role::Receives(_, receiver) => match after {
+                After::AtReceiver(next) => *next = receiver.next(),
+                After::AtSender(_) | After::AtRouter => {
+                    *after = After::AtReceiver(receiver.next());
+                }
+            },
+            Role::Routes(_) => match after {
+                After::AtRouter => {}
+                After::AtSender(_) | After::AtReceiver(_) => *after = After::AtRouter,
+            },
+        }
+    }
+
     /// The same, with memory of its own.
     pub fn copy(&self) -> Result<Role, AllocError>
         ensures { IfOk result (λ copy. copy ≡ self.now) }

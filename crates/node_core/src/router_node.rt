@@ -105,8 +105,7 @@ pub(crate) fn run_free(
     let place = (key.number - 3) as usize;
     let link = &mut links[place];
     acts.reserve(link.port().room_at(key.time))?;
-    let _cell = agenda.take(key);
     let chain = out.chain(place);
-    let departs = free(link, place, agenda, key.time, acts, chain);
+    let departs = free(link, place, agenda, key, acts, chain);
     Ok(index_if(place as u16, departs))
 }

@@ -77,7 +77,24 @@ impl Acts {
     }
 
     /// Room for so many more acts. Where there is room already, none is asked for.
+    #[inline(always)]
     pub fn reserve(&mut self, more: usize) -> Result<(), AllocError>
+        ensures same { self.new.acts ≡ self.old.acts }
+        ensures ok { OnOk result (more ≤ self.new.room) }
+        ensures succeeds { more ≤ self.old.room → IsOk result }
+        ensures err { OnErr result (self.new ≡ self.old) }
+    {
+        // There is nearly always room.
+        if self.items.capacity() - self.items.len() >= more {
+            return Ok(());
+        }
+        self.make_room(more)
+    }
+
+    // Asks for memory for so many more acts.
+    #[cold]
+    #[inline(never)]
+    fn make_room(&mut self, more: usize) -> Result<(), AllocError>
         ensures same { self.new.acts ≡ self.old.acts }
         ensures ok { OnOk result (more ≤ self.new.room) }
         ensures succeeds { more ≤ self.old.room → IsOk result }
@@ -94,6 +111,7 @@ impl Acts {
     {
         self.items.push_reserved(act);
     }
+
     /// Forgets the acts, and keeps their memory for the next.
     pub fn clear(&mut self)
         ensures { self.new ≡ record { acts = []; room = self.old.room + length self.old.acts } }

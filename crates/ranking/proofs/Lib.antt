@@ -1,4 +1,5 @@
 pub mod Gathered
 pub mod InOrder
 pub mod Maps
+pub mod Replays
 pub mod Winners

@@ -1,4 +1,5 @@
 pub mod Gathered
 pub mod Keyed
 pub mod Leading
+pub mod Replayed
 pub mod Tournament

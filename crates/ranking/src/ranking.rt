@@ -1,20 +1,22 @@
-//! A tree of winners over places, flat: node j has the first of nodes 2j and 2j + 1, and the last
-//! half of the nodes are the places.
-ghost use Rattle.std.specs.Prelude.{◌≡◌, ℕ, ◌+◌, ◌*◌, ◌^◌, ◌<◌, ◌≤◌, ◌≢◌, length, replicate, slice_set, slice_index_or, IfOk, MatchOption, None, false};
+//! The places with their keys, and the least of them.
+ghost use Rattle.std.specs.Prelude.{◌≡◌, ℕ, ◌+◌, ◌*◌, ◌^◌, ◌<◌, ◌≤◌, length, replicate, slice_set, IfOk, MatchOption, Some, None, false, if◌then◌else◌};
 ghost use Rattle.sim_time.specs.declared.key.Key.{Key};
 ghost use Rattle.ranking.specs.Leading.{rank_at, Leads};
-ghost use Rattle.ranking.specs.Tournament.{standing_at, rank_of, DecidedBut, IsDecided};
+ghost use Rattle.ranking.specs.Tournament.{IsVacantAt, vacant_key};
 
-use crate::standing::{Standing, winner};
-use sim_time::Key;
+use crate::games::{all_games, games_above};
+use crate::standing::{Standing, no_key, vacant};
+use sim_time::{Key, Time};
 use std::alloc::{AllocError, Global};
 use std::marker::Model;
 
 /// A key, or none, at each of a number of places, and the least of them at hand.
 #[derive(Debug, Drop)]
 pub struct Ranking {
-    nodes: Vec<Standing>,
-    places: usize,
+    /// What each place has.
+    leaves: Vec<Standing>,
+    /// Node j has the place that comes first below it.
+    winners: Vec<u32>,
 }
 
 impl Model for Ranking {
@@ -24,78 +26,22 @@ impl Model for Ranking {
 
     ghost Value = { List (Option Key) };
 
-    ghost view = { λ r. ranks_of r.places r.nodes.items };
+    ghost view = { λ r. ranks_of r.leaves.items };
 
-    ghost invariant = { λ r. IsTournament r.places r.nodes.items };
+    ghost invariant = { λ r. IsTournament r.leaves.items r.winners.items };
 }
 
-// Decides the nodes from this one up to the root, in turn.
-fn settle(nodes: &mut [Standing], from: usize)
-    requires within { 2 * from + 1 < length nodes.old }
-    requires decided { DecidedBut nodes.old from }
-    ensures decided { DecidedBut nodes.new 0 }
-    ensures places { (i : ℕ) → length nodes.old ≤ 2 * i → standing_at nodes.new i ≡ standing_at nodes.old i }
+// So many places with no key.
+fn vacancies(alloc: Global, places: usize) -> Result<Vec<Standing>, AllocError>
+    requires { places ≤ 2 ^ 31 }
+    ensures size { IfOk result (λ leaves. length leaves.items ≡ places) }
+    ensures vacant { IfOk result (λ leaves. (p : ℕ) → p < places → IsVacantAt leaves.items p) }
 {
-    let mut at = from;
-    while at > 0 {
-        let first = winner(nodes, at);
-        // Where another stays first, nothing above changes.
-        if nodes[at] == first {
-            return;
-        }
-        nodes[at] = first;
-        at /= 2;
+    let mut leaves: Vec<Standing> = Vec::new(alloc);
+    for place in 0..places {
+        leaves.push(vacant(place as u32))?;
     }
-}
-
-// Gives a standing's place that standing.
-fn stand(nodes: &mut [Standing], places: usize, standing: Standing)
-    requires size { length nodes.old ≡ 2 * places }
-    requires within { standing.place < places }
-    requires decided { DecidedBut nodes.old 0 }
-    ensures decided { DecidedBut nodes.new 0 }
-    ensures here { standing_at nodes.new (places + standing.place) ≡ standing }
-    ensures others { (i : ℕ) → length nodes.old ≤ 2 * i → i ≢ places + standing.place → standing_at nodes.new i ≡ standing_at nodes.old i }
-{
-    let leaf = places + standing.place as usize;
-    // An alarm often stays, and a packet mostly comes behind others.
-    if nodes[leaf] == standing {
-        return;
-    }
-    nodes[leaf] = standing;
-    settle(nodes, leaf / 2);
-}
-
-// A place with no key. Its time is its number, so that two such differ at once.
-fn vacant(place: u32) -> Standing
-    ensures place { result.place ≡ place }
-    ensures held { result.held ≡ false }
-{
-    Standing {
-        key: Key {
-            time: u64::from(place),
-            node: 0,
-            source: 0,
-            number: 0,
-        },
-        place,
-        held: false,
-    }
-}
-
-// What a place with this key, or none, stands by.
-fn standing_of(place: u32, key: Option<Key>) -> Standing
-    ensures place { result.place ≡ place }
-    ensures rank { rank_of result ≡ key }
-{
-    match key {
-        Some(key) => Standing {
-            key,
-            place,
-            held: true,
-        },
-        None => vacant(place),
-    }
+    Ok(leaves)
 }
 
 impl Ranking {
@@ -104,38 +50,84 @@ impl Ranking {
         requires { places ≤ 2 ^ 31 }
         ensures { IfOk result (λ ranking. ranking ≡ replicate places None) }
     {
-        let mut nodes = vec![in alloc; vacant(0); 2 * places]?;
-        for place in 0..places {
-            stand(&mut nodes, places, vacant(place as u32));
-        }
-        Ok(Ranking { nodes, places })
+        let leaves = vacancies(alloc, places)?;
+        let winners = all_games(alloc, &leaves)?;
+        Ok(Ranking { leaves, winners })
     }
 
     /// How many places.
     pub fn places(&self) -> usize
         ensures { result ≡ length self.now }
     {
-        self.places
+        self.leaves.len()
     }
 
     /// Gives a place this key, or none.
+    #[inline(always)]
     pub fn set(&mut self, place: usize, key: Option<Key>)
         requires { place < length self.old }
         ensures { self.new ≡ slice_set self.old place key }
     {
-        stand(&mut self.nodes, self.places, standing_of(place as u32, key));
+        match key {
+            Some(key) => self.hold(place, key.time, key.node, key.source, key.number),
+            None => self.vacate(place),
+        }
+    }
+
+    // Gives a place the key of these numbers.
+    #[inline(never)]
+    fn hold(&mut self, place: usize, time: Time, node: u16, source: u16, number: u64)
+        requires { place < length self.old }
+        ensures { self.new ≡ slice_set self.old place (Some (record { time = time; node = node; source = source; number = number })) }
+    {
+        let key = Key {
+            time,
+            node,
+            source,
+            number,
+        };
+        self.put(place, key, true);
+    }
+
+    // Takes a place's key away.
+    #[inline(never)]
+    fn vacate(&mut self, place: usize)
+        requires { place < length self.old }
+        ensures { self.new ≡ slice_set self.old place None }
+    {
+        self.put(place, no_key(), false);
+    }
+
+    // Gives a place this key, where it is held, and none otherwise.
+    #[inline(always)]
+    fn put(&mut self, place: usize, key: Key, held: bool)
+        requires place { place < length self.old }
+        requires fits { key.time < 2 ^ 64 }
+        requires none { held ≡ false → key ≡ vacant_key }
+        ensures { self.new ≡ slice_set self.old place (if held then Some key else None) }
+    {
+        let time = key.time;
+        let leaf = &mut self.leaves[place];
+        // An alarm often stays.
+        if leaf.key.time == time && leaf.held == held && leaf.key == key {
+            return;
+        }
+        leaf.key = key;
+        leaf.held = held;
+        games_above(&self.leaves, &mut self.winners, place as u32);
     }
 
     /// The place of the least key, the lowest such place, and the key.
     pub fn first(&self) -> Option<(usize, Key)>
         ensures { MatchOption result ((place : ℕ) → rank_at self.now place ≡ None) (λ entry. Leads self.now entry.0 entry.1) }
     {
-        if self.places == 0 {
+        if self.leaves.is_empty() {
             return None;
         }
-        let root = &self.nodes[1];
-        if root.held {
-            Some((root.place as usize, root.key))
+        let place = self.winners[1] as usize;
+        let leaf = &self.leaves[place];
+        if leaf.held {
+            Some((place, leaf.key))
         } else {
             None
         }
@@ -146,8 +138,8 @@ impl Ranking {
         ensures { IfOk result (λ ranking. ranking ≡ self.now) }
     {
         Ok(Ranking {
-            nodes: self.nodes.clone()?,
-            places: self.places,
+            leaves: self.leaves.clone()?,
+            winners: self.winners.clone()?,
         })
     }
 }

@@ -1,14 +1,14 @@
 //! A key at its place, and which of two comes first.
-ghost use Rattle.std.specs.Prelude.{◌≡◌, ◌+◌, ◌*◌, ◌<◌, length};
+ghost use Rattle.std.specs.Prelude.{◌≡◌, ◌<◌, ◌≤◌, length, false};
 ghost use Rattle.std.specs.Ordering.{is_lt};
-ghost use Rattle.ranking.specs.Tournament.{standing_cmp, first_of, standing_at};
+ghost use Rattle.ranking.specs.Tournament.{standing_cmp, standing_at, first_place, vacant_key, IsDated};
 
 use sim_time::{Key, key_order};
 
 /// What a place has: a key, or none.
 #[derive(Clone, Copy, Debug, PartialEq, Eq)]
 pub struct Standing {
-    /// The key, where there is one.
+    /// The key, where there is one. Where there is none its time is the greatest.
     pub key: Key,
     /// The place's number.
     pub place: u32,
@@ -16,29 +16,66 @@ pub struct Standing {
     pub held: bool,
 }
 
-// Whether `a` comes before `b`: a key before none, the lesser key, the lower place. Times mostly
-// differ, so they are compared before the rest.
-fn precedes(a: &Standing, b: &Standing) -> bool
+/// The key of a place that has none.
+#[inline(always)]
+pub(crate) fn no_key() -> Key
+    ensures { result ≡ vacant_key }
+{
+    Key {
+        time: u64::MAX,
+        node: 0,
+        source: 0,
+        number: 0,
+    }
+}
+
+/// A place with no key.
+pub(crate) fn vacant(place: u32) -> Standing
+    ensures place { result.place ≡ place }
+    ensures held { result.held ≡ false }
+    ensures dated { IsDated result }
+{
+    Standing {
+        key: no_key(),
+        place,
+        held: false,
+    }
+}
+
+// Whether `a` comes before `b`, where times are equal: a key before none, the lesser key, the lower
+// place.
+#[inline]
+fn precedes_at_once(a: &Standing, b: &Standing) -> bool
+    requires { a.now.key.time ≡ b.now.key.time }
     ensures { result ≡ is_lt (standing_cmp a.now b.now) }
 {
     if a.held != b.held {
         return a.held;
     }
-    if a.key.time != b.key.time {
-        return a.key.time < b.key.time;
+    if !a.held {
+        return false;
     }
     key_order(&a.key, &b.key)
         .then(a.place.cmp(&b.place))
         .is_lt()
 }
 
-/// The first of the two below a node.
-pub fn winner(nodes: &[Standing], at: usize) -> Standing
-    requires { 2 * at + 1 < length nodes.now }
-    ensures { result ≡ first_of (standing_at nodes.now (2 * at)) (standing_at nodes.now (2 * at + 1)) }
+/// Which of two places comes first.
+#[inline]
+pub(crate) fn first_of(leaves: &[Standing], left: u32, right: u32) -> u32
+    requires left { left < length leaves.now }
+    requires right { right < length leaves.now }
+    ensures first { result ≡ first_place leaves.now left right }
+    ensures within { result < length leaves.now }
 {
-    let left = 2 * at;
-    // Which one it is cannot be foreseen, so the index is reckoned and not branched on.
-    let first = left + usize::from(precedes(&nodes[left + 1], &nodes[left]));
-    nodes[first]
+    let (l, r) = (&leaves[left as usize], &leaves[right as usize]);
+    // Times mostly differ, so they are compared before the rest.
+    if l.key.time < r.key.time {
+        return left;
+    }
+    if r.key.time < l.key.time || precedes_at_once(r, l) {
+        right
+    } else {
+        left
+    }
 }

@@ -137,6 +137,6 @@ impl Sender {
         requires { IsPlanOf self.old plan }
         ensures { self.new ≡ plan.fields }
     {
-        self.fields = plan.fields();
+        self.fields = *plan.as_fields();
     }
 }

@@ -32,12 +32,30 @@ fn append_act(act: &Act, out: &mut Vec<u8>) -> Result<(), AllocError>
     out.extend_from_slice(&bytes[start..])
 }
 
+/// Writes one act or none before `end`, after a space, and answers where it starts.
+#[inline(always)]
+pub(crate) fn put_acts(bytes: &mut [u8], end: usize, acts: &[Act]) -> usize
+    requires few { length acts.now ≤ 1 }
+    requires within { end ≤ length bytes.old }
+    requires room { ROOM ≤ end }
+    ensures written { drop result bytes.new ≡ spaced (map act_word acts.now) ++ drop end bytes.old }
+    ensures below { result ≤ end }
+    ensures short { end ≤ result + ROOM }
+{
+    match acts.first() {
+        Some(act) => put_act(bytes, end, act),
+        None => end,
+    }
+}
+
 /// Writes an act before `end`, and answers where it starts.
+#[inline(always)]
 fn put_act(bytes: &mut [u8], end: usize, act: &Act) -> usize
     requires within { end ≤ length bytes.old }
     requires room { ROOM ≤ end }
     ensures written { drop result bytes.new ≡ codes " " ++ act_word act.now ++ drop end bytes.old }
     ensures below { result ≤ end }
+    ensures short { end ≤ result + ROOM }
 {
     match act {
         Act::Tx(link, packet) => {
@@ -53,6 +71,7 @@ fn put_act(bytes: &mut [u8], end: usize, act: &Act) -> usize
 }
 
 /// Writes the flow and the number of a packet, each after a colon.
+#[inline(always)]
 fn put_packet(bytes: &mut [u8], end: usize, packet: &Packet) -> usize
     requires within { end ≤ length bytes.old }
     requires room { 27 ≤ end }
@@ -67,12 +86,14 @@ fn put_packet(bytes: &mut [u8], end: usize, packet: &Packet) -> usize
 }
 
 /// Writes that a packet was dropped, and why.
+#[inline(always)]
 fn put_drop(bytes: &mut [u8], end: usize, reason: DropReason) -> usize
     requires within { end ≤ length bytes.old }
     requires room { 11 ≤ end }
     ensures written { drop result bytes.new
         ≡ codes " drop=" ++ reason_name reason ++ drop end bytes.old }
     ensures below { result ≤ end }
+    ensures short { end ≤ result + 11 }
 {
     match reason {
         DropReason::Lost => put_text(bytes, end, b" drop=lost"),

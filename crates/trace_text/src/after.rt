@@ -8,6 +8,7 @@ use node_core::After;
 use reno_sender::SenderFields;
 
 /// Writes a node's state before `end`, and answers where it starts.
+#[inline(always)]
 pub(crate) fn put_after(bytes: &mut [u8], end: usize, after: &After) -> usize
     requires within { end ≤ length bytes.old }
     requires room { 115 ≤ end }
@@ -23,6 +24,7 @@ pub(crate) fn put_after(bytes: &mut [u8], end: usize, after: &After) -> usize
 }
 
 /// Writes the state of a sender.
+#[inline(always)]
 fn put_sender(bytes: &mut [u8], end: usize, fields: &SenderFields) -> usize
     requires within { end ≤ length bytes.old }
     requires room { 115 ≤ end }

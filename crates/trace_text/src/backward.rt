@@ -1,5 +1,5 @@
 //! Texts that are written from their end to their beginning.
-ghost use Rattle.std.specs.Prelude.{◌≡◌, ◌+◌, ◌≤◌, ◌++◌, length, drop, decimal};
+ghost use Rattle.std.specs.Prelude.{◌≡◌, ◌+◌, ◌<◌, ◌≤◌, ◌++◌, length, drop, decimal};
 
 use itoa::write_digits;
 
@@ -48,5 +48,22 @@ pub(crate) fn put_small(bytes: &mut [u8], end: usize, n: u16) -> usize
     ensures below { result ≤ end }
     ensures short { end ≤ result + 5 }
 {
+    if n < 10 {
+        return put_digit(bytes, end, n as u8);
+    }
     write_digits(u64::from(n), bytes, end)
+}
+
+/// Writes a digit before `end`, and answers where it stands. Most nodes, flows and links have one.
+#[inline(always)]
+fn put_digit(bytes: &mut [u8], end: usize, n: u8) -> usize
+    requires within { end ≤ length bytes.old }
+    requires room { 1 ≤ end }
+    requires digit { n < 10 }
+    ensures written { drop result bytes.new ≡ decimal n ++ drop end bytes.old }
+    ensures place { result + 1 ≡ end }
+{
+    let at = end - 1;
+    bytes[at] = b'0' + n;
+    at
 }

@@ -9,6 +9,7 @@ use packet_chain::{Kind, Packet};
 use sim_time::Key;
 
 /// Writes the four numbers of a key before `end`, and answers where they start.
+#[inline(always)]
 pub(crate) fn put_key(bytes: &mut [u8], end: usize, key: &Key) -> usize
     requires within { end ≤ length bytes.old }
     requires room { 54 ≤ end }
@@ -27,6 +28,7 @@ pub(crate) fn put_key(bytes: &mut [u8], end: usize, key: &Key) -> usize
 }
 
 /// Writes what an event was before `end`, and answers where it starts.
+#[inline(always)]
 pub(crate) fn put_event(bytes: &mut [u8], end: usize, event: &Event) -> usize
     requires within { end ≤ length bytes.old }
     requires room { 32 ≤ end }
@@ -44,6 +46,7 @@ pub(crate) fn put_event(bytes: &mut [u8], end: usize, event: &Event) -> usize
 }
 
 /// Writes which packet arrived.
+#[inline(always)]
 fn put_arrival(bytes: &mut [u8], end: usize, packet: &Packet) -> usize
     requires within { end ≤ length bytes.old }
     requires room { 32 ≤ end }

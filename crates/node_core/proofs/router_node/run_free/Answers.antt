@@ -1,9 +1,7 @@
 use Rattle.std.proofs.Common.{◌≡◌, ◌+◌, ◌-◌, ◌<◌, ◌≤◌, ℕ, suc, None, length, get_or, sym, ap, ◌∙◌, arith}
 use Rattle.std.proofs.lemmas.List.{get_or_read, length-map}
 use Rattle.port.specs.Port.{PortState, taken}
-use Rattle.node_core.specs.AgendaState.{AgendaState}
 use Rattle.node_core.specs.Part.{LinkState, link_at, no_link}
-use Rattle.node_core.specs.Passing.{passed}
 use Rattle.node_core.proofs.Passages.{taken_link}
 use Rattle.node_core.proofs.Steps.{alarm_at, pass_runs, free_alarms}
 use Rattle.node_core.proofs.router_node.run_free.Goals as goal
@@ -28,8 +26,7 @@ returns-clause-ran c =
     let is_step = c.requires.in_step in
     let within : place < length links = place_within c.args.key.number (length links) (length c.args.agenda.now.alarms) c.requires.alarm.within (ap length is_step.alarms ∙ ap (λ n. suc (suc (suc n))) (length-map links (λ (l : LinkState). l.port.next_free))) c.requires.number in
     let is : c.index_mut-link.result.now ≡ link_at links place = get_or_read links place c.index_mut-link.result.now within c.index_mut-link.ensures.value no_link in
-    let agenda = c.free-departs.ensures.agenda ∙ ap (λ (s : AgendaState). passed s place (taken c.args.key.time c.index_mut-link.result.now.port)) c.take-cell.ensures.state in
     pass_runs c.args.role.now links c.args.agenda.now is_step c.args.key place within (λ (p : PortState). taken c.args.key.time p) (get_or c.args.agenda.now.alarms 0 None) None
     (free_alarms c.args.role.now links c.args.agenda.now is_step c.args.key place within c.requires.alarm (omega (arith, c.requires.number)))
-    (taken_link c.args.key.time (link_at links place).port) c.index_mut-link.result.now c.free-departs.new.link is c.free-departs.ensures.link c.free-departs.new.agenda agenda
+    (taken_link c.args.key.time (link_at links place).port) c.index_mut-link.result.now c.free-departs.new.link is c.free-departs.ensures.link c.free-departs.new.agenda c.free-departs.ensures.agenda
     c.args.out.now c.chain-chain.result.now c.free-departs.new.out c.chain-chain.ensures.value c.free-departs.ensures.departed

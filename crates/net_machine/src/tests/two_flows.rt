@@ -1,0 +1,145 @@
+//! Two flows over one router: every kind of event at every kind of node, and each request for
+//! memory refused in turn by `rt try --test --fail-alloc N`.
+use crate::net::{Net, StepFault};
+use crate::tests::{link, route};
+use node_core::{After, Line};
+use scenario_image::{FlowPart, LinkPart, NodeKind, Records, Scenario, ScenarioParts};
+use sim_time::Key;
+use std::alloc::Global;
+use std::process::Abort;
+use std::test::Fail;
+
+// Links of the senders (0 and 1, which loses its second packet), of the router to the receivers (2
+// and 3), of the receivers (4 and 5), and of the router to the senders (6 and 7).
+fn links(alloc: Global) -> Result<Vec<LinkPart>, Fail> {
+    let mut links = Vec::new(alloc);
+    for (from, to) in [
+        (0, 2),
+        (1, 2),
+        (2, 3),
+        (2, 4),
+        (3, 2),
+        (4, 2),
+        (2, 0),
+        (2, 1),
+    ] {
+        let mut part = link(alloc, from, to);
+        if from == 1 {
+            part.lose = Records::new(vec![in alloc; 2]?);
+        }
+        links.push(part)?;
+    }
+    Ok(links)
+}
+
+// So many segments, which are acknowledged after so many nanoseconds.
+fn flow(sender: u16, receiver: u16, segments: u32, delack: u32) -> FlowPart {
+    FlowPart {
+        sender,
+        receiver,
+        mss: 1_000,
+        segments,
+        start: 0,
+        rwnd: 64_000,
+        delack,
+    }
+}
+
+// Flow 0 has one segment, whose acknowledgement is delayed; flow 1 has two, of which the second is
+// lost.
+fn two_flows(alloc: Global) -> Result<Scenario, Fail> {
+    let nodes = [
+        NodeKind::Sender,
+        NodeKind::Sender,
+        NodeKind::Router,
+        NodeKind::Receiver,
+        NodeKind::Receiver,
+    ];
+    let flows = [flow(0, 3, 1, 40_000_000), flow(1, 4, 2, 0)];
+    let routes = [
+        route(2, 0, 6),
+        route(2, 1, 7),
+        route(2, 3, 2),
+        route(2, 4, 3),
+    ];
+    let parts = ScenarioParts {
+        end: 3_000_000_000,
+        nodes: Records::new(Vec::from_slice(alloc, &nodes)?),
+        links: Records::new(links(alloc)?),
+        flows: Records::new(Vec::from_slice(alloc, &flows)?),
+        routes: Records::new(Vec::from_slice(alloc, &routes)?),
+    };
+    Ok(Scenario::of_parts(parts).map_err(|_| "scenario")?)
+}
+
+// The key of each event, and how many acts it does: what the tables say, reckoned by hand.
+const EVENTS: [(u64, u16, u16, u64, usize); 28] = [
+    (0, 0, 0, 0, 1),
+    (0, 1, 0, 0, 2),
+    (1_040_000, 0, 0, 3, 0),
+    (1_040_000, 1, 0, 3, 0),
+    (2_040_000, 2, 1, 1, 1),
+    (2_040_000, 2, 2, 1, 1),
+    (3_080_000, 2, 0, 3, 0),
+    (3_080_000, 2, 0, 4, 0),
+    (4_080_000, 3, 3, 1, 0),
+    (4_080_000, 4, 4, 1, 1),
+    (4_120_000, 4, 0, 3, 0),
+    (5_120_000, 2, 6, 1, 1),
+    (5_160_000, 2, 0, 6, 0),
+    (6_160_000, 1, 8, 1, 0),
+    (44_080_000, 3, 0, 2, 1),
+    (44_120_000, 3, 0, 3, 0),
+    (45_120_000, 2, 5, 1, 1),
+    (45_160_000, 2, 0, 5, 0),
+    (46_160_000, 0, 7, 1, 0),
+    (1_006_160_000, 1, 0, 1, 1),
+    (1_007_200_000, 1, 0, 3, 0),
+    (1_008_200_000, 2, 2, 2, 1),
+    (1_009_240_000, 2, 0, 4, 0),
+    (1_010_240_000, 4, 4, 2, 1),
+    (1_010_280_000, 4, 0, 3, 0),
+    (1_011_280_000, 2, 6, 2, 1),
+    (1_011_320_000, 2, 0, 6, 0),
+    (1_012_320_000, 1, 8, 2, 0),
+];
+
+// Runs an event. Where memory is refused, it is run once more: no router asks for any.
+fn run_next(rt: &impl Abort, net: &mut Net, line: &mut Line) -> Result<bool, Fail> {
+    match net.step_into(line) {
+        Ok(fired) => Ok(fired),
+        Err(StepFault::CountFull) => Err(Fail::from("count")),
+        Err(StepFault::NoMemory) => {
+            let fired = net.step_into(line).map_err(|_| "step")?;
+            assert!(rt; fired && line.after != After::AtRouter);
+            Ok(fired)
+        }
+    }
+}
+
+// Runs all events, and compares what each was.
+fn runs_all(rt: &impl Abort, net: &mut Net, line: &mut Line) -> Result<(), Fail> {
+    for (time, node, source, number, acts) in EVENTS {
+        let fired = run_next(rt, net, line)?;
+        let key = Key {
+            time,
+            node,
+            source,
+            number,
+        };
+        assert!(rt; fired);
+        assert_eq!(rt; line.key, key);
+        assert_eq!(rt; line.acts.as_slice().len(), acts);
+    }
+    let fired = run_next(rt, net, line)?;
+    assert!(rt; !fired);
+    Ok(())
+}
+
+#[test]
+fn every_event_is_run_also_where_memory_was_refused(rt: HostRuntime) -> Result<(), Fail> {
+    let scenario = two_flows(rt.alloc())?;
+    let mut net = Net::new(rt.alloc(), &scenario)?;
+    let mut line = Line::new(rt.alloc());
+    runs_all(&rt, &mut net, &mut line)
+}

@@ -1,0 +1,74 @@
+//! A tree of winners over places, flat: node j has the first of what nodes 2j and 2j + 1 have, and
+//! the last half of the nodes have the places themselves.
+ghost use Rattle.std.specs.Prelude.{◌≡◌, ℕ, ◌+◌, ◌*◌, ◌^◌, ◌<◌, ◌≤◌, length, IfOk};
+ghost use Rattle.ranking.specs.Tournament.{AllWon, AreOwn, AreWithin, won_below};
+ghost use Rattle.ranking.specs.Replayed.{WonAside};
+
+use crate::standing::{Standing, first_of};
+use std::alloc::{AllocError, Global};
+
+// Plays the game of a node: which place comes first below it.
+#[inline]
+fn winner(leaves: &[Standing], winners: &[u32], at: usize) -> u32
+    requires below { 2 * at + 1 < length winners.now }
+    requires within { AreWithin (length leaves.now) winners.now }
+    ensures first { result ≡ won_below leaves.now winners.now at }
+    ensures within { result < length leaves.now }
+{
+    first_of(leaves, winners[2 * at], winners[2 * at + 1])
+}
+
+/// Plays the games above a place, whose standing has changed, from the place up to the root.
+pub(crate) fn games_above(leaves: &[Standing], winners: &mut [u32], place: u32)
+    requires size { length winners.old ≡ 2 * length leaves.now }
+    requires place { place < length leaves.now }
+    requires within { AreWithin (length leaves.now) winners.old }
+    requires own { AreOwn (length leaves.now) winners.old }
+    requires aside { WonAside leaves.now winners.old place }
+    ensures within { AreWithin (length leaves.now) winners.new }
+    ensures own { AreOwn (length leaves.now) winners.new }
+    ensures won { AllWon leaves.now winners.new }
+{
+    let mut at = (leaves.len() + place as usize) / 2;
+    while at > 0 {
+        let first = winner(leaves, winners, at);
+        // Where another stays first, nothing above changes.
+        if first != place && winners[at] == first {
+            return;
+        }
+        winners[at] = first;
+        at /= 2;
+    }
+}
+
+/// The tree of these places: each game is played after those below it.
+pub(crate) fn all_games(alloc: Global, leaves: &[Standing]) -> Result<Vec<u32>, AllocError>
+    requires { length leaves.now ≤ 2 ^ 31 }
+    ensures size { IfOk result (λ winners. length winners.items ≡ 2 * length leaves.now) }
+    ensures within { IfOk result (λ winners. AreWithin (length leaves.now) winners.items) }
+    ensures own { IfOk result (λ winners. AreOwn (length leaves.now) winners.items) }
+    ensures won { IfOk result (λ winners. AllWon leaves.now winners.items) }
+{
+    let mut winners = vec![in alloc; 0u32; leaves.len()]?;
+    for place in 0..leaves.len() {
+        winners.push(place as u32)?;
+    }
+    play_all(leaves, &mut winners);
+    Ok(winners)
+}
+
+// Plays each game after those below it.
+fn play_all(leaves: &[Standing], winners: &mut [u32])
+    requires size { length winners.old ≡ 2 * length leaves.now }
+    requires within { AreWithin (length leaves.now) winners.old }
+    requires own { AreOwn (length leaves.now) winners.old }
+    ensures within { AreWithin (length leaves.now) winners.new }
+    ensures own { AreOwn (length leaves.now) winners.new }
+    ensures won { AllWon leaves.now winners.new }
+{
+    let mut at = leaves.len();
+    while at > 1 {
+        at -= 1;
+        winners[at] = winner(leaves, winners, at);
+    }
+}
