@@ -1,5 +1,5 @@
 //! Breakpoints: which lines of the trace a run stops at.
-ghost use Rattle.std.specs.Prelude.{◌≡◌, ◌↔◌, ◌<◌, ◌≤◌, [], ◌∷◌, ◌++◌, Contains, IsTrue, IfOk, IfErr, OnErr, length};
+ghost use Rattle.std.specs.Prelude.{◌≡◌, ◌↔◌, ◌<◌, ◌≤◌, [], ◌∷◌, ◌++◌, Contains, IsTrue, MatchBool, IfOk, IfErr, OnErr, length};
 ghost use Rattle.std.specs.List.{list_any};
 ghost use Rattle.node_core.specs.TraceLine.{shown};
 ghost use Rattle.debugger.specs.Breaks.{flow_of, kind_of, is_drop, Matches, IsHit};
@@ -142,6 +142,14 @@ impl Breaks {
         ensures { IsTrue result ↔ (length self.now ≡ 0) }
     {
         self.items.is_empty()
+    }
+
+    /// Whether this one is set.
+    pub fn contains(&self, b: Break) -> bool
+        ensures value { MatchBool result (Contains self.now b) (¬ Contains self.now b) }
+        ensures few { length self.now ≤ 64 }
+    {
+        self.items.contains(&b)
     }
 
     /// Sets one more, and answers how many are set then. One that is set already stays.

@@ -5,6 +5,8 @@ pub mod breaks;
 pub mod moves;
 pub mod reached;
 pub mod saved;
+#[cfg(test)]
+mod tests;
 pub mod walk;
 
 pub use breaks::{Break, BreakFault, Breaks, EventKind};

@@ -1,9 +1,10 @@
 //! The debugger: it stands at a position of a scenario's run, and moves both ways.
-ghost use Rattle.std.specs.Prelude.{◌≡◌, ◌-◌, ◌<◌, ◌≤◌, [], ◌∷◌, ◌++◌, true, false, Contains, IfOk, IfErr, OnErr, MatchResult, Some, None, Ok, Err, length};
+ghost use Rattle.std.specs.Prelude.{◌≡◌, ◌-◌, ◌<◌, ◌≤◌, [], ◌∷◌, ◌++◌, true, false, Contains, IfOk, IfErr, OnOk, OnErr, MatchBool, MatchResult, Some, None, Ok, Err, length};
 ghost use Rattle.table_run.specs.State.{opening};
 ghost use Rattle.net_machine.specs.Run.{Reached};
 ghost use Rattle.debugger.specs.Moves.{Passes, StepGoesTo, RunGoesTo, UntilGoesTo, IsTooLong};
 ghost use Rattle.debugger.specs.Debugging.{opened, HasMoved};
+ghost use Rattle.trace_text.specs.Dump.{dump_bytes};
 
 use crate::breaks::{Break, BreakFault, Breaks};
 use crate::reached::{net_after, net_at, net_at_break, net_at_time};
@@ -16,6 +17,7 @@ use sim_time::{Key, Time};
 use std::alloc::{AllocError, Global};
 use std::marker::Model;
 use std::mem;
+use trace_text::dump_text;
 
 /// A debugger of one scenario.
 #[derive(Drop)]
@@ -150,6 +152,22 @@ impl Debugger {
             }
             None => false,
         }
+    }
+
+    /// Appends the dump of the state that is shown, or nothing.
+    pub fn state_text(&self, out: &mut Vec<u8>) -> Result<(), AllocError>
+        ensures ok { OnOk result (out.new.items ≡ out.old.items ++ dump_bytes self.now.shown) }
+        ensures err { OnErr result (out.new.items ≡ out.old.items) }
+    {
+        dump_text(&self.net, out)
+    }
+
+    /// Whether a breakpoint is set.
+    pub fn has_break(&self, b: Break) -> bool
+        ensures value { MatchBool result (Contains self.now.breaks b) (¬ Contains self.now.breaks b) }
+        ensures few { length self.now.breaks ≤ 64 }
+    {
+        self.breaks.contains(b)
     }
 
     /// Sets a breakpoint, and answers how many are set then. One that is set already stays.

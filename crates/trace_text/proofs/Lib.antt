@@ -1,1 +1,3 @@
 mod Lines
+mod DumpLines
+mod InKeyOrder

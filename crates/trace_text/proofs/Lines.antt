@@ -10,7 +10,7 @@ use Rattle.trace_text.specs.Line.{line_bytes, key_words, event_words, after_word
 spaced-append : (a b : List (List ℕ)) → spaced (a ++ b) ≡ spaced a ++ spaced b
 spaced-append a b = flat_map-append (λ word. codes " " ++ word) a b
 
-line_of_parts : (n : List ℕ) (key event after acts : List (List ℕ))
+pub line_of_parts : (n : List ℕ) (key event after acts : List (List ℕ))
     → line_of (n ∷ key ++ event ++ after ++ acts)
     ≡ n ++ spaced key ++ spaced event ++ spaced after ++ spaced acts ++ codes "\n"
 line_of_parts n key event after acts =

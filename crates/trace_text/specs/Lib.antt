@@ -1,4 +1,5 @@
 pub mod Words
 pub mod Line
 pub mod End
+pub mod Dump
 pub use Rattle.node_core.specs.TraceLine

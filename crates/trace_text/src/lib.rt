@@ -1,14 +1,16 @@
-//! The text of a trace: one line for each event, and a last one.
+//! The text of a trace, one line for each event and a last one, and the dump of a net.
 #![tactic(auto)]
 
 mod act;
 mod after;
 mod backward;
+mod dump;
 mod end;
 mod event;
 mod line;
 #[cfg(test)]
 mod tests;
 
+pub use dump::dump_text;
 pub use end::end_text;
 pub use line::line_text;

@@ -1,15 +1,11 @@
-use Rattle.std.proofs.Common.{arith}
+use Rattle.std.proofs.Common.{◌≡◌, ◌++◌, ℕ, List, OnOk, decimal, map, subst, sym}
 use Rattle.node_core.specs.TraceLine.{shown}
-use Rattle.trace_text.proofs.Lines.{line_appended, take_shorter}
-use Rattle.std.proofs.lemmas.Grind.{common_steps}
+use Rattle.trace_text.proofs.Lines.{line_of_parts}
+use Rattle.trace_text.specs.Line.{key_words, event_words, after_words, act_word}
 use Rattle.trace_text.proofs.line.append_line.Goals as goal
 
-pub returns-in_err-append_acts-clause-err : goal.returns-in_err-append_acts-clause-err
-returns-in_err-append_acts-clause-err c =
-    grind (arith, common_steps, take_shorter, c.in_ok-append_head.ensures.ok, c.in_err-append_acts.ensures.err)
-
-pub returns-clause-ok : goal.returns-clause-ok
-returns-clause-ok c =
+pub returns-then-as_slice-le1-clause-ok : goal.returns-then-as_slice-le1-clause-ok
+returns-then-as_slice-le1-clause-ok c =
     let t = shown c.args.line.now in
-    line_appended c.args.n t c.args.out.now.items c.append_head.new.out.items c.append_acts.new.out.items _
-    (cc c.in_ok-append_head.ensures.ok) (cc c.in_ok-append_acts.ensures.ok) c.in_ok-push.ensures.items
+    subst (λ (bytes : List ℕ). OnOk c.append_short.result (c.append_short.new.out.items ≡ c.args.out.now.items ++ bytes))
+    (sym (line_of_parts (decimal c.args.n) (key_words t.key) (event_words t.event) (after_words t.after) (map act_word t.acts))) c.append_short.ensures.ok

@@ -1,0 +1,6 @@
+pub mod Words
+pub mod Parted
+pub mod Moved
+pub mod Setting
+pub mod Running
+pub mod Meanings

@@ -1,0 +1,65 @@
+-- What a session answers where a breakpoint is asked for.
+use Rattle.std.proofs.Common.{◌≡◌, ◌<◌, ◌≤◌, ◌⊎◌, ◌++◌, ◌∷◌, [], ℕ, List, Bool, true, false, MatchBool, length, inl, inr, ⊎_elim, sym, ap, ◌∙◌, arith, length-append, Result, Ok, Err}
+use Rattle.std.proofs.lemmas.Bool.{cases_lt}
+use Rattle.std.specs.List.{Contains}
+use Rattle.std.specs.Result.{is_ok}
+use Rattle.std.proofs.lemmas.Bool.{false≢true}
+use Rattle.debugger.specs.declared.breaks.Break.{Break}
+use Rattle.debugger.specs.declared.breaks.BreakFault.{BreakFault}
+use Rattle.debugger.specs.declared.breaks.BreakFault.TheVariants.{TooMany, NoMemory}
+use Rattle.debugger.specs.Debugging.{Debugging}
+use Rattle.debug_session.specs.declared.command.Command.TheVariants.{SetBreak}
+use Rattle.debug_session.specs.declared.refusal.Refusal.TheVariants.{B4, M}
+use Rattle.debug_session.specs.Answers.{standing, Obeys, break_line, refusal_line}
+
+pub decided : (P : Type 0) (b : Bool) → MatchBool b P (¬ P) → P ⊎ (¬ P)
+decided P true h = inl h
+decided P false h = inr h
+
+-- a debugger whose breakpoints alone changed
+stands : (old new : Debugging) → new ≡ record old { breaks = new.breaks } → (breaks : List Break) → new.breaks ≡ breaks → standing new ≡ record { shown = old.shown; breaks = breaks }
+stands old new same breaks is = let shown : new.shown ≡ old.shown = ap (λ (d : Debugging). d.shown) same in λ i. record { shown = shown i; breaks = is i }
+
+pub set_done : (b : Break) (old new : Debugging) (n : ℕ) (out : List ℕ) → Contains old.breaks b ⊎ (¬ Contains old.breaks b) → length old.breaks ≤ 64
+    → new ≡ record old { breaks = new.breaks } → n ≡ length new.breaks → (Contains old.breaks b → new ≡ old) → (¬ Contains old.breaks b → new.breaks ≡ old.breaks ++ b ∷ [])
+    → (¬ Contains old.breaks b → length old.breaks ≡ 64 → ⊥) → out ≡ break_line n → Obeys old.start (SetBreak b) (standing old) (standing new) out
+set_done b old new n out known few same count again fresh full told =
+    inl (⊎_elim
+    (λ (has : Contains old.breaks b).
+    let kept : new ≡ old = again has in
+    inl (has, record { same = ap standing kept; told = told ∙ ap break_line (count ∙ ap (λ (d : Debugging). length d.breaks) kept) }))
+    (λ (hasn't : ¬ Contains old.breaks b).
+    let joined : new.breaks ≡ old.breaks ++ b ∷ [] = fresh hasn't in
+    inr (inl (record {
+      fresh = hasn't;
+      few = ⊎_elim (λ (under : length old.breaks < 64). under) (λ (past : 64 ≤ length old.breaks). absurd (full hasn't (omega (arith, past, few)))) (cases_lt (length old.breaks) 64);
+      joined = stands old new same (old.breaks ++ b ∷ []) joined;
+      told = told ∙ ap break_line (count ∙ ap length joined ∙ length-append old.breaks (b ∷ []));
+    })))
+    known)
+
+pub set_full : (b : Break) (old new : Debugging) (out : List ℕ) → Contains old.breaks b ⊎ (¬ Contains old.breaks b) → length old.breaks ≤ 64
+    → new ≡ old → (Contains old.breaks b → ⊥) → (length old.breaks < 64 → ⊥) → out ≡ refusal_line B4 → Obeys old.start (SetBreak b) (standing old) (standing new) out
+set_full b old new out known few same again room told =
+    let many : length old.breaks ≡ 64 = ⊎_elim (λ (under : length old.breaks < 64). absurd (room under)) (λ (past : 64 ≤ length old.breaks). omega (arith, past, few)) (cases_lt (length old.breaks) 64) in
+    inl (inr (inr (again, many, record { same = ap standing same; told = told })))
+
+pub set_refused : (b : Break) (old new : Debugging) (out : List ℕ) → length old.breaks ≤ 64
+    → new ≡ old → (Contains old.breaks b → ⊥) → (¬ Contains old.breaks b → length old.breaks ≡ 64 → ⊥) → out ≡ refusal_line M → Obeys old.start (SetBreak b) (standing old) (standing new) out
+set_refused b old new out few same again full told =
+    let under : length old.breaks < 64 = ⊎_elim (λ (under : length old.breaks < 64). under) (λ (past : 64 ≤ length old.breaks). absurd (full again (omega (arith, past, few)))) (cases_lt (length old.breaks) 64) in
+    inr ((again, under), record { same = ap standing same; told = told })
+
+-- the answers differ
+pub ok_no_err : (n : ℕ) (fault : BreakFault) → Ok n ≡ Err fault → ⊥
+ok_no_err n fault e = false≢true (sym (ap is_ok e))
+
+pub err_no_ok : (n : ℕ) (fault : BreakFault) → Err fault ≡ Ok n → ⊥
+err_no_ok n fault e = false≢true (ap is_ok e)
+
+pub many_no_memory : TooMany ≡ NoMemory → ⊥
+many_no_memory e = cc
+
+abbrev pub fault_of : Result ℕ BreakFault → BreakFault
+fault_of (Ok n) = NoMemory
+fault_of (Err fault) = fault

@@ -1,0 +1,104 @@
+-- What a session answers to a line of commands, and where it stands afterwards.
+use Rattle.std.specs.Prelude.{◌≡◌, ◌<◌, ◌+◌, ◌-◌, ◌⊎◌, ℕ, List, [], ◌∷◌, ◌++◌, length, Contains, codes, decimal, Option, None, Some, Ok, Err}
+use Rattle.table_run.specs.State.{State as NetState}
+use Rattle.net_machine.specs.Run.{Reached}
+use Rattle.trace_text.specs.Words.{line_of}
+use Rattle.trace_text.specs.Dump.{dump_bytes}
+use Rattle.debugger.specs.declared.breaks.Break.{Break}
+use Rattle.debugger.specs.Moves.{Passes, StepGoesTo, RunGoesTo, UntilGoesTo}
+use Rattle.debugger.specs.Debugging.{Debugging}
+use Rattle.debug_session.specs.declared.command.Command.{Command}
+use Rattle.debug_session.specs.declared.command.Command.TheVariants.{Step, Back, Until, Run, State, SetBreak, Clear}
+use Rattle.debug_session.specs.declared.command.Limits.{Limits}
+use Rattle.debug_session.specs.declared.refusal.Refusal.{Refusal}
+use Rattle.debug_session.specs.declared.refusal.Refusal.TheVariants.{B1, B2, B3, B4, M}
+use Rattle.debug_session.specs.Grammar.{Reading, reading}
+
+-- the state that is shown with its position, and the breakpoints that are set
+pub record Standing : Type 0 where
+  pub shown : Reached
+  pub breaks : List Break
+
+abbrev pub standing : Debugging → Standing
+standing d = record { shown = d.shown; breaks = d.breaks }
+
+abbrev pub refusal_code : Refusal → List ℕ
+refusal_code B1 = codes "B1"
+refusal_code B2 = codes "B2"
+refusal_code B3 = codes "B3"
+refusal_code B4 = codes "B4"
+refusal_code M = codes "M"
+
+abbrev pub refusal_line : Refusal → List ℕ
+refusal_line refusal = line_of (codes "refused" ∷ refusal_code refusal ∷ [])
+
+-- so many breakpoints are set
+abbrev pub break_line : ℕ → List ℕ
+break_line count = line_of (codes "break" ∷ decimal count ∷ [])
+
+abbrev pub clear_line : List ℕ
+clear_line = line_of (codes "clear" ∷ [])
+
+-- nothing changes, and this is answered
+pub record Stays (old new : Standing) (out said : List ℕ) : Type 0 where
+  pub same : new ≡ old
+  pub told : out ≡ said
+
+-- the state at a position that the move goes to is shown, and its dump is answered
+pub record Shows (start : NetState) (goes : ℕ → Type 0) (old new : Standing) (out : List ℕ) : Type 0 where
+  pub at : goes new.shown.position
+  pub on_run : Passes start new.shown
+  pub breaks : new.breaks ≡ old.breaks
+  pub told : out ≡ dump_bytes new.shown
+
+-- a breakpoint that is not set yet joins the others
+pub record Joins (b : Break) (old new : Standing) (out : List ℕ) : Type 0 where
+  pub fresh : ¬ Contains old.breaks b
+  pub few : length old.breaks < 64
+  pub joined : new ≡ record old { breaks = old.breaks ++ b ∷ [] }
+  pub told : out ≡ break_line (length old.breaks + 1)
+
+-- a breakpoint is set: one that is set already stays, and there are at most 64
+abbrev pub Sets : Break → Standing → Standing → List ℕ → Type 0
+Sets b old new out =
+    (Contains old.breaks b × Stays old new out (break_line (length old.breaks)))
+    ⊎ Joins b old new out
+    ⊎ (¬ Contains old.breaks b × (length old.breaks ≡ 64) × Stays old new out (refusal_line B4))
+
+-- all breakpoints are taken away
+pub record Clears (old new : Standing) (out : List ℕ) : Type 0 where
+  pub cleared : new ≡ record old { breaks = [] }
+  pub told : out ≡ clear_line
+
+-- a command is done
+abbrev pub Does : NetState → Command → Standing → Standing → List ℕ → Type 0
+Does start (Step count) old new out = Shows start (StepGoesTo start old.shown.position count) old new out
+Does start (Back count) old new out = Shows start (λ p. p ≡ old.shown.position - count) old new out
+Does start (Until time) old new out = Shows start (UntilGoesTo start time old.shown.position) old new out
+Does start Run old new out = Shows start (RunGoesTo start old.breaks old.shown.position) old new out
+Does start State old new out = Shows start (λ p. p ≡ old.shown.position) old new out
+Does start (SetBreak b) old new out = Sets b old new out
+Does start Clear old new out = Clears old new out
+
+-- the command takes memory, or runs events: so it can be refused for want of memory, or as too many events were run
+abbrev pub CanBeRefused : Command → Standing → Type 0
+CanBeRefused (SetBreak b) old = ¬ Contains old.breaks b × (length old.breaks < 64)
+CanBeRefused Clear old = ⊥
+CanBeRefused (Step count) old = Unit {0}
+CanBeRefused (Back count) old = Unit {0}
+CanBeRefused (Until time) old = Unit {0}
+CanBeRefused Run old = Unit {0}
+CanBeRefused State old = Unit {0}
+
+-- a command is done, or refused for want of memory
+abbrev pub Obeys : NetState → Command → Standing → Standing → List ℕ → Type 0
+Obeys start command old new out = Does start command old new out ⊎ (CanBeRefused command old × Stays old new out (refusal_line M))
+
+abbrev pub Follows : NetState → Option Reading → Standing → Standing → List ℕ → Type 0
+Follows start None old new out = Stays old new out []
+Follows start (Some (Err refusal)) old new out = Stays old new out (refusal_line refusal)
+Follows start (Some (Ok command)) old new out = Obeys start command old new out
+
+-- what a line says is followed
+abbrev pub Answers : Limits → NetState → List ℕ → Standing → Standing → List ℕ → Type 0
+Answers limits start line old new out = Follows start (reading limits line) old new out

@@ -1,0 +1,96 @@
+-- The commands, and which refusals their words meet.
+use Rattle.std.specs.Prelude.{ℕ, ◌&&◌, nat_lt, if◌then◌else◌, List, [], ◌∷◌, codes, Option, None, Some, ok_or, Result, Ok, Err}
+use Rattle.std.specs.Str.{bytes_eq}
+use Rattle.scenario_asm.specs.Numbers.{is_numeral, number}
+use Rattle.debugger.specs.declared.breaks.EventKind.{EventKind}
+use Rattle.debugger.specs.declared.breaks.EventKind.TheVariants.{Start, Rto, DelAck, Free, Data, Ack}
+use Rattle.debugger.specs.declared.breaks.Break.TheVariants.{Node, Flow, Kind, Drop}
+use Rattle.debug_session.specs.declared.command.Command.{Command}
+use Rattle.debug_session.specs.declared.command.Command.TheVariants.{Step, Back, Until, Run, State, SetBreak, Clear}
+use Rattle.debug_session.specs.declared.command.Limits.{Limits}
+use Rattle.debug_session.specs.declared.refusal.Refusal.{Refusal}
+use Rattle.debug_session.specs.declared.refusal.Refusal.TheVariants.{B1, B2, B3}
+use Rattle.debug_session.specs.Input.{words_in}
+
+abbrev pub Word : Type 0
+Word = List ℕ
+
+-- a command, or why there is none
+abbrev pub Reading : Type 0
+Reading = Result Command Refusal
+
+-- the number below a bound that a word is
+abbrev pub number_below : ℕ → Word → Option ℕ
+number_below bound word = if is_numeral word && nat_lt (number word) bound then Some (number word) else None
+
+-- that of the only word
+abbrev pub one_number : ℕ → List Word → Result ℕ Refusal
+one_number bound [] = Err B2
+one_number bound (word ∷ []) = ok_or (number_below bound word) B3
+one_number bound (first ∷ second ∷ more) = Err B2
+
+-- the command of a number
+abbrev pub with_number : (ℕ → Command) → Result ℕ Refusal → Reading
+with_number make (Ok n) = Ok (make n)
+with_number make (Err refusal) = Err refusal
+
+-- how many events or nanoseconds: at most 10^15
+abbrev pub amount : (ℕ → Command) → List Word → Reading
+amount make words = with_number make (one_number 1000000000000001 words)
+
+-- no word
+abbrev pub alone : Command → List Word → Reading
+alone command [] = Ok command
+alone command (word ∷ words) = Err B2
+
+-- the kinds of events, by the names that the trace gives them
+abbrev pub kind_named : Word → Option EventKind
+kind_named word =
+    if bytes_eq word (codes "start") then Some Start
+    else (if bytes_eq word (codes "rto") then Some Rto
+    else (if bytes_eq word (codes "delack") then Some DelAck
+    else (if bytes_eq word (codes "free") then Some Free
+    else (if bytes_eq word (codes "data") then Some Data
+    else (if bytes_eq word (codes "ack") then Some Ack
+    else None)))))
+
+abbrev pub with_kind : Option EventKind → Reading
+with_kind (Some kind) = Ok (SetBreak (Kind kind))
+with_kind None = Err B3
+
+-- one word that is a kind
+abbrev pub one_kind : List Word → Reading
+one_kind [] = Err B2
+one_kind (word ∷ []) = with_kind (kind_named word)
+one_kind (first ∷ second ∷ more) = Err B2
+
+-- the words behind `break`: a sort, and what it takes
+abbrev pub breakpoint : Limits → List Word → Reading
+breakpoint limits [] = Err B2
+breakpoint limits (sort ∷ words) =
+    if bytes_eq sort (codes "node") then with_number (λ n. SetBreak (Node n)) (one_number limits.nodes words)
+    else (if bytes_eq sort (codes "flow") then with_number (λ n. SetBreak (Flow n)) (one_number limits.flows words)
+    else (if bytes_eq sort (codes "kind") then one_kind words
+    else (if bytes_eq sort (codes "drop") then alone (SetBreak Drop) words
+    else Err B1)))
+
+-- a command by its name and the words behind it
+abbrev pub command_named : Limits → Word → List Word → Reading
+command_named limits name words =
+    if bytes_eq name (codes "step") then amount Step words
+    else (if bytes_eq name (codes "back") then amount Back words
+    else (if bytes_eq name (codes "until") then amount Until words
+    else (if bytes_eq name (codes "run") then alone Run words
+    else (if bytes_eq name (codes "state") then alone State words
+    else (if bytes_eq name (codes "break") then breakpoint limits words
+    else (if bytes_eq name (codes "clear") then alone Clear words
+    else Err B1))))))
+
+-- nothing where there are no words
+abbrev pub reading_of : Limits → List Word → Option Reading
+reading_of limits [] = None
+reading_of limits (name ∷ words) = Some (command_named limits name words)
+
+-- what a line says
+abbrev pub reading : Limits → List ℕ → Option Reading
+reading limits line = reading_of limits (words_in line)

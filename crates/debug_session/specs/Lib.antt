@@ -1,0 +1,7 @@
+pub mod Input
+pub mod Grammar
+pub mod Answers
+pub mod Sessions
+pub mod Taking
+pub mod Told
+pub mod KeptOf

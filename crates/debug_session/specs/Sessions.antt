@@ -1,0 +1,75 @@
+-- A whole session: from its input to its output.
+use Rattle.std.specs.Prelude.{◌≡◌, ℕ, List, [], ◌∷◌, ◌++◌, length, take, Result, Ok, Err}
+use Rattle.scenario_image.specs.declared.parts.ScenarioParts.{ScenarioParts}
+use Rattle.scenario_asm.specs.declared.fault.Fault.{Fault}
+use Rattle.scenario_asm.specs.declared.fault.AsmFault.{AsmFault}
+use Rattle.scenario_asm.specs.declared.fault.AsmFault.TheVariants.{At, NoMemory as text_NoMemory}
+use Rattle.scenario_asm.specs.Lines.{lines_of}
+use Rattle.scenario_asm.specs.Meaning.{MeansScenario, MeansFault}
+use Rattle.table_run.specs.State.{State, opening}
+use Rattle.debugger.specs.Debugging.{opened}
+use Rattle.debug_session.specs.declared.command.Limits.{Limits}
+use Rattle.debug_session.specs.declared.session.SessionFault.{SessionFault}
+use Rattle.debug_session.specs.declared.session.SessionFault.TheVariants.{Refused, NoMemory, OutputFailed}
+use Rattle.debug_session.specs.Taking.{IsBeginningOf, counted}
+use Rattle.debug_session.specs.Input.{text_lines, command_lines}
+use Rattle.debug_session.specs.Answers.{Standing, standing, Stays, Answers}
+
+-- the lines are answered one after another, from where the session stands
+abbrev pub Ran : Limits → State → List (List ℕ) → Standing → Standing → List ℕ → Type 0
+Ran limits start [] old new out = Stays old new out []
+Ran limits start (line ∷ lines) old new out =
+    (between : Standing) × (first rest : List ℕ) × Answers limits start line old between first × Ran limits start lines between new rest × (out ≡ first ++ rest)
+
+-- these lines give this output, wherever the session stands in the end
+abbrev pub Output : Limits → State → List (List ℕ) → Standing → List ℕ → Type 0
+Output limits start lines old out = (new : Standing) × Ran limits start lines old new out
+
+-- so do the first of them
+abbrev pub OutputStart : Limits → State → List (List ℕ) → Standing → List ℕ → Type 0
+OutputStart limits start lines old out = (count : ℕ) × Output limits start (take count lines) old out
+
+abbrev pub limits_of : ScenarioParts → Limits
+limits_of p = record { nodes = length p.nodes; flows = length p.flows }
+
+-- a text of the input's text lines means this scenario
+abbrev pub HasScenario : List ℕ → ScenarioParts → Type 0
+HasScenario input p = (text : List ℕ) × (lines_of text ≡ text_lines input) × MeansScenario text p
+
+-- or it has this fault
+abbrev pub HasFault : List ℕ → ℕ → Fault → Type 0
+HasFault input line fault = (text : List ℕ) × (lines_of text ≡ text_lines input) × MeansFault text line fault
+
+-- the output of a session: its scenario's run is walked through by the commands
+pub record IsOutput (input out : List ℕ) : Type 0 where
+  pub scenario : ScenarioParts
+  pub meant : HasScenario input scenario
+  pub answers : Output (limits_of scenario) (opening scenario) (command_lines input) (standing (opened (opening scenario))) out
+
+-- the output of its first commands
+pub record IsOutputStart (input out : List ℕ) : Type 0 where
+  pub scenario : ScenarioParts
+  pub meant : HasScenario input scenario
+  pub answers : OutputStart (limits_of scenario) (opening scenario) (command_lines input) (standing (opened (opening scenario))) out
+
+-- the end of a session whose text was not assembled
+abbrev pub of_text : AsmFault → SessionFault
+of_text (At line fault) = Refused line fault
+of_text text_NoMemory = NoMemory
+
+abbrev pub Ended : Type 0
+Ended = Result (Unit {0}) SessionFault
+
+-- what a session that ended so has put out: all; nothing, where its text is refused or memory is; a beginning, where the output failed
+abbrev pub IsEnding : List ℕ → Ended → List ℕ → Type 0
+IsEnding input (Ok done) out = IsOutput input out
+IsEnding input (Err (Refused line fault)) out = HasFault input line fault × (out ≡ [])
+IsEnding input (Err NoMemory) out = out ≡ []
+IsEnding input (Err OutputFailed) out = IsBeginningOf (IsOutputStart input) out
+
+-- the output's count of failures after what ended so
+abbrev pub failures_of : Ended → ℕ → ℕ
+failures_of (Ok done) n = n
+failures_of (Err (Refused line fault)) n = n
+failures_of (Err NoMemory) n = n
+failures_of (Err OutputFailed) n = counted n

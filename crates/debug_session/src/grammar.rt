@@ -1,0 +1,194 @@
+//! From a line to a command.
+ghost use Rattle.std.specs.Prelude.{◌≡◌, ◌≢◌, ◌<◌, ◌≤◌, ◌^◌, ◌-◌, [], ◌∷◌, min, length, IsTrue, IfOk, MatchOption};
+ghost use Rattle.std.specs.List.{list_all};
+ghost use Rattle.std.specs.Str.{bytes_eq};
+ghost use Rattle.std.specs.Str.Parse.{digits_value};
+ghost use Rattle.scenario_asm.specs.Numbers.{is_numeral, is_digit};
+ghost use Rattle.debug_session.specs.Input.{words_in};
+ghost use Rattle.debug_session.specs.Grammar.{number_below, one_number, alone, kind_named, one_kind, breakpoint, command_named, reading};
+
+use crate::command::{Command, Limits};
+use crate::cut::next_word;
+use crate::refusal::Refusal;
+use debugger::{Break, EventKind};
+
+/// One more than the greatest number of events or nanoseconds that can be asked for.
+const AMOUNTS: u64 = 1_000_000_000_000_001;
+
+/// Whether a word is this one.
+fn is(word: &[u8], other: &[u8]) -> bool
+    ensures { result ≡ bytes_eq word.now other.now }
+{
+    word == other
+}
+
+/// Whether a byte is from `0` to `9`.
+fn is_digit(byte: u8) -> bool
+    ensures { result ≡ is_digit byte }
+{
+    matches!(byte, b'0'..=b'9')
+}
+
+/// Whether all bytes are digits.
+fn are_digits(bytes: &[u8]) -> bool
+    ensures { result ≡ list_all is_digit bytes.now }
+{
+    bytes.iter().all(|byte| is_digit(*byte))
+}
+
+/// Whether a word is decimal digits, with no 0 before others.
+fn is_numeral(word: &[u8]) -> bool
+    ensures { result ≡ is_numeral word.now }
+{
+    match word.split_first() {
+        Some((first, rest)) => is_digit(*first)
+            && (rest.is_empty() || *first != b'0' && are_digits(rest)),
+        None => false,
+    }
+}
+
+/// The number that digits mean, or the greatest `u64` where it is above that.
+fn value(digits: &[u8]) -> u64
+    requires { IsTrue (list_all is_digit digits.now) }
+    ensures { result ≡ min (digits_value 10 digits.now) (2 ^ 64 - 1) }
+{
+    let mut value = 0u64;
+    for digit in digits {
+        value = value
+            .saturating_mul(10)
+            .saturating_add(u64::from(*digit - b'0'));
+    }
+    value
+}
+
+/// The number below a bound that a word is.
+fn number_below(word: &[u8], bound: u64) -> Option<u64>
+    requires { bound ≤ 2 ^ 64 - 1 }
+    ensures { result ≡ number_below bound word.now }
+{
+    if !is_numeral(word) {
+        return None;
+    }
+    let n = value(word);
+    if n < bound { Some(n) } else { None }
+}
+
+/// The only word of a line.
+fn one_word(line: &[u8]) -> Option<&[u8]>
+    ensures { MatchOption result (length (words_in line.now) ≢ 1) (λ word. words_in line.now ≡ word.now ∷ []) }
+{
+    let (word, rest) = next_word(line)?;
+    match next_word(rest) {
+        None => Some(word),
+        Some(_) => None,
+    }
+}
+
+/// The number below a bound that is the only word of a line.
+fn one_number(line: &[u8], bound: u64) -> Result<u64, Refusal>
+    requires { bound ≤ 2 ^ 64 - 1 }
+    ensures number { result ≡ one_number bound (words_in line.now) }
+    ensures below { IfOk result (λ n. n < bound) }
+{
+    match one_word(line) {
+        None => Err(Refusal::B2),
+        Some(word) => number_below(word, bound).ok_or(Refusal::B3),
+    }
+}
+
+/// The kind of events that a word names.
+fn kind_named(word: &[u8]) -> Option<EventKind>
+    ensures { result ≡ kind_named word.now }
+{
+    if is(word, b"start") {
+        Some(EventKind::Start)
+    } else if is(word, b"rto") {
+        Some(EventKind::Rto)
+    } else if is(word, b"delack") {
+        Some(EventKind::DelAck)
+    } else if is(word, b"free") {
+        Some(EventKind::Free)
+    } else if is(word, b"data") {
+        Some(EventKind::Data)
+    } else if is(word, b"ack") {
+        Some(EventKind::Ack)
+    } else {
+        None
+    }
+}
+
+/// A breakpoint on the kind that is the only word of a line.
+fn one_kind(line: &[u8]) -> Result<Command, Refusal>
+    ensures { result ≡ one_kind (words_in line.now) }
+{
+    match one_word(line) {
+        None => Err(Refusal::B2),
+        Some(word) => match kind_named(word) {
+            Some(kind) => Ok(Command::SetBreak(Break::Kind(kind))),
+            None => Err(Refusal::B3),
+        },
+    }
+}
+
+/// A command, where a line has no word.
+fn alone(command: Command, line: &[u8]) -> Result<Command, Refusal>
+    ensures { result ≡ alone command (words_in line.now) }
+{
+    match next_word(line) {
+        None => Ok(command),
+        Some(_) => Err(Refusal::B2),
+    }
+}
+
+/// The breakpoint that the words behind `break` name.
+fn breakpoint(limits: Limits, line: &[u8]) -> Result<Command, Refusal>
+    ensures { result ≡ breakpoint limits (words_in line.now) }
+{
+    let Some((sort, rest)) = next_word(line) else {
+        return Err(Refusal::B2);
+    };
+    if is(sort, b"node") {
+        let node = one_number(rest, u64::from(limits.nodes))?;
+        Ok(Command::SetBreak(Break::Node(node as u16)))
+    } else if is(sort, b"flow") {
+        let flow = one_number(rest, u64::from(limits.flows))?;
+        Ok(Command::SetBreak(Break::Flow(flow as u16)))
+    } else if is(sort, b"kind") {
+        one_kind(rest)
+    } else if is(sort, b"drop") {
+        alone(Command::SetBreak(Break::Drop), rest)
+    } else {
+        Err(Refusal::B1)
+    }
+}
+
+/// The command of a name, with the words behind it.
+fn command_named(limits: Limits, name: &[u8], rest: &[u8]) -> Result<Command, Refusal>
+    ensures { result ≡ command_named limits name.now (words_in rest.now) }
+{
+    if is(name, b"step") {
+        Ok(Command::Step(one_number(rest, AMOUNTS)?))
+    } else if is(name, b"back") {
+        Ok(Command::Back(one_number(rest, AMOUNTS)?))
+    } else if is(name, b"until") {
+        Ok(Command::Until(one_number(rest, AMOUNTS)?))
+    } else if is(name, b"run") {
+        alone(Command::Run, rest)
+    } else if is(name, b"state") {
+        alone(Command::State, rest)
+    } else if is(name, b"break") {
+        breakpoint(limits, rest)
+    } else if is(name, b"clear") {
+        alone(Command::Clear, rest)
+    } else {
+        Err(Refusal::B1)
+    }
+}
+
+/// The command that a line says, or why it is refused; nothing where the line has no words.
+pub fn read_line(limits: Limits, line: &[u8]) -> Option<Result<Command, Refusal>>
+    ensures { result ≡ reading limits line.now }
+{
+    let (name, rest) = next_word(line)?;
+    Some(command_named(limits, name, rest))
+}

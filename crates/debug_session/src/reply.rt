@@ -1,0 +1,104 @@
+//! A session's answer to a line of commands.
+ghost use Rattle.std.specs.Prelude.{◌≡◌, IfOk, OnErr, MatchBool};
+ghost use Rattle.trace_text.specs.Dump.{dump_bytes};
+ghost use Rattle.debug_session.specs.Answers.{standing, refusal_line, Sets, Obeys, Answers};
+ghost use Rattle.debug_session.specs.Told.{Told};
+
+use crate::command::{Command, Limits};
+use crate::grammar::read_line;
+use crate::refusal::Refusal;
+use crate::said::Said;
+use debugger::{Break, BreakFault, Debugger};
+use net_machine::StepFault;
+
+/// Tells the state that is shown. The answer is whether there was memory for it.
+#[tactic(none)]
+fn tell(debugger: &Debugger, said: &mut Said) -> bool
+    ensures { MatchBool result (said.new ≡ dump_bytes debugger.now.shown) (said.new ≡ refusal_line Refusal.M) }
+{
+    match said.say_state(debugger) {
+        Ok(()) => true,
+        Err(_) => {
+            said.say_refused(Refusal::M);
+            false
+        }
+    }
+}
+
+/// Tells what a move came to. Where there is no memory for that, the move is undone.
+#[tactic(none)]
+fn show_move(debugger: &mut Debugger, moved: Result<u64, StepFault>, said: &mut Said)
+    ensures told { IfOk moved (λ _. Told debugger.old debugger.new said.new) }
+    ensures refused { OnErr moved ((debugger.new ≡ debugger.old) × (said.new ≡ refusal_line Refusal.M)) }
+{
+    match moved {
+        Ok(_) => {
+            if !tell(debugger, said) {
+                let _undone = debugger.undo_move();
+            }
+        }
+        Err(_) => said.say_refused(Refusal::M),
+    }
+}
+
+/// Sets a breakpoint.
+#[tactic(none)]
+fn set_break(debugger: &mut Debugger, b: Break, said: &mut Said)
+    ensures obeyed { Obeys debugger.old.start (Command.SetBreak b) (standing debugger.old) (standing debugger.new) said.new }
+    ensures start { debugger.new.start ≡ debugger.old.start }
+{
+    let _is_set = debugger.has_break(b);
+    match debugger.add_break(b) {
+        Ok(count) => said.say_set(count),
+        Err(BreakFault::TooMany) => said.say_refused(Refusal::B4),
+        Err(BreakFault::NoMemory) => said.say_refused(Refusal::M),
+    }
+}
+
+/// Does what a command asks for.
+#[tactic(none)]
+fn obey(debugger: &mut Debugger, command: Command, said: &mut Said)
+    ensures obeyed { Obeys debugger.old.start command (standing debugger.old) (standing debugger.new) said.new }
+    ensures start { debugger.new.start ≡ debugger.old.start }
+{
+    match command {
+        Command::Step(count) => {
+            let moved = debugger.step(count);
+            show_move(debugger, moved, said);
+        }
+        Command::Back(count) => {
+            let moved = debugger.back(count);
+            show_move(debugger, moved, said);
+        }
+        Command::Until(time) => {
+            let moved = debugger.until(time);
+            show_move(debugger, moved, said);
+        }
+        Command::Run => {
+            let moved = debugger.run();
+            show_move(debugger, moved, said);
+        }
+        Command::State => {
+            let _here = debugger.position();
+            let _told = tell(debugger, said);
+        }
+        Command::SetBreak(b) => set_break(debugger, b, said),
+        Command::Clear => {
+            debugger.clear_breaks();
+            said.say_cleared();
+        }
+    }
+}
+
+/// Answers a line: what it asks for is done, or it is refused and changes nothing.
+#[tactic(none)]
+pub fn answer(debugger: &mut Debugger, limits: Limits, line: &[u8], said: &mut Said)
+    ensures answers { Answers limits debugger.old.start line.now (standing debugger.old) (standing debugger.new) said.new }
+    ensures start { debugger.new.start ≡ debugger.old.start }
+{
+    match read_line(limits, line) {
+        None => said.clear(),
+        Some(Err(refusal)) => said.say_refused(refusal),
+        Some(Ok(command)) => obey(debugger, command, said),
+    }
+}

@@ -1,0 +1,144 @@
+//! The answer to a command.
+ghost use Rattle.std.specs.Prelude.{◌≡◌, ◌≤◌, ◌+◌, ◌++◌, [], OnOk, length, drop, decimal};
+ghost use Rattle.trace_text.specs.Dump.{dump_bytes};
+ghost use Rattle.debug_session.specs.Answers.{refusal_line, break_line, clear_line};
+
+use crate::refusal::Refusal;
+use debugger::Debugger;
+use itoa::write_digits;
+use std::alloc::{AllocError, Global};
+use std::marker::Model;
+
+/// The room for a short answer, in bytes.
+const ROOM: usize = 32;
+
+/// The answer to a command, seen as its bytes. Short answers take no memory.
+#[derive(Drop)]
+pub struct Said {
+    /// A dump.
+    dump: Vec<u8>,
+    /// Any other answer, at the end.
+    short: [u8; ROOM],
+    /// Where that begins.
+    start: usize,
+    /// Whether it is the answer.
+    is_short: bool,
+}
+
+impl Model for Said {
+    ghost use Rattle.std.specs.Prelude.{◌≡◌, ◌≤◌, ℕ, List, if◌then◌else◌, drop, length};
+
+    ghost Value = { List ℕ };
+
+    ghost view = { λ s. if s.is_short then drop s.start s.short else s.dump.items };
+
+    ghost invariant = { λ s. (s.start ≤ 32) × (length s.short ≡ 32) };
+}
+
+// Writes a text so that it ends at `end`, and answers where it starts.
+fn put_text<const N: usize>(bytes: &mut [u8], end: usize, text: &[u8; N]) -> usize
+    requires within { end ≤ length bytes.old }
+    requires room { N ≤ end }
+    ensures written { drop result bytes.new ≡ text.now ++ drop end bytes.old }
+    ensures start { result + N ≡ end }
+{
+    let start = end - N;
+    bytes[start..end].copy_from_slice(text);
+    start
+}
+
+// Writes a number so that it ends at `end`, and answers where it starts.
+fn put_count(bytes: &mut [u8], end: usize, n: usize) -> usize
+    requires within { end ≤ length bytes.old }
+    requires room { 20 ≤ end }
+    ensures written { drop result bytes.new ≡ decimal n ++ drop end bytes.old }
+    ensures short { end ≤ result + 20 }
+{
+    write_digits(n as u64, bytes, end)
+}
+
+impl Said {
+    /// An empty answer. What it will hold takes its memory from `alloc`.
+    pub fn new(alloc: Global) -> Said
+        ensures { result ≡ [] }
+    {
+        Said {
+            dump: Vec::new(alloc),
+            short: [0; ROOM],
+            start: ROOM,
+            is_short: true,
+        }
+    }
+
+    /// The answer's bytes.
+    pub fn as_slice(&self) -> &[u8]
+        ensures { result.now ≡ self.now }
+    {
+        if self.is_short {
+            &self.short[self.start..]
+        } else {
+            self.dump.as_slice()
+        }
+    }
+
+    /// Answers nothing.
+    pub fn clear(&mut self)
+        ensures { self.new ≡ [] }
+    {
+        self.start = ROOM;
+        self.is_short = true;
+    }
+
+    /// Answers a short text.
+    fn say<const N: usize>(&mut self, text: &[u8; N])
+        requires { N ≤ 32 }
+        ensures { self.new ≡ text.now }
+    {
+        let mut line = [0; ROOM];
+        self.start = put_text(&mut line, ROOM, text);
+        self.short = line;
+        self.is_short = true;
+    }
+
+    /// Answers that a command is refused.
+    pub fn say_refused(&mut self, refusal: Refusal)
+        ensures { self.new ≡ refusal_line refusal }
+    {
+        match refusal {
+            Refusal::B1 => self.say(b"refused B1\n"),
+            Refusal::B2 => self.say(b"refused B2\n"),
+            Refusal::B3 => self.say(b"refused B3\n"),
+            Refusal::B4 => self.say(b"refused B4\n"),
+            Refusal::M => self.say(b"refused M\n"),
+        }
+    }
+
+    /// Answers that all breakpoints are taken away.
+    pub fn say_cleared(&mut self)
+        ensures { self.new ≡ clear_line }
+    {
+        self.say(b"clear\n");
+    }
+
+    /// Answers how many breakpoints are set.
+    pub fn say_set(&mut self, count: usize)
+        ensures { self.new ≡ break_line count }
+    {
+        let mut line = [0; ROOM];
+        let at = put_text(&mut line, ROOM, b"\n");
+        let at = put_count(&mut line, at, count);
+        let start = put_text(&mut line, at, b"break ");
+        self.short = line;
+        self.start = start;
+        self.is_short = true;
+    }
+
+    /// Answers the dump of the state that is shown. Where memory is refused, the answer is any.
+    pub fn say_state(&mut self, debugger: &Debugger) -> Result<(), AllocError>
+        ensures { OnOk result (self.new ≡ dump_bytes debugger.now.shown) }
+    {
+        self.dump.clear();
+        self.is_short = false;
+        debugger.state_text(&mut self.dump)
+    }
+}

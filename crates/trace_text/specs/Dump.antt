@@ -1,0 +1,121 @@
+-- The dump of a net: its position, its nodes, its links and the events that are pending.
+use Rattle.std.specs.Prelude.{ℕ, ◌==◌, Bool, if◌then◌else◌, List, [], ◌∷◌, ◌++◌, filter, codes, decimal, Option, None, Some}
+use Rattle.std.specs.List.{flat_map, join_by, enumerate_from, range_with_len}
+use Rattle.std.specs.FinMap as map
+use Rattle.packet_chain.specs.declared.packet.Kind.{Kind}
+use Rattle.packet_chain.specs.declared.packet.Kind.TheVariants.{Data, Ack}
+use Rattle.packet_chain.specs.Stamped.{Stamped}
+use Rattle.reno_sender.specs.declared.fields.SenderFields.{SenderFields}
+use Rattle.reno_sender.specs.declared.fields.Timing.{Timing}
+use Rattle.reno_receiver.specs.Received.{next_of, held_of}
+use Rattle.sim_time.specs.declared.key.Key.{Key}
+use Rattle.aqm.specs.Codel.{CodelState}
+use Rattle.aqm.specs.Queue.{waiting_in}
+use Rattle.aqm.specs.declared.queue.Queue.{Queue}
+use Rattle.aqm.specs.declared.queue.Queue.TheVariants.{DropTail, Codel}
+use Rattle.node_core.specs.declared.event.Event.{Event}
+use Rattle.node_core.specs.declared.role.Role.{Role}
+use Rattle.node_core.specs.declared.role.Role.TheVariants.{Sends, Receives, Routes}
+use Rattle.node_core.specs.Part.{LinkState, PartState}
+use Rattle.net_machine.specs.Run.{Reached}
+use Rattle.trace_text.specs.Words.{line_of}
+use Rattle.trace_text.specs.Line.{key_words, event_words}
+
+-- 1 where it holds, 0 where it does not
+abbrev pub flag : Bool → List ℕ
+flag b = if b then codes "1" else codes "0"
+
+-- a number, a dash where there is none
+abbrev pub or_dash : Option ℕ → List ℕ
+or_dash None = codes "-"
+or_dash (Some n) = decimal n
+
+-- texts with commas between them, a dash where there are none
+abbrev pub in_commas : {X : Type 0} → (X → List ℕ) → List X → List ℕ
+in_commas text [] = codes "-"
+in_commas text (x ∷ xs) = join_by text (codes ",") (x ∷ xs)
+
+-- the acknowledgement number that ends the timing, and when the timed segment was sent
+abbrev pub timing_text : Option Timing → List ℕ
+timing_text None = codes "-"
+timing_text (Some t) = decimal t.number ++ codes "@" ++ decimal t.sent_at
+
+-- a sender's bytes and windows
+abbrev pub window_words : SenderFields → List (List ℕ)
+window_words s =
+    (codes "una=" ++ decimal s.una) ∷ (codes "nxt=" ++ decimal s.nxt) ∷ (codes "high=" ++ decimal s.high)
+    ∷ (codes "cwnd=" ++ decimal s.cwnd) ∷ (codes "ssthresh=" ++ decimal s.ssthresh) ∷ []
+
+-- what it does about losses
+abbrev pub loss_words : SenderFields → List (List ℕ)
+loss_words s =
+    (codes "dups=" ++ decimal s.dups) ∷ (codes "lt=" ++ decimal s.lt) ∷ (codes "fr=" ++ flag s.recovery) ∷ []
+
+-- its timer
+abbrev pub timer_words : SenderFields → List (List ℕ)
+timer_words s =
+    (codes "timing=" ++ timing_text s.timing) ∷ (codes "srtt=" ++ or_dash s.srtt) ∷ (codes "rttvar=" ++ decimal s.rttvar)
+    ∷ (codes "rto=" ++ decimal s.rto) ∷ (codes "resent=" ++ flag s.resent) ∷ []
+
+-- what a node does, with the flow's number at a flow's end
+abbrev pub role_words : Role → List (List ℕ)
+role_words (Sends flow s) = codes "sender" ∷ decimal flow ∷ window_words s ++ loss_words s ++ timer_words s
+role_words (Receives flow r) =
+    codes "receiver" ∷ decimal flow ∷ (codes "next=" ++ decimal (next_of r)) ∷ (codes "held=" ++ in_commas decimal (held_of r)) ∷ []
+role_words (Routes table) = codes "router" ∷ []
+
+-- a node's line, with its number
+abbrev pub node_line : ℕ × PartState → List ℕ
+node_line numbered = line_of (codes "node" ∷ decimal numbered.0 ∷ role_words numbered.1.role)
+
+-- d for data, a for an acknowledgement
+abbrev pub kind_letter : Kind → List ℕ
+kind_letter Data = codes "d"
+kind_letter Ack = codes "a"
+
+-- a packet that waits: its flow, what it carries and its number, and when it entered the queue
+abbrev pub waiting_text : Stamped → List ℕ
+waiting_text cell =
+    decimal cell.0.flow ++ codes ":" ++ kind_letter cell.0.kind ++ codes ":" ++ decimal cell.0.number
+    ++ codes "@" ++ decimal cell.1
+
+-- what CoDel keeps beside the packets
+abbrev pub codel_words : CodelState → List (List ℕ)
+codel_words q =
+    (codes "first=" ++ or_dash q.first_above) ∷ (codes "next=" ++ decimal q.drop_next) ∷ (codes "count=" ++ decimal q.count)
+    ∷ (codes "last=" ++ decimal q.lastcount) ∷ (codes "drop=" ++ flag q.dropping) ∷ []
+
+abbrev pub control_words : Queue → List (List ℕ)
+control_words (DropTail q) = []
+control_words (Codel q) = codel_words q
+
+-- a link's line: what was offered to it, what it has sent, and its queue from the head
+abbrev pub link_line : LinkState → List ℕ
+link_line link =
+    line_of (codes "link" ∷ decimal link.port.link ∷ (codes "offered=" ++ decimal link.port.offered)
+    ∷ (codes "sent=" ++ decimal link.port.sent) ∷ (codes "queue=" ++ in_commas waiting_text (waiting_in link.port.queue))
+    ∷ control_words link.port.queue)
+
+-- the numbers below this one, rising
+unfoldable pub numbers_below : ℕ → List ℕ
+numbers_below n = range_with_len 0 n
+
+-- the link of a number
+abbrev pub links_numbered : List PartState → ℕ → List LinkState
+links_numbered parts number = flat_map (λ (part : PartState). filter (λ (link : LinkState). link.port.link == number) part.links) parts
+
+-- all links in rising number: a net has at most 1,024, with numbers below that
+abbrev pub links_in_order : List PartState → List LinkState
+links_in_order parts = flat_map (links_numbered parts) (numbers_below 1024)
+
+-- the line of an event that is pending
+abbrev pub event_line : Key × Event → List ℕ
+event_line entry = line_of (codes "event" ∷ key_words entry.0 ++ event_words entry.1)
+
+-- how many events were run; each node; each link; each pending event in the order of keys
+abbrev pub dump_bytes : Reached → List ℕ
+dump_bytes net =
+    line_of (codes "at" ∷ decimal net.position ∷ [])
+    ++ flat_map node_line (enumerate_from 0 net.state.parts)
+    ++ flat_map link_line (links_in_order net.state.parts)
+    ++ flat_map event_line (map.entries net.state.pending)

@@ -1,0 +1,64 @@
+//! The lines of the pending events.
+ghost use Rattle.std.specs.Prelude.{◌≡◌, ◌++◌, IfOk, OnOk};
+ghost use Rattle.std.specs.List.{flat_map};
+ghost use Rattle.std.specs.FinMap as map;
+ghost use Rattle.net_machine.specs.Nodes.{pendings, net_pending, IsPlaced};
+ghost use Rattle.ranking.specs.Gathered.{all_entries};
+ghost use Rattle.trace_text.specs.Dump.{event_line};
+
+use crate::backward::put_text;
+use crate::event::{put_event, put_key};
+use node_core::{Event, Node};
+use sim_time::Key;
+use std::alloc::{AllocError, Global};
+
+/// Appends the line of each event that is pending at one of the nodes, in the order of keys.
+pub(super) fn append_events(
+    alloc: Global,
+    nodes: &[Node],
+    out: &mut Vec<u8>,
+) -> Result<(), AllocError>
+    requires { IsPlaced nodes.now }
+    ensures { OnOk result (out.new.items ≡ out.old.items
+        ++ flat_map event_line (map.entries (net_pending nodes.now))) }
+{
+    let pending = in_order(alloc, nodes)?;
+    for (key, event) in &pending {
+        append_event(key, event, out)?;
+    }
+    Ok(())
+}
+
+/// What is pending at all nodes, in the order of keys.
+fn in_order(alloc: Global, nodes: &[Node]) -> Result<Vec<(Key, Event)>, AllocError>
+    requires { IsPlaced nodes.now }
+    ensures { IfOk result (λ all. all.items ≡ map.entries (net_pending nodes.now)) }
+{
+    let mut all = node_by_node(alloc, nodes)?;
+    all.sort_by_key(|entry| entry.0)?;
+    Ok(all)
+}
+
+/// What is pending at all nodes, one node after another.
+fn node_by_node(alloc: Global, nodes: &[Node]) -> Result<Vec<(Key, Event)>, AllocError>
+    ensures { IfOk result (λ all. all.items ≡ all_entries (pendings nodes.now)) }
+{
+    let mut all = Vec::new(alloc);
+    for node in nodes {
+        let pending = node.pending()?;
+        all.extend_from_slice(&pending)?;
+    }
+    Ok(all)
+}
+
+/// Appends the line of a pending event.
+fn append_event(key: &Key, event: &Event, out: &mut Vec<u8>) -> Result<(), AllocError>
+    ensures { OnOk result (out.new.items ≡ out.old.items ++ event_line (key.now, event.now)) }
+{
+    let mut bytes = [0; 96];
+    let at = put_text(&mut bytes, 96, b"\n");
+    let at = put_event(&mut bytes, at, event);
+    let at = put_key(&mut bytes, at, key);
+    let start = put_text(&mut bytes, at, b"event");
+    out.extend_from_slice(&bytes[start..])
+}
