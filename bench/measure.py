@@ -15,6 +15,7 @@ import time
 from collections import namedtuple
 from concurrent.futures import ThreadPoolExecutor
 
+import images
 from scenarios import SCENARIOS, disassemble, started
 
 TOP = os.path.dirname(os.path.dirname(os.path.abspath(__file__)))
@@ -277,6 +278,7 @@ def main():
     with open(os.path.join(BENCH, 'RESULTS.md'), 'w') as file:
         file.write(results.rstrip('\n') + '\n')
     print(results)
+    images.main([f'--program={PROGRAM}'])
 
 
 if __name__ == '__main__':

@@ -312,7 +312,7 @@ def show(found):
 
 def arguments():
     parser = argparse.ArgumentParser(description=__doc__, formatter_class=argparse.RawDescriptionHelpFormatter)
-    parser.add_argument('--kind', default='texts,runs')
+    parser.add_argument('--kind', default='texts,runs,images')
     parser.add_argument('--seed', type=int, default=1)
     parser.add_argument('--count', type=int, default=1000)
     parser.add_argument('--jobs', type=int, default=2)

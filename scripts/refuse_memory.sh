@@ -1,16 +1,18 @@
 #!/usr/bin/env bash
 # Refuses each request for memory in turn, with the built program on a scenario (the first example,
-# or the file that is named): every refusal has to end with status 4, the note 'no memory' and a
-# beginning of the trace in whole lines. scripts/try_shell.sh runs it over three scenarios; by hand it
-# goes after `make run`. It wants a C compiler, `cc`. Usage: scripts/refuse_memory.sh [SCENARIO]
+# or the file that is named), by the subcommand `run` or the one that is named: every refusal has to
+# end with status 4, the note 'no memory' and a beginning of the trace in whole lines; after `asm` and
+# `dis` with nothing written. scripts/try_shell.sh runs it over some scenarios; by hand it goes after
+# `make run`. It wants a C compiler, `cc`. Usage: scripts/refuse_memory.sh [SCENARIO [SUBCOMMAND]]
 set -u
 top=$(cd "$(dirname "$0")/.." && pwd)
 program=$top/crates/tcpsim/out/tcpsim
 input=${1:-$top/examples/one_segment.txt}
+subcommand=${2:-run}
 work=$(mktemp -d)
 whole=$work/whole
 trap 'rm -rf "$work"' EXIT
-"$program" run < "$input" > "$whole" || exit 2
+"$program" "$subcommand" < "$input" > "$whole" || exit 2
 
 cat > "$work/refuse.c" <<'C'
 #define _GNU_SOURCE
@@ -51,13 +53,13 @@ cc -O1 -shared -fPIC "$work/refuse.c" -o "$work/refuse.so" -ldl || exit 2
 refusals=0
 unharmed=0
 for n in $(seq 1 10000); do
-  REFUSE=$n LD_PRELOAD=$work/refuse.so "$program" run < "$input" > "$work/out" 2> "$work/err"
+  REFUSE=$n LD_PRELOAD=$work/refuse.so "$program" "$subcommand" < "$input" > "$work/out" 2> "$work/err"
   status=$?
   if [ "$status" = 0 ] && cmp -s "$work/out" "$whole"; then
     unharmed=$((unharmed + 1))
     # Ten whole runs one after another: no more requests are made.
     if [ "$unharmed" = 10 ]; then
-      echo "$refusals refusals, each with status 4, its note and whole first lines"
+      echo "$subcommand: $refusals refusals, each with status 4, its note and a right beginning"
       exit 0
     fi
     continue
@@ -69,7 +71,11 @@ for n in $(seq 1 10000); do
     exit 1
   fi
   if ! head -c "$size" "$whole" | cmp -s - "$work/out"; then
-    echo "request $n: the output is no beginning of the trace"
+    echo "request $n: the output is no beginning of the whole one"
+    exit 1
+  fi
+  if [ "$subcommand" != run ] && [ "$size" != 0 ]; then
+    echo "request $n: a part was written"
     exit 1
   fi
   if [ "$size" != 0 ] && [ -n "$(tail -c 1 "$work/out")" ]; then

@@ -61,24 +61,29 @@ Simulate TCP flows through bottlenecks, packet by packet
 Usage: tcpsim <COMMAND>
 
 Commands:
-  run  Run the scenario text on standard input and print its trace
+  asm    Write the image of the scenario on standard input
+  dis    Write the canonical text of the scenario on standard input
+  run    Run the scenario on standard input and print its trace
+  debug  Answer the commands behind the scenario text on standard input
 
 Options:
   -h, --help     Print help
   -V, --version  Print version
 T
-cat > "$work/run_help" <<'T'
-Run the scenario text on standard input and print its trace
-
-Usage: tcpsim run
-
-Options:
-  -h, --help  Print help
-T
+# help_of SUBCOMMAND WHAT: the help of a subcommand
+help_of() {
+  printf '%s\n\nUsage: tcpsim %s\n\nOptions:\n  -h, --help  Print help\n' "$2" "$1" > "$work/expected"
+  for flag in --help -h; do
+    run "$1" $flag < "$first"; ended "tcpsim $1 $flag" 0 "$work/nothing" "$work/expected"
+  done
+}
 echo 'tcpsim 0.1.0' > "$work/version"
 run --help < "$first"; ended 'tcpsim --help' 0 "$work/nothing" "$work/help"
 run -h < "$first"; ended 'tcpsim -h' 0 "$work/nothing" "$work/help"
-run run --help < "$first"; ended 'tcpsim run --help' 0 "$work/nothing" "$work/run_help"
+help_of asm 'Write the image of the scenario on standard input'
+help_of dis 'Write the canonical text of the scenario on standard input'
+help_of run 'Run the scenario on standard input and print its trace'
+help_of debug 'Answer the commands behind the scenario text on standard input'
 run --version < "$first"; ended 'tcpsim --version' 0 "$work/nothing" "$work/version"
 run -V < "$first"; ended 'tcpsim -V' 0 "$work/nothing" "$work/version"
 
@@ -95,12 +100,14 @@ mistaken() {
 }
 
 mistaken 'tcpsim <COMMAND>' "'tcpsim' requires a subcommand but one was not provided
-  [subcommands: run]"
-mistaken 'tcpsim <COMMAND>' "unrecognized subcommand 'asm'" asm
+  [subcommands: asm, dis, run, debug]"
+mistaken 'tcpsim <COMMAND>' "unrecognized subcommand 'verify'" verify
 mistaken 'tcpsim <COMMAND>' "unrecognized subcommand 'help'" help
 mistaken 'tcpsim <COMMAND>' "unexpected argument '--fast' found" --fast run
 mistaken 'tcpsim run' "unexpected argument '--workers' found" run --workers 2
 mistaken 'tcpsim run' "unexpected argument 'run' found" run run
+mistaken 'tcpsim asm' "unexpected argument 'dis' found" asm dis
+mistaken 'tcpsim dis' "unexpected argument '--fast' found" dis --fast
 mistaken 'tcpsim run' "unexpected argument '--version' found" run --version
 run "$(printf 'r\377n')" < "$first"; told 'a word that is not UTF-8' 2 'error: a word is not valid UTF-8'
 run run "$(printf '\200')" < "$first"; told 'a second word that is not UTF-8' 2 'error: a word is not valid UTF-8'
@@ -192,8 +199,85 @@ run run < "$work/most"; ended 'a right text of 16,777,216 bytes' 0 "$work/nothin
 printf '#' >> "$work/most"
 run run < "$work/most"; told 'a right text of 16,777,217 bytes' 1 'refused I1'
 
-run run <&-; told 'standard input closed' 3 'read failed'
-run run < "$work"; told 'a directory as standard input' 3 'read failed'
+for words in asm dis run debug; do
+  run $words <&-; told "$words with standard input closed" 3 'read failed'
+  run $words < "$work"; told "$words of a directory" 3 'read failed'
+  run $words < /dev/null; told "$words of an empty input" 1 'refused E10 line 0'
+done
+
+# ---- images
+
+# Each scenario goes to its image, from there to its canonical text and back, and runs as before.
+for scenario in "$examples"/*.txt; do
+  name=examples/$(basename "$scenario")
+  "$program" asm < "$scenario" > "$work/image" && "$program" dis < "$scenario" > "$work/canonical" ||
+    fail "$name" 'has no image or no canonical text'
+  for input in image canonical; do
+    run asm < "$work/$input"; ended "$name: asm of its $input" 0 "$work/nothing" "$work/image"
+    run dis < "$work/$input"; ended "$name: dis of its $input" 0 "$work/nothing" "$work/canonical"
+  done
+  run run < "$work/image"; ended "$name: run of its image" 0 "$work/nothing" "${scenario%.txt}.trace"
+done
+
+cat > "$work/canonical" <<'T'
+sim 1000000000
+node n0 sender
+node n1 receiver
+link l0 n0 n1 8000000 1000000 droptail 10
+link l1 n1 n0 8000000 1000000 droptail 10
+flow f0 n0 n1 1000 1 0 64000 0
+T
+"$program" asm < "$work/right" > "$work/image"
+run dis < "$work/image"; ended 'dis of the right image' 0 "$work/nothing" "$work/canonical"
+tr -d ' \n' > "$work/digits" <<'T'
+54434231 000000003b9aca00 0002 0002 0001 00000000
+00 01
+0000 0001 00000000007a1200 00000000000f4240 00 000a 0000000000000000 0000000000000000 0000 00
+0001 0000 00000000007a1200 00000000000f4240 00 000a 0000000000000000 0000000000000000 0000 00
+0000 0001 03e8 00000001 0000000000000000 0000fa00 00000000
+T
+if od -An -v -tx1 "$work/image" | tr -d ' \n' | cmp -s - "$work/digits"; then
+  pass 'the right image'
+else
+  fail 'the right image' 'has other bytes'
+fi
+
+# broken NOTE WHAT: the image in $work/text is refused so, by each subcommand
+broken() {
+  for words in asm dis run; do
+    run $words < "$work/text"; told "$words of an image $2" 1 "$1"
+  done
+}
+head -c 133 "$work/image" > "$work/text"; broken 'refused L1' 'without its last byte'
+head -c 3 "$work/image" > "$work/text"; broken 'refused L1' 'of three bytes'
+head -c 2 "$work/image" > "$work/text"; broken 'refused E2 line 1' 'of two bytes, which is a text'
+{ printf TCBX; tail -c +5 "$work/image"; } > "$work/text"; broken 'refused L2' 'that begins TCBX'
+{ cat "$work/image"; printf '\0'; } > "$work/text"; broken 'refused L4' 'with a byte more'
+{ head -c 22 "$work/image"; printf '\3'; tail -c +24 "$work/image"; } > "$work/text"; broken 'refused L3' 'with a node of kind 3'
+{ cat "$work/image"; head -c 16777083 /dev/zero; } > "$work/text"; broken 'refused I1' 'of 16,777,217 bytes'
+
+# ---- debugging
+
+# hunt NAME: the commands of an example get the answers that docs/DEBUGGING.md shows
+awk 'inside && /^```$/ { inside = 0; next } /^```$/ { inside = 1; next } inside' "$top/docs/DEBUGGING.md" > "$work/shown"
+grep -v '^{ cat' "$work/shown" > "$work/answers"
+for hunt in two_timeouts_in_a_row codel_enters_drop_state; do
+  { cat "$examples/$hunt.txt"; echo ---; cat "$examples/$hunt.commands"; } > "$work/session"
+  "$program" debug < "$work/session" > "$work/out.$hunt" 2> "$work/note"; status=$?
+  : > "$work/out"
+  told "the hunt $hunt" 0 ''
+done
+if cat "$work/out.two_timeouts_in_a_row" "$work/out.codel_enters_drop_state" | cmp -s - "$work/answers"; then
+  pass 'the answers of docs/DEBUGGING.md'
+else
+  fail 'the answers of docs/DEBUGGING.md' 'are others'
+fi
+"$program" debug < "$work/session" > /dev/full 2> "$work/note"; status=$?
+: > "$work/out"
+told 'debug to a full device' 3 'write failed'
+printf 'TCB\n---\n' > "$work/session"
+"$program" debug < "$work/session" > "$work/out" 2> "$work/note"; status=$?
+told 'debug of an image' 1 'refused E2 line 1'
 
 # ---- the output
 
@@ -220,8 +304,8 @@ else
   fail '800,001 events in 32 MiB of memory' "status $(cat "$work/status"), $(cat "$work/note") $(cat "$work/last")"
 fi
 
-# Each text that can be written, where it cannot.
-for words in run --help --version; do
+# All that can be written, where it cannot.
+for words in asm dis run --help --version; do
   "$program" $words < "$first" > /dev/full 2> "$work/note"; status=$?
   : > "$work/out"
   told "$words to a full device" 3 'write failed'
@@ -245,13 +329,23 @@ told 'an empty input with standard error closed' 1 ''
 
 # ---- want of memory
 
-for scenario in one_segment slow_start_into_a_full_queue four_flows_before_codel; do
-  if said=$("$top/scripts/refuse_memory.sh" "$examples/$scenario.txt" 2>&1); then
-    pass "memory refused over $scenario"
+# refused SUBCOMMAND NAME SCENARIO
+refused() {
+  if said=$("$top/scripts/refuse_memory.sh" "$3" "$1" 2>&1); then
+    pass "memory refused: $1 of $2"
   else
-    fail "memory refused over $scenario" "$said"
+    fail "memory refused: $1 of $2" "$said"
   fi
+}
+for scenario in one_segment slow_start_into_a_full_queue four_flows_before_codel; do
+  refused run "$scenario" "$examples/$scenario.txt"
 done
+"$program" asm < "$examples/four_flows_before_codel.txt" > "$work/image"
+for words in asm dis run; do
+  refused $words "the image of four_flows_before_codel" "$work/image"
+done
+refused asm four_flows_before_codel "$examples/four_flows_before_codel.txt"
+refused dis four_flows_before_codel "$examples/four_flows_before_codel.txt"
 
 echo "$passed passed, $failed failed"
 [ "$failed" = 0 ]

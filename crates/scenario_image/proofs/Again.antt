@@ -1,5 +1,5 @@
 -- What is written is read again: the image of parts within limits, whatever follows it.
-use Rattle.std.proofs.Common.{◌≡◌, ℕ, zero, suc, ◌+◌, ◌*◌, ◌%◌, ◌^◌, ◌<◌, ◌≤◌, List, [], ◌∷◌, ◌++◌, map, length, take, drop, Option, Some, arith, refl, ap, sym, ◌∙◌, append_assoc, subst}
+use Rattle.std.proofs.Common.{◌≡◌, ℕ, suc, ◌+◌, ◌*◌, ◌%◌, ◌^◌, ◌<◌, ◌≤◌, List, [], ◌∷◌, ◌++◌, map, length, take, drop, Option, Some, arith, refl, ap, sym, ◌∙◌, append_assoc}
 use Rattle.std.specs.List.{flat_map, AllByRecursion}
 use Rattle.std.specs.Option.{option_map, option_and_then}
 use Rattle.std.proofs.lemmas.List.{drop-drop, length-append, take_at, drop_at}
@@ -7,10 +7,9 @@ use Rattle.std.proofs.lemmas.List.Elements.{recursion_from_All}
 use Rattle.byteorder.specs.Endian.{big_number, big_bytes}
 use Rattle.byteorder.specs.Numbers.{big_number-reads_back}
 use Rattle.scenario_image.specs.Limits.{IsInLimits}
-use Rattle.scenario_image.specs.LinkLimits.{IsQueueInLimits, IsLoseInLimits, IsLinkInLimits}
+use Rattle.scenario_image.specs.LinkLimits.{IsQueueInLimits, IsLinkInLimits}
 use Rattle.scenario_image.specs.FlowLimits.{IsFlowInLimits}
 use Rattle.scenario_image.specs.RouteLimits.{IsRouteInLimits}
-use Rattle.scenario_image.specs.Range.{IsBetween}
 use Rattle.scenario_image.specs.Image.{header_image, node_byte, link_image, flow_image, route_image, image}
 use Rattle.scenario_image.specs.Layout.{node_count, link_count, flow_count, route_count, link_size, links_size, layout_size}
 use Rattle.scenario_image.specs.Reading.{each_at, node_of_byte, nodes_at, link_at, links_at, flow_at, route_at, parts_with, parts_at}

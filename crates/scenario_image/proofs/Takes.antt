@@ -1,5 +1,5 @@
 -- What is read from bytes, the bytes begin with.
-use Rattle.std.proofs.Common.{◌≡◌, ℕ, zero, suc, ◌+◌, ◌*◌, ◌≤◌, Bool, true, false, cond, ◌&&◌, eqb, List, [], ◌∷◌, ◌++◌, map, length, get_or, take, drop, Option, Some, None, arith, refl, ap, sym, subst, ◌∙◌, append_assoc}
+use Rattle.std.proofs.Common.{◌≡◌, ℕ, zero, suc, ◌+◌, ◌*◌, ◌≤◌, Bool, true, false, cond, ◌&&◌, eqb, List, [], ◌∷◌, ◌++◌, map, length, get_or, take, drop, Some, None, arith, refl, ap, sym, subst, ◌∙◌, append_assoc}
 use Rattle.std.specs.List.{flat_map}
 use Rattle.std.specs.Option.{option_map, option_and_then}
 use Rattle.std.proofs.lemmas.Bool.{eqb-true}
@@ -17,8 +17,6 @@ use Rattle.scenario_image.specs.declared.parts.Codel.{Codel as CodelNumbers}
 use Rattle.scenario_image.specs.declared.parts.QueueKind.{QueueKind}
 use Rattle.scenario_image.specs.declared.parts.QueueKind.TheVariants.{DropTail, Codel}
 use Rattle.scenario_image.specs.declared.parts.LinkPart.{LinkPart}
-use Rattle.scenario_image.specs.declared.parts.FlowPart.{FlowPart}
-use Rattle.scenario_image.specs.declared.parts.RoutePart.{RoutePart}
 use Rattle.scenario_image.specs.declared.parts.ScenarioParts.{ScenarioParts}
 
 flow_takes : (bytes : List ℕ) → IsBytes bytes → 26 ≤ length bytes → bytes ≡ flow_image (flow_at bytes) ++ drop 26 bytes

@@ -56,3 +56,44 @@ pub(crate) fn parts(
         routes: Records::new(routes.collect(alloc)?),
     })
 }
+
+/// The value of a digit, if it is one.
+fn digit(byte: u8) -> Option<u8> {
+    match byte {
+        b'0'..=b'9' => Some(byte - b'0'),
+        b'a'..=b'f' => Some(byte - b'a' + 10),
+        _ => None,
+    }
+}
+
+/// Adds the bytes that pairs of digits spell.
+fn push_hex(bytes: &mut Vec<u8>, hex: &str) -> Result<(), AllocError> {
+    let mut high = None;
+    for low in hex.as_bytes().iter().filter_map(|byte| digit(*byte)) {
+        high = match high {
+            None => Some(low),
+            Some(first) => {
+                bytes.push(low.wrapping_add(16u8.wrapping_mul(first)))?;
+                None
+            }
+        };
+    }
+    Ok(())
+}
+
+/// The bytes that pairs of digits spell, with those of `hex` in place of those at this place.
+pub(crate) fn bytes_with(
+    alloc: Global,
+    all: &str,
+    place: usize,
+    hex: &str,
+) -> Result<Vec<u8>, AllocError> {
+    let mut whole = Vec::new(alloc);
+    push_hex(&mut whole, all)?;
+    let mut bytes = Vec::new(alloc);
+    bytes.extend_from_slice(whole.as_slice().get(..place).unwrap_or(b""))?;
+    push_hex(&mut bytes, hex)?;
+    let kept = whole.as_slice().get(bytes.len()..).unwrap_or(b"");
+    bytes.extend_from_slice(kept)?;
+    Ok(bytes)
+}

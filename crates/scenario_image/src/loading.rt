@@ -27,6 +27,7 @@ fn has_magic(bytes: &[u8]) -> bool
 }
 
 /// The scenario of an image, or the first fault of the bytes.
+#[tactic(none)]
 fn judged(alloc: Global, bytes: &[u8]) -> Result<Scenario, LoadFault>
     ensures ok { IfOk result (λ scenario. bytes.now ≡ image scenario) }
     ensures scenario { IfOk result IsScenario }
@@ -50,6 +51,7 @@ fn judged(alloc: Global, bytes: &[u8]) -> Result<Scenario, LoadFault>
 }
 
 /// The scenario that bytes are the image of, or the first fault that they have.
+#[tactic(none)]
 pub fn load(alloc: Global, bytes: &[u8]) -> Result<Scenario, LoadFault>
     // What is loaded has these bytes as its image.
     ensures ok { IfOk result (λ scenario. bytes.now ≡ image scenario) }
@@ -62,3 +64,6 @@ pub fn load(alloc: Global, bytes: &[u8]) -> Result<Scenario, LoadFault>
 {
     judged(alloc, bytes)
 }
+
+#[cfg(test)]
+mod tests;

@@ -1,20 +1,21 @@
 -- How a session ends.
-use Rattle.std.proofs.Common.{◌≡◌, ◌⊎◌, inl, inr, ℕ, zero, suc, ◌+◌, ◌-◌, ◌<◌, ◌≤◌, List, [], ◌∷◌, ◌++◌, length, arith, Option, None, Some, Result, Ok, Err, IfOk, IsErrOf, refl, sym, subst, ap, ◌∙◌}
+use Rattle.std.proofs.Common.{◌≡◌, ◌⊎◌, inl, inr, ℕ, zero, suc, ◌+◌, ◌-◌, ◌<◌, ◌≤◌, Bool, true, false, MatchBool, List, [], ◌∷◌, ◌++◌, length, arith, Option, None, Some, Result, Ok, Err, IfOk, IfErr, refl, sym, subst, ap, ◌∙◌}
 use Rattle.std.specs.Option.{option_map, option_and_then}
+use Rattle.scenario_image.specs.Image.{image}
 use Rattle.scenario_image.specs.declared.parts.ScenarioParts.{ScenarioParts}
-use Rattle.scenario_asm.specs.declared.fault.Fault.{Fault}
-use Rattle.scenario_asm.specs.declared.fault.AsmFault.{AsmFault}
-use Rattle.scenario_asm.specs.declared.fault.AsmFault.TheVariants.{At, NoMemory as text_NoMemory}
-use Rattle.scenario_asm.specs.Meaning.{MeansScenario, MeansFault}
+use Rattle.scenario_asm.specs.CanonicalText.{canonical_text}
 use Rattle.table_run.specs.State.{State, opening, run, step, one_more}
 use Rattle.node_core.specs.TraceLine.{TraceLine}
 use Rattle.tcpsim.specs.declared.fault.SessionFault.{SessionFault}
-use Rattle.tcpsim.specs.declared.fault.SessionFault.TheVariants.{TooLong, Refused, ReadFailed, WriteFailed, NoMemory, CountFull}
-use Rattle.tcpsim.specs.Faults.{of_text}
+use Rattle.tcpsim.specs.declared.fault.SessionFault.TheVariants.{TooLong, Refused, RefusedImage, ReadFailed, WriteFailed, NoMemory, CountFull}
+use Rattle.tcpsim.specs.declared.subcommand.Subcommand.{Subcommand}
+use Rattle.tcpsim.specs.declared.subcommand.Subcommand.TheVariants.{Asm, Dis, Run}
+use Rattle.tcpsim.specs.Input.{is_image, HasScenario, HasFault, Reads}
+use Rattle.tcpsim.specs.Output.{IsAllOrNothing, IsOutput}
 use Rattle.tcpsim.specs.Trace.{IsTrace, IsFullTrace}
 use Rattle.tcpsim.specs.Written.{Writes}
 use Rattle.tcpsim.specs.Ended.{Ended, IsHindered, IsRunOutput, IsReadFault}
-use Rattle.tcpsim.specs.Session.{IsWithin, IsEnding, IsDue, IsSession}
+use Rattle.tcpsim.specs.Session.{IsWithin, IsOfScenario, IsEnding, IsDue, IsSession}
 use Rattle.tcpsim.proofs.Bytes.{appends_nothing}
 use Rattle.tcpsim.proofs.Options.{some_none, same_some}
 
@@ -63,85 +64,157 @@ one_full s (Err NoMemory) out out' made full = inr tt
 one_full s (Err ReadFailed) out out' made full = inr tt
 one_full s _ out out' made full = absurd made
 
-abbrev pub Assembled : Type 0
-Assembled = Result ScenarioParts AsmFault
+-- over one scenario a run ends in one way
+one_run : (s : State) (ended other : Ended) (out out' : List ℕ) → ¬ IsHindered other → IsRunOutput s ended out → IsRunOutput s other out' → (ended ≡ other) ⊎ IsHindered ended
+one_run s ended (Ok u) out out' free made due = one_trace s ended out out' made due
+one_run s ended (Err CountFull) out out' free made due = one_full s ended out out' made due
+one_run s ended (Err NoMemory) out out' free made due = absurd (free tt)
+one_run s ended (Err WriteFailed) out out' free made due = absurd (free tt)
+one_run s ended _ out out' free made due = absurd due
 
--- what the assembler says of a text
-pub record Assembles (text : List ℕ) (made : Assembled) : Type 0 where
-  pub scenario : IfOk made (MeansScenario text)
-  pub only_scenario : (parts : ScenarioParts) → MeansScenario text parts → (made ≡ Ok parts) ⊎ (made ≡ Err text_NoMemory)
-  pub fault : (number : ℕ) (fault : Fault) → IsErrOf made (At number fault) → MeansFault text number fault
-  pub only_fault : (number : ℕ) (fault : Fault) → MeansFault text number fault → (made ≡ Err (At number fault)) ⊎ (made ≡ Err text_NoMemory)
+-- bytes that go out together end in one way
+one_whole : (bytes : List ℕ) (ended other : Ended) (out out' : List ℕ) → ¬ IsHindered other → IsAllOrNothing bytes ended out → IsAllOrNothing bytes other out' → (ended ≡ other) ⊎ IsHindered ended
+one_whole bytes (Ok u) (Ok v) out out' free made due = inl refl
+one_whole bytes (Ok u) (Err NoMemory) out out' free made due = absurd (free tt)
+one_whole bytes (Ok u) (Err WriteFailed) out out' free made due = absurd (free tt)
+one_whole bytes (Ok u) _ out out' free made due = absurd due
+one_whole bytes (Err NoMemory) other out out' free made due = inr tt
+one_whole bytes (Err WriteFailed) other out out' free made due = inr tt
+one_whole bytes _ other out out' free made due = absurd made
 
--- where the assembler answers so, the session ends so, or something hinders it
-abbrev EndsBy : Assembled → Ended → List ℕ → Type 0
-EndsBy (Ok parts) ended out = IsRunOutput (opening parts) ended out
-EndsBy (Err (At number fault)) ended out = ended ≡ Err (Refused number fault)
-EndsBy (Err text_NoMemory) ended out = IsHindered ended
+one_output : (subcommand : Subcommand) (parts : ScenarioParts) (ended other : Ended) (out out' : List ℕ) → ¬ IsHindered other → IsOutput subcommand parts ended out → IsOutput subcommand parts other out'
+    → (ended ≡ other) ⊎ IsHindered ended
+one_output Asm parts ended other out out' free made due = one_whole (image parts) ended other out out' free made due
+one_output Dis parts ended other out out' free made due = one_whole (canonical_text parts) ended other out out' free made due
+one_output Run parts ended other out out' free made due = one_run (opening parts) ended other out out' free made due
 
-by : (made other : Assembled) (ended : Ended) (out : List ℕ) → made ≡ other → EndsBy made ended out → EndsBy other ended out
-by made other ended out is ends = subst (λ m. EndsBy m ended out) is ends
+-- the ends to which work on a scenario can come
+abbrev IsOutputEnd : Ended → Type 0
+IsOutputEnd (Ok done) = Unit {0}
+IsOutputEnd (Err CountFull) = Unit {0}
+IsOutputEnd (Err NoMemory) = Unit {0}
+IsOutputEnd (Err WriteFailed) = Unit {0}
+IsOutputEnd _ = ⊥
 
--- one end is due
-no_other : (text : List ℕ) (made : Assembled) (ended other : Ended) (out : List ℕ) → IsWithin text → Assembles text made → EndsBy made ended out → IsDue text other → (ended ≡ other) ⊎ IsHindered ended
-no_other text made ended (Ok u) out within says ends due =
-    let other = due.1.1.1 in elim (says.only_scenario other.0 other.1) [
-      | inl is ↦ one_trace (opening other.0) ended out due.1.0 (by made (Ok other.0) ended out is ends) other.2
-      | inr is ↦ inr (by made (Err text_NoMemory) ended out is ends)
-    ]
-no_other text made ended (Err CountFull) out within says ends due =
-    let other = due.1.1.1 in elim (says.only_scenario other.0 other.1) [
-      | inl is ↦ one_full (opening other.0) ended out due.1.0 (by made (Ok other.0) ended out is ends) other.2
-      | inr is ↦ inr (by made (Err text_NoMemory) ended out is ends)
-    ]
-no_other text made ended (Err (Refused line fault)) out within says ends due = elim (says.only_fault line fault due.1.1.1) [
-  | inl is ↦ inl (by made (Err (At line fault)) ended out is ends)
-  | inr is ↦ inr (by made (Err text_NoMemory) ended out is ends)
-]
-no_other text made ended (Err TooLong) out within says ends due = let long = due.1.1.0 in absurd (omega (arith, within, long))
-no_other text made ended (Err ReadFailed) out within says ends due = absurd (due.0 tt)
-no_other text made ended (Err WriteFailed) out within says ends due = absurd (due.0 tt)
-no_other text made ended (Err NoMemory) out within says ends due = absurd (due.0 tt)
-no_other text made ended _ out within says ends due = absurd due.1.1.1.2
+run_end : (s : State) (ended : Ended) (out : List ℕ) → IsRunOutput s ended out → IsOutputEnd ended
+run_end s (Ok u) out made = tt
+run_end s (Err CountFull) out made = tt
+run_end s (Err NoMemory) out made = tt
+run_end s (Err WriteFailed) out made = tt
+run_end s _ out made = absurd made
 
--- a run of the text's scenario is an ending of the session
-run_ending : (text : List ℕ) (parts : ScenarioParts) (ended : Ended) (out : List ℕ) → IsWithin text → MeansScenario text parts → IsRunOutput (opening parts) ended out → IsEnding text ended out
-run_ending text parts (Ok u) out within means made = (within, (parts, means, made))
-run_ending text parts (Err CountFull) out within means made = (within, (parts, means, made))
-run_ending text parts (Err WriteFailed) out within means made = (within, (parts, means, made))
-run_ending text parts (Err NoMemory) out within means made = inr (within, (parts, means, made))
-run_ending text parts _ out within means made = absurd made
+whole_end : (bytes : List ℕ) (ended : Ended) (out : List ℕ) → IsAllOrNothing bytes ended out → IsOutputEnd ended
+whole_end bytes (Ok u) out made = tt
+whole_end bytes (Err NoMemory) out made = tt
+whole_end bytes (Err WriteFailed) out made = tt
+whole_end bytes _ out made = absurd made
 
--- the text means a scenario, which was run
-pub ran : (text : List ℕ) (parts : ScenarioParts) (made : Assembled) (ended : Ended) (old new : Option (List ℕ)) → IsWithin text → made ≡ Ok parts → Assembles text made
-    → Writes (IsRunOutput (opening parts) ended) old new → IsSession text ended old new
-ran text parts made ended old new within is says written =
-    let means : MeansScenario text parts = subst (λ m. IfOk m (MeansScenario text)) is says.scenario in
+output_end : (subcommand : Subcommand) (parts : ScenarioParts) (ended : Ended) (out : List ℕ) → IsOutput subcommand parts ended out → IsOutputEnd ended
+output_end Asm parts ended out made = whole_end (image parts) ended out made
+output_end Dis parts ended out made = whole_end (canonical_text parts) ended out made
+output_end Run parts ended out made = run_end (opening parts) ended out made
+
+abbrev pub Read : Type 0
+Read = Result ScenarioParts SessionFault
+
+-- where the reading answers so, the session ends so
+abbrev EndsBy : Subcommand → Read → Ended → List ℕ → Type 0
+EndsBy subcommand (Ok parts) ended out = IsOutput subcommand parts ended out
+EndsBy subcommand (Err fault) ended out = ended ≡ Err fault
+
+by : (subcommand : Subcommand) (read other : Read) (ended : Ended) (out : List ℕ) → read ≡ other → EndsBy subcommand read ended out → EndsBy subcommand other ended out
+by subcommand read other ended out is ends = subst (λ r. EndsBy subcommand r ended out) is ends
+
+hindered : (ended : Ended) → ended ≡ Err NoMemory → IsHindered ended
+hindered ended is = subst IsHindered (sym is) tt
+
+module _ (subcommand : Subcommand) (input : List ℕ) (read : Read) (ended : Ended) (out : List ℕ) (within : IsWithin input) (says : Reads (HasScenario input) (HasFault input) read)
+    (ends : EndsBy subcommand read ended out) where
+  of_scenario : (other : Ended) (out' : List ℕ) → ¬ IsHindered other → IsOfScenario subcommand input other out' → (ended ≡ other) ⊎ IsHindered ended
+  of_scenario other out' free due =
+      let meant = due.1 in elim (says.only_scenario meant.0 meant.1) [
+        | inl is ↦ one_output subcommand meant.0 ended other out out' free (by subcommand read (Ok meant.0) ended out is ends) meant.2
+        | inr is ↦ inr (hindered ended (by subcommand read (Err NoMemory) ended out is ends))
+      ]
+
+  of_fault : (fault : SessionFault) → HasFault input fault → (ended ≡ Err fault) ⊎ IsHindered ended
+  of_fault fault has = elim (says.only_fault fault has) [
+    | inl is ↦ inl (by subcommand read (Err fault) ended out is ends)
+    | inr is ↦ inr (hindered ended (by subcommand read (Err NoMemory) ended out is ends))
+  ]
+
+  -- one end is due
+  no_other : (other : Ended) → IsDue subcommand input other → (ended ≡ other) ⊎ IsHindered ended
+  no_other (Err TooLong) due = let long = due.1.1.0 in absurd (omega (arith, within, long))
+  no_other (Err (Refused line fault)) due = of_fault (Refused line fault) due.1.1.1
+  no_other (Err (RefusedImage fault)) due = of_fault (RefusedImage fault) due.1.1.1
+  no_other (Err ReadFailed) due = absurd (due.0 tt)
+  no_other (Err WriteFailed) due = absurd (due.0 tt)
+  no_other (Err NoMemory) due = absurd (due.0 tt)
+  no_other other due = of_scenario other due.1.0 due.0 due.1.1
+
+-- work on the input's scenario is an ending of the session
+output_ending : (subcommand : Subcommand) (input : List ℕ) (parts : ScenarioParts) (ended : Ended) (out : List ℕ) → IsWithin input → HasScenario input parts → IsOutput subcommand parts ended out
+    → IsOutputEnd ended → IsEnding subcommand input ended out
+output_ending subcommand input parts (Ok u) out within means made end = (within, (parts, means, made))
+output_ending subcommand input parts (Err CountFull) out within means made end = (within, (parts, means, made))
+output_ending subcommand input parts (Err WriteFailed) out within means made end = (within, (parts, means, made))
+output_ending subcommand input parts (Err NoMemory) out within means made end = inr (within, (parts, means, made))
+output_ending subcommand input parts _ out within means made end = absurd end
+
+-- the input has a scenario, which was worked on
+pub ran : (subcommand : Subcommand) (input : List ℕ) (parts : ScenarioParts) (read : Read) (ended : Ended) (old new : Option (List ℕ)) → IsWithin input → read ≡ Ok parts
+    → Reads (HasScenario input) (HasFault input) read → Writes (IsOutput subcommand parts ended) old new → IsSession subcommand input ended old new
+ran subcommand input parts read ended old new within is says written =
+    let means : HasScenario input parts = subst (λ r. IfOk r (HasScenario input)) is says.scenario in
     record {
-      ending = (written.0, written.1, run_ending text parts ended written.0 within means written.2);
-      only_due = λ other due. no_other text made ended other written.0 within says (by (Ok parts) made ended written.0 (sym is) written.2) due;
+      ending = (
+        written.0,
+        written.1,
+        output_ending subcommand input parts ended written.0 within means written.2 (output_end subcommand parts ended written.0 written.2),
+      );
+      only_due = no_other subcommand input read ended written.0 within says (by subcommand (Ok parts) read ended written.0 (sym is) written.2);
     }
 
--- the text was refused, and nothing was written
-pub refused : (text : List ℕ) (fault : AsmFault) (made : Assembled) (known : Option (List ℕ)) → IsWithin text → made ≡ Err fault → Assembles text made → IsSession text (Err (of_text fault)) known known
-refused text (At number fault) made known within is says =
-    record {
-      ending = ([], appends_nothing known, (within, says.fault number fault is, refl));
-      only_due = λ other due. no_other text made (Err (Refused number fault)) other [] within says (by (Err (At number fault)) made (Err (Refused number fault)) [] (sym is) refl) due;
-    }
-refused text text_NoMemory made known within is says = record { ending = ([], appends_nothing known, inl refl); only_due = λ other due. inr tt }
+-- a fault that no input has
+no_fault : (b : Bool) → ¬ MatchBool b ⊥ ⊥
+no_fault true has = has
+no_fault false has = has
 
--- a text that is too long has no other end
-too_long_only : (text : List ℕ) → 16777216 < length text → (other : Ended) → IsDue text other → (Err TooLong ≡ other) ⊎ IsHindered (Err TooLong)
-too_long_only text long (Err TooLong) due = inl refl
-too_long_only text long (Err ReadFailed) due = absurd (due.0 tt)
-too_long_only text long (Err WriteFailed) due = absurd (due.0 tt)
-too_long_only text long (Err NoMemory) due = absurd (due.0 tt)
-too_long_only text long _ due = let within = due.1.1.0 in absurd (omega (arith, long, within))
+-- an input that has a fault ends so, with nothing written
+fault_ending : (subcommand : Subcommand) (input : List ℕ) (fault : SessionFault) → IsWithin input → HasFault input fault → IsEnding subcommand input (Err fault) []
+fault_ending subcommand input (Refused line fault) within has = (within, has, refl)
+fault_ending subcommand input (RefusedImage fault) within has = (within, has, refl)
+fault_ending subcommand input _ within has = absurd (no_fault (is_image input) has)
+
+no_memory_ending : (subcommand : Subcommand) (input : List ℕ) (fault : SessionFault) → fault ≡ NoMemory → IsEnding subcommand input (Err fault) []
+no_memory_ending subcommand input fault is = subst (λ f. IsEnding subcommand input (Err f) []) (sym is) (inl refl)
+
+-- the input was refused, and nothing was written
+pub refused : (subcommand : Subcommand) (input : List ℕ) (fault : SessionFault) (read : Read) (known : Option (List ℕ)) → IsWithin input → read ≡ Err fault
+    → Reads (HasScenario input) (HasFault input) read → IsSession subcommand input (Err fault) known known
+refused subcommand input fault read known within is says =
+    let has : (fault ≡ NoMemory) ⊎ HasFault input fault = subst (λ r. IfErr r (λ f. (f ≡ NoMemory) ⊎ HasFault input f)) is says.fault in
+    record {
+      ending = (
+        [],
+        appends_nothing known,
+        elim has [ inl short ↦ no_memory_ending subcommand input fault short | inr faulty ↦ fault_ending subcommand input fault within faulty ],
+      );
+      only_due = no_other subcommand input read (Err fault) [] within says (by subcommand (Err fault) read (Err fault) [] (sym is) refl);
+    }
+
+-- an input that is too long has no other end
+too_long_only : (subcommand : Subcommand) (input : List ℕ) → 16777216 < length input → (other : Ended) → IsDue subcommand input other → (Err TooLong ≡ other) ⊎ IsHindered (Err TooLong)
+too_long_only subcommand input long (Err TooLong) due = inl refl
+too_long_only subcommand input long (Err ReadFailed) due = absurd (due.0 tt)
+too_long_only subcommand input long (Err WriteFailed) due = absurd (due.0 tt)
+too_long_only subcommand input long (Err NoMemory) due = absurd (due.0 tt)
+too_long_only subcommand input long _ due = let within = due.1.1.0 in absurd (omega (arith, long, within))
 
 -- the input was not read, and nothing was written
-pub unread_text : (text : List ℕ) (fault : SessionFault) (known : Option (List ℕ)) → IsReadFault text fault → IsSession text (Err fault) known known
-unread_text text TooLong known long = record { ending = ([], appends_nothing known, (long, refl)); only_due = too_long_only text long }
-unread_text text ReadFailed known reads = record { ending = ([], appends_nothing known, refl); only_due = λ other due. inr tt }
-unread_text text NoMemory known reads = record { ending = ([], appends_nothing known, inl refl); only_due = λ other due. inr tt }
-unread_text text _ known reads = absurd reads
+pub unread_input : (subcommand : Subcommand) (input : List ℕ) (fault : SessionFault) (known : Option (List ℕ)) → IsReadFault input fault → IsSession subcommand input (Err fault) known known
+unread_input subcommand input TooLong known long = record { ending = ([], appends_nothing known, (long, refl)); only_due = too_long_only subcommand input long }
+unread_input subcommand input ReadFailed known reads = record { ending = ([], appends_nothing known, refl); only_due = λ other due. inr tt }
+unread_input subcommand input NoMemory known reads = record { ending = ([], appends_nothing known, inl refl); only_due = λ other due. inr tt }
+unread_input subcommand input _ known reads = absurd reads

@@ -3,4 +3,9 @@ pub mod Bytes
 pub mod Lines
 pub mod Ends
 pub mod Reading
+pub mod DebugEnds
+pub mod DebugReading
 pub mod Refusals
+pub mod Naming
+pub mod Readings
+pub mod Commands

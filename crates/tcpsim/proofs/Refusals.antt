@@ -1,19 +1,22 @@
 -- How refused words are answered.
 use mathlib.Core.Bool.{false≢true}
 use Rattle.std.proofs.Common.{◌≡◌, ◌≢◌, ◌⊎◌, inl, inr, ℕ, Bool, true, false, List, [], ◌∙◌, refl, ap, subst, Option, Err}
-use Rattle.clap.specs.Kinds.{Kinds, HasKind}
+use Rattle.clap.specs.Kinds.{HasKind}
 use Rattle.clap.specs.Values.{kind_of}
 use Rattle.clap.specs.declared.error.Error.{Error}
 use Rattle.clap.specs.declared.error.kind.ErrorKind.{ErrorKind}
 use Rattle.clap.specs.declared.error.kind.ErrorKind.TheVariants.{OutOfMemory}
 use Rattle.tcpsim.specs.declared.outcome.Outcome.{Outcome}
 use Rattle.tcpsim.specs.declared.fault.SessionFault.TheVariants.{CommandLine, NoMemory}
-use Rattle.tcpsim.specs.CommandLine.{word_faults, IsRequest, AreMistaken, IsRefusal}
+use Rattle.tcpsim.specs.CommandLine.{word_faults, AskFor, IsRequest, AreMistaken, IsRefusal}
+use Rattle.tcpsim.specs.declared.subcommand.Task.{Task}
+use Rattle.tcpsim.specs.Debug.{IsTaskOn}
 use Rattle.tcpsim.specs.Ended.{Ended}
 use Rattle.tcpsim.specs.Outcome.{outcome_of}
-use Rattle.tcpsim.specs.Session.{IsSessionOn, Tells}
+use Rattle.tcpsim.specs.Session.{Tells}
 use Rattle.tcpsim.specs.Streams.{Streams}
-use Rattle.tcpsim.proofs.Reading.{never_begun}
+use Rattle.tcpsim.proofs.Naming.{words_ask_for_one}
+use Rattle.tcpsim.proofs.DebugReading.{task_never_begun}
 
 is_out_of_memory : ErrorKind → Bool
 is_out_of_memory OutOfMemory = true
@@ -42,12 +45,19 @@ refusal {W} words error answered outcome old new kinds mistaken told no_memory m
     of_memory : kind_of error ≡ OutOfMemory → Tells outcome (IsRefusal words) × (new ≡ old)
     of_memory short = let is = no_memory short in ((Err NoMemory, told ∙ ap outcome_of is.0, tt), is.1)
 
--- words without a fault are refused for want of memory only, and then nothing was begun
-pub no_begin : (input : Option (List ℕ)) (faults : Kinds) (error : Error) (answered : Ended) (outcome : Outcome) (before after : Streams) → HasKind faults error → faults ≡ [] → outcome ≡ outcome_of answered
-    → (kind_of error ≡ OutOfMemory → (answered ≡ Err NoMemory) × (after ≡ before)) → Tells outcome (λ ended. IsSessionOn input ended before after)
-no_begin input faults error answered outcome before after kinds none told no_memory =
-    let known : HasKind [] error = subst (λ ks. HasKind ks error) none kinds in
-    elim known [
-      | inl short ↦ let is = no_memory short in (Err NoMemory, told ∙ ap outcome_of is.0, never_begun input before after is.1)
+-- words that ask for a subcommand are refused for want of memory only, and then nothing was begun
+pub no_begin : (words : List (List ℕ)) (task : Task) (known : Option (List ℕ)) (error : Error) (answered : Ended) (outcome : Outcome) (before after : Streams) → HasKind (word_faults words) error
+    → AskFor words task → outcome ≡ outcome_of answered → (kind_of error ≡ OutOfMemory → (answered ≡ Err NoMemory) × (after ≡ before))
+    → Tells outcome (λ ended. IsTaskOn task known ended before after)
+no_begin words task known error answered outcome before after kinds asked is no_memory =
+    let none : HasKind [] error = subst (λ ks. HasKind ks error) asked.faultless kinds in
+    elim none [
+      | inl short ↦ let short_of = no_memory short in (Err NoMemory, is ∙ ap outcome_of short_of.0, task_never_begun task known before after short_of.1)
       | inr among ↦ absurd among
     ]
+
+-- words that ask for a subcommand ask for no other
+pub asked_session : (words : List (List ℕ)) (found task : Task) (known : Option (List ℕ)) (outcome : Outcome) (before after : Streams) → AskFor words found → AskFor words task
+    → Tells outcome (λ ended. IsTaskOn found known ended before after) → Tells outcome (λ ended. IsTaskOn task known ended before after)
+asked_session words found task known outcome before after reads asked told =
+    subst (λ s. Tells outcome (λ ended. IsTaskOn s known ended before after)) ((words_ask_for_one words).only found task reads asked) told

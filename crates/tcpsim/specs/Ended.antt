@@ -25,12 +25,12 @@ IsRunOutput s (Err NoMemory) out = IsTraceStart s out
 IsRunOutput s (Err WriteFailed) out = IsBeginningOf (IsTraceOrStart s) out
 IsRunOutput s _ out = ⊥
 
--- reading a text ended so: it has more bytes than a text may have, or reading was hindered
+-- reading an input ended so: it has more bytes than an input may have, or reading was hindered
 abbrev pub IsReadFault : List ℕ → SessionFault → Type 0
-IsReadFault text TooLong = 16777216 < length text
-IsReadFault text ReadFailed = Unit {0}
-IsReadFault text NoMemory = Unit {0}
-IsReadFault text _ = ⊥
+IsReadFault input TooLong = 16777216 < length input
+IsReadFault input ReadFailed = Unit {0}
+IsReadFault input NoMemory = Unit {0}
+IsReadFault input _ = ⊥
 
 -- the reader's count of failures after what ended so
 abbrev pub reads_after : {T : Type 0} → Result T SessionFault → ℕ → ℕ

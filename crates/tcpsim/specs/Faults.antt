@@ -2,16 +2,20 @@
 use Rattle.std.specs.Prelude.{ℕ, List, ◌++◌, codes, decimal, Option, None, Some}
 use Rattle.net_machine.specs.declared.net.StepFault.{StepFault}
 use Rattle.net_machine.specs.declared.net.StepFault.TheVariants.{NoMemory as step_NoMemory, CountFull as step_CountFull}
+use Rattle.scenario_image.specs.Fault.{fault_name}
+use Rattle.scenario_image.specs.declared.fault.LoadFault.{LoadFault}
+use Rattle.scenario_image.specs.declared.fault.LoadFault.TheVariants.{NoMemory as image_NoMemory}
 use Rattle.scenario_asm.specs.Faults.{code_of}
 use Rattle.scenario_asm.specs.declared.fault.AsmFault.{AsmFault}
 use Rattle.scenario_asm.specs.declared.fault.AsmFault.TheVariants.{At, NoMemory as text_NoMemory}
 use Rattle.tcpsim.specs.declared.fault.SessionFault.{SessionFault}
-use Rattle.tcpsim.specs.declared.fault.SessionFault.TheVariants.{TooLong, Refused, CommandLine, WordsNotUtf8, ReadFailed, WriteFailed, NoMemory, CountFull}
+use Rattle.tcpsim.specs.declared.fault.SessionFault.TheVariants.{TooLong, Refused, RefusedImage, CommandLine, WordsNotUtf8, ReadFailed, WriteFailed, NoMemory, CountFull}
 
 -- input refused; command line refused; reading or writing failed; no room to go on
 abbrev pub status_of : SessionFault → ℕ
 status_of TooLong = 1
 status_of (Refused line fault) = 1
+status_of (RefusedImage fault) = 1
 status_of (CommandLine error) = 2
 status_of WordsNotUtf8 = 2
 status_of ReadFailed = 3
@@ -23,6 +27,7 @@ status_of CountFull = 4
 abbrev pub note_of : SessionFault → Option (List ℕ)
 note_of TooLong = Some (codes "refused I1\n")
 note_of (Refused line fault) = Some (codes "refused " ++ code_of fault ++ codes " line " ++ decimal line ++ codes "\n")
+note_of (RefusedImage fault) = Some (codes "refused " ++ fault_name fault ++ codes "\n")
 note_of (CommandLine error) = None
 note_of WordsNotUtf8 = Some (codes "error: a word is not valid UTF-8\n")
 note_of ReadFailed = Some (codes "read failed\n")
@@ -37,3 +42,7 @@ of_step step_CountFull = CountFull
 abbrev pub of_text : AsmFault → SessionFault
 of_text (At line fault) = Refused line fault
 of_text text_NoMemory = NoMemory
+
+abbrev pub of_image : LoadFault → SessionFault
+of_image image_NoMemory = NoMemory
+of_image fault = RefusedImage fault

@@ -6,5 +6,9 @@ pub mod Faults
 pub mod Trace
 pub mod Ended
 pub mod Outcome
+pub mod Subcommand
+pub mod Input
+pub mod Output
 pub mod Session
+pub mod Debug
 pub mod CommandLine

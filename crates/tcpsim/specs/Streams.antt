@@ -12,6 +12,6 @@ abbrev pub streams_of : {R W : Type 0} → (R → ℕ) → (W → ℕ) → (W �
 streams_of read_failures write_failures contents reader writer =
     record { read_failures = read_failures reader; write_failures = write_failures writer; written = contents writer }
 
--- the text that a reader gives: its bytes, where it tells them
-abbrev pub IsTextOf : Option (List ℕ) → List ℕ → Type 0
-IsTextOf input text = IfSome input (λ bytes. text ≡ bytes)
+-- the input that a reader gives: its bytes, where it tells them
+abbrev pub IsInputOf : Option (List ℕ) → List ℕ → Type 0
+IsInputOf known input = IfSome known (λ bytes. input ≡ bytes)

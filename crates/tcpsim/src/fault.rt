@@ -6,6 +6,7 @@ use crate::sink::SinkFail;
 use crate::source::SourceFail;
 use net_machine::StepFault;
 use scenario_asm::{AsmFault, Fault};
+use scenario_image::LoadFault;
 use std::alloc::{AllocError, AllocFailed};
 use std::error::Error;
 use std::fmt;
@@ -13,7 +14,7 @@ use std::fmt;
 /// Why a session is not done. Its `Display` is the note for standard error, ended by LF.
 #[derive(Debug, Drop)]
 pub enum SessionFault {
-    /// The input has more bytes than a text may have.
+    /// The input has more bytes than an input may have.
     TooLong,
     /// The text's first fault.
     Refused {
@@ -22,6 +23,8 @@ pub enum SessionFault {
         /// What is wrong there.
         fault: Fault,
     },
+    /// The image's first fault.
+    RefusedImage(LoadFault),
     /// The command line is not one of this program.
     CommandLine(clap::Error),
     /// A word of the command line is not UTF-8.
@@ -42,7 +45,8 @@ impl SessionFault {
         ensures { result ≡ status_of self.now }
     {
         match self {
-            SessionFault::TooLong | SessionFault::Refused { .. } => 1,
+            SessionFault::TooLong | SessionFault::Refused { .. } | SessionFault::RefusedImage(_) =>
+                1,
             SessionFault::CommandLine(_) | SessionFault::WordsNotUtf8 => 2,
             SessionFault::ReadFailed | SessionFault::WriteFailed => 3,
             SessionFault::NoMemory | SessionFault::CountFull => 4,
@@ -62,6 +66,7 @@ impl fmt::Display for SessionFault {
                 let code = fault.code();
                 write!(f, "refused {code} line {line}\n")
             }
+            SessionFault::RefusedImage(fault) => write!(f, "refused {fault}\n"),
             SessionFault::CommandLine(error) => write!(f, "{error}"),
             SessionFault::WordsNotUtf8 => f.write_str("error: a word is not valid UTF-8\n"),
             SessionFault::ReadFailed => f.write_str("read failed\n"),
@@ -126,6 +131,19 @@ impl From<AsmFault> for SessionFault {
         match fault {
             AsmFault::At { line, fault } => SessionFault::Refused { line, fault },
             AsmFault::NoMemory => SessionFault::NoMemory,
+        }
+    }
+}
+
+impl From<LoadFault> for SessionFault {
+    ghost use Rattle.tcpsim.specs.Faults.{of_image};
+
+    ghost from_gives = { λ fault e. e ≡ of_image fault };
+
+    fn from(fault: LoadFault) -> SessionFault {
+        match fault {
+            LoadFault::NoMemory => SessionFault::NoMemory,
+            _ => SessionFault::RefusedImage(fault),
         }
     }
 }

@@ -1,14 +1,19 @@
-//! The program: a scenario text comes in on standard input, its trace goes out on standard output.
+//! The program: a scenario comes in on standard input, its trace, its image or its canonical text
+//! goes out on standard output.
 #![tactic(auto)]
 
 pub mod command_line;
+pub mod conversion;
+pub mod debug;
 pub mod fault;
 mod input;
 pub mod outcome;
 mod output;
+pub mod scenario_input;
 pub mod session;
 pub mod sink;
 pub mod source;
+pub mod subcommand;
 #[cfg(test)]
 mod tests;
 pub mod trace;

@@ -2,53 +2,103 @@
 ghost use Rattle.std.specs.Prelude.{◌≡◌, ◌≢◌, [], map, Err};
 ghost use Rattle.clap.specs.Values.{kind_of};
 ghost use Rattle.clap.specs.declared.error.kind.ErrorKind.TheVariants.{OutOfMemory};
-ghost use Rattle.tcpsim.specs.CommandLine.{word_faults, AreMistaken, AskForText, IsRefusal, IsRequest, IsAnswer};
+ghost use Rattle.tcpsim.specs.declared.subcommand.Task.{Task};
+ghost use Rattle.tcpsim.specs.CommandLine.{word_faults, AskFor, AreMistaken, AskForText, IsRefusal, IsRequest, IsAnswer};
+ghost use Rattle.tcpsim.specs.Debug.{IsTaskOn};
 ghost use Rattle.tcpsim.specs.Ended.{writes_after};
+ghost use Rattle.tcpsim.specs.Output.{IsOutput};
 ghost use Rattle.tcpsim.specs.Session.{IsWithin, IsSession, IsSessionOn, Tells};
 ghost use Rattle.tcpsim.specs.Streams.{streams_of};
 ghost use Rattle.tcpsim.specs.Written.{Writes};
 
 use crate::command_line::read_words;
+use crate::conversion::{put_image, put_text};
+use crate::debug::run_debug;
 use crate::fault::SessionFault;
-use crate::input::read_text;
+use crate::input::read_input;
 use crate::outcome::Outcome;
 use crate::output::put_all;
+use crate::scenario_input::read_scenario;
 use crate::sink::Sink;
 use crate::source::Source;
+use crate::subcommand::{Subcommand, Task};
 use crate::trace::run_scenario;
 use clap::error::ErrorKind;
-use scenario_asm::assemble;
+use scenario_image::Scenario;
 use std::alloc::Global;
 use std::convert::AsStr;
 
-/// Runs a text, and writes its trace, where the text means a scenario.
-fn run_text<W: Sink>(alloc: Global, text: &[u8], writer: &mut W) -> Result<(), SessionFault>
-    requires { IsWithin text.now }
-    ensures session { IsSession text.now result (W.contents writer.old) (W.contents writer.new) }
+/// Writes what a subcommand makes of a scenario.
+fn put_output<W: Sink>(
+    alloc: Global,
+    subcommand: Subcommand,
+    scenario: &Scenario,
+    writer: &mut W,
+) -> Result<(), SessionFault>
+    ensures output { Writes (IsOutput subcommand scenario.now result) (W.contents writer.old) (W.contents writer.new) }
+    ensures failures { W.failures writer.new ≡ writes_after result (W.failures writer.old) }
+{
+    match subcommand {
+        Subcommand::Asm => put_image(alloc, scenario, writer),
+        Subcommand::Dis => put_text(alloc, scenario, writer),
+        Subcommand::Run => run_scenario(alloc, scenario, writer),
+    }
+}
+
+/// Writes what a subcommand makes of an input, where the input has a scenario.
+fn answer_bytes<W: Sink>(
+    alloc: Global,
+    subcommand: Subcommand,
+    input: &[u8],
+    writer: &mut W,
+) -> Result<(), SessionFault>
+    requires { IsWithin input.now }
+    ensures session { IsSession subcommand input.now result (W.contents writer.old) (W.contents writer.new) }
     ensures failures { W.failures writer.new ≡ writes_after result (W.failures writer.old) }
     ensures no_read { result ≢ Err SessionFault.ReadFailed }
 {
-    let scenario = assemble(alloc, text)?;
-    run_scenario(alloc, &scenario, writer)
+    let scenario = read_scenario(alloc, input)?;
+    put_output(alloc, subcommand, &scenario, writer)
 }
 
-/// Runs the text on the reader, and writes its trace.
-fn run_input<R: Source, W: Sink>(
+/// Writes what a subcommand makes of the input on the reader.
+fn answer_input<R: Source, W: Sink>(
     alloc: Global,
+    subcommand: Subcommand,
     reader: &mut R,
     writer: &mut W,
 ) -> Result<(), SessionFault>
-    ensures { let seen = streams_of R.failures W.failures W.contents in IsSessionOn (R.remaining reader.old) result (seen reader.old writer.old) (seen reader.new writer.new) }
+    ensures { let seen = streams_of R.failures W.failures W.contents in IsSessionOn subcommand (R.remaining reader.old) result (seen reader.old writer.old) (seen reader.new writer.new) }
 {
-    let text = read_text(alloc, reader)?;
-    run_text(alloc, text.as_slice(), writer)
+    let input = read_input(alloc, reader)?;
+    answer_bytes(alloc, subcommand, input.as_slice(), writer)
 }
 
-/// The session of `tcpsim run`: runs the text on the reader, and writes its trace.
-pub fn run_session<R: Source, W: Sink>(alloc: Global, reader: &mut R, writer: &mut W) -> Outcome
-    ensures { let seen = streams_of R.failures W.failures W.contents in Tells result (λ ended. IsSessionOn (R.remaining reader.old) ended (seen reader.old writer.old) (seen reader.new writer.new)) }
+/// The session of a subcommand: writes what it makes of the input on the reader.
+pub fn run_session<R: Source, W: Sink>(
+    alloc: Global,
+    subcommand: Subcommand,
+    reader: &mut R,
+    writer: &mut W,
+) -> Outcome
+    ensures { let seen = streams_of R.failures W.failures W.contents in Tells result (λ ended. IsSessionOn subcommand (R.remaining reader.old) ended (seen reader.old writer.old) (seen reader.new writer.new)) }
 {
-    Outcome::from(run_input(alloc, reader, writer))
+    Outcome::from(answer_input(alloc, subcommand, reader, writer))
+}
+
+/// The session of a task.
+pub fn run_task<R: Source, W: Sink>(
+    alloc: Global,
+    task: Task,
+    reader: &mut R,
+    writer: &mut W,
+) -> Outcome
+    ensures { let seen = streams_of R.failures W.failures W.contents in Tells result (λ ended. IsTaskOn task (R.remaining reader.old) ended (seen reader.old writer.old) (seen reader.new writer.new)) }
+{
+    match task {
+        Task::Scenario(subcommand) => run_session(alloc, subcommand, reader, writer),
+        Task::Debug => run_debug(alloc, reader, writer),
+    }
 }
 
 /// Writes what the command line asks to be shown.
@@ -86,13 +136,13 @@ pub fn run_all<H: AllocGlobal, R: Source, W: Sink, S: AsStr>(
     writer: &mut W,
     words: &[S],
 ) -> Outcome
-    ensures run { let seen = streams_of R.failures W.failures W.contents in word_faults (map S.text words.now) ≡ [] → Tells result (λ ended. IsSessionOn (R.remaining reader.old) ended (seen reader.old writer.old) (seen reader.new writer.new)) }
+    ensures asked { let seen = streams_of R.failures W.failures W.contents in (task : Task) → AskFor (map S.text words.now) task → Tells result (λ ended. IsTaskOn task (R.remaining reader.old) ended (seen reader.old writer.old) (seen reader.new writer.new)) }
     ensures mistake { AreMistaken (map S.text words.now) → Tells result (IsRefusal (map S.text words.now)) × (writer.new ≡ writer.old) }
     ensures request { AskForText (map S.text words.now) → Tells result (λ ended. Writes (IsAnswer ended) (W.contents writer.old) (W.contents writer.new) × (W.failures writer.new ≡ writes_after ended (W.failures writer.old))) }
     ensures unread { word_faults (map S.text words.now) ≢ [] → reader.new ≡ reader.old }
 {
     match read_words(rt.alloc(), words) {
-        Ok(()) => run_session(rt.alloc(), reader, writer),
+        Ok(task) => run_task(rt.alloc(), task, reader, writer),
         Err(error) => Outcome::from(answer_words(rt.alloc(), error, writer)),
     }
 }

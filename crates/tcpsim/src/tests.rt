@@ -1,6 +1,8 @@
 //! Whole sessions over memory, and what texts are refused for.
 
 mod broken;
+mod debug;
+mod images;
 mod networks;
 mod texts;
 pub(crate) mod traces;
@@ -33,13 +35,13 @@ end 5
 fn expect_words(
     rt: &(impl Abort + AllocGlobal),
     words: &[&str],
-    text: &[u8],
+    input: &[u8],
     status: u8,
     note: &str,
-    output: &str,
+    output: &[u8],
 ) -> Result<(), Fail> {
     let mut out = Vec::new(rt.alloc());
-    let mut input = OverRead::new(text);
+    let mut input = OverRead::new(input);
     let outcome = run_all(rt, &mut input, &mut OverWrite::new(&mut out), words);
     assert_eq!(rt; outcome.status, status);
     let shown = match &outcome.note {
@@ -47,7 +49,7 @@ fn expect_words(
         None => String::new(rt.alloc()),
     };
     assert_eq!(rt; shown.as_str(), note);
-    assert_eq!(rt; out.as_slice(), output.as_bytes());
+    assert_eq!(rt; out.as_slice(), output);
     Ok(())
 }
 
@@ -64,7 +66,7 @@ fn expect_run(
         text.as_bytes(),
         status,
         note,
-        output,
+        output.as_bytes(),
     )
 }
 
@@ -176,7 +178,7 @@ fn a_way_that_breaks_is_told_before_one_that_returns(rt: HostRuntime) -> Result<
 fn mistaken_words_are_refused(rt: HostRuntime) -> Result<(), Fail> {
     for words in [
         ["tcpsim"].as_slice(),
-        ["tcpsim", "asm"].as_slice(),
+        ["tcpsim", "asm", "dis"].as_slice(),
         ["tcpsim", "help"].as_slice(),
         ["tcpsim", "run", "run"].as_slice(),
         ["tcpsim", "run", "--workers", "2"].as_slice(),
@@ -199,10 +201,13 @@ fn mistaken_words_are_refused(rt: HostRuntime) -> Result<(), Fail> {
 fn help_and_version_are_shown(rt: HostRuntime) -> Result<(), Fail> {
     for (words, text) in [
         (["tcpsim", "--help"].as_slice(), HELP),
+        (["tcpsim", "asm", "--help"].as_slice(), ASM_HELP),
+        (["tcpsim", "dis", "-h"].as_slice(), DIS_HELP),
         (["tcpsim", "run", "--help"].as_slice(), RUN_HELP),
+        (["tcpsim", "debug", "--help"].as_slice(), DEBUG_HELP),
         (["tcpsim", "--version"].as_slice(), "tcpsim 0.1.0\n"),
     ] {
-        expect_words(&rt, words, b"", 0, "", text)?;
+        expect_words(&rt, words, b"", 0, "", text.as_bytes())?;
     }
     Ok(())
 }
@@ -212,16 +217,43 @@ const HELP: &str = "Simulate TCP flows through bottlenecks, packet by packet
 Usage: tcpsim <COMMAND>
 
 Commands:
-  run  Run the scenario text on standard input and print its trace
+  asm    Write the image of the scenario on standard input
+  dis    Write the canonical text of the scenario on standard input
+  run    Run the scenario on standard input and print its trace
+  debug  Answer the commands behind the scenario text on standard input
 
 Options:
   -h, --help     Print help
   -V, --version  Print version
 ";
 
-const RUN_HELP: &str = "Run the scenario text on standard input and print its trace
+const ASM_HELP: &str = "Write the image of the scenario on standard input
+
+Usage: tcpsim asm
+
+Options:
+  -h, --help  Print help
+";
+
+const DIS_HELP: &str = "Write the canonical text of the scenario on standard input
+
+Usage: tcpsim dis
+
+Options:
+  -h, --help  Print help
+";
+
+const RUN_HELP: &str = "Run the scenario on standard input and print its trace
 
 Usage: tcpsim run
+
+Options:
+  -h, --help  Print help
+";
+
+const DEBUG_HELP: &str = "Answer the commands behind the scenario text on standard input
+
+Usage: tcpsim debug
 
 Options:
   -h, --help  Print help

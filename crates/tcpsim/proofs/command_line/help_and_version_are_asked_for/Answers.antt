@@ -7,7 +7,14 @@ use Rattle.tcpsim.proofs.command_line.help_and_version_are_asked_for.Goals as go
 
 text_words : WordsOfText
 unfolding walk_fault flags_fault defaults_fault walked bundle_met
-text_words = record { help = (DisplayHelp, refl, inl refl); run_help = (DisplayHelp, refl, inl refl); version = (DisplayVersion, refl, inr refl) }
+text_words = record {
+  help = (DisplayHelp, refl, inl refl);
+  asm_help = (DisplayHelp, refl, inl refl);
+  dis_help = (DisplayHelp, refl, inl refl);
+  run_help = (DisplayHelp, refl, inl refl);
+  debug_help = (DisplayHelp, refl, inl refl);
+  version = (DisplayVersion, refl, inr refl);
+}
 
 pub returns : goal.returns
 returns c = text_words

@@ -1,0 +1,97 @@
+#!/usr/bin/env python3
+"""Measures what images cost and writes that section of bench/RESULTS.md: bench/images.py [--program PATH]
+
+`bench/measure.py` writes the section too. Instructions are counted by valgrind, those of one function
+and what it calls; seconds are whole runs of the program, and say only what the machine at hand did.
+"""
+import argparse
+import os
+import re
+import subprocess
+import sys
+import tempfile
+import time
+
+TOP = os.path.dirname(os.path.dirname(os.path.abspath(__file__)))
+sys.path.insert(0, os.path.join(TOP, 'scripts', 'model'))
+
+import image  # noqa: E402
+from scenarios import SCENARIOS  # noqa: E402
+from text import assemble, disassemble  # noqa: E402
+
+PROGRAM = os.path.join(TOP, 'crates', 'tcpsim', 'out', 'tcpsim')
+RESULTS = os.path.join(TOP, 'bench', 'RESULTS.md')
+HEAD = '## Images\n'
+FIRST = os.path.join(TOP, 'examples', 'one_segment.txt')
+NAMES = 'chain', 'dumbbell_codel', 'tree', 'largest'
+LOAD_MS, SAVE_MS = 20, 10
+LOAD, SAVE = 'tcpsim::scenario_input::read_scenario', 'tcpsim::conversion::put_image'
+ENVIRONMENT = {'PATH': '/usr/bin:/bin', 'LC_ALL': 'C'}
+
+
+def costs(program, subcommand, path, work):
+    """Instructions of the functions that load an image and save it, with what they call."""
+    out = os.path.join(work, 'callgrind')
+    with open(path, 'rb') as given:
+        subprocess.run(['valgrind', '--tool=callgrind', f'--callgrind-out-file={out}', program, subcommand], stdin=given,
+                       stdout=subprocess.DEVNULL, stderr=subprocess.DEVNULL, env=ENVIRONMENT, check=True)
+    said = subprocess.run(['callgrind_annotate', '--inclusive=yes', '--threshold=100', out], capture_output=True,
+                          text=True, env=ENVIRONMENT, check=True).stdout
+    return [int(re.search(rf'^ *([\d,]+) .*:{name}\b', said, re.M)[1].replace(',', '')) for name in (LOAD, SAVE)]
+
+
+def milliseconds(program, subcommand, path):
+    """The least of eleven runs."""
+    took = []
+    for _ in range(11):
+        with open(path, 'rb') as given:
+            begin = time.perf_counter()
+            subprocess.run([program, subcommand], stdin=given, stdout=subprocess.DEVNULL, env=ENVIRONMENT, check=True)
+            took.append(time.perf_counter() - begin)
+    return min(took) * 1000
+
+
+def rows(program):
+    with open(FIRST, 'rb') as first:
+        scenarios = [('one_segment', assemble(first.read()))]
+    scenarios += [(name, SCENARIOS[name]()) for name in NAMES]
+    with tempfile.TemporaryDirectory() as work:
+        for name, scenario in scenarios:
+            data, text = os.path.join(work, name + '.tcb'), os.path.join(work, name + '.txt')
+            for path, what in ((data, image.save(scenario)), (text, disassemble(scenario))):
+                with open(path, 'wb') as file:
+                    file.write(what)
+            size = os.path.getsize(data)
+            load, save = costs(program, 'asm', data, work)
+            yield (f'`{name}`', f'{size:,}', f'{load:,}', f'{load / size:.1f}', f'{save:,}', f'{save / size:.1f}',
+                   *(f'{milliseconds(program, words, path):.1f}' for words, path in (('asm', data), ('dis', data), ('asm', text))))
+
+
+def section(program):
+    yield HEAD
+    yield ('What `asm` costs on the images of some scenarios (bench/scenarios.py; `largest` has 256 nodes of which 128 are '
+           'routers, 1,024 links with 64 lost packets each, 64 flows and 16,384 routes): instructions of loading, with all '
+           'that a scenario is checked for, and of saving and writing, and a byte of image. Milliseconds are whole runs of '
+           f'the program; the largest image is to be loaded in {LOAD_MS} ms and saved in {SAVE_MS}.\n')
+    heads = ('Scenario', 'Bytes of image', 'Instructions to load', 'a byte', 'to save', 'a byte', '`asm` of the image, ms',
+             '`dis` of it, ms', '`asm` of the text, ms')
+    yield '| ' + ' | '.join(heads) + ' |'
+    yield '|---' + '|--:' * (len(heads) - 1) + '|'
+    for row in rows(program):
+        yield '| ' + ' | '.join(row) + ' |'
+
+
+def main(words=None):
+    parser = argparse.ArgumentParser(description=__doc__, formatter_class=argparse.RawDescriptionHelpFormatter)
+    parser.add_argument('--program', default=PROGRAM)
+    made = '\n'.join(section(parser.parse_args(words).program))
+    with open(RESULTS) as file:
+        before, _, behind = file.read().partition('\n' + HEAD)
+    later = re.search(r'^## ', behind, re.M)
+    with open(RESULTS, 'w') as file:
+        file.write(before.rstrip('\n') + '\n\n' + made + '\n' + ('\n' + behind[later.start():] if later else ''))
+    print(made)
+
+
+if __name__ == '__main__':
+    main()

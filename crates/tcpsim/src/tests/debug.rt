@@ -1,0 +1,123 @@
+//! Debugging sessions through the program's words.
+
+use super::expect_words;
+use std::test::Fail;
+
+#[test]
+fn a_session_goes_forwards_and_backwards(rt: HostRuntime) -> Result<(), Fail> {
+    expect_words(
+        &rt,
+        &["tcpsim", "debug"],
+        SESSION.as_bytes(),
+        0,
+        "",
+        ANSWERS.as_bytes(),
+    )
+}
+
+#[test]
+fn a_session_stops_at_breakpoints(rt: HostRuntime) -> Result<(), Fail> {
+    expect_words(
+        &rt,
+        &["tcpsim", "debug"],
+        BREAKS.as_bytes(),
+        0,
+        "",
+        STOPS.as_bytes(),
+    )
+}
+
+/// An image is taken for a text.
+#[test]
+fn a_session_has_no_image(rt: HostRuntime) -> Result<(), Fail> {
+    let note = "refused E2 line 1\n";
+    expect_words(&rt, &["tcpsim", "debug"], b"TCB1\n---\n", 1, note, b"")
+}
+
+const SESSION: &str = "sim 1000000000
+node s sender
+node r receiver
+link a s r 8000000 1000000 droptail 10
+link b r s 8000000 1000000 droptail 10
+flow f s r 1000 1 0 64000 0
+---
+step 3
+back 2
+back 9
+run
+";
+
+const ANSWERS: &str = "at 3
+node 0 sender 0 una=0 nxt=1000 high=1000 cwnd=4000 ssthresh=64000 dups=0 lt=0 fr=0 timing=1000@0 srtt=- rttvar=0 rto=1000000000 resent=0
+node 1 receiver 0 next=1000 held=-
+link 0 offered=1 sent=1 queue=-
+link 1 offered=1 sent=1 queue=-
+event 2080000 1 0 3 free 1
+event 3080000 0 2 1 ack 0 1000
+event 1000000000 0 0 1 rto 0
+at 1
+node 0 sender 0 una=0 nxt=1000 high=1000 cwnd=4000 ssthresh=64000 dups=0 lt=0 fr=0 timing=1000@0 srtt=- rttvar=0 rto=1000000000 resent=0
+node 1 receiver 0 next=0 held=-
+link 0 offered=1 sent=1 queue=-
+link 1 offered=0 sent=0 queue=-
+event 1040000 0 0 3 free 0
+event 2040000 1 1 1 data 0 0
+event 1000000000 0 0 1 rto 0
+at 0
+node 0 sender 0 una=0 nxt=0 high=0 cwnd=4000 ssthresh=64000 dups=0 lt=0 fr=0 timing=- srtt=- rttvar=0 rto=1000000000 resent=0
+node 1 receiver 0 next=0 held=-
+link 0 offered=0 sent=0 queue=-
+link 1 offered=0 sent=0 queue=-
+event 0 0 0 0 start 0
+at 5
+node 0 sender 0 una=1000 nxt=1000 high=1000 cwnd=5000 ssthresh=64000 dups=0 lt=0 fr=0 timing=- srtt=3080000 rttvar=1540000 rto=1000000000 resent=0
+node 1 receiver 0 next=1000 held=-
+link 0 offered=1 sent=1 queue=-
+link 1 offered=1 sent=1 queue=-
+";
+
+const BREAKS: &str = "sim 1000000000
+node s sender
+node r receiver
+link a s r 8000000 1000000 droptail 10
+link b r s 8000000 1000000 droptail 10
+flow f s r 1000 1 0 64000 0
+---
+break kind data
+run
+run
+back 1
+until 2040000
+bak 1
+";
+
+const STOPS: &str = "break 1
+at 3
+node 0 sender 0 una=0 nxt=1000 high=1000 cwnd=4000 ssthresh=64000 dups=0 lt=0 fr=0 timing=1000@0 srtt=- rttvar=0 rto=1000000000 resent=0
+node 1 receiver 0 next=1000 held=-
+link 0 offered=1 sent=1 queue=-
+link 1 offered=1 sent=1 queue=-
+event 2080000 1 0 3 free 1
+event 3080000 0 2 1 ack 0 1000
+event 1000000000 0 0 1 rto 0
+at 5
+node 0 sender 0 una=1000 nxt=1000 high=1000 cwnd=5000 ssthresh=64000 dups=0 lt=0 fr=0 timing=- srtt=3080000 rttvar=1540000 rto=1000000000 resent=0
+node 1 receiver 0 next=1000 held=-
+link 0 offered=1 sent=1 queue=-
+link 1 offered=1 sent=1 queue=-
+at 4
+node 0 sender 0 una=0 nxt=1000 high=1000 cwnd=4000 ssthresh=64000 dups=0 lt=0 fr=0 timing=1000@0 srtt=- rttvar=0 rto=1000000000 resent=0
+node 1 receiver 0 next=1000 held=-
+link 0 offered=1 sent=1 queue=-
+link 1 offered=1 sent=1 queue=-
+event 3080000 0 2 1 ack 0 1000
+event 1000000000 0 0 1 rto 0
+at 4
+node 0 sender 0 una=0 nxt=1000 high=1000 cwnd=4000 ssthresh=64000 dups=0 lt=0 fr=0 timing=1000@0 srtt=- rttvar=0 rto=1000000000 resent=0
+node 1 receiver 0 next=1000 held=-
+link 0 offered=1 sent=1 queue=-
+link 1 offered=1 sent=1 queue=-
+event 3080000 0 2 1 ack 0 1000
+event 1000000000 0 0 1 rto 0
+refused B1
+";
