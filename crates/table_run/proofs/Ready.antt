@@ -226,20 +226,27 @@ module _ (p : ScenarioParts) (n : ℕ) (lines : List TraceLine) (s : State) (is_
   pub node_within : k.node < length s.parts
   node_within = (kept_by p lines s k v is_scenario sound is_next).within
 
-  -- the event can be run at its node
-  pub runnable : n < 1000000000000000 → IsRunnable (part_at s k.node) k v
-  runnable short = record {
+  -- the event can be run at its node, after fewer events there than a run may have
+  pub runnable_by : lines_at k.node lines < 1000000000000000 → IsRunnable (part_at s k.node) k v
+  runnable_by few = record {
     moment = moment;
     can = can_run p is_scenario lines sound.moment s k sound.sound moment v its_due (sound.sound.belongs k v its_due.pending);
-    links = all_map (λ (l : LinkState). IsSoundLink p s (lines_at k.node lines) l.port) LinkCan (λ l. link_can p s (lines_at k.node lines) l (let few = few_lines k.node in omega (arith, few, short))) (part_at s k.node).links
+    links = all_map (λ (l : LinkState). IsSoundLink p s (lines_at k.node lines) l.port) LinkCan (λ l. link_can p s (lines_at k.node lines) l few) (part_at s k.node).links
         (sound.sound.each_node k.node (subst (λ m. k.node < m) sound.sound.nodes_are node_within)).each_link;
   }
+
+  pub runnable : n < 1000000000000000 → IsRunnable (part_at s k.node) k v
+  runnable short = runnable_by (let few = few_lines k.node in omega (arith, few, short))
 
   pub links_stay : LinksStay (part_at s k.node).links (effect_of s (k, v)).part.links (effect_of s (k, v)).leaving
   links_stay = subst (λ (e : Effect). LinksStay (part_at s k.node).links e.part.links e.leaving) (sym has.effect_is) (links_stay_here p is_scenario lines sound.moment s k v sound.sound its_due has.shape has.row)
 
+  -- the same by the events at the node
+  pub delivery_by : (most : ℕ) → lines_at k.node lines ≤ most → (leaving : Leaving) → (effect_of s (k, v)).leaving ≡ Some leaving → IsDelivery s most k (effect_of s (k, v)).part.links leaving
+  delivery_by most few leaving is =
+      subst (λ (e : Effect). IsDelivery s most k e.part.links leaving) (sym has.effect_is)
+      (of_leaving (IsDelivery s most k (shaped (part_at s k.node) k has.shape).part.links) has.shape.index has.shape.step.departure leaving (sym (ap (λ (e : Effect). e.leaving) has.effect_is) ∙ is)
+      (delivers p is_scenario lines sound.moment s k v sound.sound its_due has.shape has.row most few))
+
   pub delivery : (leaving : Leaving) → (effect_of s (k, v)).leaving ≡ Some leaving → IsDelivery s n k (effect_of s (k, v)).part.links leaving
-  delivery leaving is =
-      subst (λ (e : Effect). IsDelivery s n k e.part.links leaving) (sym has.effect_is)
-      (of_leaving (IsDelivery s n k (shaped (part_at s k.node) k has.shape).part.links) has.shape.index has.shape.step.departure leaving (sym (ap (λ (e : Effect). e.leaving) has.effect_is) ∙ is)
-      (delivers p is_scenario lines sound.moment s k v sound.sound its_due has.shape has.row n (few_lines k.node)))
+  delivery = delivery_by n (few_lines k.node)

@@ -18,7 +18,7 @@ use Rattle.window_core.proofs.Due.{IsFirst, due_is, late_none}
 use Rattle.window_core.proofs.Matches.{Matches, within_less, near}
 use Rattle.window_core.proofs.OneStep.{matches_on}
 use Rattle.table_run.proofs.Runs.{Along, of_step, due_steps, run_length, of_run, along_step, along_here}
-use Rattle.window_core.proofs.Window.{Done, window}
+use Rattle.window_core.proofs.Brought.{Done, window}
 use Rattle.window_core.proofs.Tidy.{Tidy, run_tidy}
 use Rattle.window_core.proofs.Turn.{lines_of_all, stands_after, end_le, end_soon, matches_from}
 use Rattle.window_core.proofs.Alone.{length_fires, fires_push, same_group, fires_append, fired_apart}
@@ -30,7 +30,7 @@ none_is (Some x) e = absurd (cc)
 pub nothing_due : (until : ℕ) → due (up_to until no_group) ≡ None
 nothing_due until = late_none until no_group.pending (λ q some. absurd (some (get-empty _ q)))
 
-done_at : (until : ℕ) (groups : List GroupState) → all_done until groups ≡ true → (h : ℕ) → due (up_to until (group_at groups h)) ≡ None
+pub done_at : (until : ℕ) (groups : List GroupState) → all_done until groups ≡ true → (h : ℕ) → due (up_to until (group_at groups h)) ≡ None
 done_at until [] e h = nothing_due until
 done_at until (g ∷ groups) e zero = none_is _ (and_parts _ _ e).0
 done_at until (g ∷ groups) e (suc h) = done_at until groups (and_parts _ _ e).1 h

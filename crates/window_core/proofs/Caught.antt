@@ -16,7 +16,7 @@ use Rattle.window_core.proofs.Premises.{FairStep}
 use Rattle.window_core.proofs.Due.{IsFirst, due_is, is_due, none_due, late_none}
 use Rattle.window_core.proofs.Matches.{Matches, due_there, none_there}
 use Rattle.window_core.proofs.OneStep.{matches_on}
-use Rattle.window_core.proofs.Window.{due_by_end}
+use Rattle.window_core.proofs.Brought.{due_by_end}
 use Rattle.window_core.proofs.Alone.{one, alone, stays}
 
 -- where nothing is due a run goes no further

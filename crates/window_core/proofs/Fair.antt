@@ -31,6 +31,15 @@ from_of (Some link) = link.from
 pub maker_of : List LinkPart → Key → ℕ
 maker_of links k = cond (k.source == 0) k.node (from_of (slice_get links (k.source - 1)))
 
+-- of an arrival over a link
+pub maker_over : (links : List LinkPart) (k : Key) (number : ℕ) (link : LinkPart) → slice_get links number ≡ Some link → k.source ≡ number + 1 → maker_of links k ≡ link.from
+unfolding maker_of from_of
+maker_over links k number link its over =
+    let at : k.source - 1 ≡ number = omega (arith, over) in
+    ap (λ b. cond b k.node (from_of (slice_get links (k.source - 1)))) (ne_eqb k.source 0 (λ z. absurd (omega (arith, over, z))))
+    ∙ ap (λ i. from_of (slice_get links i)) at
+    ∙ ap from_of its
+
 ahead_of : (ahead : Option ℕ) (now delay time : ℕ) → IsBy ahead delay → now + delay < time → IsAhead ahead now time
 ahead_of None now delay time h l = absurd h
 ahead_of (Some a) now delay time h l = omega (arith, h, l)
@@ -56,7 +65,7 @@ crossing_by group (first ∷ links) zero link e off =
 crossing_by group (first ∷ links) (suc i) link e off = later_link group first links link.delay (crossing_by group links i link e off)
 
 -- a key at another group's node
-others_node : (group : ℕ → ℕ) (h : ℕ) (k : Key) → is_own group h k ≡ false → group k.node ≢ h
+pub others_node : (group : ℕ → ℕ) (h : ℕ) (k : Key) → is_own group h k ≡ false → group k.node ≢ h
 unfolding is_own
 others_node group h k e same = true≢false (sym (eq-eqb _ _ same) ∙ e)
 

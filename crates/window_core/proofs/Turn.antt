@@ -66,7 +66,7 @@ find_one (g ∷ groups) (suc i) k l off =
     ∙ none_or _ _ (off 0 (λ e. absurd (omega (arith, e))))
     ∙ find_one groups i k (omega (arith, l)) (λ j other. off (suc j) (λ e. other (omega (arith, e))))
 
-keyed_filter : (p : Key → Bool) (ls : List TraceLine) → map keyed (filter (λ (l : TraceLine). p l.key) ls) ≡ where_key key_cmp p (map keyed ls)
+pub keyed_filter : (p : Key → Bool) (ls : List TraceLine) → map keyed (filter (λ (l : TraceLine). p l.key) ls) ≡ where_key key_cmp p (map keyed ls)
 keyed_filter p [] = refl
 keyed_filter p (l ∷ ls) =
     elim (p l.key) as (λ b. map keyed (cond b (l ∷ filter (λ (l : TraceLine). p l.key) ls) (filter (λ (l : TraceLine). p l.key) ls)) ≡ cond b (keyed l ∷ where_key key_cmp p (map keyed ls)) (where_key key_cmp p (map keyed ls))) [
@@ -98,7 +98,7 @@ delivered_from group held m [] h l = absurd (omega (arith, l))
 delivered_from group held m (g ∷ groups) zero l = ap (λ n. delivered_to group held (n, g)) {x = m} {y = m + 0} (omega arith)
 delivered_from group held m (g ∷ groups) (suc h) l = delivered_from group held (m + 1) groups h (omega (arith, l)) ∙ ap (λ n. delivered_to group held (n, group_at groups h)) {x = m + 1 + h} {y = m + suc h} (omega arith)
 
-delivered_at : (group : ℕ → ℕ) (groups : List GroupState) (h : ℕ) → h < length groups → group_at (delivered group groups) h ≡ delivered_to group (all_held groups) (h, group_at groups h)
+pub delivered_at : (group : ℕ → ℕ) (groups : List GroupState) (h : ℕ) → h < length groups → group_at (delivered group groups) h ≡ delivered_to group (all_held groups) (h, group_at groups h)
 delivered_at group groups h l = delivered_from group (all_held groups) 0 groups h l ∙ ap (λ n. delivered_to group (all_held groups) (n, group_at groups h)) {x = 0 + h} {y = h} (omega arith)
 
 past : (group : ℕ → ℕ) (groups : List GroupState) (h : ℕ) → length groups ≤ h → group_at (delivered group groups) h ≡ no_group

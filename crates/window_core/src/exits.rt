@@ -68,6 +68,8 @@ impl Exits {
         requires within { link < length self.old }
         requires empty { packets.old ≡ [] }
         ensures packets { packets.new ≡ (wire_at self.old link).under_way }
+        ensures rising { IsStrictlyIncreasing (stamps_of packets.new) }
+        ensures few { came_over (wire_at self.old link) ≤ 2 ^ 50 }
         ensures state { self.new ≡ slice_set self.old link (record (wire_at self.old link) { taken = came_over (wire_at self.old link); under_way = [] }) }
     {
         self.held[link].release(packets);

@@ -63,6 +63,8 @@ impl Held {
     pub(crate) fn release(&mut self, packets: &mut PacketChain)
         requires { packets.old ≡ [] }
         ensures packets { packets.new ≡ self.old.under_way }
+        ensures rising { IsStrictlyIncreasing (stamps_of packets.new) }
+        ensures few { came_over self.old ≤ 2 ^ 50 }
         ensures state { self.new ≡ record self.old { taken = came_over self.old; under_way = [] } }
     {
         self.before += self.packets.len() as u64;

@@ -2,13 +2,23 @@
 #![tactic(auto)]
 
 pub mod ahead;
+pub mod batch;
 mod exits;
+pub mod group;
 mod held;
 pub mod laws;
 mod members;
+pub mod merge;
 mod partition;
+mod passing;
+mod share;
+mod sharing;
 #[cfg(test)]
 mod tests;
+pub mod window;
 
 pub use ahead::{lookahead, window_end};
+pub use batch::Batch;
+pub use group::{Group, GroupFault, run_group};
 pub use partition::Partition;
+pub use window::{NoMemory, TurnFault, Window};

@@ -1,6 +1,6 @@
 //! The nodes of a group, ranked by their next keys.
-ghost use Rattle.std.specs.Prelude.{◌≡◌, ◌≢◌, ◌+◌, ◌<◌, ◌≤◌, ◌^◌, [], ℕ, All, IfOk, OnOk, OnErr, MatchOption, Option, Some, None, length, slice_set, slice_index_or, replicate};
-ghost use Rattle.std.specs.Option.{option_map};
+ghost use Rattle.std.specs.Prelude.{◌≡◌, ◌≢◌, ◌+◌, ◌<◌, ◌≤◌, ◌^◌, [], ℕ, All, IfOk, OnOk, OnErr, MatchOption, Option, Some, None, is_some, length, slice_set, slice_index_or, replicate};
+ghost use Rattle.std.specs.Option.{option_map, option_copied};
 ghost use Rattle.std.specs.List.Sorted.{IsStrictlyIncreasing};
 ghost use Rattle.sim_time.specs.declared.key.Key.{Key};
 ghost use Rattle.ranking.specs.Keyed.{least, next_key, EachKey};
@@ -68,6 +68,22 @@ impl Members {
         let next = node.least();
         self.seats[place] = Some(node);
         self.ranking.set(place, next);
+    }
+
+    /// The node of a number, where it is in the group.
+    pub(crate) fn node(&self, place: usize) -> Option<&Node>
+        requires { place < length self.now }
+        ensures { option_copied result ≡ slice_index_or self.now place None }
+    {
+        self.seats[place].as_ref()
+    }
+
+    /// Whether the node of a number is in the group.
+    pub(crate) fn has(&self, place: usize) -> bool
+        requires { place < length self.now }
+        ensures { result ≡ is_some (slice_index_or self.now place None) }
+    {
+        self.seats[place].is_some()
     }
 
     /// The node at which the least key is pending, and the key.

@@ -1,0 +1,81 @@
+-- The first window of a net.
+use Rattle.std.proofs.Common.{◌≡◌, ◌<◌, ℕ, List, length, sym, ap, subst, ◌∙◌, arith, refl}
+use Rattle.node_core.specs.AgendaState.{incoming_at}
+use Rattle.node_core.specs.Node.{NodeState}
+use Rattle.node_core.specs.WireState.{WireState}
+use Rattle.scenario_image.specs.declared.parts.LinkPart.{LinkPart}
+use Rattle.net_machine.specs.declared.places.LinkEnds.{LinkEnds}
+use Rattle.net_machine.specs.NetOf.{AreNetParts}
+use Rattle.net_machine.specs.Nodes.{node_at, net_state}
+use Rattle.net_machine.specs.Wiring.{AreEnds, ends_at, place_at}
+use Rattle.window_core.specs.Calls.{IsOpenFrom}
+use Rattle.window_core.specs.Group.{GroupValue, state_of}
+use Rattle.window_core.specs.Lookahead.{lookahead}
+use Rattle.window_core.specs.Opening.{IsShareOf}
+use Rattle.window_core.specs.Partition.{group_in, groups_of}
+use Rattle.window_core.specs.Seats.{seated}
+use Rattle.window_core.specs.Window.{WindowValue, value_at, states_of, setting_in, IsSplit, IsFrom}
+use Rattle.window_core.specs.Windows.{Setting, setting_of, window_end}
+use Rattle.window_core.proofs.Calls.{opens}
+use Rattle.window_core.proofs.EveryRun.{same_end}
+use Rattle.window_core.proofs.HoldsNet.{HoldsPart, share_holds, all_stand}
+use Rattle.window_core.proofs.OfNet.{mine}
+use Rattle.window_core.proofs.Windowed.{state_at, length_states, group_below}
+
+module _ (nodes : List NodeState) (v : WindowValue) (net : AreNetParts nodes v.links v.end v.position) (size : length v.entries ≡ length nodes) (count : length v.groups ≡ groups_of v.entries)
+    (shares : (h : ℕ) → h < length v.groups → IsShareOf v.entries v.links nodes v.until v.position h (value_at v.groups h))
+    (leaves : (link : ℕ) → link < length v.links → (ends_at v.links link).from < length v.entries) (comes : (link : ℕ) → link < length v.links → (place_at v.links link).node < length v.entries) where
+  in_range : (node : ℕ) → group_in v.entries node < length v.groups
+  in_range node = let below = group_below v.entries node in omega (arith, below, count)
+
+  pub split_opened : IsSplit v
+  split_opened = record {
+    count = count;
+    parts = λ h under.
+        let is = (shares h under).is in
+        record {
+          number_is = ap (λ (g : GroupValue). g.number) is;
+          entries_are = ap (λ (g : GroupValue). g.entries) is;
+          links_are = ap (λ (g : GroupValue). g.links) is;
+          until_is = ap (λ (g : GroupValue). g.until) is;
+          position_is = ap (λ (g : GroupValue). g.position) is;
+        };
+    known = λ link under. record { from = leaves link under; to = comes link under };
+    across = λ link under off.
+        let to = in_range (place_at v.links link).node in
+        let from = in_range (ends_at v.links link).from in
+        let t = group_in v.entries (place_at v.links link).node in
+        let f = group_in v.entries (ends_at v.links link).from in
+        let its : (value_at v.groups t).links ≡ v.links = ap (λ (g : GroupValue). g.links) (shares t to).is in
+        ap (λ (links : List LinkEnds). (incoming_at (node_at (seated (value_at v.groups t).seats) (place_at links link).node).incoming (place_at links link).index).came) its
+        ∙ ap (λ (n : NodeState). (incoming_at n.incoming (place_at v.links link).index).came) (mine v.entries t nodes (value_at v.groups t).seats (shares t to).seats_are (place_at v.links link).node (comes link under) refl)
+        ∙ sym (ap (λ (w : WireState). w.taken) ((shares f from).idle.each_wire link under));
+    fits = net.run.position_fits;
+  }
+
+  module _ (ahead_is : (parts : List LinkPart) → AreEnds parts v.links → v.ahead ≡ lookahead (group_in v.entries) parts) (until_is : v.until ≡ window_end (setting_in v) (states_of v.groups)) where
+    pub from_opened : IsFrom (net_state nodes v.end) v
+    from_opened =
+        let p = net.run.scenario in
+        let x = setting_of (group_in v.entries) p in
+        let end_is : v.end ≡ p.end = same_end p v.position net.run.lines (net_state nodes v.end) net.run.is in
+        let same : setting_in v ≡ x = λ i. record { group = group_in v.entries; ahead = ahead_is p.links net.links_are i; end = end_is i } in
+        let states = length_states v.groups in
+        let stand = all_stand (group_in v.entries) (net_state nodes v.end) (states_of v.groups) (λ node. let here = in_range node in omega (arith, here, states))
+        (λ h under.
+        let here : h < length v.groups = omega (arith, under, states) in
+        let share = shares h here in
+        subst (HoldsPart (group_in v.entries) (net_state nodes v.end) h) (ap state_of (sym share.is) ∙ sym (state_at v.groups h here))
+        (share_holds nodes v.links v.end v.position net.placed v.entries size h v.until (value_at v.groups h).seats (value_at v.groups h).held share.seats_are share.idle)) in
+        record {
+          scenario = p;
+          before = net.run.lines;
+          in_run = record {
+            is_scenario = net.run.is_scenario;
+            comes = net.run.is;
+            is_open = subst (λ (until : ℕ). IsOpenFrom x (net_state nodes v.end) record { groups = states_of v.groups; until = until }) (sym (until_is ∙ ap (λ (y : Setting). window_end y (states_of v.groups)) same)) (opens x (net_state nodes v.end) (states_of v.groups) stand);
+          };
+          links_are = net.links_are;
+          ahead_is = ahead_is p.links net.links_are;
+          end_is = end_is;
+        }

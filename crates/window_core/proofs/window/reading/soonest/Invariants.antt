@@ -1,0 +1,9 @@
+use Rattle.std.proofs.Common.{◌≡◌, drop}
+use Rattle.window_core.specs.Lookahead.{lesser}
+use Rattle.window_core.specs.Window.{states_of}
+use Rattle.window_core.specs.Windows.{soonest}
+use Rattle.window_core.proofs.window.reading.soonest.Given as goal
+
+-- the least so far and that of the rest are together that of all
+abbrev pub invariant-loop-share : goal.invariant-loop-share
+invariant-loop-share l = lesser l.least (soonest (states_of (drop l.share-index l.shares))) ≡ soonest (states_of l.shares)

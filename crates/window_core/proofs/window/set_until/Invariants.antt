@@ -1,0 +1,7 @@
+use Rattle.window_core.specs.Group.{GroupValue}
+use Rattle.window_core.specs.Window.{no_value}
+use Rattle.window_core.proofs.Each.{IsChangedTo}
+use Rattle.window_core.proofs.window.set_until.Given as goal
+
+abbrev pub invariant-loop-share : goal.invariant-loop-share
+invariant-loop-share l = IsChangedTo no_value (λ (g : GroupValue). record g { until = l.until }) l.initial.shares l.shares l.share-index

@@ -1,0 +1,71 @@
+//! The lines of all groups come into a batch.
+ghost use Rattle.std.specs.Prelude.{◌≡◌, ◌+◌, ◌≤◌, [], length, map as each, OnOk, OnErr};
+ghost use Rattle.node_core.specs.TraceLine.{TraceLine};
+ghost use Rattle.window_core.specs.Group.{GroupValue};
+ghost use Rattle.window_core.specs.Merged.{AreApart, all_of};
+ghost use Rattle.window_core.specs.Windows.{in_order};
+
+use super::Batch;
+use super::lines::Lines;
+use crate::merge::merge;
+use crate::merge::spot::Spot;
+use crate::share::Share;
+use ranking::Ranking;
+use std::alloc::AllocError;
+
+// As many lists as that; what they hold has no meaning.
+fn fit(lists: &mut Vec<Lines>, count: usize) -> Result<(), AllocError>
+    ensures { OnOk result (length lists.new.items ≡ count) }
+{
+    lists.truncate(count);
+    for _number in lists.len()..count {
+        let lines = Lines::new(*lists.allocator());
+        lists.push(lines)?;
+    }
+    Ok(())
+}
+
+// The lines of each group go into the list of its number.
+fn take_lines(lists: &mut [Lines], shares: &mut [Share], position: u64)
+    requires size { length lists.old ≡ length shares.old }
+    requires position { position ≤ 1000000000000000 }
+    ensures lists { lists.new ≡ each (λ (g : GroupValue). g.lines) shares.old }
+    ensures shares { shares.new ≡ each (λ (g : GroupValue). record g { lines = []; position = position }) shares.old }
+{
+    for at in 0..shares.len() {
+        lists[at].take_from(&mut shares[at], position);
+    }
+}
+
+impl Batch {
+    /// Has the lines that the groups have told, so many in all, after so many events: then the
+    /// groups have told none, and stand after those too. Where memory is refused the batch is
+    /// empty.
+    pub(crate) fn gather(
+        &mut self,
+        shares: &mut [Share],
+        nexts: &mut [usize],
+        ranking: &mut Ranking,
+        position: u64,
+        count: usize,
+    ) -> Result<(), AllocError>
+        requires nexts { length nexts.old ≡ length shares.old }
+        requires ranking { length ranking.old ≡ length shares.old }
+        requires apart { AreApart (each (λ (g : GroupValue). g.lines) shares.old) }
+        requires count { count ≡ length (all_of (each (λ (g : GroupValue). g.lines) shares.old)) }
+        requires fits { position + count ≤ 1000000000000000 }
+        ensures batch { OnOk result (self.new ≡ record { first = position + 1; lines = in_order (all_of (each (λ (g : GroupValue). g.lines) shares.old)) }) }
+        ensures shares { OnOk result (shares.new ≡ each (λ (g : GroupValue). record g { lines = []; position = position + count }) shares.old) }
+        ensures count { OnOk result (length self.new.lines ≡ count) }
+        ensures err { OnErr result (shares.new ≡ shares.old) }
+        ensures sizes { length ranking.new ≡ length ranking.old }
+    {
+        self.order.clear();
+        fit(&mut self.lists, shares.len())?;
+        self.order.resize(count, Spot { list: 0, index: 0 })?;
+        take_lines(&mut self.lists, shares, position + count as u64);
+        merge(&self.lists, nexts, ranking, &mut self.order);
+        self.first = position + 1;
+        Ok(())
+    }
+}

@@ -1,0 +1,278 @@
+//! What is a group's of a net.
+ghost use Rattle.std.specs.Prelude.{◌≡◌, ◌≢◌, ◌+◌, ◌<◌, ◌≤◌, ◌^◌, [], All, IfOk, IfErr, OnOk, OnErr, length, map as each, take, replicate, slice_index_or, slice_set, None};
+ghost use Rattle.std.specs.List.Sorted.{IsStrictlyIncreasing};
+ghost use Rattle.std.specs.Option.{option_copied};
+ghost use Rattle.sim_time.specs.declared.key.Key.{Key};
+ghost use Rattle.ranking.specs.Keyed.{EachKey};
+ghost use Rattle.node_core.specs.Node.{delivered};
+ghost use Rattle.node_core.specs.TraceLine.{shown};
+ghost use Rattle.node_core.specs.WireState.{came_over, stamps_of};
+ghost use Rattle.table_run.specs.State.{due};
+ghost use Rattle.net_machine.specs.Nodes.{net_pending};
+ghost use Rattle.net_machine.specs.Wiring.{place_at};
+ghost use Rattle.window_core.specs.Groups.{up_to};
+ghost use Rattle.window_core.specs.Windows.{first_time};
+ghost use Rattle.window_core.specs.Held.{wire_at};
+ghost use Rattle.window_core.specs.Seats.{seated, taken};
+ghost use Rattle.window_core.specs.Group.{GroupValue, state_of, group_from, group_to, member, came_in, IsGroup, IsOnRun, AfterFirings, Fired};
+
+use crate::exits::Exits;
+use crate::group::GroupFault;
+use crate::members::Members;
+use crate::partition::Partition;
+use crate::passing::pass_on;
+use net_machine::LinkEnds;
+use node_core::{Line, Node, Outbox};
+use packet_chain::PacketChain;
+use sim_time::Time;
+use std::alloc::{AllocError, Global};
+use std::marker::Model;
+use std::snapshot::Snapshot;
+
+/// The most events of a run.
+const MOST_EVENTS: u64 = 1_000_000_000_000_000;
+
+/// A group's nodes, what it holds back for others, and its lines.
+#[derive(Drop)]
+pub(crate) struct Share {
+    /// Which group it is.
+    number: usize,
+    /// The group of each node of the net.
+    partition: Snapshot<Partition>,
+    /// Where each link of the net leaves and ends, by its number.
+    links: Vec<LinkEnds>,
+    /// The nodes.
+    members: Members,
+    /// What left over each link for other groups since the last turn.
+    exits: Exits,
+    /// A chain for each outgoing link that a node can have, empty between events.
+    out: Outbox,
+    /// Lines, of which the first `count` were told since the last turn; the others are memory for
+    /// the next.
+    lines: Vec<Line>,
+    count: usize,
+    /// Events before this moment may be run, in nanoseconds.
+    until: Time,
+    /// How many events the run had at the last turn.
+    position: u64,
+    /// Where memory is taken.
+    alloc: Global,
+}
+
+// Sees that there is a line to be filled behind the first ones.
+fn make_room(lines: &mut Vec<Line>, count: usize, alloc: Global) -> Result<(), AllocError>
+    requires { count ≤ length lines.old.items }
+    ensures room { OnOk result (count < length lines.new.items) }
+    ensures within { count ≤ length lines.new.items }
+    ensures kept { take count lines.new.items ≡ take count lines.old.items }
+{
+    if count == lines.len() {
+        lines.push(Line::new(alloc))?;
+    }
+    Ok(())
+}
+
+impl Model for Share {
+    ghost use Rattle.window_core.specs.Group.{GroupValue};
+    ghost use Rattle.window_core.specs.GroupCode.{group_code};
+
+    ghost Value = { GroupValue };
+
+    ghost coded = { group_code };
+
+    ghost use Rattle.window_core.specs.ShareOf.{group_of, IsShare};
+
+    ghost view = { group_of };
+
+    ghost invariant = { IsShare };
+}
+
+/// What a share is made of, beside its number, its partition and where it stands.
+#[derive(Drop)]
+pub(crate) struct ShareParts {
+    /// Where each link of the net leaves and ends, by its number.
+    pub links: Vec<LinkEnds>,
+    /// The group's nodes.
+    pub members: Members,
+    /// A wire for each link of the net.
+    pub exits: Exits,
+    /// A chain for each outgoing link that a node can have, empty.
+    pub out: Outbox,
+}
+
+impl Share {
+    /// The share of a group of these parts, with no line yet. No memory is taken.
+    pub(crate) fn new(
+        alloc: Global,
+        number: usize,
+        partition: &Partition,
+        parts: ShareParts,
+        until: Time,
+        position: u64,
+    ) -> Share
+        requires group { IsGroup (record { number = number; entries = partition.now; links = parts.links.items; seats = parts.members; held = parts.exits; lines = []; until = until; position = position }) }
+        requires empty { parts.out ≡ replicate 16 [] }
+        ensures { result ≡ record { number = number; entries = partition.now; links = parts.links.items; seats = parts.members; held = parts.exits; lines = []; until = until; position = position } }
+    {
+        Share {
+            number,
+            partition: Snapshot::of(partition),
+            links: parts.links,
+            members: parts.members,
+            exits: parts.exits,
+            out: parts.out,
+            lines: Vec::new(alloc),
+            count: 0,
+            until,
+            position,
+            alloc,
+        }
+    }
+
+    /// Which group it is.
+    pub(crate) fn number(&self) -> usize
+        ensures number { result ≡ self.now.number }
+        ensures is_group { IsGroup self.now }
+    {
+        self.number
+    }
+
+    /// How many lines were told since the last turn.
+    pub(crate) fn told(&self) -> usize
+        ensures count { result ≡ length self.now.lines }
+    {
+        self.count
+    }
+
+    /// When its least event is, in nanoseconds.
+    pub(crate) fn next(&self) -> Option<Time>
+        ensures { result ≡ first_time (state_of self.now) }
+    {
+        match self.members.first() {
+            Some((_, key)) => Some(key.time),
+            None => None,
+        }
+    }
+
+    /// A node of the net, where it is the group's.
+    pub(crate) fn node(&self, place: usize) -> Option<&Node>
+        requires { place < length self.now.seats }
+        ensures { option_copied result ≡ slice_index_or self.now.seats place None }
+    {
+        self.members.node(place)
+    }
+
+    /// Names the moment before which events may be run.
+    pub(crate) fn set_until(&mut self, until: Time)
+        ensures { self.new ≡ record self.old { until = until } }
+    {
+        self.until = until;
+    }
+
+    /// Gives the lines that were told in exchange for memory for others, and names how many events
+    /// the run has then. The answer is how many were told.
+    pub(crate) fn take_lines(&mut self, lines: &mut Vec<Line>, position: u64) -> usize
+        requires { position ≤ 1000000000000000 }
+        ensures lines { each shown (take result lines.new.items) ≡ self.old.lines }
+        ensures count { result ≡ length self.old.lines }
+        ensures within { result ≤ length lines.new.items }
+        ensures state { self.new ≡ record self.old { lines = []; position = position } }
+    {
+        let count = self.count;
+        std::mem::swap(&mut self.lines, lines);
+        self.count = 0;
+        self.position = position;
+        count
+    }
+
+    /// Gives what is held back of a link to an empty chain.
+    pub(crate) fn release(&mut self, link: usize, packets: &mut PacketChain)
+        requires within { link < length self.old.links }
+        requires empty { packets.old ≡ [] }
+        ensures packets { packets.new ≡ (wire_at self.old.held link).under_way }
+        ensures rising { IsStrictlyIncreasing (stamps_of packets.new) }
+        ensures few { came_over (wire_at self.old.held link) ≤ 2 ^ 50 }
+        ensures state { self.new ≡ record self.old { held = slice_set self.old.held link (record (wire_at self.old.held link) { taken = came_over (wire_at self.old.held link); under_way = [] }) } }
+    {
+        self.exits.release(link, packets);
+    }
+
+    /// Packets come from another group over a link that ends at a node of this one, after all that
+    /// came over it before; the chain is then empty. It takes no memory.
+    pub(crate) fn deliver(&mut self, link: usize, packets: &mut PacketChain)
+        requires within { link < length self.old.links }
+        requires from_another { group_from self.old link ≢ self.old.number }
+        requires to_this { group_to self.old link ≡ self.old.number }
+        requires rising { IsStrictlyIncreasing (stamps_of packets.old) }
+        requires later { All (λ stamp. EachKey (λ k. k.source ≡ link + 1 → k.time < stamp) (net_pending (seated self.old.seats))) (stamps_of packets.old) }
+        requires few { came_in self.old link + length packets.old ≤ 2 ^ 50 }
+        ensures rest { self.new ≡ record self.old { seats = self.new.seats } }
+        ensures nodes { let end = place_at self.old.links link in seated self.new.seats ≡ slice_set (seated self.old.seats) end.node (delivered (member self.old end.node) end.index packets.old) }
+        ensures seats_stay { taken self.new.seats ≡ taken self.old.seats }
+        ensures emptied { packets.new ≡ [] }
+    {
+        let end = self.links[link].to;
+        self.members
+            .deliver(usize::from(end.node), usize::from(end.index), packets);
+    }
+
+    /// Runs the least event below a moment, where there is one. The answer is whether there was.
+    pub(crate) fn fire_below(&mut self, end: Time) -> Result<bool, GroupFault>
+        requires within { end ≤ self.old.until }
+        requires on_run { IsOnRun self.old }
+        ensures ok { IfOk result (λ fired. Fired end self.old fired self.new) }
+        ensures after { AfterFirings self.old self.new }
+        ensures on_run { IsOnRun self.new }
+        ensures fits { self.new.position + length self.new.lines ≤ 1000000000000000 }
+        ensures full { IfErr result (λ fault. fault ≡ GroupFault.CountFull → (due (up_to end (state_of self.old)) ≢ None) × (self.old.position + length self.old.lines ≡ 1000000000000000)) }
+        ensures memory { IfErr result (λ fault. fault ≡ GroupFault.NoMemory → (due (up_to end (state_of self.old)) ≢ None) × (self.old.position + length self.old.lines < 1000000000000000)) }
+        ensures err { OnErr result (self.new ≡ self.old) }
+    {
+        let Some((place, key)) = self.members.first() else {
+            return Ok(false);
+        };
+        if key.time >= end {
+            return Ok(false);
+        }
+        if self.position + self.count as u64 == MOST_EVENTS {
+            return Err(GroupFault::CountFull);
+        }
+        if make_room(&mut self.lines, self.count, self.alloc).is_err() {
+            return Err(GroupFault::NoMemory);
+        }
+        let line = &mut self.lines[self.count];
+        match self.members.fire_into(place, &mut self.out, line) {
+            Ok(Some(index)) => {
+                self.count += 1;
+                pass_on(
+                    &mut self.members,
+                    &mut self.exits,
+                    &mut self.out,
+                    &self.links,
+                    place,
+                    usize::from(index),
+                );
+                Ok(true)
+            }
+            Ok(None) => {
+                self.count += 1;
+                Ok(true)
+            }
+            Err(_) => Err(GroupFault::NoMemory),
+        }
+    }
+
+    /// Runs the events below a moment, one after another.
+    pub(crate) fn run(&mut self, end: Time) -> Result<(), GroupFault>
+        requires within { end ≤ self.old.until }
+        requires on_run { IsOnRun self.old }
+        ensures after { AfterFirings self.old self.new }
+        ensures on_run { IsOnRun self.new }
+        ensures done { OnOk result (due (up_to end (state_of self.new)) ≡ None) }
+        ensures full { IfErr result (λ fault. fault ≡ GroupFault.CountFull → (due (up_to end (state_of self.new)) ≢ None) × (self.new.position + length self.new.lines ≡ 1000000000000000)) }
+        ensures memory { IfErr result (λ fault. fault ≡ GroupFault.NoMemory → (due (up_to end (state_of self.new)) ≢ None) × (self.new.position + length self.new.lines < 1000000000000000)) }
+    {
+        while self.fire_below(end)? {}
+        Ok(())
+    }
+}

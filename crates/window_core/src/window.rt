@@ -1,0 +1,164 @@
+//! A net's run by windows: groups run apart up to a common end, and a turn brings them together.
+ghost use Rattle.std.specs.Prelude.{◌≡◌, ◌<◌, ◌≤◌, [], ℕ, length, map as each, min, true, false, All, IfOk, OnErr, vec_capacity};
+ghost use Rattle.table_run.specs.State.{State};
+ghost use Rattle.window_core.specs.Group.{GroupValue, AfterFirings, IsOnRun};
+ghost use Rattle.window_core.specs.Window.{IsFrom, IsWindow, HasFiredOr, states_of, value_at};
+ghost use Rattle.window_core.specs.Windows.{none_fired};
+
+mod handing;
+mod lending;
+mod opening;
+mod reading;
+mod turning;
+
+use self::lending::{lend, regain};
+pub use self::opening::NoMemory;
+pub use self::turning::TurnFault;
+use crate::batch::Batch;
+use crate::group::{Group, GroupFault};
+use crate::partition::Partition;
+use crate::share::Share;
+use net_machine::LinkEnds;
+use ranking::Ranking;
+use sim_time::Time;
+use std::alloc::Global;
+use std::marker::Model;
+use std::snapshot::Snapshot;
+
+/// A net's groups of nodes, on their way through the windows of a scenario's run.
+#[derive(Drop)]
+pub struct Window {
+    /// The group of each node.
+    partition: Partition,
+    /// Where each link of the net leaves and ends, by its number.
+    links: Vec<LinkEnds>,
+    /// The least delay of a link whose ends are in two groups, in nanoseconds.
+    ahead: Option<Time>,
+    /// Events before this moment are run, in nanoseconds.
+    end: Time,
+    /// Where the window ends, in nanoseconds.
+    until: Time,
+    /// How many events were run to the last turn.
+    position: u64,
+    /// The groups, by number, while they are in.
+    shares: Vec<Share>,
+    /// Whether the groups are out, and how they were when they went.
+    out: bool,
+    lent: Snapshot<Vec<Share>>,
+    /// Room for the groups to go out in.
+    groups: Vec<Group>,
+    /// For a merge: the index of the next line of each group, and their keys.
+    nexts: Vec<usize>,
+    ranking: Ranking,
+    /// What the last turn gave, where it was an action.
+    taken: Batch,
+    /// Memory for the next turn's lines.
+    spare: Batch,
+    /// Where memory is taken.
+    alloc: Global,
+}
+
+impl Model for Window {
+    ghost use Rattle.window_core.specs.Window.{WindowValue};
+    ghost use Rattle.window_core.specs.WindowCode.{window_code};
+
+    ghost Value = { WindowValue };
+
+    ghost coded = { window_code };
+
+    ghost use Rattle.window_core.specs.WindowOf.{window_of, IsWindowInside};
+
+    ghost view = { window_of };
+
+    ghost invariant = { IsWindowInside };
+}
+
+// Names the moment before which each group may run events.
+fn set_until(shares: &mut [Share], until: Time)
+    ensures { shares.new ≡ each (λ (g : GroupValue). record g { until = until }) shares.old }
+{
+    for share in shares.iter_mut() {
+        share.set_until(until);
+    }
+}
+
+impl Window {
+    /// The least delay of a link whose ends are in two groups, in nanoseconds.
+    pub fn lookahead(&self) -> Option<Time>
+        ensures { result ≡ self.now.ahead }
+    {
+        self.ahead
+    }
+
+    /// Where the window ends, in nanoseconds: no event at that moment or past it is run in it.
+    pub fn end(&self) -> Time
+        ensures { result ≡ self.now.until }
+    {
+        self.until
+    }
+
+    /// How many events were run to the last turn.
+    pub fn position(&self) -> u64
+        ensures count { result ≡ self.now.position }
+        ensures is_window { IsWindow self.now }
+    {
+        self.position
+    }
+
+    /// Ends the window by a moment, in nanoseconds, at the latest. No event was run in it yet.
+    pub fn limit(&mut self, until: Time)
+        requires inside { self.old.out ≡ false }
+        requires unfired { none_fired (states_of self.old.groups) ≡ true }
+        ensures state { self.new ≡ record self.old { until = min self.old.until until; groups = each (λ (g : GroupValue). record g { until = min self.old.until until }) self.old.groups } }
+        ensures from { (edge : State) → IsFrom edge self.old → IsFrom edge self.new }
+    {
+        self.until = self.until.min(until);
+        set_until(&mut self.shares, self.until);
+    }
+
+    /// Runs the least event of a group, where there is such a group and it has one before the
+    /// window's end. The answer is whether there was one.
+    pub fn fire(&mut self, group: usize) -> Result<bool, GroupFault>
+        requires { self.old.out ≡ false }
+        ensures ok { IfOk result (λ fired. HasFiredOr fired self.old group self.new) }
+        ensures rest { self.new ≡ record self.old { groups = self.new.groups } }
+        ensures from { (edge : State) → IsFrom edge self.old → IsFrom edge self.new }
+        ensures err { OnErr result (self.new ≡ self.old) }
+    {
+        if group >= self.shares.len() {
+            return Ok(false);
+        }
+        let until = self.until;
+        let share = &mut self.shares[group];
+        share.fire_below(until)
+    }
+
+    /// Hands the groups out. No memory is taken.
+    pub fn take_groups(&mut self) -> Vec<Group>
+        requires { self.old.out ≡ false }
+        ensures groups { result.items ≡ self.old.groups }
+        ensures state { self.new ≡ record self.old { out = true } }
+        ensures from { (edge : State) → IsFrom edge self.old → IsFrom edge self.new }
+    {
+        self.lent = Snapshot::of(&self.shares);
+        self.out = true;
+        let mut groups = Vec::new(self.alloc);
+        std::mem::swap(&mut self.groups, &mut groups);
+        lend(&mut self.shares, &mut groups);
+        groups
+    }
+
+    /// Has the groups back, each after events of its own before the window's end. No memory is
+    /// taken.
+    pub fn put_groups(&mut self, groups: Vec<Group>)
+        requires out { self.old.out ≡ true }
+        requires count { length groups.items ≡ length self.old.groups }
+        requires fired { (number : ℕ) → number < length groups.items → AfterFirings (value_at self.old.groups number) (value_at groups.items number) }
+        ensures state { self.new ≡ record self.old { groups = groups.items; out = false } }
+        ensures from { (edge : State) → IsFrom edge self.old → IsFrom edge self.new }
+    {
+        self.groups = groups;
+        regain(&mut self.groups, &mut self.shares);
+        self.out = false;
+    }
+}

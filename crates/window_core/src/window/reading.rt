@@ -1,0 +1,78 @@
+//! What groups have come to.
+ghost use Rattle.std.specs.Prelude.{◌≡◌, ◌≤◌, All, length};
+ghost use Rattle.window_core.specs.Group.{IsGroup};
+ghost use Rattle.window_core.specs.Lookahead.{lesser};
+ghost use Rattle.window_core.specs.Window.{states_of};
+ghost use Rattle.window_core.specs.Windows.{all_done, all_lines, soonest};
+ghost use Rattle.window_core.specs.Reading.{is_late};
+
+use crate::share::Share;
+use sim_time::Time;
+
+// Whether a moment, where there is one, is not before another.
+fn is_late(next: Option<Time>, until: Time) -> bool
+    ensures { result ≡ is_late next until }
+{
+    match next {
+        Some(time) => time >= until,
+        None => true,
+    }
+}
+
+/// Whether no group has an event before a moment.
+pub fn all_done(shares: &[Share], until: Time) -> bool
+    ensures { result ≡ all_done until (states_of shares.now) }
+{
+    for share in shares {
+        if !is_late(share.next(), until) {
+            return false;
+        }
+    }
+    true
+}
+
+// The lesser of two moments, where there are such.
+fn lesser_of(first: Option<Time>, second: Option<Time>) -> Option<Time>
+    ensures { result ≡ lesser first second }
+{
+    match (first, second) {
+        (Some(first), Some(second)) => Some(first.min(second)),
+        (None, second) => second,
+        (first, None) => first,
+    }
+}
+
+/// When the least event of all groups is, in nanoseconds.
+pub fn soonest(shares: &[Share]) -> Option<Time>
+    ensures { result ≡ soonest (states_of shares.now) }
+{
+    let mut least = None;
+    for share in shares {
+        least = lesser_of(least, share.next());
+    }
+    least
+}
+
+// How many lines a group has told.
+fn told_by(share: &Share) -> usize
+    ensures count { result ≡ length share.now.lines }
+    ensures few { result ≤ 1000000000000000 }
+    ensures is_group { IsGroup share.now }
+{
+    let _ = share.number();
+    share.told()
+}
+
+/// How many lines all groups have told.
+pub fn told(shares: &[Share]) -> usize
+    requires { length shares.now ≤ 64 }
+    ensures count { result ≡ length (all_lines (states_of shares.now)) }
+    ensures few { result ≤ 64000000000000000 }
+    ensures are_groups { All IsGroup shares.now }
+{
+    let mut count = 0;
+    for share in shares {
+        count += told_by(share);
+    }
+    count
+}

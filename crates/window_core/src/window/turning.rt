@@ -1,0 +1,64 @@
+//! A turn brings the groups of a window together.
+ghost use Rattle.std.specs.Prelude.{◌≡◌, ◌+◌, ◌<◌, ◌↔◌, length, map as each, true, false, Err, OnOk, OnErr};
+ghost use Rattle.table_run.specs.State.{State};
+ghost use Rattle.window_core.specs.Window.{IsFrom, HasGoneOn, HasTurned, states_of};
+ghost use Rattle.window_core.specs.Windows.{all_done, all_lines};
+
+use super::handing::hand_all;
+use super::reading::{all_done, soonest, told};
+use super::{Window, set_until};
+use crate::ahead::window_end;
+use crate::batch::Batch;
+
+/// The most events of a run.
+const MOST_EVENTS: u64 = 1_000_000_000_000_000;
+
+/// Why no turn was taken.
+#[derive(Clone, Copy, Debug, PartialEq, Eq)]
+pub enum TurnFault {
+    /// A group has an event before the window's end.
+    NotDone,
+    /// With the groups' lines there would be more events than there may be.
+    CountFull,
+    /// There was no memory.
+    NoMemory,
+}
+
+impl Window {
+    /// Brings the groups together where none has an event left before the window's end: the batch
+    /// has the window's lines, each group has what others held back for it, and the next window
+    /// begins. Where no turn is taken nothing changes, but the batch may be empty.
+    pub fn turn_into(&mut self, batch: &mut Batch) -> Result<(), TurnFault>
+        requires { self.old.out ≡ false }
+        ensures ok { OnOk result (HasTurned self.old batch.new self.new) }
+        ensures run { OnOk result ((edge : State) → IsFrom edge self.old → HasGoneOn edge batch.new.lines self.new) }
+        ensures not_done { (result ≡ Err TurnFault.NotDone) ↔ (all_done self.old.until (states_of self.old.groups) ≡ false) }
+        ensures full { (result ≡ Err TurnFault.CountFull) ↔ ((all_done self.old.until (states_of self.old.groups) ≡ true) × (1000000000000000 < self.old.position + length (all_lines (states_of self.old.groups)))) }
+        ensures err { OnErr result (self.new ≡ self.old) }
+    {
+        if !all_done(&self.shares, self.until) {
+            return Err(TurnFault::NotDone);
+        }
+        let _ = self.partition.groups();
+        let count = told(&self.shares);
+        let events = self.position + count as u64;
+        if events > MOST_EVENTS {
+            return Err(TurnFault::CountFull);
+        }
+        let gathered = batch.gather(
+            &mut self.shares,
+            &mut self.nexts,
+            &mut self.ranking,
+            self.position,
+            count,
+        );
+        if gathered.is_err() {
+            return Err(TurnFault::NoMemory);
+        }
+        self.position = events;
+        hand_all(&mut self.shares, &self.partition, &self.links, self.alloc);
+        self.until = window_end(soonest(&self.shares), self.ahead, self.end);
+        set_until(&mut self.shares, self.until);
+        Ok(())
+    }
+}
