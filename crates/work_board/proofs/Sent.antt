@@ -1,0 +1,67 @@
+-- A piece, a seat and a board may go to another thread.
+use denote.Param.Send.{IsSend, IsSync, sendable, view_send, view_sync}
+use Rattle.work_board.specs.contracts.seat.Seat as Seat
+use Rattle.work_board.specs.contracts.seat.Seat.TheInside as InsideSeat
+use Rattle.work_board.specs.contracts.board.Board as Board
+use Rattle.work_board.specs.contracts.board.Board.TheInside as InsideBoard
+use Rattle.work_board.specs.contracts.piece.Piece as Piece
+use Rattle.work_board.specs.contracts.piece.Piece.TheInside as Inside
+use denote.Param.SendFields.{declared_send, declared_sync}
+use Rattle.window_core.specs.contracts.group.Group as Group
+use Rattle.window_core.specs.contracts.group.GroupFault as Fault
+use Rattle.std.specs.contracts.snapshot.Snapshot as Snapshot
+use Rattle.std.specs.contracts.option.Option as Option
+use Rattle.std.proofs.Crossing as heap
+use Rattle.work_board.specs.contracts.view.View as View
+use Rattle.work_board.specs.contracts.order.Order as Order
+use Rattle.work_board.specs.contracts.order.OrderTableRulePieceViewSnapshotVecPiece.TheImpl.{ghosts as order_ghosts}
+use Rattle.atomic_table.specs.contracts.owned.Table as Table
+use Rattle.std.specs.contracts.vec.Vec as Vec
+use Rattle.std.specs.contracts.alloc.Global as Global
+use Rattle.std.specs.contracts.impls.GlobalAllocator.TheImpl.{ghosts as heap_ghosts}
+use Rattle.window_core.specs.contracts.group.Group.TheInside as InsideGroup
+use Rattle.window_core.specs.contracts.share.Share as Share
+use Rattle.window_core.specs.contracts.share.Share.TheInside as InsideShare
+use Rattle.window_core.specs.contracts.partition.Partition as Partition
+use Rattle.window_core.proofs.members.Members.TheSendSync as members
+use Rattle.window_core.proofs.exits.Exits.TheSendSync as exits
+use Rattle.net_machine.proofs.places.LinkEnds.TheSendSync as ends
+use Rattle.node_core.proofs.outbox.Outbox.TheSendSync as outbox
+use Rattle.node_core.proofs.line.Line.TheSendSync as line
+use Rattle.atomic_table.proofs.shared.Seat.TheSendSync as seat
+use Rattle.atomic_table.proofs.owned.Table.TheSendSync as table
+use Rattle.std.proofs.alloc.Global.TheSendSync as global
+use Rattle.window_core.proofs.group.GroupFault.TheSendSync as fault
+
+share_partition : IsSend (Snapshot.the_row Partition.the_row)
+share_partition = search sendable depth 20
+
+inside_share_send : IsSend InsideShare.the_row
+inside_share_send = declared_send InsideShare.the_type (search sendable, (share_partition, (heap.Vec-send _ ends.the_send, (members.the_send, (exits.the_send, (outbox.the_send, (heap.Vec-send _ line.the_send, (search sendable, (search sendable, (search sendable, (global.the_send, tt)))))))))))
+
+share_send : IsSend Share.the_row
+share_send = view_send _ _ _ _ _ inside_share_send
+
+pub group_send : IsSend Group.the_row
+group_send = view_send _ _ _ _ _ (declared_send InsideGroup.the_type (share_send, tt))
+
+pub snap_send : IsSend (Snapshot.the_row Group.the_row)
+snap_send = search sendable depth 20
+
+pub fault_send : IsSend (Option.the_row Fault.the_row)
+fault_send = search (sendable, fault.the_send) depth 20
+
+pub inside_send : IsSend Inside.the_row
+inside_send = declared_send Inside.the_type (group_send, (search sendable, (snap_send, (fault_send, tt))))
+
+pub piece_send : IsSend Piece.the_row
+piece_send = view_send _ _ _ _ _ inside_send
+
+pub seat_send : IsSend Seat.the_row
+seat_send = view_send _ _ _ _ _ (declared_send InsideSeat.the_type (seat.the_send _ _ piece_send, tt))
+
+pub table_sync : IsSync (Table.the_row Piece.the_row View.the_row (Snapshot.the_row (Vec.the_row Piece.the_row Global.the_row heap_ghosts)) Order.the_row Global.the_row order_ghosts heap_ghosts)
+table_sync = table.the_sync Piece.the_row View.the_row (Snapshot.the_row (Vec.the_row Piece.the_row Global.the_row heap_ghosts)) Order.the_row Global.the_row order_ghosts heap_ghosts piece_send global.the_send global.the_sync heap.frees
+
+pub board_sync : IsSync Board.the_row
+board_sync = view_sync _ _ _ _ _ (declared_sync InsideBoard.the_type (table_sync, (search sendable, (global.the_sync, tt))))

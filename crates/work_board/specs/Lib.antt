@@ -1,0 +1,10 @@
+pub mod Pieces
+pub mod Codes
+pub mod Boards
+pub mod BoardCodes
+pub mod Marks
+pub mod Rule
+pub mod Steps
+pub mod Seats
+pub mod Slots
+pub mod Laws
