@@ -346,6 +346,13 @@ for words in asm dis run; do
 done
 refused asm four_flows_before_codel "$examples/four_flows_before_codel.txt"
 refused dis four_flows_before_codel "$examples/four_flows_before_codel.txt"
+if command -v python3 > /dev/null; then
+  if said=$("$top/scripts/refuse_debug.py" 2>&1); then
+    pass 'memory refused: debug'
+  else
+    fail 'memory refused: debug' "$said"
+  fi
+fi
 
 echo "$passed passed, $failed failed"
 [ "$failed" = 0 ]
