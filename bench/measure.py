@@ -191,7 +191,8 @@ def report(start, runs, crowded, networks, other):
     yield (f'Made by `make bench` with `{told("rt", "version")}` and `{told("valgrind", "--version")}`. One flow '
            'of segments of 1,460 bytes over 100 Mbit/s, 1 ms each way, through a drop-tail queue of 20 packets '
            'that it overflows now and then. The whole trace is written, to /dev/null. A link takes at most 64 '
-           'losses by name, so the last is that of its packet 64,000.\n')
+           'losses by name, so the last is that of its packet 64,000. What the debugger costs is in '
+           '[DEBUGGER.md](DEBUGGER.md), what one link costs in [PORT.md](PORT.md).\n')
     yield '## What does not depend on the machine\'s speed\n'
     yield from table(
         ('Flow', 'Segments', 'Events', 'Packets sent', 'Instructions', 'Instructions an event', 'Heap, bytes'),
