@@ -1,3 +1,4 @@
+mod by_nodes;
 mod star;
 mod two_flows;
 

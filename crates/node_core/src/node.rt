@@ -223,6 +223,9 @@ impl Node {
         ensures same_out { OnErr result (out.new ≡ out.old) }
     {
         let (key, event) = self.agenda.least().unwrap();
+        // Written before the event is run, it need not be kept elsewhere until then.
+        line.key = key;
+        line.event = event;
         let acts = &mut line.acts;
         acts.clear();
         let left = run(
@@ -230,13 +233,11 @@ impl Node {
             &mut self.role,
             &mut self.links,
             key,
-            &event,
+            &line.event,
             &mut self.agenda,
             acts,
             out,
         )?;
-        line.key = key;
-        line.event = event;
         self.role.show(&mut line.after);
         Ok(left)
     }

@@ -7,7 +7,7 @@ use std::alloc::Global;
 use std::test::Fail;
 
 // A segment of flow 0 that begins with this byte.
-fn segment(number: u64) -> Result<Packet, Fail> {
+pub(crate) fn segment(number: u64) -> Result<Packet, Fail> {
     Ok(Packet {
         flow: 0,
         kind: Kind::Data,
@@ -17,7 +17,7 @@ fn segment(number: u64) -> Result<Packet, Fail> {
 }
 
 // The segment, on its way until that time.
-fn sent(alloc: Global, number: u64, time: Time) -> Result<PacketCell, Fail>
+pub(crate) fn sent(alloc: Global, number: u64, time: Time) -> Result<PacketCell, Fail>
     ensures { IfOk result (λ cell. cell.1 ≡ time) }
 {
     let mut cell = PacketCell::new(alloc, segment(number)?)?;

@@ -1,3 +1,4 @@
 mod Lines
+mod ByThousands
 mod DumpLines
 mod InKeyOrder

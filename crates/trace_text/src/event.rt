@@ -3,7 +3,7 @@ ghost use Rattle.std.specs.Prelude.{◌≡◌, ◌+◌, ◌≤◌, ◌++◌, len
 ghost use Rattle.trace_text.specs.Words.{spaced};
 ghost use Rattle.trace_text.specs.Line.{key_words, event_words};
 
-use crate::backward::{put_number, put_small, put_text};
+use crate::backward::{put_number, put_small, put_text, put_time};
 use node_core::Event;
 use packet_chain::{Kind, Packet};
 use sim_time::Key;
@@ -23,7 +23,7 @@ pub(crate) fn put_key(bytes: &mut [u8], end: usize, key: &Key) -> usize
     let at = put_text(bytes, at, b" ");
     let at = put_small(bytes, at, key.node);
     let at = put_text(bytes, at, b" ");
-    let at = put_number(bytes, at, key.time);
+    let at = put_time(bytes, at, key.time);
     put_text(bytes, at, b" ")
 }
 

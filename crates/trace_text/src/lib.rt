@@ -4,9 +4,11 @@
 mod act;
 mod after;
 mod backward;
+mod digits;
 mod dump;
 mod end;
 mod event;
+mod groups;
 mod line;
 #[cfg(test)]
 mod tests;

@@ -6,9 +6,9 @@ ghost use Rattle.trace_text.specs.Line.{act_word, line_bytes, key_words, event_w
 
 use crate::act::{append_acts, put_acts};
 use crate::after::put_after;
-use crate::backward::{put_number, put_text};
+use crate::backward::{LONG, put_number, put_text};
+use crate::digits::{put_eighteen, put_nine};
 use crate::event::{put_event, put_key};
-use itoa::write_digits;
 use node_core::Line;
 use std::alloc::AllocError;
 
@@ -18,8 +18,8 @@ const ROOM: usize = 224;
 /// The greatest length of a line of one act whose number is less than `MANY`.
 const SHORT: usize = 256;
 
-/// The least number of 17 digits.
-const MANY: u64 = 10_000_000_000_000_000;
+/// The least number of 15 digits.
+const MANY: u64 = 100_000_000_000_000;
 
 /// Appends the line of the trace for the `n`-th event, with its LF, or nothing.
 pub fn line_text(n: u64, line: &Line, out: &mut Vec<u8>) -> Result<(), AllocError>
@@ -88,7 +88,10 @@ fn put_count(bytes: &mut [u8], end: usize, n: u64) -> usize
     ensures written { drop result bytes.new ≡ decimal n ++ drop end bytes.old }
     ensures below { result ≤ end }
 {
-    write_digits(n, bytes, end)
+    if n < LONG {
+        return put_nine(bytes, end, n as u32);
+    }
+    put_eighteen(bytes, end, n)
 }
 
 /// Appends what stands before the acts, or nothing.

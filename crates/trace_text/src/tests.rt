@@ -244,10 +244,38 @@ fn lines_of_a_receiver_and_a_router(rt: HostRuntime) -> Result<(), AllocError> {
 }
 
 #[test]
+fn numbers_of_each_length(rt: HostRuntime) -> Result<(), AllocError> {
+    expect_text(
+        &rt,
+        1_000_000_007,
+        key(999_999_999_999, 10, 100, 123_456_789),
+        arrival(Kind::Data, 12, 1_234_567),
+        After::AtReceiver(1_000_000_000_007),
+        &[tx(1000, 99, 98_070_605_040)],
+        "1000000007 999999999999 10 100 123456789 data 12 1234567 next=1000000000007 tx=1000:99:98070605040\n",
+    )?;
+    expect_text(
+        &rt,
+        100_000_000_000_000,
+        key(1_000_000_000_000, 9, 999, 999_999),
+        arrival(Kind::Ack, 101, 1_000_000),
+        sender(20, 345, 6_789, 10_203, false),
+        &[],
+        "100000000000000 1000000000000 9 999 999999 ack 101 1000000 una=20 nxt=345 cwnd=6789 ssthresh=10203 phase=ss\n",
+    )?;
+    Ok(())
+}
+
+#[test]
 fn the_last_line(rt: HostRuntime) -> Result<(), AllocError> {
     for (n, text) in [
         (0, "end 0\n"),
         (5, "end 5\n"),
+        (100, "end 100\n"),
+        (999_999_999, "end 999999999\n"),
+        (1_000_000_000, "end 1000000000\n"),
+        (987_654_321_012_345_678, "end 987654321012345678\n"),
+        (1_000_000_000_000_000_000, "end 1000000000000000000\n"),
         (u64::MAX, "end 18446744073709551615\n"),
     ] {
         let mut out = Vec::new(rt.alloc());

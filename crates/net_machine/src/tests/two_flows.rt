@@ -5,13 +5,13 @@ use crate::tests::{link, route};
 use node_core::{After, Line};
 use scenario_image::{FlowPart, LinkPart, NodeKind, Records, Scenario, ScenarioParts};
 use sim_time::Key;
-use std::alloc::Global;
+use std::alloc::{AllocError, Global};
 use std::process::Abort;
 use std::test::Fail;
 
-// Links of the senders (0 and 1, which loses its second packet), of the router to the receivers (2
-// and 3), of the receivers (4 and 5), and of the router to the senders (6 and 7).
-fn links(alloc: Global) -> Result<Vec<LinkPart>, Fail> {
+// Links of the senders (0 and 1, which loses the packet of this number), of the router to the
+// receivers (2 and 3), of the receivers (4 and 5), and of the router to the senders (6 and 7).
+fn links(alloc: Global, lost: u32) -> Result<Vec<LinkPart>, AllocError> {
     let mut links = Vec::new(alloc);
     for (from, to) in [
         (0, 2),
@@ -25,7 +25,7 @@ fn links(alloc: Global) -> Result<Vec<LinkPart>, Fail> {
     ] {
         let mut part = link(alloc, from, to);
         if from == 1 {
-            part.lose = Records::new(vec![in alloc; 2]?);
+            part.lose = Records::new(vec![in alloc; lost]?);
         }
         links.push(part)?;
     }
@@ -45,9 +45,9 @@ fn flow(sender: u16, receiver: u16, segments: u32, delack: u32) -> FlowPart {
     }
 }
 
-// Flow 0 has one segment, whose acknowledgement is delayed; flow 1 has two, of which the second is
-// lost.
-fn two_flows(alloc: Global) -> Result<Scenario, Fail> {
+// Flow 0 has one segment, whose acknowledgement is delayed; flow 1 has so many, and the packet of
+// this number is lost.
+fn two_flows(alloc: Global, segments: u32, lost: u32) -> Result<Option<Scenario>, AllocError> {
     let nodes = [
         NodeKind::Sender,
         NodeKind::Sender,
@@ -55,7 +55,7 @@ fn two_flows(alloc: Global) -> Result<Scenario, Fail> {
         NodeKind::Receiver,
         NodeKind::Receiver,
     ];
-    let flows = [flow(0, 3, 1, 40_000_000), flow(1, 4, 2, 0)];
+    let flows = [flow(0, 3, 1, 40_000_000), flow(1, 4, segments, 0)];
     let routes = [
         route(2, 0, 6),
         route(2, 1, 7),
@@ -65,14 +65,27 @@ fn two_flows(alloc: Global) -> Result<Scenario, Fail> {
     let parts = ScenarioParts {
         end: 3_000_000_000,
         nodes: Records::new(Vec::from_slice(alloc, &nodes)?),
-        links: Records::new(links(alloc)?),
+        links: Records::new(links(alloc, lost)?),
         flows: Records::new(Vec::from_slice(alloc, &flows)?),
         routes: Records::new(Vec::from_slice(alloc, &routes)?),
     };
-    Ok(Scenario::of_parts(parts).map_err(|_| "scenario")?)
+    Ok(Scenario::of_parts(parts).ok())
 }
 
-// The key of each event, and how many acts it does: what the tables say, reckoned by hand.
+// The net of it. What is refused memory is asked for again.
+pub(super) fn opened(alloc: Global, segments: u32, lost: u32) -> Result<Net, Fail> {
+    let scenario = match two_flows(alloc, segments, lost) {
+        Ok(scenario) => scenario,
+        Err(_) => two_flows(alloc, segments, lost)?,
+    };
+    let scenario = scenario.ok_or("scenario")?;
+    match Net::new(alloc, &scenario) {
+        Ok(net) => Ok(net),
+        Err(_) => Ok(Net::new(alloc, &scenario)?),
+    }
+}
+
+// The key of each event of flows of one and of two segments, of which the second is lost, and how many acts it does: what the tables say, reckoned by hand.
 const EVENTS: [(u64, u16, u16, u64, usize); 28] = [
     (0, 0, 0, 0, 1),
     (0, 1, 0, 0, 2),
@@ -105,7 +118,7 @@ const EVENTS: [(u64, u16, u16, u64, usize); 28] = [
 ];
 
 // Runs an event. Where memory is refused, it is run once more: no router asks for any.
-fn run_next(rt: &impl Abort, net: &mut Net, line: &mut Line) -> Result<bool, Fail> {
+pub(super) fn run_next(rt: &impl Abort, net: &mut Net, line: &mut Line) -> Result<bool, Fail> {
     match net.step_into(line) {
         Ok(fired) => Ok(fired),
         Err(StepFault::CountFull) => Err(Fail::from("count")),
@@ -138,8 +151,7 @@ fn runs_all(rt: &impl Abort, net: &mut Net, line: &mut Line) -> Result<(), Fail>
 
 #[test]
 fn every_event_is_run_also_where_memory_was_refused(rt: HostRuntime) -> Result<(), Fail> {
-    let scenario = two_flows(rt.alloc())?;
-    let mut net = Net::new(rt.alloc(), &scenario)?;
+    let mut net = opened(rt.alloc(), 2, 2)?;
     let mut line = Line::new(rt.alloc());
     runs_all(&rt, &mut net, &mut line)
 }

@@ -1,7 +1,10 @@
-ghost use Rattle.std.specs.Prelude.{◌≡◌, ◌<◌, IfOk, length};
+ghost use Rattle.std.specs.Prelude.{◌≡◌, ◌<◌, ℕ, IfOk, length};
+ghost use Rattle.ranking.specs.Keyed.{EachKey};
+ghost use Rattle.node_core.specs.AgendaState.{incoming_at};
 
 use super::*;
 use crate::opening::{leaving_numbers, opening_role};
+use crate::tests::{segment, sent};
 use aqm::Queue;
 use packet_chain::{Kind, Packet, PacketBytes};
 use reno_sender::SenderFields;
@@ -91,6 +94,8 @@ fn scenario(alloc: Global) -> Result<Scenario, Fail>
 
 fn node(alloc: Global, number: u16) -> Result<Node, Fail>
     requires { number < 5 }
+    ensures came { IfOk result (λ node. (index : ℕ) → (incoming_at node.incoming index).came ≡ 0) }
+    ensures alarms { IfOk result (λ node. EachKey (λ k. k.source ≡ 0) node.pending) }
 {
     let scenario = scenario(alloc)?;
     let node = Node::new(alloc, &scenario, number)?;
@@ -166,6 +171,32 @@ fn a_receiver_waits_for_byte_0(rt: HostRuntime) -> Result<(), Fail> {
     assert_eq!(rt; incoming.as_slice(), [3].as_slice());
     assert!(rt; node.least().is_none());
     assert!(rt; node.pending()?.is_empty());
+    Ok(())
+}
+
+#[test]
+fn packets_come_over_a_link_by_its_number(rt: HostRuntime) -> Result<(), Fail> {
+    let alloc = rt.alloc();
+    let mut node = node(alloc, 4)?;
+    assert!(rt; node.incoming_count() == 1);
+    assert!(rt; node.incoming_link(0) == 3);
+    let mut chain = PacketChain::new(alloc);
+    chain.push_back(sent(alloc, 0, 50)?);
+    chain.push_back(sent(alloc, 1_000, 60)?);
+    node.deliver(3, &mut chain);
+    assert_eq!(rt; chain.len(), 0);
+    let key = |time, number| Key {
+        time,
+        node: 4,
+        source: 4,
+        number,
+    };
+    assert_eq!(rt; node.least(), Some(key(50, 1)));
+    let all = [
+        (key(50, 1), Event::Arrive(segment(0)?)),
+        (key(60, 2), Event::Arrive(segment(1_000)?)),
+    ];
+    assert_eq!(rt; node.pending()?.as_slice(), all.as_slice());
     Ok(())
 }
 

@@ -2,7 +2,7 @@
 use Rattle.std.proofs.Common.{◌≡◌, ◌+◌, ◌-◌, ◌∷◌, ◌++◌, drop, sym, ap, ◌∙◌, arith}
 use Rattle.std.proofs.lemmas.Fmt.{decimal_digit}
 use Rattle.std.proofs.lemmas.List.{drop-set}
-use Rattle.trace_text.proofs.backward.put_digit.Goals as goal
+use Rattle.trace_text.proofs.digits.put_digit.Goals as goal
 
 pub returns-clause-written : goal.returns-clause-written
 returns-clause-written c =
