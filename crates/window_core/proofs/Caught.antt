@@ -20,7 +20,7 @@ use Rattle.window_core.proofs.Brought.{due_by_end}
 use Rattle.window_core.proofs.Alone.{one, alone, stays}
 
 -- where nothing is due a run goes no further
-no_further : (n : ℕ) (s u : State) (lines : List TraceLine) → due s ≡ None → run s (suc n) ≡ Some (lines, u) → ⊥
+pub no_further : (n : ℕ) (s u : State) (lines : List TraceLine) → due s ≡ None → run s (suc n) ≡ Some (lines, u) → ⊥
 no_further n s u lines none e = of_run {G = ⊥} s u n lines e (λ line t rest first _ _. not_some (sym (ap (option_map {U = TraceLine × State} (step_at s)) none) ∙ first))
 
 -- a run to its end, from a state on its way

@@ -15,7 +15,7 @@ use Rattle.node_core.specs.declared.event.Event.TheVariants.{Start, Rto, DelAck,
 use Rattle.node_core.specs.Alarms.{arrival_key}
 use Rattle.node_core.specs.TraceLine.{TraceLine}
 use Rattle.node_core.specs.WireState.{arrivals, stamps_of}
-use Rattle.table_run.specs.State.{State, opening}
+use Rattle.table_run.specs.State.{State, opening, run}
 use Rattle.table_run.specs.Laws.{IsSoundRun}
 use Rattle.table_run.specs.Sound.{Belongs}
 use Rattle.table_run.proofs.Runs.{run_add}
@@ -34,15 +34,17 @@ use Rattle.window_core.proofs.Tidy.{Tidy, run_tidy}
 use Rattle.window_core.proofs.Turn.{keyed_filter}
 
 -- the run has come to a state that the groups hold together
-pub record IsAtEnd (p : ScenarioParts) (group : ℕ → ℕ) (w : WindowState) : Type 0 where
+pub record IsAtEnd (p : ScenarioParts) (group : ℕ → ℕ) (edge : State) (w : WindowState) : Type 0 where
+  pub steps : ℕ
   pub lines : List TraceLine
   pub before : List TraceLine
   pub state : State
+  pub is_run : run edge steps ≡ Some (lines, state)
   pub matches : Matches group (maker_of p.links) (lookahead group p.links) w.until state lines w.groups
   pub sorted : T (is_sorted key_cmp (map keyed lines))
   pub sound : IsSoundRun p before state
 
-pub at_end : (p : ScenarioParts) (group : ℕ → ℕ) (m : ℕ) (before : List TraceLine) (edge : State) (w : WindowState) → IsInRun p group m before edge w → all_done w.until w.groups ≡ true → IsAtEnd p group w
+pub at_end : (p : ScenarioParts) (group : ℕ → ℕ) (m : ℕ) (before : List TraceLine) (edge : State) (w : WindowState) → IsInRun p group m before edge w → all_done w.until w.groups ≡ true → IsAtEnd p group edge w
 at_end p group m before edge w r all =
     let x = setting_of group p in
     let maker = maker_of p.links in
@@ -54,9 +56,11 @@ at_end p group m before edge w r all =
     let c = window group maker ahead until (length o.firings) o.firings edge [] o.start refl (below_end x edge w o maker (same_end p m before edge r.comes) fair) fair (opening_matches x edge w o maker) done in
     let tidy : Tidy c.state c.more = run_tidy group maker ahead c.n edge c.state [] c.more c.is_run fair record { sorted = tt; before = λ q v e. tt } in
     record {
+      steps = c.n;
       lines = c.more;
       before = before ++ c.more;
       state = c.state;
+      is_run = c.is_run;
       matches = subst (Matches group maker ahead until c.state c.more) (sym o.groups_are) c.matches;
       sorted = tidy.sorted;
       sound = sound_run p (m + c.n) (before ++ c.more) c.state r.is_scenario (run_add (opening p) edge c.state m c.n before c.more r.comes c.is_run);
@@ -72,7 +76,7 @@ arrives p s now k (Arrive x) b off = (x, refl)
 
 -- LINES APART
 
-module _ (p : ScenarioParts) (group : ℕ → ℕ) (w : WindowState) (e : IsAtEnd p group w) where
+module _ (p : ScenarioParts) (group : ℕ → ℕ) (edge : State) (w : WindowState) (e : IsAtEnd p group edge w) where
   found_at : (h : ℕ) (k : Key) → find key_cmp k (map keyed (group_at w.groups h).lines) ≡ cond (group k.node == h) (find key_cmp k (map keyed e.lines)) None
   found_at h k =
       ap (λ ls. find key_cmp k (map keyed ls)) (e.matches.lines_are h)

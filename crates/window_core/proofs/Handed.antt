@@ -1,5 +1,5 @@
 -- What groups are when what they held back for each other was handed over, link by link.
-use Rattle.std.proofs.Common.{◌≡◌, ◌≢◌, ◌≤◌, ◌<◌, ◌+◌, ◌==◌, ℕ, zero, suc, List, [], ◌∷◌, length, map, set, Bool, true, false, cond, Option, Some, None, refl, sym, ap, subst, ◌∙◌, ⊎_elim, arith, eq-eqb, ne_eqb, ext_get_or}
+use Rattle.std.proofs.Common.{◌≡◌, ◌≢◌, ◌≤◌, ◌<◌, ◌+◌, ◌==◌, ℕ, List, [], length, map, set, Bool, true, false, cond, Option, Some, None, refl, sym, ap, subst, ◌∙◌, ⊎_elim, arith, eq-eqb, ne_eqb, ext_get_or}
 use Rattle.std.proofs.lemmas.Bool.{cases_eq, cases_lt}
 use Rattle.std.proofs.lemmas.List.{get_or_past, length-map, get_or-set_same, get_or-set_other, length-set}
 use Rattle.std.specs.Option.{option_or}
@@ -7,13 +7,12 @@ use Rattle.std.specs.FinMap.{get, get-empty, retain_keys, get-retain_keys, entri
 use Rattle.sim_time.proofs.Order.{exact_keys}
 use Rattle.sim_time.specs.declared.key.Key.{Key}
 use Rattle.ranking.specs.Keyed.{apply, entering, nothing_due}
-use Rattle.ranking.specs.Gathered.{map_at, AtHome}
+use Rattle.ranking.specs.Gathered.{map_at}
 use Rattle.ranking.proofs.Gathered.{get-gathered}
 use Rattle.ranking.proofs.Maps.{not_some, none_or, same_at}
 use Rattle.node_core.specs.declared.event.Event.{Event}
 use Rattle.node_core.specs.Pending.{Events}
 use Rattle.node_core.specs.WireState.{WireState, pending_on, came_over}
-use Rattle.node_core.proofs.Wires.{each_on, each_at, nothing_on}
 use Rattle.net_machine.specs.declared.places.LinkEnds.{LinkEnds}
 use Rattle.net_machine.specs.Nodes.{parts_of}
 use Rattle.net_machine.specs.Wiring.{ends_at, place_at}
@@ -24,113 +23,15 @@ use Rattle.window_core.specs.Partition.{group_in}
 use Rattle.window_core.specs.Seats.{seated, taken}
 use Rattle.window_core.specs.Turning.{from_group, to_group, held_over, pending_in, AreReady, CanHand, WasHanded, HasHanded, handed, ComesLater}
 use Rattle.window_core.specs.Window.{value_at, states_of}
-use Rattle.window_core.specs.Windows.{all_held, delivered, delivered_to}
+use Rattle.window_core.specs.Windows.{delivered, delivered_to}
 use Rattle.window_core.proofs.Arriving.{get_arriving}
-use Rattle.window_core.proofs.HeldBack.{over_link, held_home, wire_map}
+use Rattle.window_core.proofs.HeldBack.{over_link, wire_map}
 use Rattle.window_core.proofs.Changes.{get-entering}
 use Rattle.window_core.proofs.Turn.{length_delivered, delivered_at}
-use Rattle.window_core.proofs.Windowed.{group_below, state_at, length_states}
+use Rattle.window_core.proofs.Windowed.{state_at, length_states}
+use Rattle.window_core.proofs.HeldForOthers.{held, no_key, in_range, crossing, on_wire, off_wire}
 
 module _ (entries : List ℕ) (links : List LinkEnds) (old : List GroupValue) (ready : AreReady entries links old) where
-  -- WHAT IS HELD BACK
-
-  abbrev helds : List Events
-  helds = map (λ (s : GroupState). s.held) (states_of old)
-
-  abbrev pub held : Events
-  held = all_held (states_of old)
-
-  helds_at : (groups : List GroupValue) (h : ℕ) → h < length groups → map_at (map (λ (s : GroupState). s.held) (states_of groups)) h ≡ held_on (value_at groups h).held
-  helds_at [] h under = absurd (omega (arith, under))
-  helds_at (g ∷ groups) zero under = refl
-  helds_at (g ∷ groups) (suc h) under = helds_at groups h (omega (arith, under))
-
-  many_helds : length helds ≡ length old
-  many_helds = length-map (states_of old) (λ (s : GroupState). s.held) ∙ length-map old state_of
-
-  -- of one group, at a key: what its wire has
-  one_held : (h : ℕ) → h < length old → (k : Key) → get (held_on (value_at old h).held) k ≡ get (map_at (map pending_on (value_at old h).held) (over_link k)) k
-  one_held h under k = get-gathered over_link (map pending_on (value_at old h).held) (held_home (value_at old h).held (ready.shapes h under).by_link) k
-
-  wires_many : (h : ℕ) → h < length old → length (map pending_on (value_at old h).held) ≡ length links
-  wires_many h under = length-map (value_at old h).held pending_on ∙ (ready.shapes h under).wires
-
-  -- a key that a group holds back
-  record OfLink (h : ℕ) (k : Key) (v : Event) : Type 0 where
-    link_known : over_link k < length links
-    on_wire : get (pending_on (held_over old h (over_link k))) k ≡ Some v
-
-  of_link : (h : ℕ) → h < length old → (k : Key) (v : Event) → get (held_on (value_at old h).held) k ≡ Some v → OfLink h k v
-  of_link h under k v there =
-      let size = wires_many h under in
-      let on = sym (one_held h under k) ∙ there in
-      let within : over_link k < length links = ⊎_elim
-      (λ (l : over_link k < length links). l)
-      (λ (past : length links ≤ over_link k). absurd (not_some (sym (get-empty _ k) ∙ ap (λ (m : Events). get m k) (sym (get_or_past (map pending_on (value_at old h).held) (over_link k) (nothing_due Event) (omega (arith, past, size)))) ∙ on)))
-      (cases_lt (over_link k) (length links)) in
-      record {
-        link_known = within;
-        on_wire = ap (λ (m : Events). get m k) (sym (wire_map (value_at old h).held (over_link k) (let wires = (ready.shapes h under).wires in omega (arith, within, wires)))) ∙ on;
-      }
-
-  no_key : (w : WireState) → w.under_way ≡ [] → (k : Key) (v : Event) → get (pending_on w) k ≡ Some v → ⊥
-  no_key w none k v there = nothing_on (λ _. ⊥) w none k v there
-
-  its_group : (h : ℕ) → h < length old → (k : Key) (v : Event) → get (held_on (value_at old h).held) k ≡ Some v → from_group entries links (over_link k) ≡ h
-  its_group h under k v there = ⊎_elim
-      (λ (same : from_group entries links (over_link k) ≡ h). same)
-      (λ (off : from_group entries links (over_link k) ≢ h). absurd (no_key (held_over old h (over_link k)) (ready.own h (over_link k) under off) k v (of_link h under k v there).on_wire))
-      (cases_eq (from_group entries links (over_link k)) h)
-
-  at_home : AtHome (λ k. from_group entries links (over_link k)) helds
-  at_home h k v there = ⊎_elim
-      (λ (under : h < length old). its_group h under k v (ap (λ (m : Events). get m k) (sym (helds_at old h under)) ∙ there))
-      (λ (past : length old ≤ h). absurd (not_some (sym (get-empty _ k) ∙ ap (λ (m : Events). get m k) (sym (get_or_past helds h (nothing_due Event) (let size = many_helds in omega (arith, past, size)))) ∙ there)))
-      (cases_lt h (length old))
-
-  in_range : (node : ℕ) → group_in entries node < length old
-  in_range node = let below = group_below entries node in let count = ready.count in omega (arith, below, count)
-
-  held_is : (k : Key) → get held k ≡ get (held_on (value_at old (from_group entries links (over_link k))).held) k
-  held_is k = get-gathered (λ q. from_group entries links (over_link q)) helds at_home k ∙ ap (λ (m : Events). get m k) (helds_at old (from_group entries links (over_link k)) (in_range (ends_at links (over_link k)).from))
-
-  -- a key that is held back
-  pub record IsCrossing (k : Key) : Type 0 where
-    pub known : over_link k < length links
-    pub crosses : from_group entries links (over_link k) ≢ to_group entries links (over_link k)
-    pub its_end : group_in entries k.node ≡ to_group entries links (over_link k)
-
-  pub crossing : (k : Key) (v : Event) → get held k ≡ Some v → IsCrossing k
-  crossing k v there =
-      let f = from_group entries links (over_link k) in
-      let under = in_range (ends_at links (over_link k)).from in
-      let o = of_link f under k v (sym (held_is k) ∙ there) in
-      record {
-        known = o.link_known;
-        crosses = λ e. no_key (held_over old f (over_link k)) (ready.inside f (over_link k) under (sym e)) k v o.on_wire;
-        its_end = ap (group_in entries) (each_at (held_over old f (over_link k)) k v o.on_wire ∙ (ready.shapes f under).ends_there (over_link k) o.link_known);
-      }
-
-  -- what the wire of a link has at its keys
-  pub on_wire : (link : ℕ) → link < length links → (k : Key) → over_link k ≡ link → get (pending_on (held_over old (from_group entries links link) link)) k ≡ get held k
-  on_wire link under k over =
-      let f = from_group entries links link in
-      let here = in_range (ends_at links link).from in
-      let wires = (ready.shapes f here).wires in
-      ap (λ (m : Events). get m k) (sym (wire_map (value_at old f).held link (omega (arith, under, wires))))
-      ∙ ap (λ l. get (map_at (map pending_on (value_at old f).held) l) k) (sym over)
-      ∙ sym (one_held f here k)
-      ∙ ap (λ l. get (held_on (value_at old (from_group entries links l)).held) k) (sym over)
-      ∙ sym (held_is k)
-
-  -- at other keys it has nothing
-  pub off_wire : (h : ℕ) → h < length old → (link : ℕ) → link < length links → (k : Key) → over_link k ≢ link → get (pending_on (held_over old h link)) k ≡ None
-  off_wire h here link under k off = none_or _ (λ v there.
-      let wires = (ready.shapes h here).wires in
-      let source = each_on (held_over old h link) k v there in
-      let number = (ready.shapes h here).by_link link (omega (arith, under, wires)) in
-      off (omega (arith, source, number)))
-
   -- SO FAR
 
   pub record HandedTo (now : List GroupValue) (i : ℕ) : Type 0 where
@@ -143,33 +44,19 @@ module _ (entries : List ℕ) (links : List LinkEnds) (old : List GroupValue) (r
     pub gone : (h link : ℕ) → h < length old → link < i → link < length links → (held_over now h link).under_way ≡ []
     pub across : (link : ℕ) → link < length links → from_group entries links link ≢ to_group entries links link → came_in (value_at now (to_group entries links link)) link ≡ (held_over now (from_group entries links link) link).taken
     pub pending_waits : (h : ℕ) → h < length old → (k : Key) → i ≤ over_link k → get (pending_in (value_at now h)) k ≡ get (pending_in (value_at old h)) k
-    pub pending_came : (h : ℕ) → h < length old → (k : Key) → over_link k < i → get (pending_in (value_at now h)) k ≡ option_or (cond (group_in entries k.node == h) (get held k) None) (get (pending_in (value_at old h)) k)
-
-  pub none_handed : HandedTo old 0
-  none_handed = record {
-    size = refl;
-    same = λ h. refl;
-    seats_stay = λ h. refl;
-    parts = λ h. refl;
-    wires = λ h. refl;
-    waits = λ h link upto. refl;
-    gone = λ h link here below under. absurd (omega (arith, below));
-    across = ready.across;
-    pending_waits = λ h here k upto. refl;
-    pending_came = λ h here k below. absurd (omega (arith, below));
-  }
+    pub pending_came : (h : ℕ) → h < length old → (k : Key) → over_link k < i → get (pending_in (value_at now h)) k ≡ option_or (cond (group_in entries k.node == h) (get (held ready) k) None) (get (pending_in (value_at old h)) k)
 
   -- nothing at a key is put in
-  nothing_more : (h : ℕ) (k : Key) (x : Option Event) → ((v : Event) → get held k ≡ Some v → group_in entries k.node ≢ h) → x ≡ option_or (cond (group_in entries k.node == h) (get held k) None) x
-  nothing_more h k x off = at (get held k) refl
+  nothing_more : (h : ℕ) (k : Key) (x : Option Event) → ((v : Event) → get (held ready) k ≡ Some v → group_in entries k.node ≢ h) → x ≡ option_or (cond (group_in entries k.node == h) (get (held ready) k) None) x
+  nothing_more h k x off = at (get (held ready) k) refl
     where
-      at : (o : Option Event) → get held k ≡ o → x ≡ option_or (cond (group_in entries k.node == h) (get held k) None) x
+      at : (o : Option Event) → get (held ready) k ≡ o → x ≡ option_or (cond (group_in entries k.node == h) (get (held ready) k) None) x
       at None e = ap (λ o. option_or o x) (sym (ap (λ o. cond (group_in entries k.node == h) o None) e ∙ both (group_in entries k.node == h)))
         where
           both : (b : Bool) → let none : Option Event = None in cond b none none ≡ none
           both true = refl
           both false = refl
-      at (Some v) e = ap (λ b. option_or (cond b (get held k) None) x) (sym (ne_eqb (group_in entries k.node) h (off v e)))
+      at (Some v) e = ap (λ b. option_or (cond b (get (held ready) k) None) x) (sym (ne_eqb (group_in entries k.node) h (off v e)))
 
   -- a link inside a group
   module _ (now : List GroupValue) (i : ℕ) (to_i : i < length links) (is : HandedTo now i) where
@@ -189,7 +76,7 @@ module _ (entries : List ℕ) (links : List LinkEnds) (old : List GroupValue) (r
       pending_waits = λ h here k upto. is.pending_waits h here k (omega (arith, upto));
       pending_came = λ h here k below. ⊎_elim
           (λ (before : over_link k < i). is.pending_came h here k before)
-          (λ (upto : i ≤ over_link k). let at : over_link k ≡ i = omega (arith, below, upto) in is.pending_waits h here k upto ∙ nothing_more h k (get (pending_in (value_at old h)) k) (λ v there. absurd ((crossing k v there).crosses (ap (from_group entries links) at ∙ inside ∙ ap (to_group entries links) (sym at)))))
+          (λ (upto : i ≤ over_link k). let at : over_link k ≡ i = omega (arith, below, upto) in is.pending_waits h here k upto ∙ nothing_more h k (get (pending_in (value_at old h)) k) (λ v there. absurd (((crossing ready) k v there).crosses (ap (from_group entries links) at ∙ inside ∙ ap (to_group entries links) (sym at)))))
           (cases_lt (over_link k) i);
     }
 
@@ -202,10 +89,10 @@ module _ (entries : List ℕ) (links : List LinkEnds) (old : List GroupValue) (r
       t = to_group entries links i
 
       f_in : f < length old
-      f_in = in_range (ends_at links i).from
+      f_in = (in_range ready) (ends_at links i).from
 
       t_in : t < length old
-      t_in = in_range (place_at links i).node
+      t_in = (in_range ready) (place_at links i).node
 
       its : (h : ℕ) → h < length old → (value_at now h).links ≡ links
       its h here = ap (λ (g : GroupValue). g.links) (is.same h) ∙ (ready.shapes h here).links_are
@@ -292,7 +179,7 @@ module _ (entries : List ℕ) (links : List LinkEnds) (old : List GroupValue) (r
         not_here : (h : ℕ) → (k : Key) → over_link k ≢ i → get (pending_in (value_at new h)) k ≡ get (pending_in (value_at now h)) k
         not_here h k off = ⊎_elim
             (λ (e : h ≡ t). subst (λ n. get (pending_in (value_at new n)) k ≡ get (pending_in (value_at now n)) k) (sym e)
-            (pending_here k ∙ ap (λ o. option_or o (get (pending_in (value_at now t)) k)) (off_wire f f_in i to_i k off)))
+            (pending_here k ∙ ap (λ o. option_or o (get (pending_in (value_at now t)) k)) ((off_wire ready) f f_in i to_i k off)))
             (λ (away : h ≢ t). ap (λ (m : Events). get m k) (pending_away h away))
             (cases_eq h t)
 
@@ -372,24 +259,24 @@ module _ (entries : List ℕ) (links : List LinkEnds) (old : List GroupValue) (r
                 (λ (off : h ≢ f). ap (λ (w : WireState). w.under_way) (held_away h off ∙ is.waits h i (omega arith)) ∙ ready.own h i here (λ e. off (sym e)))
                 (cases_eq h f)
 
-            put_in : (k : Key) → over_link k ≡ i → (x : Option Event) → option_or (get held k) x ≡ option_or (cond (group_in entries k.node == t) (get held k) None) x
-            put_in k at x = go (get held k) refl
+            put_in : (k : Key) → over_link k ≡ i → (x : Option Event) → option_or (get (held ready) k) x ≡ option_or (cond (group_in entries k.node == t) (get (held ready) k) None) x
+            put_in k at x = go (get (held ready) k) refl
               where
-                go : (o : Option Event) → get held k ≡ o → option_or (get held k) x ≡ option_or (cond (group_in entries k.node == t) (get held k) None) x
+                go : (o : Option Event) → get (held ready) k ≡ o → option_or (get (held ready) k) x ≡ option_or (cond (group_in entries k.node == t) (get (held ready) k) None) x
                 go None e = ap (λ o. option_or o x) e ∙ nothing_more t k x (λ v there. absurd (not_some (sym e ∙ there)))
-                go (Some v) e = ap (λ b. option_or (cond b (get held k) None) x) (sym (eq-eqb (group_in entries k.node) t ((crossing k v e).its_end ∙ ap (to_group entries links) at)))
+                go (Some v) e = ap (λ b. option_or (cond b (get (held ready) k) None) x) (sym (eq-eqb (group_in entries k.node) t (((crossing ready) k v e).its_end ∙ ap (to_group entries links) at)))
 
-            came_at : (h : ℕ) → h < length old → (k : Key) → over_link k ≡ i → get (pending_in (value_at new h)) k ≡ option_or (cond (group_in entries k.node == h) (get held k) None) (get (pending_in (value_at old h)) k)
+            came_at : (h : ℕ) → h < length old → (k : Key) → over_link k ≡ i → get (pending_in (value_at new h)) k ≡ option_or (cond (group_in entries k.node == h) (get (held ready) k) None) (get (pending_in (value_at old h)) k)
             came_at h here k at = ⊎_elim
-                (λ (e : h ≡ t). subst (λ n. get (pending_in (value_at new n)) k ≡ option_or (cond (group_in entries k.node == n) (get held k) None) (get (pending_in (value_at old n)) k)) (sym e)
+                (λ (e : h ≡ t). subst (λ n. get (pending_in (value_at new n)) k ≡ option_or (cond (group_in entries k.node == n) (get (held ready) k) None) (get (pending_in (value_at old n)) k)) (sym e)
                 (pending_here k
-                ∙ ap (λ o. option_or o (get (pending_in (value_at now t)) k)) (on_wire i to_i k at)
-                ∙ ap (option_or (get held k)) (is.pending_waits t t_in k (omega (arith, at)))
+                ∙ ap (λ o. option_or o (get (pending_in (value_at now t)) k)) ((on_wire ready) i to_i k at)
+                ∙ ap (option_or (get (held ready) k)) (is.pending_waits t t_in k (omega (arith, at)))
                 ∙ put_in k at (get (pending_in (value_at old t)) k)))
                 (λ (away : h ≢ t).
                 ap (λ (m : Events). get m k) (pending_away h away)
                 ∙ is.pending_waits h here k (omega (arith, at))
-                ∙ nothing_more h k (get (pending_in (value_at old h)) k) (λ v there e. away (sym e ∙ (crossing k v there).its_end ∙ ap (to_group entries links) at)))
+                ∙ nothing_more h k (get (pending_in (value_at old h)) k) (λ v there e. away (sym e ∙ ((crossing ready) k v there).its_end ∙ ap (to_group entries links) at)))
                 (cases_eq h t)
 
   -- AT THE END
@@ -400,7 +287,7 @@ module _ (entries : List ℕ) (links : List LinkEnds) (old : List GroupValue) (r
       where
         empty : (j : ℕ) (q : Key) (v : Event) → get (map_at (map pending_on ws) j) q ≡ Some v → ⊥
         empty j q v there = ⊎_elim
-            (λ (under : j < length ws). no_key (wire_at ws j) (none j under) q v (ap (λ (m : Events). get m q) (sym (wire_map ws j under)) ∙ there))
+            (λ (under : j < length ws). (no_key ready) (wire_at ws j) (none j under) q v (ap (λ (m : Events). get m q) (sym (wire_map ws j under)) ∙ there))
             (λ (past : length ws ≤ j). not_some (sym (get-empty _ q) ∙ ap (λ (m : Events). get m q) (sym (get_or_past (map pending_on ws) j (nothing_due Event) (let size = length-map ws pending_on in omega (arith, past, size)))) ∙ there))
             (cases_lt j (length ws))
 
@@ -414,15 +301,15 @@ module _ (entries : List ℕ) (links : List LinkEnds) (old : List GroupValue) (r
         let below : link < length links = omega (arith, under, many, wires) in
         is.gone h link here below below)
 
-    pending_all : (h : ℕ) → h < length old → pending_in (value_at now h) ≡ apply (entering (entries_of (retain_keys held (λ k. group_in entries k.node == h)))) (pending_in (value_at old h))
+    pending_all : (h : ℕ) → h < length old → pending_in (value_at now h) ≡ apply (entering (entries_of (retain_keys (held ready) (λ k. group_in entries k.node == h)))) (pending_in (value_at old h))
     pending_all h here = same_at _ _ (λ k. ⊎_elim
         (λ (under : over_link k < length links). is.pending_came h here k under)
-        (λ (past : length links ≤ over_link k). is.pending_waits h here k past ∙ nothing_more h k (get (pending_in (value_at old h)) k) (λ v there. let known = (crossing k v there).known in absurd (omega (arith, known, past))))
+        (λ (past : length links ≤ over_link k). is.pending_waits h here k past ∙ nothing_more h k (get (pending_in (value_at old h)) k) (λ v there. let known = ((crossing ready) k v there).known in absurd (omega (arith, known, past))))
         (cases_lt (over_link k) (length links))
-        ∙ sym (get-entering (retain_keys held (λ q. group_in entries q.node == h)) (pending_in (value_at old h)) k
-        ∙ ap (λ o. option_or o (get (pending_in (value_at old h)) k)) (get-retain_keys held (λ q. group_in entries q.node == h) k (λ q e. ap (λ (y : Key). group_in entries y.node == h) (sym (exact_keys k q e))))))
+        ∙ sym (get-entering (retain_keys (held ready) (λ q. group_in entries q.node == h)) (pending_in (value_at old h)) k
+        ∙ ap (λ o. option_or o (get (pending_in (value_at old h)) k)) (get-retain_keys (held ready) (λ q. group_in entries q.node == h) k (λ q e. ap (λ (y : Key). group_in entries y.node == h) (sym (exact_keys k q e))))))
 
-    state_now : (h : ℕ) → h < length old → state_of (value_at now h) ≡ delivered_to (group_in entries) held (h, state_of (value_at old h))
+    state_now : (h : ℕ) → h < length old → state_of (value_at now h) ≡ delivered_to (group_in entries) (held ready) (h, state_of (value_at old h))
     state_now h here = λ j. record {
       parts = is.parts h j;
       pending = pending_all h here j;
@@ -443,7 +330,7 @@ module _ (entries : List ℕ) (links : List LinkEnds) (old : List GroupValue) (r
           let all = length_states old in
           state_at now h (omega (arith, under, size))
           ∙ state_now h here
-          ∙ ap (λ (s : GroupState). delivered_to (group_in entries) held (h, s)) (sym (state_at old h here))
+          ∙ ap (λ (s : GroupState). delivered_to (group_in entries) (held ready) (h, s)) (sym (state_at old h here))
           ∙ sym (delivered_at (group_in entries) (states_of old) h (omega (arith, here, all))));
       across = is.across;
     }

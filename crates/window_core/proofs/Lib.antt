@@ -28,6 +28,7 @@ pub mod WindowFields
 pub mod Readings
 pub mod HandedOver
 pub mod Arriving
+pub mod HeldForOthers
 pub mod Handed
 pub mod Made
 pub mod DueHere
@@ -35,6 +36,10 @@ pub mod AfterEvent
 pub mod GroupKept
 pub mod Come
 pub mod Firing
+pub mod EventRun
+pub mod SentOn
+pub mod EndsInside
+pub mod EndsAcross
 pub mod Endings
 pub mod Lines
 pub mod AfterBoth
@@ -48,3 +53,9 @@ pub mod HoldsNet
 pub mod Seating
 pub mod OfRun
 pub mod SharedOut
+pub mod SameLinks
+pub mod Leaving
+pub mod JoinedNet
+pub mod Gathering
+pub mod TooMany
+pub mod Taken

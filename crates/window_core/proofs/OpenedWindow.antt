@@ -1,8 +1,9 @@
 -- The first window of a net.
-use Rattle.std.proofs.Common.{◌≡◌, ◌<◌, ℕ, List, length, sym, ap, subst, ◌∙◌, arith, refl}
+use Rattle.std.proofs.Common.{◌≡◌, ◌<◌, ℕ, suc, List, [], ◌∷◌, length, true, ◌&&◌, sym, ap, subst, ◌∙◌, arith, refl}
 use Rattle.node_core.specs.AgendaState.{incoming_at}
 use Rattle.node_core.specs.Node.{NodeState}
 use Rattle.node_core.specs.WireState.{WireState}
+use Rattle.node_core.specs.TraceLine.{TraceLine}
 use Rattle.scenario_image.specs.declared.parts.LinkPart.{LinkPart}
 use Rattle.net_machine.specs.declared.places.LinkEnds.{LinkEnds}
 use Rattle.net_machine.specs.NetOf.{AreNetParts}
@@ -11,16 +12,29 @@ use Rattle.net_machine.specs.Wiring.{AreEnds, ends_at, place_at}
 use Rattle.window_core.specs.Calls.{IsOpenFrom}
 use Rattle.window_core.specs.Group.{GroupValue, state_of}
 use Rattle.window_core.specs.Lookahead.{lookahead}
-use Rattle.window_core.specs.Opening.{IsShareOf}
+use Rattle.window_core.specs.Opening.{IsFirstWindow}
 use Rattle.window_core.specs.Partition.{group_in, groups_of}
 use Rattle.window_core.specs.Seats.{seated}
+use Rattle.window_core.specs.Shares.{IsShareOf}
 use Rattle.window_core.specs.Window.{WindowValue, value_at, states_of, setting_in, IsSplit, IsFrom}
-use Rattle.window_core.specs.Windows.{Setting, setting_of, window_end}
+use Rattle.window_core.specs.Windows.{Setting, setting_of, window_end, none_fired, is_empty}
 use Rattle.window_core.proofs.Calls.{opens}
 use Rattle.window_core.proofs.EveryRun.{same_end}
 use Rattle.window_core.proofs.HoldsNet.{HoldsPart, share_holds, all_stand}
 use Rattle.window_core.proofs.OfNet.{mine}
 use Rattle.window_core.proofs.Windowed.{state_at, length_states, group_below}
+
+-- a share in all its fields
+share_is : (entries : List ℕ) (links : List LinkEnds) (nodes : List NodeState) (until position number : ℕ) (g : GroupValue) → IsShareOf entries links nodes until position number g
+    → g ≡ record { number = number; entries = entries; links = links; seats = g.seats; held = g.held; lines = []; until = until; position = position }
+share_is entries links nodes until position number g is =
+    λ i. record { number = is.number_is i; entries = is.entries_are i; links = is.links_are i; seats = g.seats; held = g.held; lines = is.no_lines i; until = is.until_is i; position = is.position_is i }
+
+none_of : (groups : List GroupValue) → ((h : ℕ) → h < length groups → (value_at groups h).lines ≡ []) → none_fired (states_of groups) ≡ true
+none_of [] none = refl
+none_of (g ∷ groups) none =
+    ap (λ (ls : List TraceLine). is_empty ls && none_fired (states_of groups)) (none 0 (omega arith))
+    ∙ none_of groups (λ h under. none (suc h) (omega (arith, under)))
 
 module _ (nodes : List NodeState) (v : WindowValue) (net : AreNetParts nodes v.links v.end v.position) (size : length v.entries ≡ length nodes) (count : length v.groups ≡ groups_of v.entries)
     (shares : (h : ℕ) → h < length v.groups → IsShareOf v.entries v.links nodes v.until v.position h (value_at v.groups h))
@@ -32,24 +46,18 @@ module _ (nodes : List NodeState) (v : WindowValue) (net : AreNetParts nodes v.l
   split_opened = record {
     count = count;
     parts = λ h under.
-        let is = (shares h under).is in
-        record {
-          number_is = ap (λ (g : GroupValue). g.number) is;
-          entries_are = ap (λ (g : GroupValue). g.entries) is;
-          links_are = ap (λ (g : GroupValue). g.links) is;
-          until_is = ap (λ (g : GroupValue). g.until) is;
-          position_is = ap (λ (g : GroupValue). g.position) is;
-        };
+        let is = shares h under in
+        record { number_is = is.number_is; entries_are = is.entries_are; links_are = is.links_are; until_is = is.until_is; position_is = is.position_is };
     known = λ link under. record { from = leaves link under; to = comes link under };
     across = λ link under off.
         let to = in_range (place_at v.links link).node in
         let from = in_range (ends_at v.links link).from in
         let t = group_in v.entries (place_at v.links link).node in
         let f = group_in v.entries (ends_at v.links link).from in
-        let its : (value_at v.groups t).links ≡ v.links = ap (λ (g : GroupValue). g.links) (shares t to).is in
+        let its : (value_at v.groups t).links ≡ v.links = (shares t to).links_are in
         ap (λ (links : List LinkEnds). (incoming_at (node_at (seated (value_at v.groups t).seats) (place_at links link).node).incoming (place_at links link).index).came) its
-        ∙ ap (λ (n : NodeState). (incoming_at n.incoming (place_at v.links link).index).came) (mine v.entries t nodes (value_at v.groups t).seats (shares t to).seats_are (place_at v.links link).node (comes link under) refl)
-        ∙ sym (ap (λ (w : WireState). w.taken) ((shares f from).idle.each_wire link under));
+        ∙ ap (λ (n : NodeState). (incoming_at n.incoming (place_at v.links link).index).came) (mine v.entries t nodes (value_at v.groups t).seats (shares t to).seats (place_at v.links link).node (comes link under) refl)
+        ∙ sym (ap (λ (w : WireState). w.taken) ((shares f from).wires.each_wire link under));
     fits = net.run.position_fits;
   }
 
@@ -65,8 +73,8 @@ module _ (nodes : List NodeState) (v : WindowValue) (net : AreNetParts nodes v.l
         (λ h under.
         let here : h < length v.groups = omega (arith, under, states) in
         let share = shares h here in
-        subst (HoldsPart (group_in v.entries) (net_state nodes v.end) h) (ap state_of (sym share.is) ∙ sym (state_at v.groups h here))
-        (share_holds nodes v.links v.end v.position net.placed v.entries size h v.until (value_at v.groups h).seats (value_at v.groups h).held share.seats_are share.idle)) in
+        subst (HoldsPart (group_in v.entries) (net_state nodes v.end) h) (ap state_of (sym (share_is v.entries v.links nodes v.until v.position h (value_at v.groups h) share)) ∙ sym (state_at v.groups h here))
+        (share_holds nodes v.links v.end v.position net.placed v.entries size h v.until (value_at v.groups h).seats (value_at v.groups h).held share.seats share.wires)) in
         record {
           scenario = p;
           before = net.run.lines;
@@ -79,3 +87,12 @@ module _ (nodes : List NodeState) (v : WindowValue) (net : AreNetParts nodes v.l
           ahead_is = ahead_is p.links net.links_are;
           end_is = end_is;
         }
+
+    pub first_opened : IsFirstWindow nodes v.links v.end v
+    first_opened = record {
+      from = from_opened;
+      end_is = refl;
+      unfired = none_of v.groups (λ h under. (shares h under).no_lines);
+      until_is = until_is;
+      ahead_is = ahead_is;
+    }

@@ -45,7 +45,7 @@ module _ (v : WindowValue) (is : IsWindow v) (are : (h : ℕ) → h < length v.g
   abbrev group : ℕ → ℕ
   group = group_in v.entries
 
-  e : IsAtEnd p group (machine_of v)
+  e : IsAtEnd p group is.edge (machine_of v)
   e = at_end p group v.position is.from.before is.edge (machine_of v) is.from.in_run done
 
   in_range : (node : ℕ) → group node < length v.groups
@@ -56,7 +56,7 @@ module _ (v : WindowValue) (is : IsWindow v) (are : (h : ℕ) → h < length v.g
   same_lists (g ∷ groups) = ap (λ (ls : List (List TraceLine)). g.lines ∷ ls) (same_lists groups)
 
   pub lists_apart : AreApart (map (λ (g : GroupValue). g.lines) v.groups)
-  lists_apart = subst AreApart (same_lists v.groups) (are_apart p group (machine_of v) e)
+  lists_apart = subst AreApart (same_lists v.groups) (are_apart p group is.edge (machine_of v) e)
 
   -- a packet that a group holds back
   module _ (h : ℕ) (here : h < length v.groups) (link : ℕ) (under : link < length v.links) where

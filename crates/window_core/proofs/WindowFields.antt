@@ -1,5 +1,5 @@
 -- What a window's fields are after its calls.
-use Rattle.std.proofs.Common.{◌≡◌, ℕ, List, length, Bool, true, false, cond, sym, ap, ◌∙◌}
+use Rattle.std.proofs.Common.{◌≡◌, ℕ, List, length, Bool, false, cond, sym, ap, ◌∙◌}
 use Rattle.window_core.specs.declared.window.Window.TheInside.{Inside}
 use Rattle.window_core.specs.Group.{GroupValue}
 use Rattle.window_core.specs.Partition.{groups_of}
@@ -24,7 +24,3 @@ module _ (w : Inside) (v : WindowValue) (view : window_of w ≡ v) where
 
     pub shares_many : IsWindow v → length w.shares.items ≡ groups_of w.partition
     shares_many is = ap length shares_are ∙ is.split.count ∙ ap (λ (x : WindowValue). groups_of x.entries) (sym view)
-
-  module _ (out : v.out ≡ true) where
-    pub lent_are : w.lent.value.items ≡ v.groups
-    lent_are = sym (ap (λ b. cond b w.lent.value.items w.shares.items) (ap (λ (x : WindowValue). x.out) view ∙ out)) ∙ ap (λ (x : WindowValue). x.groups) view

@@ -22,3 +22,6 @@ pub mod ShareOf
 pub mod Passing
 pub mod Shares
 pub mod Opening
+pub mod Together
+pub mod Full
+pub mod Acting

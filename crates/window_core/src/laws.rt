@@ -3,6 +3,7 @@
 ghost use Rattle.window_core.specs.Schedules.{EveryScheduleGivesTheRun, EveryGroupIsTheRuns, EveryGroupIsAtAStep};
 ghost use Rattle.window_core.specs.Standing.{SplitStands, JoinedIsTheState};
 ghost use Rattle.window_core.specs.Calls.{OpensWhereGroupsStand, FiringKeepsItOpen, LimitKeepsItOpen, GroupsThatFiredKeepItOpen, UnfiredGroupsStand, TurnGivesTheRun, EachFiringIsOfTheRun};
+ghost use Rattle.window_core.specs.Full.{FullGroupHasTooMany, FullTurnHasTooMany};
 
 /// From any state of any run of any scenario, for every grouping of its nodes and every list of
 /// moves: whenever a turn is taken, the groups hold the state of the run and all lines given are
@@ -33,4 +34,12 @@ pub fn each_call_keeps_the_window()
     ensures unfired { UnfiredGroupsStand }
     ensures turns { TurnGivesTheRun }
     ensures of_the_run { EachFiringIsOfTheRun }
+{}
+
+/// Where a window of a run cannot go on because of the number of events, the run has more events
+/// than there may be: with the lines of one group there are 10^15 and one more is due to it, or
+/// with those of all groups there are more.
+pub fn full_windows_have_too_many()
+    ensures group { FullGroupHasTooMany }
+    ensures turn { FullTurnHasTooMany }
 {}

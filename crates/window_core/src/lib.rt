@@ -21,4 +21,4 @@ pub use ahead::{lookahead, window_end};
 pub use batch::Batch;
 pub use group::{Group, GroupFault, run_group};
 pub use partition::Partition;
-pub use window::{NoMemory, TurnFault, Window};
+pub use window::{Action, TurnFault, Window};

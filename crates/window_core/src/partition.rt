@@ -1,9 +1,10 @@
 //! Which group each node of a net is in.
-ghost use Rattle.std.specs.Prelude.{◌≡◌, ◌≤◌, ◌<◌, ◌*◌, ℕ, true, take, length, replicate, if◌then◌else◌, Option, Some, None};
+ghost use Rattle.std.specs.Prelude.{◌≡◌, ◌≤◌, ◌<◌, ◌*◌, ℕ, true, take, length, replicate, if◌then◌else◌, Option, Some, None, Ok};
 ghost use Rattle.std.specs.List.{list_all};
 ghost use Rattle.std.specs.Prelude.{nat_lt};
 ghost use Rattle.window_core.specs.Partition.{is_partition, group_in, greatest_of, groups_of, alone};
 
+use std::alloc::AllocError;
 use std::marker::Model;
 
 /// The most nodes of a net.
@@ -114,6 +115,16 @@ impl Partition {
             entries[node] = (node % 64) as u8;
         }
         Partition { entries, nodes }
+    }
+
+    /// The same once more. No memory is taken.
+    pub fn copy(&self) -> Result<Partition, AllocError>
+        ensures { result ≡ Ok self.now }
+    {
+        Ok(Partition {
+            entries: self.entries,
+            nodes: self.nodes,
+        })
     }
 
     /// How many nodes.

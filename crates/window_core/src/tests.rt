@@ -1,3 +1,7 @@
+mod acting;
+mod nets;
+mod schedules;
+
 use super::{Partition, window_end};
 use std::test::Fail;
 

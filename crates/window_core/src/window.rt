@@ -1,18 +1,22 @@
 //! A net's run by windows: groups run apart up to a common end, and a turn brings them together.
-ghost use Rattle.std.specs.Prelude.{◌≡◌, ◌<◌, ◌≤◌, [], ℕ, length, map as each, min, true, false, All, IfOk, OnErr, vec_capacity};
+ghost use Rattle.std.specs.Prelude.{◌≡◌, ◌<◌, ◌≤◌, [], ℕ, length, map as each, min, true, false, All, IfOk, IfErr, OnErr, vec_capacity};
 ghost use Rattle.table_run.specs.State.{State};
+ghost use Rattle.window_core.specs.Full.{IsDueAt, events_with};
 ghost use Rattle.window_core.specs.Group.{GroupValue, AfterFirings, IsOnRun};
 ghost use Rattle.window_core.specs.Window.{IsFrom, IsWindow, HasFiredOr, states_of, value_at};
-ghost use Rattle.window_core.specs.Windows.{none_fired};
+ghost use Rattle.window_core.specs.Windows.{none_fired, soonest};
 
+mod acting;
 mod handing;
+mod joining;
 mod lending;
 mod opening;
 mod reading;
 mod turning;
 
+pub use self::acting::Action;
 use self::lending::{lend, regain};
-pub use self::opening::NoMemory;
+use self::reading::soonest;
 pub use self::turning::TurnFault;
 use crate::batch::Batch;
 use crate::group::{Group, GroupFault};
@@ -105,6 +109,14 @@ impl Window {
         self.position
     }
 
+    /// When the least event of all groups is, in nanoseconds.
+    pub fn next(&self) -> Option<Time>
+        requires { self.now.out ≡ false }
+        ensures { result ≡ soonest (states_of self.now.groups) }
+    {
+        soonest(&self.shares)
+    }
+
     /// Ends the window by a moment, in nanoseconds, at the latest. No event was run in it yet.
     pub fn limit(&mut self, until: Time)
         requires inside { self.old.out ≡ false }
@@ -123,6 +135,9 @@ impl Window {
         ensures ok { IfOk result (λ fired. HasFiredOr fired self.old group self.new) }
         ensures rest { self.new ≡ record self.old { groups = self.new.groups } }
         ensures from { (edge : State) → IsFrom edge self.old → IsFrom edge self.new }
+        ensures room { IfOk result (λ fired. fired ≡ true → events_with self.old group < 1000000000000000) }
+        ensures full { IfErr result (λ fault. fault ≡ GroupFault.CountFull → IsDueAt self.old group × (events_with self.old group ≡ 1000000000000000)) }
+        ensures memory { IfErr result (λ fault. fault ≡ GroupFault.NoMemory → IsDueAt self.old group × (events_with self.old group < 1000000000000000)) }
         ensures err { OnErr result (self.new ≡ self.old) }
     {
         if group >= self.shares.len() {

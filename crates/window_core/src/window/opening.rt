@@ -1,10 +1,17 @@
 //! A net is split into groups, and its first window opens.
-ghost use Rattle.std.specs.Prelude.{◌≡◌, ◌≤◌, ◌^◌, [], All, IfErr, IfOk, false, length, vec_capacity};
+ghost use Rattle.std.specs.Prelude.{◌≡◌, ◌≤◌, ◌^◌, [], All, IfErr, IfOk, List, false, true, length, vec_capacity};
+ghost use Rattle.scenario_image.specs.declared.parts.ScenarioParts.{ScenarioParts};
+ghost use Rattle.scenario_image.specs.Scenario.{IsScenario};
+ghost use Rattle.node_core.specs.TraceLine.{TraceLine};
+ghost use Rattle.table_run.specs.Laws.{ComesTo};
 ghost use Rattle.net_machine.specs.NetOf.{AreNetParts};
-ghost use Rattle.window_core.specs.Partition.{groups_of};
+ghost use Rattle.window_core.specs.Acting.{nothing_after};
+ghost use Rattle.window_core.specs.Lookahead.{lookahead};
+ghost use Rattle.window_core.specs.Opening.{IsFirstWindow};
+ghost use Rattle.window_core.specs.Partition.{group_in, groups_of};
 ghost use Rattle.window_core.specs.Shares.{AreJoined, IsRoom};
-ghost use Rattle.window_core.specs.Window.{IsFrom};
-ghost use Rattle.net_machine.specs.Nodes.{net_state};
+ghost use Rattle.window_core.specs.Window.{IsFrom, setting_in, states_of};
+ghost use Rattle.window_core.specs.Windows.{none_fired, window_end};
 
 use super::reading::soonest;
 use super::{Window, set_until};
@@ -19,10 +26,6 @@ use node_core::Node;
 use ranking::Ranking;
 use std::alloc::{AllocError, Global};
 use std::snapshot::Snapshot;
-
-/// There was no memory.
-#[derive(Clone, Copy, Debug, PartialEq, Eq)]
-pub struct NoMemory;
 
 // Memory for a window of so many groups.
 #[derive(Drop)]
@@ -71,7 +74,8 @@ fn opened(alloc: Global, parts: NetParts, partition: Partition, room: Room) -> W
     ensures entries { result.entries ≡ partition }
     ensures position { result.position ≡ parts.position }
     ensures inside { result.out ≡ false }
-    ensures from { IsFrom (net_state parts.nodes.items parts.end) result }
+    ensures taken { result.taken ≡ nothing_after parts.position }
+    ensures first { IsFirstWindow parts.nodes.items parts.links.items parts.end result }
 {
     let NetParts {
         nodes,
@@ -115,7 +119,7 @@ fn opened(alloc: Global, parts: NetParts, partition: Partition, room: Room) -> W
         groups,
         nexts,
         ranking,
-        taken: Batch::new(alloc, 0),
+        taken: Batch::new(alloc, position + 1),
         spare: Batch::new(alloc, 0),
         alloc,
     }
@@ -124,19 +128,27 @@ fn opened(alloc: Global, parts: NetParts, partition: Partition, room: Room) -> W
 impl Window {
     /// The first window of a net whose nodes are in these groups, as many entries as nodes. Where
     /// memory is refused the net and the partition come back.
-    pub fn new(net: Net, partition: Partition) -> Result<Window, (Net, Partition, NoMemory)>
+    pub fn new(
+        alloc: Global,
+        net: Net,
+        partition: Partition,
+    ) -> Result<Window, (Net, Partition, AllocError)>
         requires { length partition ≡ length net.state.parts }
-        ensures entries { IfOk result (λ window. window.entries ≡ partition) }
-        ensures position { IfOk result (λ window. window.position ≡ net.position) }
-        ensures inside { IfOk result (λ window. window.out ≡ false) }
-        ensures from { IfOk result (λ window. IsFrom net.state window) }
-        ensures err { IfErr result (λ back. (back.0 ≡ net) × (back.1 ≡ partition)) }
+        ensures from { IfOk result (λ w. IsFrom net.state w) }
+        ensures entries { IfOk result (λ w. w.entries ≡ partition) }
+        ensures position { IfOk result (λ w. w.position ≡ net.position) }
+        ensures end { IfOk result (λ w. w.end ≡ net.state.end) }
+        ensures inside { IfOk result (λ w. w.out ≡ false) }
+        ensures taken { IfOk result (λ w. w.taken ≡ nothing_after net.position) }
+        ensures unfired { IfOk result (λ w. none_fired (states_of w.groups) ≡ true) }
+        ensures until { IfOk result (λ w. w.until ≡ window_end (setting_in w) (states_of w.groups)) }
+        ensures ahead { IfOk result (λ w. (p : ScenarioParts) (before : List TraceLine) → IsScenario p → ComesTo p net.position before net.state → w.ahead ≡ lookahead (group_in partition) p.links) }
+        ensures kept { IfErr result (λ back. (back.0 ≡ net) × (back.1 ≡ partition)) }
     {
         let parts = net.into_parts();
-        let alloc = *parts.links.allocator();
         match room_for(alloc, &parts.nodes, &parts.links, partition.groups()) {
             Ok(room) => Ok(opened(alloc, parts, partition, room)),
-            Err(_) => Err((Net::of_parts(parts), partition, NoMemory)),
+            Err(error) => Err((Net::of_parts(parts), partition, error)),
         }
     }
 }

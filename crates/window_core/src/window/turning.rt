@@ -1,14 +1,17 @@
 //! A turn brings the groups of a window together.
-ghost use Rattle.std.specs.Prelude.{◌≡◌, ◌+◌, ◌<◌, ◌↔◌, length, map as each, true, false, Err, OnOk, OnErr};
+ghost use Rattle.std.specs.Prelude.{◌≡◌, ◌+◌, ◌<◌, ◌↔◌, length, map as each, true, false, Err, IfOk, IsErrOf, OnOk, OnErr};
 ghost use Rattle.table_run.specs.State.{State};
+ghost use Rattle.window_core.specs.Acting.{nothing_after};
+ghost use Rattle.window_core.specs.Full.{HasTooMany, opening_at};
 ghost use Rattle.window_core.specs.Window.{IsFrom, HasGoneOn, HasTurned, states_of};
-ghost use Rattle.window_core.specs.Windows.{all_done, all_lines};
+ghost use Rattle.window_core.specs.Windows.{all_done, all_lines, none_fired};
 
 use super::handing::hand_all;
 use super::reading::{all_done, soonest, told};
 use super::{Window, set_until};
 use crate::ahead::window_end;
 use crate::batch::Batch;
+use std::mem::{replace, swap};
 
 /// The most events of a run.
 const MOST_EVENTS: u64 = 1_000_000_000_000_000;
@@ -27,13 +30,15 @@ pub enum TurnFault {
 impl Window {
     /// Brings the groups together where none has an event left before the window's end: the batch
     /// has the window's lines, each group has what others held back for it, and the next window
-    /// begins. Where no turn is taken nothing changes, but the batch may be empty.
+    /// begins. Where no turn is taken nothing changes, but the batch may be empty. What was `taken`
+    /// stays.
     pub fn turn_into(&mut self, batch: &mut Batch) -> Result<(), TurnFault>
         requires { self.old.out ≡ false }
         ensures ok { OnOk result (HasTurned self.old batch.new self.new) }
         ensures run { OnOk result ((edge : State) → IsFrom edge self.old → HasGoneOn edge batch.new.lines self.new) }
         ensures not_done { (result ≡ Err TurnFault.NotDone) ↔ (all_done self.old.until (states_of self.old.groups) ≡ false) }
         ensures full { (result ≡ Err TurnFault.CountFull) ↔ ((all_done self.old.until (states_of self.old.groups) ≡ true) × (1000000000000000 < self.old.position + length (all_lines (states_of self.old.groups)))) }
+        ensures too_many { result ≡ Err TurnFault.CountFull → (edge : State) → IsFrom edge self.old → HasTooMany (opening_at edge self.old) }
         ensures err { OnErr result (self.new ≡ self.old) }
     {
         if !all_done(&self.shares, self.until) {
@@ -60,5 +65,43 @@ impl Window {
         self.until = window_end(soonest(&self.shares), self.ahead, self.end);
         set_until(&mut self.shares, self.until);
         Ok(())
+    }
+
+    /// The same, with the batch that is then taken.
+    pub(super) fn turn_over(&mut self) -> Result<(), TurnFault>
+        requires { self.old.out ≡ false }
+        ensures ok { OnOk result (HasTurned self.old self.new.taken (record self.new { taken = self.old.taken })) }
+        ensures run { OnOk result ((edge : State) → IsFrom edge self.old → HasGoneOn edge self.new.taken.lines self.new) }
+        ensures inside { self.new.out ≡ false }
+        ensures not_done { (result ≡ Err TurnFault.NotDone) ↔ (all_done self.old.until (states_of self.old.groups) ≡ false) }
+        ensures full { (result ≡ Err TurnFault.CountFull) ↔ ((all_done self.old.until (states_of self.old.groups) ≡ true) × (1000000000000000 < self.old.position + length (all_lines (states_of self.old.groups)))) }
+        ensures err { OnErr result (self.new ≡ self.old) }
+    {
+        let mut batch = replace(&mut self.spare, Batch::new(self.alloc, 0));
+        let turned = self.turn_into(&mut batch);
+        if turned.is_ok() {
+            swap(&mut self.taken, &mut batch);
+        }
+        self.spare = batch;
+        turned
+    }
+
+    /// Brings the groups together where none has an event left before the window's end: the answer
+    /// has the window's lines, each group has what others held back for it, and the next window
+    /// begins. Where no turn is taken nothing changes.
+    pub fn turn(&mut self) -> Result<Batch, TurnFault>
+        requires { self.old.out ≡ false }
+        ensures ok { IfOk result (λ batch. HasTurned self.old batch (record self.new { taken = self.old.taken })) }
+        ensures run { IfOk result (λ batch. (edge : State) → IsFrom edge self.old → HasGoneOn edge batch.lines self.new) }
+        ensures taken { IfOk result (λ batch. self.new.taken ≡ nothing_after self.new.position) }
+        ensures inside { self.new.out ≡ false }
+        ensures unfired { IfOk result (λ batch. none_fired (states_of self.new.groups) ≡ true) }
+        ensures not_done { (IsErrOf result TurnFault.NotDone) ↔ (all_done self.old.until (states_of self.old.groups) ≡ false) }
+        ensures full { (IsErrOf result TurnFault.CountFull) ↔ ((all_done self.old.until (states_of self.old.groups) ≡ true) × (1000000000000000 < self.old.position + length (all_lines (states_of self.old.groups)))) }
+        ensures err { OnErr result (self.new ≡ self.old) }
+    {
+        self.turn_over()?;
+        let next = Batch::new(self.alloc, self.position + 1);
+        Ok(replace(&mut self.taken, next))
     }
 }

@@ -13,7 +13,9 @@ use Rattle.window_core.specs.Group.{GroupValue, state_of, AfterFirings, IsOnRun}
 use Rattle.window_core.specs.ShareOf.{group_of}
 use Rattle.window_core.proofs.Seated.{length-seated}
 use Rattle.window_core.proofs.Firing.{IsFiring, its_key, runnable_here}
-use Rattle.window_core.proofs.Endings.{can_pass, emptied, ends_passed, ends_quiet}
+use Rattle.window_core.proofs.EventRun.{has_run, ends_quiet}
+use Rattle.window_core.proofs.SentOn.{sending, can_pass, emptied}
+use Rattle.window_core.proofs.Endings.{ends_passed}
 use Rattle.window_core.proofs.Lines.{told_count, told_more, told_same, firing_as, no_firing, on_ok}
 use Rattle.window_core.proofs.share.Share.fire_below.Goals as goal
 
@@ -48,7 +50,7 @@ pass_on-requires c =
     let early : line.key.time < c.args.end = subst (λ (q : Key). q.time < c.args.end) (its_key g is on c.args.end below c.in-Some.place first c.in-Some.key c.in-Some.ensures.key line.key line.event has.is_least) soon in
     let index_is = ap Some c.from.ensures ∙ sym c.in-Ok-Some.field-0-is ∙ c.in-Ok-Some.ensures.leaving in
     subst (λ (links : List LinkEnds). CanPass links c.fire_into.new.self c.self.inside.exits c.fire_into.new.out c.in-Some.place c.from.result) (sym c.deref.ensures.value)
-    (can_pass g is on c.args.end below c.in-Some.place first c.fire_into.new.self c.self.inside.out c.fire_into.new.out line has c.in-Ok-Some.ensures.others early c.in-Ok-Some.ensures.placed c.in-Ok-Some.ensures.taken fits c.self.invariant.out_empty c.from.result index_is)
+    (can_pass (sending (has_run g is on c.args.end below c.in-Some.place first c.fire_into.new.self c.self.inside.out c.fire_into.new.out line has c.in-Ok-Some.ensures.others early c.in-Ok-Some.ensures.placed c.in-Ok-Some.ensures.taken fits) c.self.invariant.out_empty c.from.result index_is))
 
 pub invariant_of-self-in-Ok-Some : goal.invariant_of-self-in-Ok-Some
 invariant_of-self-in-Ok-Some c =
@@ -75,11 +77,11 @@ invariant_of-self-in-Ok-Some c =
     c.deref.ensures.value (c.pass_on.ensures.come, c.pass_on.ensures.exits_stay, c.pass_on.ensures.waits, c.pass_on.ensures.members_stay) in
     let firing : IsFiring g c.args.end (record g { seats = c.pass_on.new.members; held = c.pass_on.new.exits; lines = ls }) =
     firing_as g c.args.end c.pass_on.new.members c.pass_on.new.exits (g.lines ++ line ∷ []) ls more
-    (ends_passed g is on c.args.end below c.in-Some.place first c.fire_into.new.self c.self.inside.out c.fire_into.new.out line has c.in-Ok-Some.ensures.others early c.in-Ok-Some.ensures.placed c.in-Ok-Some.ensures.taken fits c.self.invariant.out_empty c.from.result index_is c.pass_on.new.members c.pass_on.new.exits passed.0 passed.1 passed.2 passed.3) in
+    (ends_passed (sending (has_run g is on c.args.end below c.in-Some.place first c.fire_into.new.self c.self.inside.out c.fire_into.new.out line has c.in-Ok-Some.ensures.others early c.in-Ok-Some.ensures.placed c.in-Ok-Some.ensures.taken fits) c.self.invariant.out_empty c.from.result index_is) c.pass_on.new.members c.pass_on.new.exits passed.0 passed.1 passed.2 passed.3) in
     record {
       is_group = firing.is_group;
       count = (let long = length-set c.make_room.new.lines.items c.self.inside.count c.fire_into.new.line in omega (arith, room, long));
-      out_empty = c.pass_on.ensures.out ∙ emptied g is on c.args.end below c.in-Some.place first c.fire_into.new.self c.self.inside.out c.fire_into.new.out line has c.in-Ok-Some.ensures.others early c.in-Ok-Some.ensures.placed c.in-Ok-Some.ensures.taken fits c.self.invariant.out_empty c.from.result index_is;
+      out_empty = c.pass_on.ensures.out ∙ emptied (sending (has_run g is on c.args.end below c.in-Some.place first c.fire_into.new.self c.self.inside.out c.fire_into.new.out line has c.in-Ok-Some.ensures.others early c.in-Ok-Some.ensures.placed c.in-Ok-Some.ensures.taken fits) c.self.invariant.out_empty c.from.result index_is);
     }
 
 pub invariant_of-self-in-Ok-None : goal.invariant_of-self-in-Ok-None
@@ -100,7 +102,7 @@ invariant_of-self-in-Ok-None c =
     let ls : List TraceLine = map shown (take (c.self.inside.count + 1) (set c.make_room.new.lines.items c.self.inside.count c.fire_into.new.line)) in
     let none = none_left _ (sym c.in-Ok-None.field-0-is ∙ c.in-Ok-None.ensures.leaving) in
     let firing : IsFiring g c.args.end (record g { seats = c.fire_into.new.self; held = g.held; lines = ls }) =
-    firing_as g c.args.end c.fire_into.new.self g.held (g.lines ++ line ∷ []) ls more (ends_quiet g is on c.args.end below c.in-Some.place first c.fire_into.new.self c.self.inside.out c.fire_into.new.out line has c.in-Ok-None.ensures.others early c.in-Ok-None.ensures.placed c.in-Ok-None.ensures.taken fits none) in
+    firing_as g c.args.end c.fire_into.new.self g.held (g.lines ++ line ∷ []) ls more (ends_quiet (has_run g is on c.args.end below c.in-Some.place first c.fire_into.new.self c.self.inside.out c.fire_into.new.out line has c.in-Ok-None.ensures.others early c.in-Ok-None.ensures.placed c.in-Ok-None.ensures.taken fits) none) in
     record {
       is_group = firing.is_group;
       count = (let long = length-set c.make_room.new.lines.items c.self.inside.count c.fire_into.new.line in omega (arith, room, long));
@@ -132,7 +134,7 @@ returns-in-Ok-Some-clause-ok c =
     c.deref.ensures.value (c.pass_on.ensures.come, c.pass_on.ensures.exits_stay, c.pass_on.ensures.waits, c.pass_on.ensures.members_stay) in
     let firing : IsFiring g c.args.end (record g { seats = c.pass_on.new.members; held = c.pass_on.new.exits; lines = ls }) =
     firing_as g c.args.end c.pass_on.new.members c.pass_on.new.exits (g.lines ++ line ∷ []) ls more
-    (ends_passed g is on c.args.end below c.in-Some.place first c.fire_into.new.self c.self.inside.out c.fire_into.new.out line has c.in-Ok-Some.ensures.others early c.in-Ok-Some.ensures.placed c.in-Ok-Some.ensures.taken fits c.self.invariant.out_empty c.from.result index_is c.pass_on.new.members c.pass_on.new.exits passed.0 passed.1 passed.2 passed.3) in
+    (ends_passed (sending (has_run g is on c.args.end below c.in-Some.place first c.fire_into.new.self c.self.inside.out c.fire_into.new.out line has c.in-Ok-Some.ensures.others early c.in-Ok-Some.ensures.placed c.in-Ok-Some.ensures.taken fits) c.self.invariant.out_empty c.from.result index_is) c.pass_on.new.members c.pass_on.new.exits passed.0 passed.1 passed.2 passed.3) in
     subst (λ (v : GroupValue). fire (group_in v.entries) v.number c.args.end (state_of v) ≡ Some (state_of (record g { seats = c.pass_on.new.members; held = c.pass_on.new.exits; lines = ls }))) c.self.view_is firing.fires
 
 pub returns-in-Ok-Some-clause-after : goal.returns-in-Ok-Some-clause-after
@@ -160,7 +162,7 @@ returns-in-Ok-Some-clause-after c =
     c.deref.ensures.value (c.pass_on.ensures.come, c.pass_on.ensures.exits_stay, c.pass_on.ensures.waits, c.pass_on.ensures.members_stay) in
     let firing : IsFiring g c.args.end (record g { seats = c.pass_on.new.members; held = c.pass_on.new.exits; lines = ls }) =
     firing_as g c.args.end c.pass_on.new.members c.pass_on.new.exits (g.lines ++ line ∷ []) ls more
-    (ends_passed g is on c.args.end below c.in-Some.place first c.fire_into.new.self c.self.inside.out c.fire_into.new.out line has c.in-Ok-Some.ensures.others early c.in-Ok-Some.ensures.placed c.in-Ok-Some.ensures.taken fits c.self.invariant.out_empty c.from.result index_is c.pass_on.new.members c.pass_on.new.exits passed.0 passed.1 passed.2 passed.3) in
+    (ends_passed (sending (has_run g is on c.args.end below c.in-Some.place first c.fire_into.new.self c.self.inside.out c.fire_into.new.out line has c.in-Ok-Some.ensures.others early c.in-Ok-Some.ensures.placed c.in-Ok-Some.ensures.taken fits) c.self.invariant.out_empty c.from.result index_is) c.pass_on.new.members c.pass_on.new.exits passed.0 passed.1 passed.2 passed.3) in
     subst (λ (v : GroupValue). AfterFirings v (record g { seats = c.pass_on.new.members; held = c.pass_on.new.exits; lines = ls })) c.self.view_is firing.after
 
 pub returns-in-Ok-Some-clause-on_run : goal.returns-in-Ok-Some-clause-on_run
@@ -188,7 +190,7 @@ returns-in-Ok-Some-clause-on_run c =
     c.deref.ensures.value (c.pass_on.ensures.come, c.pass_on.ensures.exits_stay, c.pass_on.ensures.waits, c.pass_on.ensures.members_stay) in
     let firing : IsFiring g c.args.end (record g { seats = c.pass_on.new.members; held = c.pass_on.new.exits; lines = ls }) =
     firing_as g c.args.end c.pass_on.new.members c.pass_on.new.exits (g.lines ++ line ∷ []) ls more
-    (ends_passed g is on c.args.end below c.in-Some.place first c.fire_into.new.self c.self.inside.out c.fire_into.new.out line has c.in-Ok-Some.ensures.others early c.in-Ok-Some.ensures.placed c.in-Ok-Some.ensures.taken fits c.self.invariant.out_empty c.from.result index_is c.pass_on.new.members c.pass_on.new.exits passed.0 passed.1 passed.2 passed.3) in
+    (ends_passed (sending (has_run g is on c.args.end below c.in-Some.place first c.fire_into.new.self c.self.inside.out c.fire_into.new.out line has c.in-Ok-Some.ensures.others early c.in-Ok-Some.ensures.placed c.in-Ok-Some.ensures.taken fits) c.self.invariant.out_empty c.from.result index_is) c.pass_on.new.members c.pass_on.new.exits passed.0 passed.1 passed.2 passed.3) in
     firing.on_run
 
 pub returns-in-Ok-None-clause-ok : goal.returns-in-Ok-None-clause-ok
@@ -209,7 +211,7 @@ returns-in-Ok-None-clause-ok c =
     let ls : List TraceLine = map shown (take (c.self.inside.count + 1) (set c.make_room.new.lines.items c.self.inside.count c.fire_into.new.line)) in
     let none = none_left _ (sym c.in-Ok-None.field-0-is ∙ c.in-Ok-None.ensures.leaving) in
     let firing : IsFiring g c.args.end (record g { seats = c.fire_into.new.self; held = g.held; lines = ls }) =
-    firing_as g c.args.end c.fire_into.new.self g.held (g.lines ++ line ∷ []) ls more (ends_quiet g is on c.args.end below c.in-Some.place first c.fire_into.new.self c.self.inside.out c.fire_into.new.out line has c.in-Ok-None.ensures.others early c.in-Ok-None.ensures.placed c.in-Ok-None.ensures.taken fits none) in
+    firing_as g c.args.end c.fire_into.new.self g.held (g.lines ++ line ∷ []) ls more (ends_quiet (has_run g is on c.args.end below c.in-Some.place first c.fire_into.new.self c.self.inside.out c.fire_into.new.out line has c.in-Ok-None.ensures.others early c.in-Ok-None.ensures.placed c.in-Ok-None.ensures.taken fits) none) in
     subst (λ (v : GroupValue). fire (group_in v.entries) v.number c.args.end (state_of v) ≡ Some (state_of (record g { seats = c.fire_into.new.self; held = g.held; lines = ls }))) c.self.view_is firing.fires
 
 pub returns-in-Ok-None-clause-after : goal.returns-in-Ok-None-clause-after
@@ -230,7 +232,7 @@ returns-in-Ok-None-clause-after c =
     let ls : List TraceLine = map shown (take (c.self.inside.count + 1) (set c.make_room.new.lines.items c.self.inside.count c.fire_into.new.line)) in
     let none = none_left _ (sym c.in-Ok-None.field-0-is ∙ c.in-Ok-None.ensures.leaving) in
     let firing : IsFiring g c.args.end (record g { seats = c.fire_into.new.self; held = g.held; lines = ls }) =
-    firing_as g c.args.end c.fire_into.new.self g.held (g.lines ++ line ∷ []) ls more (ends_quiet g is on c.args.end below c.in-Some.place first c.fire_into.new.self c.self.inside.out c.fire_into.new.out line has c.in-Ok-None.ensures.others early c.in-Ok-None.ensures.placed c.in-Ok-None.ensures.taken fits none) in
+    firing_as g c.args.end c.fire_into.new.self g.held (g.lines ++ line ∷ []) ls more (ends_quiet (has_run g is on c.args.end below c.in-Some.place first c.fire_into.new.self c.self.inside.out c.fire_into.new.out line has c.in-Ok-None.ensures.others early c.in-Ok-None.ensures.placed c.in-Ok-None.ensures.taken fits) none) in
     subst (λ (v : GroupValue). AfterFirings v (record g { seats = c.fire_into.new.self; held = g.held; lines = ls })) c.self.view_is firing.after
 
 pub returns-in-Ok-None-clause-on_run : goal.returns-in-Ok-None-clause-on_run
@@ -251,7 +253,7 @@ returns-in-Ok-None-clause-on_run c =
     let ls : List TraceLine = map shown (take (c.self.inside.count + 1) (set c.make_room.new.lines.items c.self.inside.count c.fire_into.new.line)) in
     let none = none_left _ (sym c.in-Ok-None.field-0-is ∙ c.in-Ok-None.ensures.leaving) in
     let firing : IsFiring g c.args.end (record g { seats = c.fire_into.new.self; held = g.held; lines = ls }) =
-    firing_as g c.args.end c.fire_into.new.self g.held (g.lines ++ line ∷ []) ls more (ends_quiet g is on c.args.end below c.in-Some.place first c.fire_into.new.self c.self.inside.out c.fire_into.new.out line has c.in-Ok-None.ensures.others early c.in-Ok-None.ensures.placed c.in-Ok-None.ensures.taken fits none) in
+    firing_as g c.args.end c.fire_into.new.self g.held (g.lines ++ line ∷ []) ls more (ends_quiet (has_run g is on c.args.end below c.in-Some.place first c.fire_into.new.self c.self.inside.out c.fire_into.new.out line has c.in-Ok-None.ensures.others early c.in-Ok-None.ensures.placed c.in-Ok-None.ensures.taken fits) none) in
     firing.on_run
 
 pub returns-in-Err-clause-after : goal.returns-in-Err-clause-after

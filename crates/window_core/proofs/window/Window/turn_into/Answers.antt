@@ -4,6 +4,7 @@ use Rattle.std.specs.Result.{OnOk, OnErr, is_err}
 use Rattle.std.specs.Vec.{with_items}
 use Rattle.net_machine.specs.declared.places.LinkEnds.{LinkEnds}
 use Rattle.window_core.specs.Batches.{BatchValue}
+use Rattle.window_core.specs.Full.{HasTooMany, opening_at}
 use Rattle.window_core.specs.Group.{GroupValue, IsGroup}
 use Rattle.window_core.specs.Merged.{AreApart, all_of}
 use Rattle.window_core.specs.Turning.{AreReady, HasHanded}
@@ -14,6 +15,7 @@ use Rattle.window_core.proofs.Readings.{lines_of_groups}
 use Rattle.window_core.proofs.TurnReady.{ready, lists_apart, cleared}
 use Rattle.window_core.proofs.Turned.{window_next, gone_on, has_turned}
 use Rattle.window_core.proofs.Windowed.{bounded}
+use Rattle.window_core.proofs.TooMany.{full_turn_has_too_many}
 use Rattle.window_core.proofs.window.Window.turn_into.Goals as goal
 
 on_ok : {A E P : Type 0} (r : Result A E) → is_err r ≡ false → OnOk r P → P
@@ -204,3 +206,16 @@ returns-clause-run c edge from =
     let lines_are : b.lines ≡ in_order (all_of (map (λ (g : GroupValue). g.lines) w.shares.items)) = ap (λ (x : BatchValue). x.lines) b_is ∙ ap (λ (gs : List GroupValue). in_order (all_of (map (λ (g : GroupValue). g.lines) gs))) d1 in
     let many : length b.lines ≡ told = on_ok c.gather-gathered.result good c.gather-gathered.ensures.count in
     subst (HasGoneOn edge b.lines) (sym view) (gone_on v is all told fits after handed u u_is b.lines lines_are many edge (subst (IsFrom edge) (sym v_is) from))
+
+pub returns-then-events-gt-MOST_EVENTS-clause-too_many : goal.returns-then-events-gt-MOST_EVENTS-clause-too_many
+returns-then-events-gt-MOST_EVENTS-clause-too_many c _ edge from =
+    let w = c.self.inside in
+    let told = c.told-count.result in
+    let out : w.out ≡ false = ap (λ (x : WindowValue). x.out) c.self.view_is ∙ c.requires in
+    let v : WindowValue = record (window_of w) { groups = w.shares.items } in
+    let v_is : v ≡ c.args.self.now = (λ i. record (window_of w) { groups = cond (sym out i) w.lent.value.items w.shares.items }) ∙ c.self.view_is in
+    let is : IsWindow v = subst IsWindow (sym v_is) (subst IsWindow c.self.view_is c.self.invariant.window) in
+    let all : all_done w.until (states_of w.shares.items) ≡ true = sym (ap (λ (gs : List GroupValue). all_done w.until (states_of gs)) c.deref.ensures.value) ∙ sym c.all_done.ensures ∙ c.if-not-all_done.false in
+    let count : told ≡ length (all_lines (states_of w.shares.items)) = c.told-count.ensures.count ∙ ap (λ (gs : List GroupValue). length (all_lines (states_of gs))) c.deref-2.ensures.value in
+    let more = c.if-events-gt-MOST_EVENTS.true in
+    subst (λ (x : WindowValue). HasTooMany (opening_at edge x)) v_is (full_turn_has_too_many edge v (subst (IsFrom edge) (sym v_is) from) is.split.fits all (omega (arith, count, more)))

@@ -1,4 +1,4 @@
-use Rattle.std.proofs.Common.{◌≡◌, ◌<◌, ℕ, List, length, map, get_or, false, Option, sym, ap, subst, ◌∙◌, arith, true≢false}
+use Rattle.std.proofs.Common.{◌≡◌, ◌<◌, ℕ, List, length, map, get_or, false, Option, refl, sym, ap, subst, ◌∙◌, arith, true≢false}
 use Rattle.std.proofs.lemmas.List.{with_items_is, length-map, get_or_default}
 use Rattle.std.specs.Vec.{with_items}
 use Rattle.node_core.specs.Node.{NodeState}
@@ -9,14 +9,14 @@ use Rattle.net_machine.specs.Nodes.{net_state}
 use Rattle.net_machine.specs.Wiring.{AreEnds, no_ends, ends_at, place_at}
 use Rattle.window_core.specs.Group.{GroupValue}
 use Rattle.window_core.specs.Lookahead.{lookahead}
-use Rattle.window_core.specs.Opening.{IsShareOf}
+use Rattle.window_core.specs.Opening.{IsFirstWindow}
 use Rattle.window_core.specs.Partition.{group_in, groups_of}
-use Rattle.window_core.specs.Shares.{AreSharesOf}
+use Rattle.window_core.specs.Shares.{AreSharesOf, IsShareOf}
 use Rattle.window_core.specs.Window.{WindowValue, no_value, value_at, states_of, setting_in, IsSplit, IsFrom, IsWindow}
 use Rattle.window_core.specs.Windows.{soonest, sum_of, at_most, window_end}
 use Rattle.window_core.proofs.OfNet.{ends_are, wire}
 use Rattle.window_core.proofs.OfRun.{are_joined}
-use Rattle.window_core.proofs.OpenedWindow.{split_opened, from_opened}
+use Rattle.window_core.proofs.OpenedWindow.{split_opened, from_opened, first_opened}
 use Rattle.window_core.proofs.Windowed.{bounded, same_states, value_map}
 use Rattle.window_core.proofs.window.opening.opened.Goals as goal
 
@@ -30,11 +30,15 @@ shares_bounded : (entries : List ℕ) (links : List LinkEnds) (nodes : List Node
 shares_bounded entries links nodes end position s0 u shared h under =
     let here : h < length s0 = (let size = length-map s0 (bounded u) in omega (arith, under, size)) in
     let one = shared h no_value here in
-    let g = value_at s0 h in
     subst (IsShareOf entries links nodes u position h) (sym (value_map (bounded u) s0 h here)) (record {
-      is = λ i. record { number = one.number_is i; entries = one.entries_are i; links = one.links_are i; seats = g.seats; held = g.held; lines = one.no_lines i; until = u; position = one.position_is i };
-      seats_are = one.seats;
-      idle = one.wires;
+      number_is = one.number_is;
+      entries_are = one.entries_are;
+      links_are = one.links_are;
+      seats = one.seats;
+      wires = one.wires;
+      no_lines = one.no_lines;
+      until_is = refl;
+      position_is = one.position_is;
     })
 
 pub lookahead-ahead-requires : goal.lookahead-ahead-requires
@@ -91,8 +95,8 @@ invariant_of-result c =
       room_back = λ e. absurd (true≢false (sym e));
     }
 
-pub returns-clause-from : goal.returns-clause-from
-returns-clause-from c =
+pub returns-clause-first : goal.returns-clause-first
+returns-clause-first c =
     let nodes = c.args.parts.nodes.items in
     let links = c.args.parts.links.items in
     let entries = c.args.partition in
@@ -114,6 +118,5 @@ returns-clause-from c =
     let split : IsSplit v = split_opened nodes v c.requires.parts size count shares leaves comes in
     let ahead_is : (parts : List LinkPart) → AreEnds parts links → c.lookahead-ahead.result ≡ lookahead (group_in entries) parts = λ parts are. c.lookahead-ahead.ensures parts (subst (AreEnds parts) (sym c.deref.ensures.value) are) in
     let until_is : u ≡ window_end (setting_in v) (states_of gs) = c.window_end-until.ensures ∙ ap (λ (o : Option ℕ). at_most (sum_of o c.lookahead-ahead.result) end) (c.soonest.ensures ∙ ap (λ (xs : List GroupValue). soonest (states_of xs)) c.deref-3.ensures.value ∙ ap soonest (sym (same_states u s0))) in
-    let from : IsFrom (net_state nodes end) v = from_opened nodes v c.requires.parts size count shares leaves comes ahead_is until_is in
     let view : record v { groups = V.items } ≡ v = λ i. record v { groups = items i } in
-    subst (IsFrom (net_state nodes end)) (sym view) from
+    subst (IsFirstWindow nodes links end) (sym view) (first_opened nodes v c.requires.parts size count shares leaves comes ahead_is until_is)

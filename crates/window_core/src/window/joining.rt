@@ -1,0 +1,71 @@
+//! Groups that stand at one moment are put together into a net.
+ghost use Rattle.std.specs.Prelude.{◌≡◌, ◌<◌, IfOk, false, is_some, length, slice_index_or, true, None};
+ghost use Rattle.table_run.specs.State.{State};
+ghost use Rattle.window_core.specs.Group.{member};
+ghost use Rattle.window_core.specs.Together.{AreSeated, AreTogether};
+ghost use Rattle.window_core.specs.Window.{IsFrom, states_of};
+ghost use Rattle.window_core.specs.Windows.{none_fired};
+
+use super::Window;
+use super::reading::told;
+use crate::partition::Partition;
+use crate::share::Share;
+use net_machine::{LinkEnds, Net, NetParts, Spare};
+use node_core::Node;
+use std::alloc::{AllocError, Global};
+
+// A node of a group, with packets in cells of its own.
+fn copy_of(share: &Share, place: usize) -> Result<Node, AllocError>
+    requires within { place < length share.now.seats }
+    requires seated { is_some (slice_index_or share.now.seats place None) ≡ true }
+    ensures { IfOk result (λ node. node ≡ member share.now place) }
+{
+    let node = share.node(place).unwrap();
+    node.copy()
+}
+
+// All nodes, each from its group.
+fn copies_of(
+    alloc: Global,
+    shares: &[Share],
+    partition: &Partition,
+) -> Result<Vec<Node>, AllocError>
+    requires { AreSeated partition.now shares.now }
+    ensures { IfOk result (λ nodes. AreTogether partition.now shares.now (length partition.now) nodes.items) }
+{
+    let mut nodes = Vec::new(alloc);
+    for number in 0..partition.nodes() {
+        let share = &shares[partition.group(number)];
+        nodes.push(copy_of(share, number)?)?;
+    }
+    Ok(nodes)
+}
+
+// The same ends in memory of their own.
+fn copied(links: &Vec<LinkEnds>) -> Result<Vec<LinkEnds>, AllocError>
+    ensures { IfOk result (λ copy. copy.items ≡ links.now.items) }
+{
+    links.clone()
+}
+
+impl Window {
+    /// The net where no event was run in the window yet, with packets in cells of its own.
+    pub fn edge(&self) -> Result<Net, AllocError>
+        requires inside { self.now.out ≡ false }
+        requires unfired { none_fired (states_of self.now.groups) ≡ true }
+        ensures { (edge : State) → IsFrom edge self.now → IfOk result (λ net. net ≡ record { state = edge; position = self.now.position }) }
+    {
+        let _ = self.partition.groups();
+        let _ = told(&self.shares);
+        let nodes = copies_of(self.alloc, &self.shares, &self.partition)?;
+        let links = copied(&self.links)?;
+        let spare = Spare::new(self.alloc, nodes.len())?;
+        Ok(Net::of_parts(NetParts {
+            nodes,
+            links,
+            end: self.end,
+            position: self.position,
+            spare,
+        }))
+    }
+}
