@@ -8,6 +8,8 @@ mod order;
 mod piece;
 mod seat;
 mod slot;
+#[cfg(test)]
+mod tests;
 mod view;
 
 pub use board::Board;

@@ -77,6 +77,7 @@ impl Piece {
     pub fn fault(&self) -> Option<GroupFault>
         ensures fault { result ≡ self.now.fault }
         ensures told { IsTold self.now }
+        ensures after { AfterFirings self.now.began self.now.group }
     {
         self.fault
     }
