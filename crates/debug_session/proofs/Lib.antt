@@ -4,3 +4,4 @@ pub mod Moved
 pub mod Setting
 pub mod Running
 pub mod Meanings
+pub mod Opened

@@ -1,7 +1,7 @@
 -- Where a session stands after a move and what is told of it.
 use Rattle.std.proofs.Common.{◌≡◌, ◌⊎◌, ℕ, List, Bool, true, false, MatchBool, inl, inr, ⊎_elim, refl, sym, ap, subst, ◌∙◌, Result, Ok, Err, Some, None}
 use Rattle.std.specs.Result.{IfOk, OnErr}
-use Rattle.net_machine.specs.declared.net.StepFault.{StepFault}
+use Rattle.debugger.specs.declared.fault.MoveFault.{MoveFault}
 use Rattle.trace_text.specs.Dump.{dump_bytes}
 use Rattle.debugger.specs.Moves.{Passes}
 use Rattle.debugger.specs.Debugging.{Debugging, HasMoved}
@@ -11,17 +11,17 @@ use Rattle.debug_session.specs.Answers.{Standing, standing, Stays, Shows, refusa
 use Rattle.debug_session.specs.Told.{Told, GoesBack}
 
 -- what holds where a move was made, and where it was not
-pub if_ok : (Q : Type 0) (moved : Result ℕ StepFault) (p : ℕ) → moved ≡ Ok p → Q → IfOk moved (λ _. Q)
-if_ok Q moved p is q = subst (λ (r : Result ℕ StepFault). IfOk r (λ _. Q)) (sym is) q
+pub if_ok : (Q : Type 0) (moved : Result ℕ MoveFault) (p : ℕ) → moved ≡ Ok p → Q → IfOk moved (λ _. Q)
+if_ok Q moved p is q = subst (λ (r : Result ℕ MoveFault). IfOk r (λ _. Q)) (sym is) q
 
-pub no_err : (Q : Type 0) (moved : Result ℕ StepFault) (p : ℕ) → moved ≡ Ok p → OnErr moved Q
-no_err Q moved p is = subst (λ (r : Result ℕ StepFault). OnErr r Q) (sym is) tt
+pub no_err : (Q : Type 0) (moved : Result ℕ MoveFault) (p : ℕ) → moved ≡ Ok p → OnErr moved Q
+no_err Q moved p is = subst (λ (r : Result ℕ MoveFault). OnErr r Q) (sym is) tt
 
-pub on_err : (Q : Type 0) (moved : Result ℕ StepFault) (fault : StepFault) → moved ≡ Err fault → Q → OnErr moved Q
-on_err Q moved fault is q = subst (λ (r : Result ℕ StepFault). OnErr r Q) (sym is) q
+pub on_err : (Q : Type 0) (moved : Result ℕ MoveFault) (fault : MoveFault) → moved ≡ Err fault → Q → OnErr moved Q
+on_err Q moved fault is q = subst (λ (r : Result ℕ MoveFault). OnErr r Q) (sym is) q
 
-pub no_ok : (Q : Type 0) (moved : Result ℕ StepFault) (fault : StepFault) → moved ≡ Err fault → IfOk moved (λ _. Q)
-no_ok Q moved fault is = subst (λ (r : Result ℕ StepFault). IfOk r (λ _. Q)) (sym is) tt
+pub no_ok : (Q : Type 0) (moved : Result ℕ MoveFault) (fault : MoveFault) → moved ≡ Err fault → IfOk moved (λ _. Q)
+no_ok Q moved fault is = subst (λ (r : Result ℕ MoveFault). IfOk r (λ _. Q)) (sym is) tt
 
 -- the move is shown, or nothing changed and memory was refused
 abbrev pub Went : State → (ℕ → Type 0) → Standing → Standing → List ℕ → Type 0
@@ -68,7 +68,7 @@ stays_put goes old new out same told = record {
   went = inr (tt, record { same = ap standing same; told = told });
 }
 
-pub moved_told : (goes : ℕ → Type 0) (old between new : Debugging) (moved : Result ℕ StepFault) (out : List ℕ)
+pub moved_told : (goes : ℕ → Type 0) (old between new : Debugging) (moved : Result ℕ MoveFault) (out : List ℕ)
     → IfOk moved (HasMoved old between) → IfOk moved goes → OnErr moved (between ≡ old)
     → IfOk moved (λ _. Told between new out) → OnErr moved ((new ≡ between) × (out ≡ refusal_line M)) → Gone goes old new out
 moved_told goes old between new (Ok p) out has there err told refused =

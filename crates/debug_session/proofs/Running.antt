@@ -1,10 +1,12 @@
 -- Lines answered one after another, and what an output has taken of the answers.
-use Rattle.std.proofs.Common.{◌≡◌, ◌<◌, ◌==◌, ℕ, List, [], ◌∷◌, ◌++◌, length, take, Option, refl, ap, sym, subst, ◌∙◌, append_assoc, append-nil}
+use Rattle.std.proofs.Common.{◌≡◌, ◌<◌, ◌==◌, ℕ, List, [], ◌∷◌, ◌++◌, length, take, drop, Option, refl, ap, sym, subst, ◌∙◌, append_assoc, append-nil}
+use Rattle.std.proofs.lemmas.List.{take-append-drop}
 use Rattle.std.proofs.Math.Seq.{take-append_seam}
 use Rattle.std.proofs.KnownBytes.{Appends-nil, Appends-trans}
 use Rattle.std.specs.Io.KnownBytes.{Appends}
 use Rattle.std.specs.List.{before_first, after_first}
 use Rattle.table_run.specs.State.{State}
+use Rattle.window_engine.specs.Puts.{TakesFirst}
 use Rattle.scenario_asm.specs.Lines.{lines_of}
 use Rattle.scenario_asm.proofs.Pieces.{pieces_first, pieces_none}
 use Rattle.debug_session.specs.declared.command.Limits.{Limits}
@@ -19,6 +21,10 @@ ran_more limits start [] line old between new made said ran one =
     (new, said, [], subst (λ (at : Standing). Answers limits start line at new said) ran.same one, record { same = refl; told = refl }, ap (λ l. l ++ said) ran.told ∙ sym (append-nil said))
 ran_more limits start (l ∷ lines) line old between new made said ran one =
     (ran.0, ran.1, ran.2 ++ said, ran.3, ran_more limits start lines line ran.0 between new ran.2 said ran.4 one, ap (λ x. x ++ said) ran.5 ∙ append_assoc ran.1 ran.2 said)
+
+-- the first bytes of these were taken
+pub first_taken : (bytes : List ℕ) (before after : Option (List ℕ)) (count : ℕ) → TakesFirst count bytes before after → Takes (IsBeginningOf (λ all. all ≡ bytes)) before after
+first_taken bytes before after count took = (take count bytes, took.1, (drop count bytes, take-append-drop count bytes))
 
 -- so far lines were answered, and the answers were taken
 pub record SoFar (limits : Limits) (start : State) (commands rest : List ℕ) (old now : Standing) (before after : Option (List ℕ)) : Type 0 where

@@ -80,7 +80,7 @@ Does start State old new out = Shows start (λ p. p ≡ old.shown.position) old 
 Does start (SetBreak b) old new out = Sets b old new out
 Does start Clear old new out = Clears old new out
 
--- the command takes memory, or runs events: so it can be refused for want of memory, or as too many events were run
+-- the command takes memory, runs events or has workers: so it can be refused for want of memory or of workers, or as too many events were run
 abbrev pub CanBeRefused : Command → Standing → Type 0
 CanBeRefused (SetBreak b) old = ¬ Contains old.breaks b × (length old.breaks < 64)
 CanBeRefused Clear old = ⊥
@@ -90,7 +90,7 @@ CanBeRefused (Until time) old = Unit {0}
 CanBeRefused Run old = Unit {0}
 CanBeRefused State old = Unit {0}
 
--- a command is done, or refused for want of memory
+-- a command is done, or refused for want of memory or of workers
 abbrev pub Obeys : NetState → Command → Standing → Standing → List ℕ → Type 0
 Obeys start command old new out = Does start command old new out ⊎ (CanBeRefused command old × Stays old new out (refusal_line M))
 

@@ -4,4 +4,3 @@ pub mod Answers
 pub mod Sessions
 pub mod Taking
 pub mod Told
-pub mod KeptOf

@@ -2,16 +2,15 @@
 use Rattle.std.specs.Prelude.{◌≡◌, ℕ, List, [], ◌∷◌, ◌++◌, length, take, Result, Ok, Err}
 use Rattle.scenario_image.specs.declared.parts.ScenarioParts.{ScenarioParts}
 use Rattle.scenario_asm.specs.declared.fault.Fault.{Fault}
-use Rattle.scenario_asm.specs.declared.fault.AsmFault.{AsmFault}
-use Rattle.scenario_asm.specs.declared.fault.AsmFault.TheVariants.{At, NoMemory as text_NoMemory}
 use Rattle.scenario_asm.specs.Lines.{lines_of}
 use Rattle.scenario_asm.specs.Meaning.{MeansScenario, MeansFault}
 use Rattle.table_run.specs.State.{State, opening}
 use Rattle.debugger.specs.Debugging.{opened}
 use Rattle.debug_session.specs.declared.command.Limits.{Limits}
 use Rattle.debug_session.specs.declared.session.SessionFault.{SessionFault}
-use Rattle.debug_session.specs.declared.session.SessionFault.TheVariants.{Refused, NoMemory, OutputFailed}
-use Rattle.debug_session.specs.Taking.{IsBeginningOf, counted}
+use Rattle.debug_session.specs.declared.session.SessionFault.TheVariants.{NoMemory, OutputFailed}
+use Rattle.window_engine.specs.Failures.{counted}
+use Rattle.debug_session.specs.Taking.{IsBeginningOf}
 use Rattle.debug_session.specs.Input.{text_lines, command_lines}
 use Rattle.debug_session.specs.Answers.{Standing, standing, Stays, Answers}
 
@@ -52,24 +51,17 @@ pub record IsOutputStart (input out : List ℕ) : Type 0 where
   pub meant : HasScenario input scenario
   pub answers : OutputStart (limits_of scenario) (opening scenario) (command_lines input) (standing (opened (opening scenario))) out
 
--- the end of a session whose text was not assembled
-abbrev pub of_text : AsmFault → SessionFault
-of_text (At line fault) = Refused line fault
-of_text text_NoMemory = NoMemory
-
 abbrev pub Ended : Type 0
 Ended = Result (Unit {0}) SessionFault
 
--- what a session that ended so has put out: all; nothing, where its text is refused or memory is; a beginning, where the output failed
-abbrev pub IsEnding : List ℕ → Ended → List ℕ → Type 0
-IsEnding input (Ok done) out = IsOutput input out
-IsEnding input (Err (Refused line fault)) out = HasFault input line fault × (out ≡ [])
-IsEnding input (Err NoMemory) out = out ≡ []
-IsEnding input (Err OutputFailed) out = IsBeginningOf (IsOutputStart input) out
+-- what a session over a scenario that ended so has put out: the answers to all its lines; nothing, where memory was refused; a beginning of the answers to the first of them, where the output failed
+abbrev pub IsEnding : ScenarioParts → List (List ℕ) → Ended → List ℕ → Type 0
+IsEnding p lines (Ok done) out = Output (limits_of p) (opening p) lines (standing (opened (opening p))) out
+IsEnding p lines (Err NoMemory) out = out ≡ []
+IsEnding p lines (Err OutputFailed) out = IsBeginningOf (OutputStart (limits_of p) (opening p) lines (standing (opened (opening p)))) out
 
 -- the output's count of failures after what ended so
 abbrev pub failures_of : Ended → ℕ → ℕ
 failures_of (Ok done) n = n
-failures_of (Err (Refused line fault)) n = n
 failures_of (Err NoMemory) n = n
 failures_of (Err OutputFailed) n = counted n

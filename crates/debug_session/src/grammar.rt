@@ -1,5 +1,5 @@
 //! From a line to a command.
-ghost use Rattle.std.specs.Prelude.{◌≡◌, ◌≢◌, ◌<◌, ◌≤◌, ◌^◌, ◌-◌, [], ◌∷◌, min, length, IsTrue, IfOk, MatchOption};
+ghost use Rattle.std.specs.Prelude.{◌≡◌, ◌≢◌, ◌<◌, ◌≤◌, ◌^◌, ◌-◌, [], ◌∷◌, min, length, IsTrue, IfOk, MatchOption, IfSome};
 ghost use Rattle.std.specs.List.{list_all};
 ghost use Rattle.std.specs.Str.{bytes_eq};
 ghost use Rattle.std.specs.Str.Parse.{digits_value};
@@ -61,10 +61,11 @@ fn value(digits: &[u8]) -> u64
     value
 }
 
-/// The number below a bound that a word is.
-fn number_below(word: &[u8], bound: u64) -> Option<u64>
+/// The number below a bound that a word is, in decimal digits with no 0 before others.
+pub fn number_below(word: &[u8], bound: u64) -> Option<u64>
     requires { bound ≤ 2 ^ 64 - 1 }
-    ensures { result ≡ number_below bound word.now }
+    ensures value { result ≡ number_below bound word.now }
+    ensures below { IfSome result (λ n. n < bound) }
 {
     if !is_numeral(word) {
         return None;

@@ -8,8 +8,10 @@ use crate::command::{Command, Limits};
 use crate::grammar::read_line;
 use crate::refusal::Refusal;
 use crate::said::Said;
-use debugger::{Break, BreakFault, Debugger};
-use net_machine::StepFault;
+use debugger::{Break, BreakFault, Debugger, MoveFault};
+use std::sync::Wait;
+use std::thread::Threads;
+use window_engine::Gate;
 
 /// Tells the state that is shown. The answer is whether there was memory for it.
 #[tactic(none)]
@@ -27,7 +29,7 @@ fn tell(debugger: &Debugger, said: &mut Said) -> bool
 
 /// Tells what a move came to. Where there is no memory for that, the move is undone.
 #[tactic(none)]
-fn show_move(debugger: &mut Debugger, moved: Result<u64, StepFault>, said: &mut Said)
+fn show_move(debugger: &mut Debugger, moved: Result<u64, MoveFault>, said: &mut Said)
     ensures told { IfOk moved (λ _. Told debugger.old debugger.new said.new) }
     ensures refused { OnErr moved ((debugger.new ≡ debugger.old) × (said.new ≡ refusal_line Refusal.M)) }
 {
@@ -57,7 +59,13 @@ fn set_break(debugger: &mut Debugger, b: Break, said: &mut Said)
 
 /// Does what a command asks for.
 #[tactic(none)]
-fn obey(debugger: &mut Debugger, command: Command, said: &mut Said)
+fn obey<R: Threads + Wait + Sync, G: Gate>(
+    rt: &R,
+    gate: &G,
+    debugger: &mut Debugger,
+    command: Command,
+    said: &mut Said,
+)
     ensures obeyed { Obeys debugger.old.start command (standing debugger.old) (standing debugger.new) said.new }
     ensures start { debugger.new.start ≡ debugger.old.start }
 {
@@ -71,11 +79,11 @@ fn obey(debugger: &mut Debugger, command: Command, said: &mut Said)
             show_move(debugger, moved, said);
         }
         Command::Until(time) => {
-            let moved = debugger.until(time);
+            let moved = debugger.until(rt, gate, time);
             show_move(debugger, moved, said);
         }
         Command::Run => {
-            let moved = debugger.run();
+            let moved = debugger.run(rt, gate);
             show_move(debugger, moved, said);
         }
         Command::State => {
@@ -92,13 +100,20 @@ fn obey(debugger: &mut Debugger, command: Command, said: &mut Said)
 
 /// Answers a line: what it asks for is done, or it is refused and changes nothing.
 #[tactic(none)]
-pub fn answer(debugger: &mut Debugger, limits: Limits, line: &[u8], said: &mut Said)
+pub fn answer<R: Threads + Wait + Sync, G: Gate>(
+    rt: &R,
+    gate: &G,
+    debugger: &mut Debugger,
+    limits: Limits,
+    line: &[u8],
+    said: &mut Said,
+)
     ensures answers { Answers limits debugger.old.start line.now (standing debugger.old) (standing debugger.new) said.new }
     ensures start { debugger.new.start ≡ debugger.old.start }
 {
     match read_line(limits, line) {
         None => said.clear(),
         Some(Err(refusal)) => said.say_refused(refusal),
-        Some(Ok(command)) => obey(debugger, command, said),
+        Some(Ok(command)) => obey(rt, gate, debugger, command, said),
     }
 }

@@ -1,8 +1,14 @@
-//! Sessions whose answers were worked out by hand from the tables.
+//! Sessions whose answers were worked out by hand from the tables, with several groups and workers.
 
-use crate::{Kept, run_session};
-use std::alloc::{AllocError, Global};
+use crate::{SessionFault, run_session, split};
+use scenario_asm::assemble;
+use std::io::Write;
 use std::process::Abort;
+use std::sync::Wait;
+use std::test::Fail;
+use std::thread::Threads;
+use window_core::Partition;
+use window_engine::{OpenGate, OverWrite};
 
 /// One segment goes there and is acknowledged.
 const ONE_SEGMENT: &str = "sim 1000000000
@@ -38,34 +44,80 @@ route q t i
 ---
 ";
 
-/// What commands answer.
-fn answers(
-    rt: &(impl Abort + AllocGlobal),
+/// Who runs the windows of a session's moves: whether each node has a group of its own (else all
+/// are in one), and how many workers there are.
+type Crew = (bool, usize);
+
+const ALONE: Crew = (false, 1);
+
+const PAIR: Crew = (true, 2);
+
+const CREWS: [Crew; 6] = [ALONE, (false, 2), (false, 64), (true, 1), PAIR, (true, 64)];
+
+/// Runs a session, whose answers go to what can be written to.
+fn run<R: Abort + AllocGlobal + Threads + Wait + Sync, W: Write + Drop>(
+    rt: &R,
     text: &str,
     commands: &str,
-) -> Result<Kept, AllocError> {
+    crew: Crew,
+    out: W,
+) -> Result<Result<(), SessionFault>, Fail> {
     let mut input = Vec::from_slice(rt.alloc(), text.as_bytes())?;
     input.extend_from_slice(commands.as_bytes())?;
-    let mut out = Kept::new(rt.alloc());
-    let ended = run_session(rt.alloc(), input.as_slice(), &mut out);
+    let (text, commands) = split(input.as_slice());
+    let scenario = assemble(rt.alloc(), text).map_err(|_| "a scenario")?;
+    let nodes = scenario.parts().nodes.len();
+    assert!(rt; nodes >= 2 && nodes <= 256);
+    let (apart, workers) = crew;
+    let partition = if apart {
+        Partition::each(nodes)
+    } else {
+        Partition::one(nodes)
+    };
+    assert!(rt; partition.nodes() == nodes);
+    assert!(rt; workers > 0 && workers <= 64);
+    let mut sink = OverWrite::new(out);
+    Ok(run_session(
+        rt,
+        &OpenGate,
+        rt.alloc(),
+        &scenario,
+        partition,
+        workers,
+        commands,
+        &mut sink,
+    ))
+}
+
+/// What commands answer.
+fn answers<R: Abort + AllocGlobal + Threads + Wait + Sync>(
+    rt: &R,
+    text: &str,
+    commands: &str,
+    crew: Crew,
+) -> Result<Vec<u8>, Fail> {
+    let mut out = Vec::new(rt.alloc());
+    let ended = run(rt, text, commands, crew, &mut out)?;
     assert!(rt; ended.is_ok());
     Ok(out)
 }
 
-/// Runs a session, and compares its output.
-fn expect(
-    rt: &(impl Abort + AllocGlobal),
+/// Runs a session with each crew, and compares its output.
+fn expect<R: Abort + AllocGlobal + Threads + Wait + Sync>(
+    rt: &R,
     text: &str,
     commands: &str,
     output: &str,
-) -> Result<(), AllocError> {
-    let out = answers(rt, text, commands)?;
-    assert!(rt; out.as_slice() == output.as_bytes());
+) -> Result<(), Fail> {
+    for crew in CREWS {
+        let out = answers(rt, text, commands, crew)?;
+        assert!(rt; out.as_slice() == output.as_bytes());
+    }
     Ok(())
 }
 
 #[test]
-fn forwards_and_backwards(rt: HostRuntime) -> Result<(), AllocError> {
+fn forwards_and_backwards(rt: HostRuntime) -> Result<(), Fail> {
     expect(
         &rt,
         ONE_SEGMENT,
@@ -103,7 +155,7 @@ link 1 offered=1 sent=1 queue=-
 
 /// A breakpoint on segments, the end, back, until a moment, and a word that is none.
 #[test]
-fn breakpoints_moments_and_refusals(rt: HostRuntime) -> Result<(), AllocError> {
+fn breakpoints_moments_and_refusals(rt: HostRuntime) -> Result<(), Fail> {
     expect(
         &rt,
         ONE_SEGMENT,
@@ -143,7 +195,7 @@ refused B1
 
 /// What waits in a CoDel queue, and each event that is pending, those past the end too.
 #[test]
-fn a_queue_of_segments(rt: HostRuntime) -> Result<(), AllocError> {
+fn a_queue_of_segments(rt: HostRuntime) -> Result<(), Fail> {
     expect(
         &rt,
         "sim 2080001
@@ -169,7 +221,7 @@ event 1000000000 0 0 1 rto 0
 
 /// Each refusal, the first that holds; a line with no words says nothing.
 #[test]
-fn refusals(rt: HostRuntime) -> Result<(), AllocError> {
+fn refusals(rt: HostRuntime) -> Result<(), Fail> {
     expect(
         &rt,
         ONE_SEGMENT,
@@ -195,26 +247,64 @@ clear
     )
 }
 
+/// The states at these positions, one after another, each reached at once.
+fn states<R: Abort + AllocGlobal + Threads + Wait + Sync>(
+    rt: &R,
+    text: &str,
+    positions: &[u64],
+) -> Result<Vec<u8>, Fail> {
+    let mut shown = Vec::new(rt.alloc());
+    for position in positions {
+        let command = format!(in rt.alloc(); "step {position}\n")?;
+        let dump = answers(rt, text, command.as_str(), ALONE)?;
+        shown.extend_from_slice(dump.as_slice())?;
+    }
+    Ok(shown)
+}
+
+/// A flow's events, the end, back, and until a moment that is past.
+#[test]
+fn a_flow_of_two(rt: HostRuntime) -> Result<(), Fail> {
+    let commands = "break flow 1\nrun\nrun\nrun\nback 1\nuntil 2040000\n";
+    let shown = states(&rt, TWO_FLOWS, &[2, 6, 6, 5, 5])?;
+    for crew in CREWS {
+        let out = answers(&rt, TWO_FLOWS, commands, crew)?;
+        assert!(rt; out.get(..8) == Some(b"break 1\n".as_slice()));
+        assert!(rt; out.get(8..) == Some(shown.as_slice()));
+    }
+    Ok(())
+}
+
 /// Each state is the same whether it was stepped to, gone back to, or reached at once.
 #[test]
-fn one_event_at_a_time(rt: HostRuntime) -> Result<(), AllocError> {
+fn one_event_at_a_time(rt: HostRuntime) -> Result<(), Fail> {
     let mut commands = String::new(rt.alloc());
-    let mut expected = Vec::new(rt.alloc());
+    let mut positions = Vec::new(rt.alloc());
     for stepped in 0..50u64 {
         commands.push_str("step 1\n")?;
-        let position = (stepped + 1).min(6);
-        let command = format!(in rt.alloc(); "step {position}\n")?;
-        let dump = answers(&rt, TWO_FLOWS, command.as_str())?;
-        expected.extend_from_slice(dump.as_slice())?;
+        positions.push((stepped + 1).min(6))?;
     }
     for stepped in 0..50u64 {
         commands.push_str("back 1\n")?;
-        let position = 6 - (stepped + 1).min(6);
-        let command = format!(in rt.alloc(); "step {position}\n")?;
-        let dump = answers(&rt, TWO_FLOWS, command.as_str())?;
-        expected.extend_from_slice(dump.as_slice())?;
+        positions.push(6 - (stepped + 1).min(6))?;
     }
-    let out = answers(&rt, TWO_FLOWS, commands.as_str())?;
-    assert!(rt; out.as_slice() == expected.as_slice());
+    let shown = states(&rt, TWO_FLOWS, positions.as_slice())?;
+    for crew in [ALONE, PAIR] {
+        let out = answers(&rt, TWO_FLOWS, commands.as_str(), crew)?;
+        assert!(rt; out.as_slice() == shown.as_slice());
+    }
+    Ok(())
+}
+
+/// An output that has room for 100 bytes takes the first of the answers, and the session ends.
+#[test]
+fn an_output_that_fails(rt: HostRuntime) -> Result<(), Fail> {
+    let whole = answers(&rt, ONE_SEGMENT, "step 3\nrun\n", ALONE)?;
+    for crew in CREWS {
+        let mut room = [0u8; 100];
+        let ended = run(&rt, ONE_SEGMENT, "step 3\nrun\n", crew, room.as_mut_slice())?;
+        assert!(rt; matches!(ended, Err(SessionFault::OutputFailed)));
+        assert!(rt; whole.get(..100) == Some(room.as_slice()));
+    }
     Ok(())
 }

@@ -1,3 +1,5 @@
 pub mod Walks
 pub mod Thinned
 pub mod Shown
+pub mod Faults
+pub mod Batches

@@ -1,5 +1,5 @@
 -- What the fields of a debugger, and of its saved states, stand for.
-use Rattle.std.specs.Prelude.{◌≡◌, List, All, Some}
+use Rattle.std.specs.Prelude.{◌≡◌, List, All, Some, length}
 use Rattle.net_machine.specs.Run.{Reached}
 use Rattle.debugger.specs.declared.saved.Saved.TheInside.{Inside as SavedInside}
 use Rattle.debugger.specs.declared.moves.Debugger.TheInside.{Inside}
@@ -22,5 +22,7 @@ pub record IsDebugger (d : Debugging) : Type 0 where
   pub shown : Passes d.start d.shown
   pub left : (was : Reached) → d.left ≡ Some was → Passes d.start was
 
-abbrev pub IsDebuggerInside : Inside → Type 0
-IsDebuggerInside d = IsDebugger (debugging_of d)
+-- and each node of the run is in a group
+pub record IsDebuggerInside (d : Inside) : Type 0 where
+  pub moves : IsDebugger (debugging_of d)
+  pub nodes : length d.crew.partition ≡ length d.saved.parts

@@ -1,4 +1,6 @@
 pub mod Breaks
+pub mod Faults
 pub mod Moves
+pub mod Courses
 pub mod Debugging
 pub mod DebuggerOf

@@ -2,12 +2,15 @@
 #![tactic(auto)]
 
 pub mod breaks;
+mod course;
+mod crew;
+mod fault;
 pub mod moves;
 pub mod reached;
 pub mod saved;
-#[cfg(test)]
-mod tests;
+mod scan;
 pub mod walk;
 
 pub use breaks::{Break, BreakFault, Breaks, EventKind};
+pub use fault::MoveFault;
 pub use moves::Debugger;

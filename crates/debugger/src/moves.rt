@@ -1,5 +1,5 @@
 //! The debugger: it stands at a position of a scenario's run, and moves both ways.
-ghost use Rattle.std.specs.Prelude.{◌≡◌, ◌-◌, ◌<◌, ◌≤◌, [], ◌∷◌, ◌++◌, true, false, Contains, IfOk, IfErr, OnOk, OnErr, MatchBool, MatchResult, Some, None, Ok, Err, length};
+ghost use Rattle.std.specs.Prelude.{◌≡◌, ◌≢◌, ◌-◌, ◌<◌, ◌≤◌, [], ◌∷◌, ◌++◌, true, false, Contains, IfOk, IfErr, OnOk, OnErr, MatchBool, MatchResult, Some, None, Ok, Err, length};
 ghost use Rattle.table_run.specs.State.{opening};
 ghost use Rattle.net_machine.specs.Run.{Reached};
 ghost use Rattle.debugger.specs.Moves.{Passes, StepGoesTo, RunGoesTo, UntilGoesTo, IsTooLong};
@@ -7,9 +7,11 @@ ghost use Rattle.debugger.specs.Debugging.{opened, HasMoved};
 ghost use Rattle.trace_text.specs.Dump.{dump_bytes};
 
 use crate::breaks::{Break, BreakFault, Breaks};
-use crate::reached::{net_after, net_at, net_at_break, net_at_time};
+use crate::crew::Crew;
+use crate::fault::MoveFault;
+use crate::reached::{net_after, net_at};
 use crate::saved::Saved;
-use net_machine::{Net, StepFault};
+use net_machine::Net;
 use node_core::{After, Event, Line};
 use port::Acts;
 use scenario_image::scenario::Scenario;
@@ -17,7 +19,11 @@ use sim_time::{Key, Time};
 use std::alloc::{AllocError, Global};
 use std::marker::Model;
 use std::mem;
+use std::sync::Wait;
+use std::thread::Threads;
 use trace_text::dump_text;
+use window_core::Partition;
+use window_engine::Gate;
 
 /// A debugger of one scenario.
 #[derive(Drop)]
@@ -32,6 +38,8 @@ pub struct Debugger {
     breaks: Breaks,
     /// What the last event was, lent to each step.
     line: Line,
+    /// Who runs windows.
+    crew: Crew,
 }
 
 #[tactic(none)]
@@ -66,8 +74,16 @@ fn unwritten(alloc: Global) -> Line {
 
 #[tactic(none)]
 impl Debugger {
-    /// At position 0 of a scenario's run, with no breakpoint.
-    pub fn new(alloc: Global, scenario: &Scenario) -> Result<Debugger, AllocError>
+    /// At position 0 of a scenario's run, with no breakpoint. The moves `run` and `until` go by
+    /// windows of these groups, which so many workers run.
+    pub fn new(
+        alloc: Global,
+        scenario: &Scenario,
+        partition: Partition,
+        workers: usize,
+    ) -> Result<Debugger, AllocError>
+        requires partition { length partition ≡ length scenario.now.nodes }
+        requires workers { (0 < workers) × (workers ≤ 64) }
         ensures { IfOk result (λ debugger. debugger ≡ opened (opening scenario.now)) }
     {
         let Ok(net) = Net::new(alloc, scenario) else {
@@ -82,6 +98,11 @@ impl Debugger {
             saved: Saved::new(alloc, opening),
             breaks: Breaks::new(alloc),
             line: unwritten(alloc),
+            crew: Crew {
+                partition,
+                workers,
+                alloc,
+            },
         })
     }
 
@@ -95,10 +116,11 @@ impl Debugger {
 
     /// So many events on, or at the run's end where that comes first. The answer of this and of
     /// each other move is the new position; on a fault nothing changes.
-    pub fn step(&mut self, count: u64) -> Result<u64, StepFault>
+    pub fn step(&mut self, count: u64) -> Result<u64, MoveFault>
         ensures moved { IfOk result (HasMoved self.old self.new) }
         ensures goes { IfOk result (StepGoesTo self.old.start self.old.shown.position count) }
-        ensures full { IfErr result (λ fault. fault ≡ StepFault.CountFull → IsTooLong self.old.start) }
+        ensures full { IfErr result (λ fault. fault ≡ MoveFault.CountFull → IsTooLong self.old.start) }
+        ensures no_worker { IfErr result (λ fault. fault ≢ MoveFault.NoWorker) }
         ensures err { OnErr result (self.new ≡ self.old) }
     {
         let found = net_after(&self.net, count, &mut self.saved, &mut self.line);
@@ -106,10 +128,11 @@ impl Debugger {
     }
 
     /// So many events back, or at position 0 where there are fewer.
-    pub fn back(&mut self, count: u64) -> Result<u64, StepFault>
+    pub fn back(&mut self, count: u64) -> Result<u64, MoveFault>
         ensures moved { IfOk result (HasMoved self.old self.new) }
         ensures goes { IfOk result (λ p. p ≡ self.old.shown.position - count) }
-        ensures full { IfErr result (λ fault. fault ≡ StepFault.CountFull → IsTooLong self.old.start) }
+        ensures full { IfErr result (λ fault. fault ≡ MoveFault.CountFull → IsTooLong self.old.start) }
+        ensures no_worker { IfErr result (λ fault. fault ≢ MoveFault.NoWorker) }
         ensures err { OnErr result (self.new ≡ self.old) }
     {
         let target = self.net.position().saturating_sub(count);
@@ -118,24 +141,42 @@ impl Debugger {
     }
 
     /// At the next position whose line a breakpoint matches, or at the run's end.
-    pub fn run(&mut self) -> Result<u64, StepFault>
+    pub fn run<G: Gate, R: Threads + Wait + Sync>(
+        &mut self,
+        rt: &R,
+        gate: &G,
+    ) -> Result<u64, MoveFault>
         ensures moved { IfOk result (HasMoved self.old self.new) }
         ensures goes { IfOk result (RunGoesTo self.old.start self.old.breaks self.old.shown.position) }
-        ensures full { IfErr result (λ fault. fault ≡ StepFault.CountFull → IsTooLong self.old.start) }
+        ensures full { IfErr result (λ fault. fault ≡ MoveFault.CountFull → IsTooLong self.old.start) }
         ensures err { OnErr result (self.new ≡ self.old) }
     {
-        let found = net_at_break(&self.net, &self.breaks, &mut self.saved, &mut self.line);
+        let found = self.crew.net_at_break(
+            rt,
+            gate,
+            &self.net,
+            &self.breaks,
+            &mut self.saved,
+            &mut self.line,
+        );
         self.show(found)
     }
 
     /// At the first position, from the present one on, where all events before a time are run.
-    pub fn until(&mut self, time: Time) -> Result<u64, StepFault>
+    pub fn until<G: Gate, R: Threads + Wait + Sync>(
+        &mut self,
+        rt: &R,
+        gate: &G,
+        time: Time,
+    ) -> Result<u64, MoveFault>
         ensures moved { IfOk result (HasMoved self.old self.new) }
         ensures goes { IfOk result (UntilGoesTo self.old.start time self.old.shown.position) }
-        ensures full { IfErr result (λ fault. fault ≡ StepFault.CountFull → IsTooLong self.old.start) }
+        ensures full { IfErr result (λ fault. fault ≡ MoveFault.CountFull → IsTooLong self.old.start) }
         ensures err { OnErr result (self.new ≡ self.old) }
     {
-        let found = net_at_time(&self.net, time, &mut self.saved, &mut self.line);
+        let found = self
+            .crew
+            .net_at_time(rt, gate, &self.net, time, &mut self.saved, &mut self.line);
         self.show(found)
     }
 
@@ -192,7 +233,7 @@ impl Debugger {
 
     // Shows the net that a move came to in the place of the present one, which can be gone back
     // to. The answer is its position. Where the move failed, nothing changes.
-    fn show(&mut self, found: Result<Net, StepFault>) -> Result<u64, StepFault>
+    fn show(&mut self, found: Result<Net, MoveFault>) -> Result<u64, MoveFault>
         requires { IfOk found (Passes self.old.start) }
         ensures moved { IfOk result (HasMoved self.old self.new) }
         ensures answer { MatchResult found (λ net. result ≡ Ok net.position) (λ fault. result ≡ Err fault) }

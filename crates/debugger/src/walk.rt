@@ -2,13 +2,11 @@
 ghost use Rattle.std.specs.Prelude.{◌≡◌, ◌≤◌, if◌then◌else◌, IsTrue, IfOk, IfErr, OnOk};
 ghost use Rattle.node_core.specs.TraceLine.{shown};
 ghost use Rattle.net_machine.specs.Run.{Stepped};
-ghost use Rattle.debugger.specs.Moves.{Passes, HasPosition, StepGoesTo, RunGoesTo, UntilGoesTo, IsTooLong};
+ghost use Rattle.debugger.specs.Moves.{Passes, HasPosition, StepGoesTo, IsTooLong};
 
-use crate::breaks::Breaks;
 use crate::saved::Saved;
 use net_machine::{Net, StepFault};
 use node_core::Line;
-use sim_time::Time;
 
 // Runs the next event, and saves the state after it where it is time to. The answer is whether
 // there was one.
@@ -75,60 +73,5 @@ pub fn reach(
     match forward(net, count, saved, line) {
         Ok(()) => Ok(()),
         Err(fault) => Err(fault),
-    }
-}
-
-/// Runs events up to the first whose line one of the breakpoints matches, or all that are left.
-#[tactic(none)]
-pub fn to_break(
-    net: &mut Net,
-    breaks: &Breaks,
-    saved: &mut Saved,
-    line: &mut Line,
-) -> Result<(), StepFault>
-    requires { Passes saved.old net.old }
-    ensures on_run { OnOk result (Passes saved.old net.new) }
-    ensures goes { OnOk result (RunGoesTo saved.old breaks.now net.old.position net.new.position) }
-    ensures full { IfErr result (λ fault. fault ≡ StepFault.CountFull → IsTooLong saved.old) }
-    ensures same { saved.new ≡ saved.old }
-{
-    'events: loop {
-        match run_one(net, saved, line) {
-            Ok(true) => {
-                if breaks.hits(line) {
-                    return Ok(());
-                }
-            }
-            Ok(false) => return Ok(()),
-            Err(fault) => return Err(fault),
-        }
-    }
-}
-
-/// The position up to which all events before a time are run. To find it, one event past it is
-/// run where there is one.
-#[tactic(none)]
-pub fn position_until(
-    net: &mut Net,
-    time: Time,
-    saved: &mut Saved,
-    line: &mut Line,
-) -> Result<u64, StepFault>
-    requires { Passes saved.old net.old }
-    ensures goes { IfOk result (UntilGoesTo saved.old time net.old.position) }
-    ensures full { IfErr result (λ fault. fault ≡ StepFault.CountFull → IsTooLong saved.old) }
-    ensures same { saved.new ≡ saved.old }
-{
-    'events: loop {
-        let position = net.position();
-        match run_one(net, saved, line) {
-            Ok(true) => {
-                if line.key.time >= time {
-                    return Ok(position);
-                }
-            }
-            Ok(false) => return Ok(position),
-            Err(fault) => return Err(fault),
-        }
     }
 }

@@ -11,26 +11,26 @@ use Rattle.tcpsim.proofs.DebugEnds.{unread_input}
 use Rattle.tcpsim.proofs.Reading.{hindered_text, reads_stay, writes_stay, never_begun}
 
 -- the input was not read
-pub debug_unread : (known : Option (List ℕ)) (fault : SessionFault) (before after : Streams) → (text : List ℕ) × IsInputOf known text × IsReadFault text fault → after.written ≡ before.written
-    → after.write_failures ≡ before.write_failures → after.read_failures ≡ reads_after {T = Unit {0}} (Err fault) before.read_failures → IsDebugSessionOn known (Err fault) before after
-debug_unread known fault before after of_input same_bytes same_writes reads =
+pub debug_unread : (groups : List ℕ) (known : Option (List ℕ)) (fault : SessionFault) (before after : Streams) → (text : List ℕ) × IsInputOf known text × IsReadFault text fault → after.written ≡ before.written
+    → after.write_failures ≡ before.write_failures → after.read_failures ≡ reads_after {T = Unit {0}} (Err fault) before.read_failures → IsDebugSessionOn groups known (Err fault) before after
+debug_unread groups known fault before after of_input same_bytes same_writes reads =
     record {
       input = of_input.0;
       given = of_input.1;
-      session = subst (λ out. IsDebugSession of_input.0 (Err fault) before.written out) (sym same_bytes) (unread_input of_input.0 fault before.written of_input.2);
+      session = subst (λ out. IsDebugSession groups of_input.0 (Err fault) before.written out) (sym same_bytes) (unread_input groups of_input.0 fault before.written of_input.2);
       reads = reads;
       writes = same_writes ∙ writes_stay of_input.0 fault before.write_failures of_input.2;
     }
 
 -- the input was read
-pub debug_read : (known : Option (List ℕ)) (input : List ℕ) (ended : Ended) (before after : Streams) → IsInputOf known input → IsDebugSession input ended before.written after.written
-    → ended ≢ Err ReadFailed → after.read_failures ≡ before.read_failures → after.write_failures ≡ writes_after ended before.write_failures → IsDebugSessionOn known ended before after
-debug_read known input ended before after given session other reads writes =
+pub debug_read : (groups : List ℕ) (known : Option (List ℕ)) (input : List ℕ) (ended : Ended) (before after : Streams) → IsInputOf known input → IsDebugSession groups input ended before.written after.written
+    → ended ≢ Err ReadFailed → after.read_failures ≡ before.read_failures → after.write_failures ≡ writes_after ended before.write_failures → IsDebugSessionOn groups known ended before after
+debug_read groups known input ended before after given session other reads writes =
     record { input = input; given = given; session = session; reads = reads ∙ reads_stay ended before.read_failures other; writes = writes }
 
 -- memory was refused before anything was read
 pub task_never_begun : (task : Task) (known : Option (List ℕ)) (before after : Streams) → after ≡ before → IsTaskOn task known (Err NoMemory) before after
 task_never_begun (Scenario subcommand) known before after same = never_begun subcommand known before after same
-task_never_begun Debug known before after same =
-    subst (λ streams. IsDebugSessionOn known (Err NoMemory) before streams) (sym same)
-    (debug_unread known NoMemory before before (hindered_text known NoMemory (λ text. tt)) refl refl refl)
+task_never_begun (Debug sharing) known before after same =
+    subst (λ streams. IsDebugSessionOn sharing.groups known (Err NoMemory) before streams) (sym same)
+    (debug_unread sharing.groups known NoMemory before before (hindered_text known NoMemory (λ text. tt)) refl refl refl)

@@ -7,16 +7,18 @@ use Rattle.scenario_asm.specs.CanonicalText.{canonical_text}
 use Rattle.table_run.specs.State.{State, opening, run, step, one_more}
 use Rattle.node_core.specs.TraceLine.{TraceLine}
 use Rattle.tcpsim.specs.declared.fault.SessionFault.{SessionFault}
-use Rattle.tcpsim.specs.declared.fault.SessionFault.TheVariants.{TooLong, Refused, RefusedImage, ReadFailed, WriteFailed, NoMemory, CountFull}
+use Rattle.tcpsim.specs.declared.fault.SessionFault.TheVariants.{TooLong, Refused, RefusedImage, Groups, ReadFailed, WriteFailed, NoMemory, CountFull, NoWorker}
 use Rattle.tcpsim.specs.declared.subcommand.Subcommand.{Subcommand}
 use Rattle.tcpsim.specs.declared.subcommand.Subcommand.TheVariants.{Asm, Dis, Run}
 use Rattle.tcpsim.specs.Input.{is_image, HasScenario, HasFault, Reads}
-use Rattle.tcpsim.specs.Output.{IsAllOrNothing, IsOutput}
-use Rattle.tcpsim.specs.Trace.{IsTrace, IsFullTrace}
+use Rattle.tcpsim.specs.Output.{IsAllOrNothing, IsOutput, IsSharedOutput}
+use Rattle.tcpsim.specs.Nodes.{HasGroups}
+use Rattle.tcpsim.specs.Trace.{IsTrace, IsTooLong}
 use Rattle.tcpsim.specs.Written.{Writes}
 use Rattle.tcpsim.specs.Ended.{Ended, IsHindered, IsRunOutput, IsReadFault}
 use Rattle.tcpsim.specs.Session.{IsWithin, IsOfScenario, IsEnding, IsDue, IsSession}
 use Rattle.tcpsim.proofs.Bytes.{appends_nothing}
+use Rattle.tcpsim.proofs.Lines.{due_steps}
 use Rattle.tcpsim.proofs.Options.{some_none, same_some}
 
 -- no event comes after the last one
@@ -44,30 +46,33 @@ no_more s n m lines lines' last last' few is final later = go (m - n) refl
         absurd (some_none (lines', last') (sym later ∙ subst (λ x. run s x ≡ None) same (none_after s (suc n) next k)))
 
 -- a run comes to its end within 10^15 events, or it does not
-not_both : (s : State) (out out' : List ℕ) → IsTrace s out → IsFullTrace s out' → ⊥
-not_both s out out' ends full =
-    full.more (no_more s ends.n full.n ends.lines full.lines ends.last full.last (let few = ends.few in let is = full.full in omega (arith, few, is)) ends.is_run ends.final full.is_run)
+not_both : (s : State) (out : List ℕ) → IsTrace s out → IsTooLong s → ⊥
+not_both s out ends long =
+    due_steps long.last long.one_due (no_more s ends.n 1000000000000000 ends.lines long.lines ends.last long.last ends.few ends.is_run ends.final long.is_run)
 
 one_trace : (s : State) (ended : Ended) (out out' : List ℕ) → IsRunOutput s ended out → IsTrace s out' → (ended ≡ Ok tt) ⊎ IsHindered ended
 one_trace s (Ok u) out out' made ends = inl refl
-one_trace s (Err CountFull) out out' made ends = absurd (not_both s out' out ends made)
+one_trace s (Err CountFull) out out' made ends = absurd (not_both s out' ends made.0)
+one_trace s (Err NoWorker) out out' made ends = inr tt
 one_trace s (Err WriteFailed) out out' made ends = inr tt
 one_trace s (Err NoMemory) out out' made ends = inr tt
 one_trace s (Err ReadFailed) out out' made ends = inr tt
 one_trace s _ out out' made ends = absurd made
 
-one_full : (s : State) (ended : Ended) (out out' : List ℕ) → IsRunOutput s ended out → IsFullTrace s out' → (ended ≡ Err CountFull) ⊎ IsHindered ended
-one_full s (Ok u) out out' made full = absurd (not_both s out out' made full)
-one_full s (Err CountFull) out out' made full = inl refl
-one_full s (Err WriteFailed) out out' made full = inr tt
-one_full s (Err NoMemory) out out' made full = inr tt
-one_full s (Err ReadFailed) out out' made full = inr tt
-one_full s _ out out' made full = absurd made
+one_full : (s : State) (ended : Ended) (out : List ℕ) → IsRunOutput s ended out → IsTooLong s → (ended ≡ Err CountFull) ⊎ IsHindered ended
+one_full s (Ok u) out made full = absurd (not_both s out made full)
+one_full s (Err CountFull) out made full = inl refl
+one_full s (Err WriteFailed) out made full = inr tt
+one_full s (Err NoMemory) out made full = inr tt
+one_full s (Err NoWorker) out made full = inr tt
+one_full s (Err ReadFailed) out made full = inr tt
+one_full s _ out made full = absurd made
 
 -- over one scenario a run ends in one way
 one_run : (s : State) (ended other : Ended) (out out' : List ℕ) → ¬ IsHindered other → IsRunOutput s ended out → IsRunOutput s other out' → (ended ≡ other) ⊎ IsHindered ended
 one_run s ended (Ok u) out out' free made due = one_trace s ended out out' made due
-one_run s ended (Err CountFull) out out' free made due = one_full s ended out out' made due
+one_run s ended (Err CountFull) out out' free made due = one_full s ended out made due.0
+one_run s ended (Err NoWorker) out out' free made due = absurd (free tt)
 one_run s ended (Err NoMemory) out out' free made due = absurd (free tt)
 one_run s ended (Err WriteFailed) out out' free made due = absurd (free tt)
 one_run s ended _ out out' free made due = absurd due
@@ -82,11 +87,31 @@ one_whole bytes (Err NoMemory) other out out' free made due = inr tt
 one_whole bytes (Err WriteFailed) other out out' free made due = inr tt
 one_whole bytes _ other out out' free made due = absurd made
 
+-- groups that are named stay so
+one_shared_run : (groups : List ℕ) (parts : ScenarioParts) (ended other : Ended) (out out' : List ℕ) → ¬ IsHindered other → HasGroups groups parts → IsRunOutput (opening parts) ended out
+    → IsSharedOutput groups parts other out' → (ended ≡ other) ⊎ IsHindered ended
+one_shared_run groups parts ended (Err Groups) out out' free has made due = absurd (due.0 has)
+one_shared_run groups parts ended (Err NoMemory) out out' free has made due = absurd (free tt)
+one_shared_run groups parts ended other out out' free has made due = one_run (opening parts) ended other out out' free made due.1
+
+-- and groups that are not
+no_groups : (groups : List ℕ) (parts : ScenarioParts) (other : Ended) (out' : List ℕ) → ¬ IsHindered other → ¬ HasGroups groups parts → IsSharedOutput groups parts other out'
+    → (Err Groups ≡ other) ⊎ IsHindered (Err Groups)
+no_groups groups parts (Err Groups) out' free lacks due = inl refl
+no_groups groups parts (Err NoMemory) out' free lacks due = absurd (free tt)
+no_groups groups parts other out' free lacks due = absurd (lacks due.0)
+
+one_shared : (groups : List ℕ) (parts : ScenarioParts) (ended other : Ended) (out out' : List ℕ) → ¬ IsHindered other → IsSharedOutput groups parts ended out → IsSharedOutput groups parts other out'
+    → (ended ≡ other) ⊎ IsHindered ended
+one_shared groups parts (Err Groups) other out out' free made due = no_groups groups parts other out' free made.0 due
+one_shared groups parts (Err NoMemory) other out out' free made due = inr tt
+one_shared groups parts ended other out out' free made due = one_shared_run groups parts ended other out out' free made.0 made.1 due
+
 one_output : (subcommand : Subcommand) (parts : ScenarioParts) (ended other : Ended) (out out' : List ℕ) → ¬ IsHindered other → IsOutput subcommand parts ended out → IsOutput subcommand parts other out'
     → (ended ≡ other) ⊎ IsHindered ended
 one_output Asm parts ended other out out' free made due = one_whole (image parts) ended other out out' free made due
 one_output Dis parts ended other out out' free made due = one_whole (canonical_text parts) ended other out out' free made due
-one_output Run parts ended other out out' free made due = one_run (opening parts) ended other out out' free made due
+one_output (Run sharing) parts ended other out out' free made due = one_shared sharing.groups parts ended other out out' free made due
 
 -- the ends to which work on a scenario can come
 abbrev IsOutputEnd : Ended → Type 0
@@ -94,6 +119,8 @@ IsOutputEnd (Ok done) = Unit {0}
 IsOutputEnd (Err CountFull) = Unit {0}
 IsOutputEnd (Err NoMemory) = Unit {0}
 IsOutputEnd (Err WriteFailed) = Unit {0}
+IsOutputEnd (Err NoWorker) = Unit {0}
+IsOutputEnd (Err Groups) = Unit {0}
 IsOutputEnd _ = ⊥
 
 run_end : (s : State) (ended : Ended) (out : List ℕ) → IsRunOutput s ended out → IsOutputEnd ended
@@ -101,6 +128,7 @@ run_end s (Ok u) out made = tt
 run_end s (Err CountFull) out made = tt
 run_end s (Err NoMemory) out made = tt
 run_end s (Err WriteFailed) out made = tt
+run_end s (Err NoWorker) out made = tt
 run_end s _ out made = absurd made
 
 whole_end : (bytes : List ℕ) (ended : Ended) (out : List ℕ) → IsAllOrNothing bytes ended out → IsOutputEnd ended
@@ -109,10 +137,15 @@ whole_end bytes (Err NoMemory) out made = tt
 whole_end bytes (Err WriteFailed) out made = tt
 whole_end bytes _ out made = absurd made
 
+shared_end : (groups : List ℕ) (parts : ScenarioParts) (ended : Ended) (out : List ℕ) → IsSharedOutput groups parts ended out → IsOutputEnd ended
+shared_end groups parts (Err Groups) out made = tt
+shared_end groups parts (Err NoMemory) out made = tt
+shared_end groups parts ended out made = run_end (opening parts) ended out made.1
+
 output_end : (subcommand : Subcommand) (parts : ScenarioParts) (ended : Ended) (out : List ℕ) → IsOutput subcommand parts ended out → IsOutputEnd ended
 output_end Asm parts ended out made = whole_end (image parts) ended out made
 output_end Dis parts ended out made = whole_end (canonical_text parts) ended out made
-output_end Run parts ended out made = run_end (opening parts) ended out made
+output_end (Run sharing) parts ended out made = shared_end sharing.groups parts ended out made
 
 abbrev pub Read : Type 0
 Read = Result ScenarioParts SessionFault
@@ -151,6 +184,7 @@ module _ (subcommand : Subcommand) (input : List ℕ) (read : Read) (ended : End
   no_other (Err ReadFailed) due = absurd (due.0 tt)
   no_other (Err WriteFailed) due = absurd (due.0 tt)
   no_other (Err NoMemory) due = absurd (due.0 tt)
+  no_other (Err NoWorker) due = absurd (due.0 tt)
   no_other other due = of_scenario other due.1.0 due.0 due.1.1
 
 -- work on the input's scenario is an ending of the session
@@ -159,6 +193,8 @@ output_ending : (subcommand : Subcommand) (input : List ℕ) (parts : ScenarioPa
 output_ending subcommand input parts (Ok u) out within means made end = (within, (parts, means, made))
 output_ending subcommand input parts (Err CountFull) out within means made end = (within, (parts, means, made))
 output_ending subcommand input parts (Err WriteFailed) out within means made end = (within, (parts, means, made))
+output_ending subcommand input parts (Err NoWorker) out within means made end = (within, (parts, means, made))
+output_ending subcommand input parts (Err Groups) out within means made end = (within, (parts, means, made))
 output_ending subcommand input parts (Err NoMemory) out within means made end = inr (within, (parts, means, made))
 output_ending subcommand input parts _ out within means made end = absurd end
 
@@ -210,6 +246,7 @@ too_long_only subcommand input long (Err TooLong) due = inl refl
 too_long_only subcommand input long (Err ReadFailed) due = absurd (due.0 tt)
 too_long_only subcommand input long (Err WriteFailed) due = absurd (due.0 tt)
 too_long_only subcommand input long (Err NoMemory) due = absurd (due.0 tt)
+too_long_only subcommand input long (Err NoWorker) due = absurd (due.0 tt)
 too_long_only subcommand input long _ due = let within = due.1.1.0 in absurd (omega (arith, long, within))
 
 -- the input was not read, and nothing was written

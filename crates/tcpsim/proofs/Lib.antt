@@ -6,6 +6,12 @@ pub mod Reading
 pub mod DebugEnds
 pub mod DebugReading
 pub mod Refusals
+pub mod NoKinds
+pub mod OptionRows
+pub mod OptionWalk
 pub mod Naming
 pub mod Readings
 pub mod Commands
+pub mod GroupTexts
+pub mod Worked
+pub mod Shared

@@ -15,8 +15,8 @@ use Rattle.node_core.specs.TraceLine.{TraceLine, shown}
 use Rattle.node_core.specs.declared.line.Line.{Line}
 use Rattle.trace_text.specs.Line.{line_bytes}
 use Rattle.trace_text.specs.End.{end_bytes}
-use Rattle.tcpsim.specs.Trace.{lines_bytes, IsTrace, IsTraceStart, IsFullTrace, IsTraceOrStart}
-use Rattle.tcpsim.specs.declared.fault.SessionFault.TheVariants.{WriteFailed, NoMemory, CountFull}
+use Rattle.tcpsim.specs.Trace.{lines_bytes, IsTrace, IsTraceStart, IsTooLong, IsTraceOrStart}
+use Rattle.tcpsim.specs.declared.fault.SessionFault.TheVariants.{WriteFailed, NoMemory, CountFull, NoWorker}
 use Rattle.tcpsim.specs.Faults.{of_step}
 use Rattle.tcpsim.specs.Ended.{Ended, IsRunOutput}
 use Rattle.tcpsim.specs.Written.{Writes, WritesBefore, IsBeginningOf}
@@ -72,16 +72,15 @@ trace_of s net made at few last =
     record { n = net.position; few = few; lines = at.lines; last = net.state; is_run = at.is_run; final = last; bytes_are = ap (λ l. l ++ end_bytes net.position) at.made_are }
 
 -- where an event is due, a step is possible
-due_steps : (s : State) → due s ≢ None → step s ≢ None
+pub due_steps : (s : State) → due s ≢ None → step s ≢ None
 due_steps s more = go (due s) more
   where
     go : (d : Option (Key × Event)) → d ≢ None → option_map (step_at s) d ≢ None
     go None h e = h refl
     go (Some entry) h e = absurd (some_none (step_at s entry) e)
 
-full_of : (s : State) (net : Reached) (made : List ℕ) → IsAt s net made → net.position ≡ 1000000000000000 → due net.state ≢ None → IsFullTrace s made
-full_of s net made at full more =
-    record { n = net.position; full = full; lines = at.lines; last = net.state; is_run = at.is_run; more = due_steps net.state more; bytes_are = at.made_are }
+full_of : (s : State) (net : Reached) (made : List ℕ) → IsAt s net made → net.position ≡ 1000000000000000 → due net.state ≢ None → IsTooLong s
+full_of s net made at full more = record { lines = at.lines; last = net.state; is_run = let P : ℕ → Type 0 = λ n. run s n ≡ Some (at.lines, net.state) in subst P full at.is_run; one_due = more }
 
 -- what a net has made was written, or waits
 abbrev pub Made : State → Reached → List ℕ → Option (List ℕ) → Option (List ℕ) → Type 0
@@ -124,7 +123,8 @@ made_all s net page page' a b made few h e =
 pub made_refused : (s : State) (net : Reached) (page : List ℕ) (fault : StepFault) (a b : Option (List ℕ)) → Made s net page a b
     → (fault ≡ step_CountFull → (due net.state ≢ None) × (net.position ≡ 1000000000000000)) → WritesBefore page (IsRunOutput s (Err (of_step fault))) a b
 made_refused s net page step_NoMemory a b made full = (made.0, made.1, start_of s net (made.0 ++ page) made.2)
-made_refused s net page step_CountFull a b made full = (made.0, made.1, full_of s net (made.0 ++ page) made.2 (full refl).1 (full refl).0)
+made_refused s net page step_CountFull a b made full =
+    (made.0, made.1, (full_of s net (made.0 ++ page) made.2 (full refl).1 (full refl).0, start_of s net (made.0 ++ page) made.2))
 
 -- bytes of this kind were to be written, and the writer failed
 pub begun : (P Q : List ℕ → Type 0) (page : List ℕ) (a b c : Option (List ℕ)) → ((l : List ℕ) → P l → Q l) → WritesBefore page P a b → Writes (IsBeginningOf (λ all. all ≡ page)) b c
@@ -149,7 +149,8 @@ line_written s net page a b c made part = begun (IsAt s net) (IsTraceOrStart s) 
 trace_or_start : (r : Ended) (s : State) (out : List ℕ) → r ≢ Err WriteFailed → IsRunOutput s r out → IsTraceOrStart s out
 trace_or_start (Ok u) s out other made = inl made
 trace_or_start (Err NoMemory) s out other made = inr made
-trace_or_start (Err CountFull) s out other made = inr (record { n = made.n; lines = made.lines; last = made.last; is_run = made.is_run; bytes_are = made.bytes_are })
+trace_or_start (Err NoWorker) s out other made = inr made
+trace_or_start (Err CountFull) s out other made = inr made.1
 trace_or_start (Err WriteFailed) s out other made = absurd (other refl)
 trace_or_start _ s out other made = absurd made
 

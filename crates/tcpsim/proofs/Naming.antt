@@ -1,42 +1,35 @@
--- The subcommand that words without a fault name.
+-- The subcommand that words without a fault name, with its options.
 use mathlib.Core.Bool.{false≢true}
-use Rattle.std.proofs.Common.{◌≡◌, ◌≢◌, ◌==◌, ℕ, Bool, true, false, not, ◌&&◌, List, [], ◌∷◌, codes, cond, is_some, refl, sym, ◌∙◌, ap, subst, slice_index, Option, Some, None}
+use Rattle.std.proofs.Common.{◌≡◌, ◌≢◌, inl, inr, ◌==◌, ℕ, Bool, true, false, not, ◌&&◌, List, [], codes, cond, is_some, refl, sym, ◌∙◌, ap, ap₂, subst, slice_index, Option, Some, None, IfSome}
 use Rattle.std.specs.List.{list_any}
-use Rattle.std.specs.Option.{option_map}
+use Rattle.std.specs.Option.{option_map, option_map_or, option_and_then}
 use Rattle.clap.specs.Facts.{explicit_source}
 use Rattle.clap.specs.Faults.{fault_of, is_simple_and_free, level_fault, walk_fault, settle_fault, defaults_fault, check_fault, entered_fault}
 use Rattle.clap.specs.Kinds.{Kinds, or_else, check_kinds}
 use Rattle.clap.specs.Matches.{subcommand_name_of}
-use Rattle.clap.specs.Simple.{App, HasMatchesOf, Shape, argument_words, built, entered, names_of, rows_at, subcommand_of, subcommand_rows_of}
+use Rattle.clap.specs.Simple.{App, HasMatchesOf, Shape, argument_words, built, built_leaf, entered, inherited, marked_built, names_of, new_shape, on_top, rows_at, subcommand_of, subcommand_rows_of, with_leaf_noted}
 use Rattle.clap.specs.Takes.{is_given}
-use Rattle.clap.specs.Walk.{Held, Names, Row, Text, finished, nothing_held, settled, stop_after, walk, walk_from}
+use Rattle.clap.specs.Walk.{Held, Names, Row, Text, finished, first_of, nothing_held, settled, stop_after, walk, walk_from}
 use Rattle.clap.specs.declared.parser.matches.ArgMatches.{ArgMatches}
 use Rattle.clap.specs.declared.parser.matches.ArgMatches.TheViews.{out-ArgMatches}
 use Rattle.tcpsim.specs.declared.subcommand.Subcommand.TheVariants.{Asm, Dis, Run}
 use Rattle.tcpsim.specs.declared.subcommand.Task.{Task}
 use Rattle.tcpsim.specs.declared.subcommand.Task.TheVariants.{Scenario, Debug}
-use Rattle.tcpsim.specs.CommandLine.{program, word_faults, named_word, WordsAskForOne}
-use Rattle.tcpsim.specs.Subcommand.{word_of}
-use Rattle.tcpsim.proofs.Options.{same_some}
-
-is_empty : Kinds → Bool
-is_empty [] = true
-is_empty (kind ∷ kinds) = false
-
--- where neither gives a kind, the second doesn't
-second : (first next : Kinds) → or_else first next ≡ [] → next ≡ []
-unfolding is_empty
-second [] next none = none
-second (kind ∷ kinds) next none = absurd (false≢true (ap is_empty none))
+use Rattle.tcpsim.specs.CommandLine.{program, word_faults, option_text, number_of, Give, AskFor, WordsAskForOne}
+use Rattle.tcpsim.specs.Given.{AreOptions, AreOfSubcommand, IsSharing}
+use Rattle.tcpsim.specs.Sharing.{SharingValue}
+use Rattle.tcpsim.specs.Subcommand.{word_of, sharing_of}
+use Rattle.tcpsim.proofs.NoKinds.{some_kind, first, second}
+use Rattle.tcpsim.proofs.Options.{some_none, same_some}
+use Rattle.tcpsim.proofs.OptionWalk.{shared_shape, options_there}
 
 fifth : (a b c d last : Kinds) → or_else a (or_else b (or_else c (or_else d last))) ≡ [] → last ≡ []
 fifth a b c d last none =
     second d last (second c (or_else d last) (second b (or_else c (or_else d last)) (second a (or_else b (or_else c (or_else d last))) none)))
 
 wants : (help wanted argument : Bool) → wanted ≡ true → check_kinds help wanted argument ≢ []
-unfolding is_empty
-wants true wanted argument is none = false≢true (ap is_empty none)
-wants false true argument is none = false≢true (ap is_empty none)
+wants true wanted argument is none = some_kind _ _ none
+wants false true argument is none = some_kind _ _ none
 wants false false argument is none = false≢true is
 
 -- a command that wants a subcommand and has none is faulty
@@ -53,88 +46,148 @@ entered_one shape names held words false below required none =
     absurd (is_wanted shape (finished shape.rules end) required
     (fifth (walk_fault shape names (walk_from held) words) below (settle_fault shape.rules shape.args_override_self end) (defaults_fault (settled shape.rules end).rows shape.rules) (check_fault shape (finished shape.rules end) false) none))
 
+-- where the words of a subcommand begin
+abbrev stop_in : List Text → Option (Text × List Text)
+stop_in words = stop_after (built program).top.rules (names_of (built program)) (argument_words (built program) words)
+
 -- words without a fault enter a subcommand
-enter : (words : List (List ℕ)) → word_faults words ≡ [] → is_some (subcommand_of program words) ≡ true
+enter : (words : List Text) → word_faults words ≡ [] → is_some (subcommand_of program words) ≡ true
 enter words none =
     let given = argument_words (built program) words in
-    let stop = stop_after (built program).top.rules (names_of (built program)) given in
-    entered_one (built program).top (names_of (built program)) nothing_held given (is_some (entered (built program) stop)) (entered_fault (built program) stop) refl none
+    entered_one (built program).top (names_of (built program)) nothing_held given (is_some (entered (built program) (stop_in words))) (entered_fault (built program) (stop_in words)) refl none
 
--- the first of four subcommands that passes a test is named by its word
-one_of_four : (asm dis run debug : Bool) (first second third fourth : Shape) (rest : List Text) → first.name ≡ codes "asm" → second.name ≡ codes "dis" → third.name ≡ codes "run" → fourth.name ≡ codes "debug"
-    → is_some (option_map (λ (s : Shape). rows_at s rest) (cond asm (Some first) (cond dis (Some second) (cond run (Some third) (cond debug (Some fourth) None))))) ≡ true
-    → (task : Task) × (option_map (λ (named : Text × List Row). named.0) (option_map (λ (s : Shape). rows_at s rest) (cond asm (Some first) (cond dis (Some second) (cond run (Some third) (cond debug (Some fourth) None))))) ≡ Some (word_of task))
-one_of_four true dis run debug first second third fourth rest is_asm is_dis is_run is_debug found = (Scenario Asm, ap Some is_asm)
-one_of_four false true run debug first second third fourth rest is_asm is_dis is_run is_debug found = (Scenario Dis, ap Some is_dis)
-one_of_four false false true debug first second third fourth rest is_asm is_dis is_run is_debug found = (Scenario Run, ap Some is_run)
-one_of_four false false false true first second third fourth rest is_asm is_dis is_run is_debug found = (Debug, ap Some is_debug)
-one_of_four false false false false first second third fourth rest is_asm is_dis is_run is_debug found = absurd (false≢true found)
+-- and those behind it have none
+inside : (words : List Text) → word_faults words ≡ [] → entered_fault (built program) (stop_in words) ≡ []
+inside words none =
+    let given = argument_words (built program) words in
+    let names = names_of (built program) in
+    let shape = (built program).top in
+    let below = entered_fault (built program) (stop_in words) in
+    let end : Held = (walk shape.rules names nothing_held given).held in
+    let last : Kinds = or_else (settle_fault shape.rules shape.args_override_self end)
+    (or_else (defaults_fault (settled shape.rules end).rows shape.rules) (check_fault shape (finished shape.rules end) (is_some (entered (built program) (stop_in words))))) in
+    first below last (second (walk_fault shape names (walk_from nothing_held) given) (or_else below last) none)
 
--- the subcommand that was entered has its word
-name_entered : (stop : Option (Text × List Text)) → is_some (entered (built program) stop) ≡ true
-    → (task : Task) × (option_map (λ (named : Text × List Row). named.0) (entered (built program) stop) ≡ Some (word_of task))
-name_entered None found = absurd (false≢true found)
-name_entered (Some (word, rest)) found = one_of_four _ _ _ _ _ _ _ _ rest refl refl refl refl found
+-- what a command has found, with the words behind it
+abbrev found_at : List Text → Option Shape → Option (Text × List Row)
+found_at rest = option_map (λ (s : Shape). rows_at s rest)
+
+abbrev fault_at : List Text → Option Shape → Kinds
+fault_at rest found = option_map_or (λ (s : Shape). level_fault s [] nothing_held rest false []) found []
+
+-- what was found is a subcommand's
+abbrev IsNamed : Option (Text × List Row) → Type 0
+IsNamed found = (named : Text × List Row) × (found ≡ Some named) × AreOfSubcommand named.0 named.1
+
+abbrev plain_shape : Text → Shape
+plain_shape name = built_leaf (inherited (on_top with_leaf_noted (on_top marked_built program)).top (new_shape name))
+
+abbrev first_of_four : Bool → Bool → Bool → Bool → Option Shape
+first_of_four asm dis run debug =
+    cond asm (Some (plain_shape (codes "asm"))) (cond dis (Some (plain_shape (codes "dis"))) (cond run (Some (shared_shape (codes "run"))) (cond debug (Some (shared_shape (codes "debug"))) None)))
+
+-- the first of four subcommands that passes a test
+one_of_four : (asm dis run debug : Bool) (rest : List Text) → is_some (found_at rest (first_of_four asm dis run debug)) ≡ true → fault_at rest (first_of_four asm dis run debug) ≡ []
+    → IsNamed (found_at rest (first_of_four asm dis run debug))
+one_of_four true dis run debug rest found none = (rows_at (plain_shape (codes "asm")) rest, refl, inl refl)
+one_of_four false true run debug rest found none = (rows_at (plain_shape (codes "dis")) rest, refl, inr (inl refl))
+one_of_four false false true debug rest found none = (rows_at (shared_shape (codes "run")) rest, refl, inr (inr (inl (refl, options_there (codes "run") rest none))))
+one_of_four false false false true rest found none = (rows_at (shared_shape (codes "debug")) rest, refl, inr (inr (inr (refl, options_there (codes "debug") rest none))))
+one_of_four false false false false rest found none = absurd (false≢true found)
+
+-- the subcommand that was entered is one of them
+name_entered : (stop : Option (Text × List Text)) → is_some (entered (built program) stop) ≡ true → entered_fault (built program) stop ≡ [] → IsNamed (entered (built program) stop)
+name_entered None found none = absurd (false≢true found)
+name_entered (Some (word, rest)) found none = one_of_four _ _ _ _ rest found none
+
+pub named_by : (words : List Text) → word_faults words ≡ [] → IsNamed (subcommand_of program words)
+named_by words none = name_entered (stop_in words) (enter words none) (inside words none)
+
+-- the task of a subcommand's word and options
+abbrev IsTaskOf : Text → List Row → Task → Type 0
+IsTaskOf word rows task = (word ≡ word_of task) × IfSome (sharing_of task) (IsSharing rows)
+
+sharing_there : (rows : List Row) → AreOptions rows → (sharing : SharingValue) × IsSharing rows sharing
+sharing_there rows has = (record { workers = number_of has.workers; groups = has.groups }, record { workers = ap (option_map number_of) has.are_workers; groups = has.are_groups })
+
+task_there : (word : Text) (rows : List Row) → AreOfSubcommand word rows → (task : Task) × IsTaskOf word rows task
+task_there word rows (inl is) = (Scenario Asm, (is, tt))
+task_there word rows (inr (inl is)) = (Scenario Dis, (is, tt))
+task_there word rows (inr (inr (inl run))) = let shared = sharing_there rows run.1 in (Scenario (Run shared.0), (run.0, shared.1))
+task_there word rows (inr (inr (inr debug))) = let shared = sharing_there rows debug.1 in (Debug shared.0, (debug.0, shared.1))
+
+-- a task by the word and options of the subcommand that faultless words name
+pub asked_for : (words : List Text) (named : Text × List Row) (task : Task) → word_faults words ≡ [] → subcommand_of program words ≡ Some named → IsTaskOf named.0 named.1 task → AskFor words task
+asked_for words named task none is of = record {
+  faultless = none;
+  named = ap (option_map (λ (n : Text × List Row). n.0)) is ∙ ap Some of.0;
+  given = go (sharing_of task) of.1;
+}
+  where
+    text : (id : Text) → option_text id words ≡ first_of id named.1
+    text id = ap (option_and_then (λ (n : Text × List Row). first_of id n.1)) is
+
+    go : (o : Option SharingValue) → IfSome o (IsSharing named.1) → IfSome o (Give words)
+    go None given = tt
+    go (Some sharing) given = record { workers = ap (option_map number_of) (text (codes "workers")) ∙ given.workers; groups = text (codes "groups") ∙ given.groups }
 
 -- words that differ in their second letters are two
 differ : (a b : List ℕ) → a ≡ b → (slice_index a 1 == slice_index a 1) ≡ true → (slice_index a 1 == slice_index b 1) ≡ false → ⊥
 differ a b is same other = false≢true (sym other ∙ ap (λ w. slice_index a 1 == slice_index w 1) (sym is) ∙ same)
 
--- subcommands whose words differ in their second letters are two
-apart : (one other : Task) → word_of one ≡ word_of other → (slice_index (word_of one) 1 == slice_index (word_of one) 1) ≡ true → (slice_index (word_of one) 1 == slice_index (word_of other) 1) ≡ false → one ≡ other
-apart one other is same differs = absurd (differ (word_of one) (word_of other) is same differs)
+-- options are given in one way
+one_sharing : (words : List Text) (one other : SharingValue) → Give words one → Give words other → one ≡ other
+one_sharing words one other gives gives_too =
+    let workers : one.workers ≡ other.workers = same_some _ _ (sym gives.workers ∙ gives_too.workers) in
+    let groups : one.groups ≡ other.groups = same_some _ _ (sym gives.groups ∙ gives_too.groups) in
+    ap₂ (λ n text. record { workers = n; groups = text }) workers groups
 
--- subcommands with one word are one
-same_word : (one other : Task) → word_of one ≡ word_of other → one ≡ other
-same_word (Scenario Asm) (Scenario Asm) is = refl
-same_word (Scenario Asm) (Scenario Dis) is = apart (Scenario Asm) (Scenario Dis) is refl refl
-same_word (Scenario Asm) (Scenario Run) is = apart (Scenario Asm) (Scenario Run) is refl refl
-same_word (Scenario Asm) Debug is = apart (Scenario Asm) Debug is refl refl
-same_word (Scenario Dis) (Scenario Asm) is = apart (Scenario Dis) (Scenario Asm) is refl refl
-same_word (Scenario Dis) (Scenario Dis) is = refl
-same_word (Scenario Dis) (Scenario Run) is = apart (Scenario Dis) (Scenario Run) is refl refl
-same_word (Scenario Dis) Debug is = apart (Scenario Dis) Debug is refl refl
-same_word (Scenario Run) (Scenario Asm) is = apart (Scenario Run) (Scenario Asm) is refl refl
-same_word (Scenario Run) (Scenario Dis) is = apart (Scenario Run) (Scenario Dis) is refl refl
-same_word (Scenario Run) (Scenario Run) is = refl
-same_word (Scenario Run) Debug is = apart (Scenario Run) Debug is refl refl
-same_word Debug (Scenario Asm) is = apart Debug (Scenario Asm) is refl refl
-same_word Debug (Scenario Dis) is = apart Debug (Scenario Dis) is refl refl
-same_word Debug (Scenario Run) is = apart Debug (Scenario Run) is refl refl
-same_word Debug Debug is = refl
+-- words name one subcommand, in one way
+same_task : (words : List Text) (one other : Task) → word_of one ≡ word_of other → IfSome (sharing_of one) (Give words) → IfSome (sharing_of other) (Give words) → one ≡ other
+same_task words (Scenario Asm) (Scenario Asm) is gives gives_too = refl
+same_task words (Scenario Asm) (Scenario Dis) is gives gives_too = absurd (differ _ _ is refl refl)
+same_task words (Scenario Asm) (Scenario (Run sharing)) is gives gives_too = absurd (differ _ _ is refl refl)
+same_task words (Scenario Asm) (Debug sharing) is gives gives_too = absurd (differ _ _ is refl refl)
+same_task words (Scenario Dis) (Scenario Asm) is gives gives_too = absurd (differ _ _ is refl refl)
+same_task words (Scenario Dis) (Scenario Dis) is gives gives_too = refl
+same_task words (Scenario Dis) (Scenario (Run sharing)) is gives gives_too = absurd (differ _ _ is refl refl)
+same_task words (Scenario Dis) (Debug sharing) is gives gives_too = absurd (differ _ _ is refl refl)
+same_task words (Scenario (Run sharing)) (Scenario Asm) is gives gives_too = absurd (differ _ _ is refl refl)
+same_task words (Scenario (Run sharing)) (Scenario Dis) is gives gives_too = absurd (differ _ _ is refl refl)
+same_task words (Scenario (Run one)) (Scenario (Run other)) is gives gives_too = ap (λ sharing. Scenario (Run sharing)) (one_sharing words one other gives gives_too)
+same_task words (Scenario (Run sharing)) (Debug other) is gives gives_too = absurd (differ _ _ is refl refl)
+same_task words (Debug sharing) (Scenario Asm) is gives gives_too = absurd (differ _ _ is refl refl)
+same_task words (Debug sharing) (Scenario Dis) is gives gives_too = absurd (differ _ _ is refl refl)
+same_task words (Debug sharing) (Scenario (Run other)) is gives gives_too = absurd (differ _ _ is refl refl)
+same_task words (Debug one) (Debug other) is gives gives_too = ap Debug (one_sharing words one other gives gives_too)
 
 pub words_ask_for_one : WordsAskForOne
 words_ask_for_one words = record {
-  some = λ none. let named = name_entered (stop_after (built program).top.rules (names_of (built program)) (argument_words (built program) words)) (enter words none) in (named.0, record { faultless = none; named = named.1 });
-  only = λ one other asks asks_too. same_word one other (same_some (word_of one) (word_of other) (sym asks.named ∙ asks_too.named));
+  some = λ none.
+      let named = named_by words none in
+      let task = task_there named.0.0 named.0.1 named.2 in (task.0, asked_for words named.0 task.0 none named.1 task.1);
+  only = λ one other asks asks_too. same_task words one other (same_some (word_of one) (word_of other) (sym asks.named ∙ asks_too.named)) asks.given asks_too.given;
 }
 
 map_of_map : {A B C : Type 0} (f : B → C) (g : A → B) (o : Option A) → option_map f (option_map g o) ≡ option_map (λ a. f (g a)) o
 map_of_map f g None = refl
 map_of_map f g (Some a) = refl
 
--- a parse with the matches of the words entered the subcommand that they name
-pub parsed_word : (words : List (List ℕ)) (matches : ArgMatches) → subcommand_rows_of matches ≡ subcommand_of program words → subcommand_name_of matches ≡ named_word words
-parsed_word words matches is =
-    sym (map_of_map (λ (named : Text × List Row). named.0) _ (out-ArgMatches matches).subcommand) ∙ ap (option_map (λ (named : Text × List Row). named.0)) is
+-- the word and the rows of a subcommand that was met
+pub met_named : (matches : ArgMatches) (word : Text) (rows : List Row) (found : Option (Text × List Row)) → subcommand_rows_of matches ≡ found → Some word ≡ subcommand_name_of matches
+    → Some rows ≡ option_map (λ (p : Text × List Row). p.1) (subcommand_rows_of matches) → found ≡ Some (word, rows)
+met_named matches word rows found is name their =
+    go found (name ∙ sym (map_of_map (λ (named : Text × List Row). named.0) _ (out-ArgMatches matches).subcommand) ∙ ap (option_map (λ (named : Text × List Row). named.0)) is)
+    (their ∙ ap (option_map (λ (named : Text × List Row). named.1)) is)
+  where
+    go : (o : Option (Text × List Row)) → Some word ≡ option_map (λ (p : Text × List Row). p.0) o → Some rows ≡ option_map (λ (p : Text × List Row). p.1) o → o ≡ Some (word, rows)
+    go None name their = absurd (some_none word name)
+    go (Some (w, rs)) name their = ap₂ (λ a b. Some (a, b)) (same_some w word (sym name)) (same_some rs rows (sym their))
 
 -- what a parse by the program's command says of the words
 module _ (app : App) (words : List (List ℕ)) (is : app ≡ program) where
   pub parsed_faultless : (is_simple_and_free app ≡ true → fault_of app words ≡ []) → word_faults words ≡ []
   parsed_faultless none = let P : App → Type 0 = λ a. is_simple_and_free a ≡ true → fault_of a words ≡ [] in subst P is none refl
 
-  pub parsed_named : (matches : ArgMatches) → HasMatchesOf app words matches → subcommand_name_of matches ≡ named_word words
-  parsed_named matches has = let P : App → Type 0 = λ a. HasMatchesOf a words matches in parsed_word words matches (subst P is has refl).1
-
--- the word of faultless words is a subcommand's
-pub word_asked : (words : List (List ℕ)) (word : List ℕ) → word_faults words ≡ [] → Some word ≡ named_word words → (task : Task) × (word ≡ word_of task)
-word_asked words word none named =
-    let asked = (words_ask_for_one words).some none in
-    (asked.0, same_some word (word_of asked.0) (named ∙ asked.1.named))
-
--- a word that is none of the first three is the last
-pub last_word : (word : List ℕ) → (task : Task) × (word ≡ word_of task) → word ≢ codes "asm" → word ≢ codes "dis" → word ≢ codes "run" → word ≡ codes "debug"
-last_word word (Scenario Asm, is) no_asm no_dis no_run = absurd (no_asm is)
-last_word word (Scenario Dis, is) no_asm no_dis no_run = absurd (no_dis is)
-last_word word (Scenario Run, is) no_asm no_dis no_run = absurd (no_run is)
-last_word word (Debug, is) no_asm no_dis no_run = is
+  pub parsed_rows : (matches : ArgMatches) → HasMatchesOf app words matches → subcommand_rows_of matches ≡ subcommand_of program words
+  parsed_rows matches has = let P : App → Type 0 = λ a. HasMatchesOf a words matches in (subst P is has refl).1

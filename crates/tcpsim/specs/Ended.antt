@@ -2,26 +2,28 @@
 use Rattle.std.specs.Prelude.{ℕ, ◌<◌, List, length, Result, Ok, Err}
 use Rattle.table_run.specs.State.{State}
 use Rattle.tcpsim.specs.declared.fault.SessionFault.{SessionFault}
-use Rattle.tcpsim.specs.declared.fault.SessionFault.TheVariants.{TooLong, ReadFailed, WriteFailed, NoMemory, CountFull}
-use Rattle.tcpsim.specs.Trace.{IsTrace, IsTraceStart, IsFullTrace, IsTraceOrStart}
+use Rattle.tcpsim.specs.declared.fault.SessionFault.TheVariants.{TooLong, ReadFailed, WriteFailed, NoMemory, CountFull, NoWorker}
+use Rattle.tcpsim.specs.Trace.{IsTrace, IsTraceStart, IsTooLong, IsTraceOrStart}
 use Rattle.tcpsim.specs.Written.{IsBeginningOf}
-use Rattle.tcpsim.specs.Failures.{counted}
+use Rattle.window_engine.specs.Failures.{counted}
 
 abbrev pub Ended : Type 0
 Ended = Result (Unit {0}) SessionFault
 
--- the reader failed, the writer failed, or memory was refused
+-- the reader failed, the writer failed, memory was refused, or a worker could not be had
 abbrev pub IsHindered : Ended → Type 0
 IsHindered (Err ReadFailed) = Unit {0}
 IsHindered (Err WriteFailed) = Unit {0}
 IsHindered (Err NoMemory) = Unit {0}
+IsHindered (Err NoWorker) = Unit {0}
 IsHindered _ = ⊥
 
--- what a run from a state that ended so has written: its trace; the lines of 10^15 events, one more being due; the lines of its first events; a beginning of any of these
+-- what a run from a state that ended so has written: its trace; the lines of its first events, it having more than 10^15; the lines of its first events; a beginning of any of these
 abbrev pub IsRunOutput : State → Ended → List ℕ → Type 0
 IsRunOutput s (Ok done) out = IsTrace s out
-IsRunOutput s (Err CountFull) out = IsFullTrace s out
+IsRunOutput s (Err CountFull) out = IsTooLong s × IsTraceStart s out
 IsRunOutput s (Err NoMemory) out = IsTraceStart s out
+IsRunOutput s (Err NoWorker) out = IsTraceStart s out
 IsRunOutput s (Err WriteFailed) out = IsBeginningOf (IsTraceOrStart s) out
 IsRunOutput s _ out = ⊥
 

@@ -1,10 +1,11 @@
 -- The trace of a run, as bytes.
-use Rattle.std.specs.Prelude.{◌≡◌, ◌≢◌, ◌≤◌, ℕ, List, ◌++◌, ◌⊎◌, Some, None}
+use Rattle.std.specs.Prelude.{◌≡◌, ◌≤◌, ℕ, List, ◌++◌, ◌⊎◌, Some, None}
 use Rattle.std.specs.List.{flat_map, enumerate_from}
 use Rattle.table_run.specs.State.{State, run, step}
 use Rattle.node_core.specs.TraceLine.{TraceLine}
 use Rattle.trace_text.specs.Line.{line_bytes}
 use Rattle.trace_text.specs.End.{end_bytes}
+use Rattle.window_core.specs.Full.{HasTooMany}
 
 -- the lines' texts, numbered from 1
 abbrev pub lines_bytes : List TraceLine → List ℕ
@@ -28,15 +29,9 @@ pub record IsTrace (s : State) (bytes : List ℕ) : Type 0 where
   pub final : step last ≡ None
   pub bytes_are : bytes ≡ lines_bytes lines ++ end_bytes n
 
--- the lines of 10^15 events of the run from a state, one more being due
-pub record IsFullTrace (s : State) (bytes : List ℕ) : Type 0 where
-  pub n : ℕ
-  pub full : n ≡ 1000000000000000
-  pub lines : List TraceLine
-  pub last : State
-  pub is_run : run s n ≡ Some (lines, last)
-  pub more : step last ≢ None
-  pub bytes_are : bytes ≡ lines_bytes lines
+-- the run from a state has more than 10^15 events
+abbrev pub IsTooLong : State → Type 0
+IsTooLong s = HasTooMany (record { state = s; position = 0 })
 
 -- a trace, or its lines for the first events
 abbrev pub IsTraceOrStart : State → List ℕ → Type 0

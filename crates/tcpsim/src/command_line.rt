@@ -1,14 +1,18 @@
 //! The words of the command line.
-ghost use Rattle.std.specs.Prelude.{◌≡◌, false, map, IfOk};
+ghost use Rattle.std.specs.Prelude.{◌≡◌, false, map, IfOk, IfSome};
 ghost use Rattle.clap.specs.Simple.{app_of, shape_of, new_shape};
 ghost use Rattle.clap.specs.declared.builder.command.Command.TheViews.{out-Command as fields_of};
 ghost use Rattle.clap.specs.Kinds.{FailsBy};
-ghost use Rattle.tcpsim.specs.CommandLine.{program, top_program, word_faults, AskFor, WordsAskForOne, WordsOfSubcommands, WordsOfText, WordsOfMistake};
-ghost use Rattle.tcpsim.specs.Subcommand.{word_of};
+ghost use Rattle.clap.specs.Matches.{found_of};
+ghost use Rattle.clap.specs.Walk.{rule_of, rows_of};
+ghost use Rattle.tcpsim.specs.CommandLine.{program, top_program, workers_rule, groups_rule, sharing_shape, word_faults, AskFor, WordsAskForOne, WordsOfSubcommands, WordsOfText, WordsOfMistake};
+ghost use Rattle.tcpsim.specs.Given.{AreOptions, AreOfSubcommand, IsSharing};
+ghost use Rattle.tcpsim.specs.Subcommand.{word_of, sharing_of as task_sharing};
 ghost use Rattle.tcpsim.specs.declared.subcommand.Task.{Task};
 
+use crate::sharing::Sharing;
 use crate::subcommand::{Subcommand, Task};
-use clap::{Command, Error};
+use clap::{Arg, ArgMatches, Command, Error, value_parser};
 use std::alloc::{AllocError, Global};
 use std::convert::AsStr;
 
@@ -34,6 +38,45 @@ fn plain_subcommand<'a>(alloc: Global, name: &'a str, about: &'a str) -> Command
     Command::new(alloc, name).about(about)
 }
 
+/// The option that says how many workers run the groups.
+fn workers_option<'a>(alloc: Global) -> Arg<'a>
+    ensures rule { rule_of result ≡ workers_rule }
+    ensures local { result.global ≡ false }
+{
+    Arg::new(alloc, "workers")
+        .long("workers")
+        .value_name("N")
+        .value_parser(value_parser!(usize).range(1..=64))
+        .default_value("1")
+        .help("How many workers run the groups, 1 to 64")
+}
+
+/// The option that says which group each node is in.
+fn groups_option<'a>(alloc: Global) -> Arg<'a>
+    ensures rule { rule_of result ≡ groups_rule }
+    ensures local { result.global ≡ false }
+{
+    Arg::new(alloc, "groups")
+        .long("groups")
+        .value_name("G")
+        .default_value("one")
+        .help("The group of each node: one, each, or numbers as in 0,0,1")
+}
+
+/// A subcommand that takes the options on how a run is shared out.
+fn sharing_subcommand<'a>(
+    alloc: Global,
+    name: &'a str,
+    about: &'a str,
+) -> Result<Command<'a>, AllocError>
+    ensures shape { IfOk result (λ command. shape_of command ≡ sharing_shape name.entry.now) }
+    ensures no_globals { IfOk result (λ command. (fields_of command).has_globals ≡ false) }
+{
+    plain_subcommand(alloc, name, about)
+        .arg(workers_option(alloc))?
+        .arg(groups_option(alloc))
+}
+
 /// The commands of the program.
 fn commands<'a>(alloc: Global) -> Result<Command<'a>, AllocError>
     ensures { IfOk result (λ command. app_of command ≡ program) }
@@ -48,47 +91,62 @@ fn commands<'a>(alloc: Global) -> Result<Command<'a>, AllocError>
         "dis",
         "Write the canonical text of the scenario on standard input",
     );
-    let run = plain_subcommand(
+    let run = sharing_subcommand(
         alloc,
         "run",
         "Run the scenario on standard input and print its trace",
-    );
-    let debug = plain_subcommand(
+    )?;
+    let debug = sharing_subcommand(
         alloc,
         "debug",
         "Answer the commands behind the scenario text on standard input",
-    );
+    )?;
     let with_asm = top_command(alloc).subcommand(asm)?;
     let with_dis = with_asm.subcommand(dis)?;
     let with_run = with_dis.subcommand(run)?;
     with_run.subcommand(debug)
 }
 
-/// The task of a word.
-fn task_of_word(word: &str) -> Task
-    requires { (task : Task) × (word.now ≡ word_of task) }
-    ensures { word.now ≡ word_of result }
+/// How the options of a subcommand share a run out.
+fn sharing_of<'a>(options: &ArgMatches<'a>) -> Sharing<'a>
+    requires { AreOptions (rows_of (found_of options.now)) }
+    ensures { IsSharing (rows_of (found_of options.now)) result }
+{
+    let Some(workers) = options.get_one::<usize>("workers") else {
+        unreachable!()
+    };
+    let Some(groups) = options.get_str("groups") else {
+        unreachable!()
+    };
+    Sharing::new(workers, groups)
+}
+
+/// The task of a subcommand's word and options.
+fn task_of<'a>(word: &str, options: &ArgMatches<'a>) -> Task<'a>
+    requires { AreOfSubcommand word.now (rows_of (found_of options.now)) }
+    ensures word { word.now ≡ word_of result }
+    ensures sharing { IfSome (task_sharing result) (IsSharing (rows_of (found_of options.now))) }
 {
     if word == "asm" {
         Task::Scenario(Subcommand::Asm)
     } else if word == "dis" {
         Task::Scenario(Subcommand::Dis)
     } else if word == "run" {
-        Task::Scenario(Subcommand::Run)
+        Task::Scenario(Subcommand::Run(sharing_of(options)))
     } else {
-        Task::Debug
+        Task::Debug(sharing_of(options))
     }
 }
 
 /// Judges the words, the program's name first. They ask for a subcommand, or the error has what to
 /// print.
-pub(crate) fn read_words<S: AsStr>(alloc: Global, words: &[S]) -> Result<Task, Error>
+pub(crate) fn read_words<'a, S: AsStr>(alloc: Global, words: &'a [S]) -> Result<Task<'a>, Error>
     ensures faults { FailsBy (word_faults (map S.text words.now)) result }
     ensures asked { IfOk result (AskFor (map S.text words.now)) }
 {
     let matches = commands(alloc)?.try_get_matches_from(words)?;
-    match matches.subcommand_name() {
-        Some(word) => Ok(task_of_word(word)),
+    match matches.subcommand() {
+        Some((word, options)) => Ok(task_of(word, options)),
         None => unreachable!(),
     }
 }
@@ -98,7 +156,8 @@ pub fn words_ask_for_one_subcommand()
     ensures { WordsAskForOne }
 {}
 
-/// The words `tcpsim asm`, `tcpsim dis`, `tcpsim run` and `tcpsim debug` ask for their subcommands.
+/// The words `tcpsim asm`, `tcpsim dis`, `tcpsim run` and `tcpsim debug` ask for their subcommands,
+/// the last two with options or without.
 pub fn subcommands_are_asked_for()
     ensures { WordsOfSubcommands }
 {}
@@ -108,7 +167,8 @@ pub fn help_and_version_are_asked_for()
     ensures { WordsOfText }
 {}
 
-/// The program's name alone is mistaken, and so is a word behind `run`.
+/// The program's name alone is mistaken, a word behind `run`, a number of workers that is not from
+/// 1 to 64, and an option of `asm`.
 pub fn other_words_are_mistaken()
     ensures { WordsOfMistake }
 {}

@@ -8,10 +8,10 @@ ghost use Rattle.tcpsim.specs.Written.{Writes};
 
 use crate::fault::SessionFault;
 use crate::output::put_all;
-use crate::sink::Sink;
 use scenario_asm::disassemble;
 use scenario_image::{Scenario, save};
 use std::alloc::Global;
+use window_engine::Sink;
 
 /// Writes the image of a scenario, once there is memory for all of it.
 pub fn put_image<W: Sink>(

@@ -2,7 +2,6 @@
 ghost use Rattle.std.specs.Prelude.{◌≡◌};
 ghost use Rattle.tcpsim.specs.Faults.{status_of};
 
-use crate::sink::SinkFail;
 use crate::source::SourceFail;
 use net_machine::StepFault;
 use scenario_asm::{AsmFault, Fault};
@@ -10,6 +9,7 @@ use scenario_image::LoadFault;
 use std::alloc::{AllocError, AllocFailed};
 use std::error::Error;
 use std::fmt;
+use window_engine::{EngineFault, SinkFail};
 
 /// Why a session is not done. Its `Display` is the note for standard error, ended by LF.
 #[derive(Debug, Drop)]
@@ -29,14 +29,18 @@ pub enum SessionFault {
     CommandLine(clap::Error),
     /// A word of the command line is not UTF-8.
     WordsNotUtf8,
+    /// The groups that the command line names are none, or not as many as the nodes.
+    Groups,
     /// The input could not be read.
     ReadFailed,
     /// The output could not be written.
     WriteFailed,
     /// Memory ran out.
     NoMemory,
-    /// As many events were run as there may be, and one more is due.
+    /// The run has more events than there may be.
     CountFull,
+    /// A worker could not be started, or did not give back what it ran.
+    NoWorker,
 }
 
 impl SessionFault {
@@ -47,9 +51,9 @@ impl SessionFault {
         match self {
             SessionFault::TooLong | SessionFault::Refused { .. } | SessionFault::RefusedImage(_) =>
                 1,
-            SessionFault::CommandLine(_) | SessionFault::WordsNotUtf8 => 2,
+            SessionFault::CommandLine(_) | SessionFault::WordsNotUtf8 | SessionFault::Groups => 2,
             SessionFault::ReadFailed | SessionFault::WriteFailed => 3,
-            SessionFault::NoMemory | SessionFault::CountFull => 4,
+            SessionFault::NoMemory | SessionFault::CountFull | SessionFault::NoWorker => 4,
         }
     }
 }
@@ -69,10 +73,12 @@ impl fmt::Display for SessionFault {
             SessionFault::RefusedImage(fault) => write!(f, "refused {fault}\n"),
             SessionFault::CommandLine(error) => write!(f, "{error}"),
             SessionFault::WordsNotUtf8 => f.write_str("error: a word is not valid UTF-8\n"),
+            SessionFault::Groups => f.write_str("refused groups\n"),
             SessionFault::ReadFailed => f.write_str("read failed\n"),
             SessionFault::WriteFailed => f.write_str("write failed\n"),
             SessionFault::NoMemory => f.write_str("no memory\n"),
             SessionFault::CountFull => f.write_str("count full\n"),
+            SessionFault::NoWorker => f.write_str("no worker\n"),
         }
     }
 }
@@ -118,6 +124,34 @@ impl From<StepFault> for SessionFault {
         match fault {
             StepFault::NoMemory => SessionFault::NoMemory,
             StepFault::CountFull => SessionFault::CountFull,
+        }
+    }
+}
+
+impl From<EngineFault> for SessionFault {
+    ghost use Rattle.tcpsim.specs.Faults.{of_engine};
+
+    ghost from_gives = { λ fault e. e ≡ of_engine fault };
+
+    fn from(fault: EngineFault) -> SessionFault {
+        match fault {
+            EngineFault::NoMemory => SessionFault::NoMemory,
+            EngineFault::CountFull => SessionFault::CountFull,
+            EngineFault::Sink { .. } => SessionFault::WriteFailed,
+            EngineFault::NoWorker | EngineFault::Failed => SessionFault::NoWorker,
+        }
+    }
+}
+
+impl From<debug_session::SessionFault> for SessionFault {
+    ghost use Rattle.tcpsim.specs.Faults.{of_commands};
+
+    ghost from_gives = { λ fault e. e ≡ of_commands fault };
+
+    fn from(fault: debug_session::SessionFault) -> SessionFault {
+        match fault {
+            debug_session::SessionFault::NoMemory => SessionFault::NoMemory,
+            debug_session::SessionFault::OutputFailed => SessionFault::WriteFailed,
         }
     }
 }

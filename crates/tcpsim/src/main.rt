@@ -6,26 +6,29 @@ pub mod command_line;
 pub mod conversion;
 pub mod debug;
 pub mod fault;
+mod groups;
 mod input;
 pub mod outcome;
 mod output;
+mod run;
 pub mod scenario_input;
 pub mod session;
-pub mod sink;
+pub mod sharing;
 pub mod source;
 pub mod subcommand;
 #[cfg(test)]
 mod tests;
 pub mod trace;
+mod workers;
 
 use crate::fault::SessionFault;
 use crate::outcome::Outcome;
 use crate::session::run_all;
-use crate::sink::OverWrite;
 use crate::source::OverRead;
 use std::env;
 use std::io::ErrorKind;
 use std::process::ExitCode;
+use window_engine::OverWrite;
 
 /// The process's own words.
 fn process_words(rt: &HostRuntime) -> Result<Vec<String>, SessionFault> {
@@ -37,19 +40,15 @@ fn process_words(rt: &HostRuntime) -> Result<Vec<String>, SessionFault> {
 }
 
 /// A session with the process's own words, input and output.
-fn run_process(rt: &HostRuntime) -> Outcome {
-    match process_words(rt) {
+fn main(rt: HostRuntime) -> ExitCode {
+    let outcome = match process_words(&rt) {
         Ok(words) => {
             let mut input = OverRead::new(rt.stdin());
             let mut output = OverWrite::new(rt.stdout());
-            run_all(rt, &mut input, &mut output, words.as_slice())
+            run_all(&rt, &mut input, &mut output, words.as_slice())
         }
         Err(fault) => Outcome::from(Err(fault)),
-    }
-}
-
-fn main(rt: HostRuntime) -> ExitCode {
-    let outcome = run_process(&rt);
+    };
     if let Some(note) = &outcome.note {
         let _ = eprint!(rt; "{note}");
     }

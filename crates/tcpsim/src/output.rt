@@ -2,9 +2,9 @@
 ghost use Rattle.std.specs.Prelude.{◌≡◌, ◌<◌, [], OnOk, OnErr, length};
 ghost use Rattle.std.specs.Io.KnownBytes.{Appends};
 ghost use Rattle.tcpsim.specs.Written.{Writes, WritesBefore, IsBeginningOf};
-ghost use Rattle.tcpsim.specs.Failures.{failures_after};
+ghost use Rattle.window_engine.specs.Failures.{failures_after};
 
-use crate::sink::{Sink, SinkFail};
+use window_engine::{Sink, SinkFail};
 
 /// The room for lines that wait to be written, in bytes.
 pub(crate) const PAGE: usize = 65_536;

@@ -18,86 +18,98 @@ use crate::fault::SessionFault;
 use crate::input::read_input;
 use crate::outcome::Outcome;
 use crate::output::put_all;
+use crate::run::run_shared;
 use crate::scenario_input::read_scenario;
-use crate::sink::Sink;
 use crate::source::Source;
 use crate::subcommand::{Subcommand, Task};
-use crate::trace::run_scenario;
 use clap::error::ErrorKind;
 use scenario_image::Scenario;
 use std::alloc::Global;
 use std::convert::AsStr;
+use std::sync::Wait;
+use std::thread::Threads;
+use window_engine::{Gate, OpenGate, Sink};
 
 /// Writes what a subcommand makes of a scenario.
-fn put_output<W: Sink>(
+fn put_output<W: Sink, G: Gate, H: Threads + Wait + Sync>(
+    rt: &H,
     alloc: Global,
     subcommand: Subcommand,
+    gate: &G,
     scenario: &Scenario,
     writer: &mut W,
 ) -> Result<(), SessionFault>
-    ensures output { Writes (IsOutput subcommand scenario.now result) (W.contents writer.old) (W.contents writer.new) }
+    ensures output { Writes (IsOutput subcommand.entry scenario.now result) (W.contents writer.old) (W.contents writer.new) }
     ensures failures { W.failures writer.new ≡ writes_after result (W.failures writer.old) }
 {
     match subcommand {
         Subcommand::Asm => put_image(alloc, scenario, writer),
         Subcommand::Dis => put_text(alloc, scenario, writer),
-        Subcommand::Run => run_scenario(alloc, scenario, writer),
+        Subcommand::Run(sharing) => run_shared(rt, alloc, sharing, gate, scenario, writer),
     }
 }
 
 /// Writes what a subcommand makes of an input, where the input has a scenario.
-fn answer_bytes<W: Sink>(
+fn answer_bytes<W: Sink, G: Gate, H: Threads + Wait + Sync>(
+    rt: &H,
     alloc: Global,
     subcommand: Subcommand,
+    gate: &G,
     input: &[u8],
     writer: &mut W,
 ) -> Result<(), SessionFault>
     requires { IsWithin input.now }
-    ensures session { IsSession subcommand input.now result (W.contents writer.old) (W.contents writer.new) }
+    ensures session { IsSession subcommand.entry input.now result (W.contents writer.old) (W.contents writer.new) }
     ensures failures { W.failures writer.new ≡ writes_after result (W.failures writer.old) }
     ensures no_read { result ≢ Err SessionFault.ReadFailed }
 {
     let scenario = read_scenario(alloc, input)?;
-    put_output(alloc, subcommand, &scenario, writer)
+    put_output(rt, alloc, subcommand, gate, &scenario, writer)
 }
 
 /// Writes what a subcommand makes of the input on the reader.
-fn answer_input<R: Source, W: Sink>(
+fn answer_input<R: Source, W: Sink, G: Gate, H: Threads + Wait + Sync>(
+    rt: &H,
     alloc: Global,
     subcommand: Subcommand,
+    gate: &G,
     reader: &mut R,
     writer: &mut W,
 ) -> Result<(), SessionFault>
-    ensures { let seen = streams_of R.failures W.failures W.contents in IsSessionOn subcommand (R.remaining reader.old) result (seen reader.old writer.old) (seen reader.new writer.new) }
+    ensures { let seen = streams_of R.failures W.failures W.contents in IsSessionOn subcommand.entry (R.remaining reader.old) result (seen reader.old writer.old) (seen reader.new writer.new) }
 {
     let input = read_input(alloc, reader)?;
-    answer_bytes(alloc, subcommand, input.as_slice(), writer)
+    answer_bytes(rt, alloc, subcommand, gate, input.as_slice(), writer)
 }
 
 /// The session of a subcommand: writes what it makes of the input on the reader.
-pub fn run_session<R: Source, W: Sink>(
+pub fn run_session<R: Source, W: Sink, G: Gate, H: Threads + Wait + Sync>(
+    rt: &H,
     alloc: Global,
     subcommand: Subcommand,
+    gate: &G,
     reader: &mut R,
     writer: &mut W,
 ) -> Outcome
-    ensures { let seen = streams_of R.failures W.failures W.contents in Tells result (λ ended. IsSessionOn subcommand (R.remaining reader.old) ended (seen reader.old writer.old) (seen reader.new writer.new)) }
+    ensures { let seen = streams_of R.failures W.failures W.contents in Tells result (λ ended. IsSessionOn subcommand.entry (R.remaining reader.old) ended (seen reader.old writer.old) (seen reader.new writer.new)) }
 {
-    Outcome::from(answer_input(alloc, subcommand, reader, writer))
+    Outcome::from(answer_input(rt, alloc, subcommand, gate, reader, writer))
 }
 
 /// The session of a task.
-pub fn run_task<R: Source, W: Sink>(
+pub fn run_task<R: Source, W: Sink, G: Gate, H: Threads + Wait + Sync>(
+    rt: &H,
     alloc: Global,
     task: Task,
+    gate: &G,
     reader: &mut R,
     writer: &mut W,
 ) -> Outcome
-    ensures { let seen = streams_of R.failures W.failures W.contents in Tells result (λ ended. IsTaskOn task (R.remaining reader.old) ended (seen reader.old writer.old) (seen reader.new writer.new)) }
+    ensures { let seen = streams_of R.failures W.failures W.contents in Tells result (λ ended. IsTaskOn task.entry (R.remaining reader.old) ended (seen reader.old writer.old) (seen reader.new writer.new)) }
 {
     match task {
-        Task::Scenario(subcommand) => run_session(alloc, subcommand, reader, writer),
-        Task::Debug => run_debug(alloc, reader, writer),
+        Task::Scenario(subcommand) => run_session(rt, alloc, subcommand, gate, reader, writer),
+        Task::Debug(sharing) => run_debug(rt, alloc, &sharing, gate, reader, writer),
     }
 }
 
@@ -129,8 +141,28 @@ fn answer_words<W: Sink>(
     }
 }
 
-/// A whole session. The words are the command line's, the program's name first.
-pub fn run_all<H: AllocGlobal, R: Source, W: Sink, S: AsStr>(
+/// A whole session. The words are the command line's, the program's name first; the gate is told
+/// of the workers.
+pub fn run_with<H: AllocGlobal + Threads + Wait + Sync, R: Source, W: Sink, S: AsStr, G: Gate>(
+    rt: &H,
+    reader: &mut R,
+    writer: &mut W,
+    words: &[S],
+    gate: &G,
+) -> Outcome
+    ensures asked { let seen = streams_of R.failures W.failures W.contents in (task : Task) → AskFor (map S.text words.now) task → Tells result (λ ended. IsTaskOn task (R.remaining reader.old) ended (seen reader.old writer.old) (seen reader.new writer.new)) }
+    ensures mistake { AreMistaken (map S.text words.now) → Tells result (IsRefusal (map S.text words.now)) × (writer.new ≡ writer.old) }
+    ensures request { AskForText (map S.text words.now) → Tells result (λ ended. Writes (IsAnswer ended) (W.contents writer.old) (W.contents writer.new) × (W.failures writer.new ≡ writes_after ended (W.failures writer.old))) }
+    ensures unread { word_faults (map S.text words.now) ≢ [] → reader.new ≡ reader.old }
+{
+    match read_words(rt.alloc(), words) {
+        Ok(task) => run_task(rt, rt.alloc(), task, gate, reader, writer),
+        Err(error) => Outcome::from(answer_words(rt.alloc(), error, writer)),
+    }
+}
+
+/// A whole session, with workers that nobody is told of.
+pub fn run_all<H: AllocGlobal + Threads + Wait + Sync, R: Source, W: Sink, S: AsStr>(
     rt: &H,
     reader: &mut R,
     writer: &mut W,
@@ -141,8 +173,5 @@ pub fn run_all<H: AllocGlobal, R: Source, W: Sink, S: AsStr>(
     ensures request { AskForText (map S.text words.now) → Tells result (λ ended. Writes (IsAnswer ended) (W.contents writer.old) (W.contents writer.new) × (W.failures writer.new ≡ writes_after ended (W.failures writer.old))) }
     ensures unread { word_faults (map S.text words.now) ≢ [] → reader.new ≡ reader.old }
 {
-    match read_words(rt.alloc(), words) {
-        Ok(task) => run_task(rt.alloc(), task, reader, writer),
-        Err(error) => Outcome::from(answer_words(rt.alloc(), error, writer)),
-    }
+    run_with(rt, reader, writer, words, &OpenGate)
 }

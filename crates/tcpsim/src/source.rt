@@ -14,7 +14,7 @@ pub struct SourceFail;
 pub trait Source {
     ghost use Rattle.std.specs.Prelude.{◌≡◌, ◌≤◌, ℕ, List, length, Option, None, IfOk};
     ghost use Rattle.std.specs.Io.KnownBytes.{ReadConsumes};
-    ghost use Rattle.tcpsim.specs.Failures.{failures_after};
+    ghost use Rattle.window_engine.specs.Failures.{failures_after};
 
     // The bytes that it will give from here on, where they are known.
     ghost remaining: { Self → Option (List ℕ) } = { λ _. None };

@@ -1,21 +1,23 @@
 //! What the program can be asked to do.
 
+use crate::sharing::Sharing;
+
 /// A subcommand that makes something of a scenario, which it reads from an image or a text.
-#[derive(Clone, Copy, Debug)]
-pub enum Subcommand {
+#[derive(Debug, Drop)]
+pub enum Subcommand<'a> {
     /// Writes the scenario's image.
     Asm,
     /// Writes the scenario's canonical text.
     Dis,
     /// Runs the scenario and writes its trace.
-    Run,
+    Run(Sharing<'a>),
 }
 
-/// What a word of the command line asks for.
-#[derive(Clone, Copy, Debug)]
-pub enum Task {
+/// What the words of the command line ask for.
+#[derive(Debug, Drop)]
+pub enum Task<'a> {
     /// To make something of a scenario.
-    Scenario(Subcommand),
+    Scenario(Subcommand<'a>),
     /// To answer the commands that stand behind a scenario text.
-    Debug,
+    Debug(Sharing<'a>),
 }

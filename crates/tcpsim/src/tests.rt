@@ -2,17 +2,22 @@
 
 mod broken;
 mod debug;
+mod groups;
 mod images;
+mod meeting;
 mod networks;
 mod texts;
 pub(crate) mod traces;
+mod workers;
 
 use crate::session::run_all;
-use crate::sink::OverWrite;
 use crate::source::OverRead;
 use crate::tests::traces::{DELAY_ENDS, DELAYED, LOST_ONCE, QUEUE_OF_ONE, THREE_LOSSES};
 use std::process::Abort;
+use std::sync::Wait;
 use std::test::Fail;
+use std::thread::Threads;
+use window_engine::OverWrite;
 
 const FIRST: &str = "sim 1000000000
 node s sender
@@ -33,7 +38,7 @@ end 5
 
 /// A session with these words: it ends with this status, note and output.
 fn expect_words(
-    rt: &(impl Abort + AllocGlobal),
+    rt: &(impl Abort + AllocGlobal + Threads + Wait + Sync),
     words: &[&str],
     input: &[u8],
     status: u8,
@@ -54,7 +59,7 @@ fn expect_words(
 }
 
 fn expect_run(
-    rt: &(impl Abort + AllocGlobal),
+    rt: &(impl Abort + AllocGlobal + Threads + Wait + Sync),
     text: &str,
     status: u8,
     note: &str,
@@ -181,7 +186,16 @@ fn mistaken_words_are_refused(rt: HostRuntime) -> Result<(), Fail> {
         ["tcpsim", "asm", "dis"].as_slice(),
         ["tcpsim", "help"].as_slice(),
         ["tcpsim", "run", "run"].as_slice(),
-        ["tcpsim", "run", "--workers", "2"].as_slice(),
+        ["tcpsim", "run", "--workers", "0"].as_slice(),
+        ["tcpsim", "run", "--workers=65"].as_slice(),
+        ["tcpsim", "run", "--workers", "two"].as_slice(),
+        ["tcpsim", "run", "--workers="].as_slice(),
+        ["tcpsim", "run", "--workers", "1", "--workers", "1"].as_slice(),
+        ["tcpsim", "debug", "--workers", "18446744073709551617"].as_slice(),
+        ["tcpsim", "run", "--groups"].as_slice(),
+        ["tcpsim", "--groups", "one", "run"].as_slice(),
+        ["tcpsim", "asm", "--groups", "one"].as_slice(),
+        ["tcpsim", "dis", "--workers", "1"].as_slice(),
         ["tcpsim", "run", "--version"].as_slice(),
         ["tcpsim", "--fast", "run"].as_slice(),
     ] {
@@ -245,16 +259,20 @@ Options:
 
 const RUN_HELP: &str = "Run the scenario on standard input and print its trace
 
-Usage: tcpsim run
+Usage: tcpsim run [OPTIONS]
 
 Options:
-  -h, --help  Print help
+      --workers <N>  How many workers run the groups, 1 to 64 [default: 1]
+      --groups <G>   The group of each node: one, each, or numbers as in 0,0,1 [default: one]
+  -h, --help         Print help
 ";
 
 const DEBUG_HELP: &str = "Answer the commands behind the scenario text on standard input
 
-Usage: tcpsim debug
+Usage: tcpsim debug [OPTIONS]
 
 Options:
-  -h, --help  Print help
+      --workers <N>  How many workers run the groups, 1 to 64 [default: 1]
+      --groups <G>   The group of each node: one, each, or numbers as in 0,0,1 [default: one]
+  -h, --help         Print help
 ";

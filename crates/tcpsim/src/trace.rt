@@ -7,13 +7,13 @@ ghost use Rattle.tcpsim.specs.Ended.{IsRunOutput, writes_after};
 
 use crate::fault::SessionFault;
 use crate::output::{PAGE, put_full_page, put_page};
-use crate::sink::Sink;
 use net_machine::Net;
 use node_core::{Acts, After, Event, Line};
 use scenario_image::Scenario;
 use sim_time::Key;
 use std::alloc::Global;
 use trace_text::{end_text, line_text};
+use window_engine::Sink;
 
 /// Runs a scenario to its end, and writes its trace. Memory that is refused and a run of too many
 /// events end it after whole lines.

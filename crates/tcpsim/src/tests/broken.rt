@@ -1,13 +1,15 @@
 //! Sessions whose reader or writer fails, or that are long.
 
 use crate::session::run_all;
-use crate::sink::OverWrite;
 use crate::source::OverRead;
 use crate::tests::{FIRST, FIRST_TRACE};
 use std::io;
 use std::io::{Read, Write};
 use std::process::Abort;
+use std::sync::Wait;
 use std::test::Fail;
+use std::thread::Threads;
+use window_engine::OverWrite;
 
 /// What a reader or a writer does at one of its calls.
 #[derive(Clone, Copy, Drop)]
@@ -87,7 +89,7 @@ const WRITE_BREAKS: [Break; 5] = [
 
 /// A session over the writer ends with `write failed`, and so many bytes of the text are out.
 fn expect_write_failed(
-    rt: &(impl Abort + AllocGlobal),
+    rt: &(impl Abort + AllocGlobal + Threads + Wait + Sync),
     words: &[&str],
     mut writer: Taker,
     text: &str,
@@ -145,7 +147,7 @@ impl Read for Giver<'_> {
 
 /// The status, the note and the bytes written of a session on the first text.
 fn expect_reading(
-    rt: &(impl Abort + AllocGlobal),
+    rt: &(impl Abort + AllocGlobal + Threads + Wait + Sync),
     most: usize,
     broken_call: u64,
     broken: Break,

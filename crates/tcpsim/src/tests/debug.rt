@@ -3,28 +3,41 @@
 use super::expect_words;
 use std::test::Fail;
 
+/// How a session is shared out. Its answers are the same.
+const SHARED: [&[&str]; 6] = [
+    &["tcpsim", "debug"],
+    &["tcpsim", "debug", "--workers", "2"],
+    &["tcpsim", "debug", "--groups", "each"],
+    &["tcpsim", "debug", "--workers", "2", "--groups", "each"],
+    &["tcpsim", "debug", "--groups=1,0", "--workers=64"],
+    &["tcpsim", "debug", "--workers=+64", "--groups=one"],
+];
+
 #[test]
 fn a_session_goes_forwards_and_backwards(rt: HostRuntime) -> Result<(), Fail> {
-    expect_words(
-        &rt,
-        &["tcpsim", "debug"],
-        SESSION.as_bytes(),
-        0,
-        "",
-        ANSWERS.as_bytes(),
-    )
+    for words in SHARED {
+        expect_words(&rt, words, SESSION.as_bytes(), 0, "", ANSWERS.as_bytes())?;
+    }
+    Ok(())
 }
 
 #[test]
 fn a_session_stops_at_breakpoints(rt: HostRuntime) -> Result<(), Fail> {
-    expect_words(
-        &rt,
-        &["tcpsim", "debug"],
-        BREAKS.as_bytes(),
-        0,
-        "",
-        STOPS.as_bytes(),
-    )
+    for words in SHARED {
+        expect_words(&rt, words, BREAKS.as_bytes(), 0, "", STOPS.as_bytes())?;
+    }
+    Ok(())
+}
+
+#[test]
+fn a_session_has_a_group_for_each_node(rt: HostRuntime) -> Result<(), Fail> {
+    for groups in ["", "0", "0,0,0", "0,64", "two"] {
+        let words = ["tcpsim", "debug", "--groups", groups];
+        expect_words(&rt, &words, SESSION.as_bytes(), 2, "refused groups\n", b"")?;
+        let note = "refused E2 line 1\n";
+        expect_words(&rt, &words, b"TCB1\n---\n", 1, note, b"")?;
+    }
+    Ok(())
 }
 
 /// An image is taken for a text.

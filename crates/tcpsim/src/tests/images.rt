@@ -3,7 +3,9 @@
 use crate::tests::{FIRST, FIRST_TRACE, expect_words};
 use std::alloc::{AllocError, Global};
 use std::process::Abort;
+use std::sync::Wait;
 use std::test::Fail;
+use std::thread::Threads;
 
 /// The image of the first text: the header, the nodes, two links and a flow.
 const FIRST_IMAGE: &str = "\
@@ -157,7 +159,11 @@ fn a_scenario_goes_from_text_to_image_and_back(rt: HostRuntime) -> Result<(), Fa
 }
 
 /// Ends the test unless `asm` refuses the image for this fault, or gives it again.
-fn expect_image(rt: &(impl Abort + AllocGlobal), image: &[u8], code: &str) -> Result<(), Fail> {
+fn expect_image(
+    rt: &(impl Abort + AllocGlobal + Threads + Wait + Sync),
+    image: &[u8],
+    code: &str,
+) -> Result<(), Fail> {
     let words = ["tcpsim", "asm"];
     if code == RIGHT {
         return expect_words(rt, &words, image, 0, "", image);

@@ -5,11 +5,11 @@ mod codel;
 mod full_queue;
 
 use crate::session::run_all;
-use crate::sink::OverWrite;
 use crate::source::OverRead;
 use crate::tests::{FIRST_TRACE, expect_run};
 use std::alloc::{AllocError, Global};
 use std::test::Fail;
+use window_engine::OverWrite;
 
 /// Two flows whose events come at the same moments.
 const EQUAL_TIMES: &str = "sim 2040001

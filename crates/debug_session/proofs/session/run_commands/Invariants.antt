@@ -6,9 +6,9 @@ use Rattle.debug_session.proofs.session.run_commands.Given as goal
 
 abbrev pub invariant-loop-rest : goal.invariant-loop-rest
 invariant-loop-rest g l = record {
-  so_far : SoFar l.limits l.fn.debugger.start l.commands l.rest (standing l.fn.debugger) (standing l.debugger) (g.O.Output.contents l.fn.out) (g.O.Output.contents l.out);
+  so_far : SoFar l.limits l.fn.debugger.start l.commands l.rest (standing l.fn.debugger) (standing l.debugger) (g.S.Sink.contents l.fn.out) (g.S.Sink.contents l.out);
   start : l.debugger.start ≡ l.fn.debugger.start;
-  failures : g.O.Output.failures l.out ≡ g.O.Output.failures l.fn.out;
+  failures : g.S.Sink.failures l.out ≡ g.S.Sink.failures l.fn.out;
 }
 
 abbrev pub decreases-loop-rest : goal.decreases-loop-rest

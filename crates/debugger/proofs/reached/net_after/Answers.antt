@@ -1,28 +1,27 @@
-use Rattle.std.proofs.Common.{sym, subst, refl}
-use Rattle.net_machine.specs.Run.{Reached}
-use Rattle.debugger.specs.Moves.{Passes, StepGoesTo}
+use Rattle.debugger.specs.Moves.{IsTooLong}
+use Rattle.debugger.proofs.Faults.{not_ok, full_of_step, alone_of_step, full_of_memory, alone_of_memory}
 use Rattle.debugger.proofs.reached.net_after.Goals as goal
 
-pub returns-in_default-clause-full : goal.returns-in_default-clause-full
-returns-in_default-clause-full c = λ e. cc
+pub returns-in_err-net-clause-on_run : goal.returns-in_err-net-clause-on_run
+returns-in_err-net-clause-on_run c = not_ok c.from_residual.result _ _ c.from_residual.ensures
 
-pub returns-in_default-clause-same : goal.returns-in_default-clause-same
-returns-in_default-clause-same c = refl
+pub returns-in_err-net-clause-goes : goal.returns-in_err-net-clause-goes
+returns-in_err-net-clause-goes c = not_ok c.from_residual.result _ _ c.from_residual.ensures
 
-pub forward-requires : goal.forward-requires
-forward-requires c = subst (Passes c.args.saved.now) (sym c.in-Ok.ensures) c.requires
+pub returns-in_err-net-clause-full : goal.returns-in_err-net-clause-full
+returns-in_err-net-clause-full c = full_of_memory c.from_residual.result (IsTooLong c.args.saved.now) c.from_residual.ensures
 
-pub returns-in-Ok-forward-clause-on_run : goal.returns-in-Ok-forward-clause-on_run
-returns-in-Ok-forward-clause-on_run c = c.in-Ok-forward.ensures.on_run
+pub returns-in_err-net-clause-no_worker : goal.returns-in_err-net-clause-no_worker
+returns-in_err-net-clause-no_worker c = alone_of_memory c.from_residual.result c.from_residual.ensures
 
-pub returns-in-Ok-forward-clause-goes : goal.returns-in-Ok-forward-clause-goes
-returns-in-Ok-forward-clause-goes c = subst (λ (r : Reached). StepGoesTo c.args.saved.now r.position c.args.count c.forward.new.net.position) c.in-Ok.ensures c.in-Ok-forward.ensures.goes
+pub returns-in_err-forward-clause-on_run : goal.returns-in_err-forward-clause-on_run
+returns-in_err-forward-clause-on_run c = not_ok c.from_residual-in_err-forward.result _ _ c.from_residual-in_err-forward.ensures
 
-pub returns-in-Ok-forward-clause-same : goal.returns-in-Ok-forward-clause-same
-returns-in-Ok-forward-clause-same c = c.forward.ensures.same
+pub returns-in_err-forward-clause-goes : goal.returns-in_err-forward-clause-goes
+returns-in_err-forward-clause-goes c = not_ok c.from_residual-in_err-forward.result _ _ c.from_residual-in_err-forward.ensures
 
-pub returns-in-Err-clause-full : goal.returns-in-Err-clause-full
-returns-in-Err-clause-full c = c.in-Err.ensures.full
+pub returns-in_err-forward-clause-full : goal.returns-in_err-forward-clause-full
+returns-in_err-forward-clause-full c = full_of_step c.from_residual-in_err-forward.result c.in_err-forward.field-0.0 c.from_residual-in_err-forward.ensures c.in_err-forward.ensures.full
 
-pub returns-in-Err-clause-same : goal.returns-in-Err-clause-same
-returns-in-Err-clause-same c = c.forward.ensures.same
+pub returns-in_err-forward-clause-no_worker : goal.returns-in_err-forward-clause-no_worker
+returns-in_err-forward-clause-no_worker c = alone_of_step c.from_residual-in_err-forward.result c.in_err-forward.field-0.0 c.from_residual-in_err-forward.ensures

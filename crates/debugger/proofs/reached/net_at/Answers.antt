@@ -1,35 +1,27 @@
-use Rattle.std.proofs.Common.{refl}
+use Rattle.debugger.specs.Moves.{IsTooLong}
+use Rattle.debugger.proofs.Faults.{not_ok, full_of_step, alone_of_step, full_of_memory, alone_of_memory}
 use Rattle.debugger.proofs.reached.net_at.Goals as goal
 
-pub nearest-requires : goal.nearest-requires
-nearest-requires c = c.requires.on_run
+pub returns-in_err-net-clause-on_run : goal.returns-in_err-net-clause-on_run
+returns-in_err-net-clause-on_run c = not_ok c.from_residual.result _ _ c.from_residual.ensures
 
-pub returns-in_default-clause-full : goal.returns-in_default-clause-full
-returns-in_default-clause-full c = λ e. cc
+pub returns-in_err-net-clause-goes : goal.returns-in_err-net-clause-goes
+returns-in_err-net-clause-goes c = not_ok c.from_residual.result _ _ c.from_residual.ensures
 
-pub returns-in_default-clause-same : goal.returns-in_default-clause-same
-returns-in_default-clause-same c = refl
+pub returns-in_err-net-clause-full : goal.returns-in_err-net-clause-full
+returns-in_err-net-clause-full c = full_of_memory c.from_residual.result (IsTooLong c.args.saved.now) c.from_residual.ensures
 
-pub reach-requires-clause-on_run : goal.reach-requires-clause-on_run
-reach-requires-clause-on_run c = c.in-Ok.ensures.on_run
+pub returns-in_err-net-clause-no_worker : goal.returns-in_err-net-clause-no_worker
+returns-in_err-net-clause-no_worker c = alone_of_memory c.from_residual.result c.from_residual.ensures
 
-pub reach-requires-clause-below : goal.reach-requires-clause-below
-reach-requires-clause-below c = c.in-Ok.ensures.below
+pub returns-in_err-reach-clause-on_run : goal.returns-in_err-reach-clause-on_run
+returns-in_err-reach-clause-on_run c = not_ok c.from_residual-in_err-reach.result _ _ c.from_residual-in_err-reach.ensures
 
-pub reach-requires-clause-position : goal.reach-requires-clause-position
-reach-requires-clause-position c = c.requires.position
+pub returns-in_err-reach-clause-goes : goal.returns-in_err-reach-clause-goes
+returns-in_err-reach-clause-goes c = not_ok c.from_residual-in_err-reach.result _ _ c.from_residual-in_err-reach.ensures
 
-pub returns-in-Ok-reach-clause-on_run : goal.returns-in-Ok-reach-clause-on_run
-returns-in-Ok-reach-clause-on_run c = c.in-Ok-reach.ensures.on_run
+pub returns-in_err-reach-clause-full : goal.returns-in_err-reach-clause-full
+returns-in_err-reach-clause-full c = full_of_step c.from_residual-in_err-reach.result c.in_err-reach.field-0.0 c.from_residual-in_err-reach.ensures c.in_err-reach.ensures.full
 
-pub returns-in-Ok-reach-clause-goes : goal.returns-in-Ok-reach-clause-goes
-returns-in-Ok-reach-clause-goes c = c.in-Ok-reach.ensures.reached
-
-pub returns-in-Ok-reach-clause-same : goal.returns-in-Ok-reach-clause-same
-returns-in-Ok-reach-clause-same c = c.reach.ensures.same
-
-pub returns-in-Err-clause-full : goal.returns-in-Err-clause-full
-returns-in-Err-clause-full c = c.in-Err.ensures.full
-
-pub returns-in-Err-clause-same : goal.returns-in-Err-clause-same
-returns-in-Err-clause-same c = c.reach.ensures.same
+pub returns-in_err-reach-clause-no_worker : goal.returns-in_err-reach-clause-no_worker
+returns-in_err-reach-clause-no_worker c = alone_of_step c.from_residual-in_err-reach.result c.in_err-reach.field-0.0 c.from_residual-in_err-reach.ensures

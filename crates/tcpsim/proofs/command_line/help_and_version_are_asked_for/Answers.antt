@@ -1,12 +1,11 @@
 use Rattle.std.proofs.Common.{refl, inl, inr}
-use Rattle.clap.specs.Faults.{walk_fault, flags_fault, defaults_fault}
-use Rattle.clap.specs.Walk.{walked, bundle_met}
+use Rattle.clap.proofs.OnLiterals.{clap_on_literals}
 use Rattle.clap.specs.declared.error.kind.ErrorKind.TheVariants.{DisplayHelp, DisplayVersion}
 use Rattle.tcpsim.specs.CommandLine.{WordsOfText}
 use Rattle.tcpsim.proofs.command_line.help_and_version_are_asked_for.Goals as goal
 
 text_words : WordsOfText
-unfolding walk_fault flags_fault defaults_fault walked bundle_met
+unfolding clap_on_literals
 text_words = record {
   help = (DisplayHelp, refl, inl refl);
   asm_help = (DisplayHelp, refl, inl refl);

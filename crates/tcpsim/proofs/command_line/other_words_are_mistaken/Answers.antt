@@ -1,10 +1,9 @@
 use mathlib.Core.Bool.{false≢true}
 use Rattle.std.proofs.Common.{◌≡◌, inl, inr, ℕ, Bool, true, false, List, [], ◌∷◌, codes, refl, sym, ◌∙◌, ap, subst}
 use Rattle.clap.specs.Kinds.{Kinds, IsAmong}
-use Rattle.clap.specs.Faults.{walk_fault, flags_fault, defaults_fault}
-use Rattle.clap.specs.Walk.{walked, bundle_met}
+use Rattle.clap.proofs.OnLiterals.{clap_on_literals}
 use Rattle.clap.specs.declared.error.kind.ErrorKind.{ErrorKind}
-use Rattle.clap.specs.declared.error.kind.ErrorKind.TheVariants.{DisplayHelp, DisplayVersion, MissingSubcommand, UnknownArgument}
+use Rattle.clap.specs.declared.error.kind.ErrorKind.TheVariants.{DisplayHelp, DisplayVersion, MissingSubcommand, UnknownArgument, ValueValidation}
 use Rattle.tcpsim.specs.CommandLine.{word_faults, IsRequest, AreMistaken, WordsOfMistake}
 use Rattle.tcpsim.proofs.command_line.other_words_are_mistaken.Goals as goal
 
@@ -33,10 +32,13 @@ one_mistake words kind is other = record {
 }
 
 mistakes : WordsOfMistake
-unfolding walk_fault flags_fault defaults_fault walked bundle_met is_request
+unfolding clap_on_literals is_request
 mistakes = record {
-  alone = one_mistake (codes "tcpsim" ∷ []) MissingSubcommand refl refl;
+  nothing_else = one_mistake (codes "tcpsim" ∷ []) MissingSubcommand refl refl;
   word_behind = one_mistake (codes "tcpsim" ∷ codes "run" ∷ codes "twice" ∷ []) UnknownArgument refl refl;
+  no_worker = one_mistake (codes "tcpsim" ∷ codes "run" ∷ codes "--workers" ∷ codes "0" ∷ []) ValueValidation refl refl;
+  many_workers = one_mistake (codes "tcpsim" ∷ codes "debug" ∷ codes "--workers" ∷ codes "65" ∷ []) ValueValidation refl refl;
+  asm_is_not_shared = one_mistake (codes "tcpsim" ∷ codes "asm" ∷ codes "--groups" ∷ codes "one" ∷ []) UnknownArgument refl refl;
 }
 
 pub returns : goal.returns

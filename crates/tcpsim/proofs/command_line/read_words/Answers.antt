@@ -1,14 +1,23 @@
-use Rattle.std.proofs.Common.{◌∙◌, sym, ap, map, Some}
-use Rattle.clap.specs.Simple.{app_of}
-use Rattle.tcpsim.proofs.Naming.{parsed_faultless, parsed_named, word_asked}
+use Rattle.std.proofs.Common.{◌≡◌, ◌∙◌, List, sym, subst, map}
+use Rattle.clap.specs.Matches.{found_of}
+use Rattle.clap.specs.Simple.{app_of, subcommand_of}
+use Rattle.clap.specs.Walk.{Row, Text, rows_of}
+use Rattle.tcpsim.specs.CommandLine.{program}
+use Rattle.tcpsim.specs.Given.{AreOfSubcommand}
+use Rattle.tcpsim.proofs.Naming.{parsed_faultless, parsed_rows, met_named, named_by, asked_for}
+use Rattle.tcpsim.proofs.Options.{same_some}
 use Rattle.tcpsim.proofs.command_line.read_words.Goals as goal
 
-pub task_of_word-requires : goal.task_of_word-requires
-task_of_word-requires g c =
+pub task_of-requires : goal.task_of-requires
+task_of-requires g c =
     let words = map g.S.AsStr.text c.args.words.now in
     let app = app_of c.in_ok-commands.field-0 in
     let faultless = parsed_faultless app words c.in_ok-commands.ensures c.in_ok-matches.ensures.kinds in
-    word_asked words c.in-Some.word.now faultless (c.in-Some.ensures ∙ parsed_named app words c.in_ok-commands.ensures c.in_ok-matches.matches c.in_ok-matches.ensures.matches)
+    let met = met_named c.in_ok-matches.matches c.in-Some.word.now (rows_of (found_of c.in-Some.options.now)) (subcommand_of program words)
+    (parsed_rows app words c.in_ok-commands.ensures c.in_ok-matches.matches c.in_ok-matches.ensures.matches) c.in-Some.ensures.name c.in-Some.ensures.rows in
+    let named = named_by words faultless in
+    let same : named.0 ≡ (c.in-Some.word.now, rows_of (found_of c.in-Some.options.now)) = same_some _ _ (sym named.1 ∙ met) in
+    subst (λ (n : Text × List Row). AreOfSubcommand n.0 n.1) same named.2
 
 pub returns-clause-faults : goal.returns-clause-faults
 returns-clause-faults g c = parsed_faultless (app_of c.in_ok-commands.field-0) (map g.S.AsStr.text c.args.words.now) c.in_ok-commands.ensures c.in_ok-matches.ensures.kinds
@@ -17,5 +26,7 @@ pub returns-clause-asked : goal.returns-clause-asked
 returns-clause-asked g c =
     let words = map g.S.AsStr.text c.args.words.now in
     let app = app_of c.in_ok-commands.field-0 in
-    let named = c.in-Some.ensures ∙ parsed_named app words c.in_ok-commands.ensures c.in_ok-matches.matches c.in_ok-matches.ensures.matches in
-    record { faultless = parsed_faultless app words c.in_ok-commands.ensures c.in_ok-matches.ensures.kinds; named = sym named ∙ ap Some c.task_of_word.ensures }
+    let rows = rows_of (found_of c.in-Some.options.now) in
+    let met = met_named c.in_ok-matches.matches c.in-Some.word.now rows (subcommand_of program words)
+    (parsed_rows app words c.in_ok-commands.ensures c.in_ok-matches.matches c.in_ok-matches.ensures.matches) c.in-Some.ensures.name c.in-Some.ensures.rows in
+    asked_for words (c.in-Some.word.now, rows) c.task_of.result (parsed_faultless app words c.in_ok-commands.ensures c.in_ok-matches.ensures.kinds) met (c.task_of.ensures.word, c.task_of.ensures.sharing)

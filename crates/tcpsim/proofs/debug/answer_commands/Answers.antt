@@ -1,55 +1,71 @@
-use Rattle.std.proofs.Common.{refl}
-use Rattle.debug_session.proofs.Meanings.{whole_output, begun_output}
-use Rattle.tcpsim.proofs.DebugEnds.{text_refused, not_opened, answered, write_failed, no_failure}
+use Rattle.std.proofs.Common.{◌≡◌, Err, sym, subst, rules}
+use Rattle.tcpsim.specs.declared.fault.SessionFault.{SessionFault}
+use Rattle.tcpsim.specs.declared.fault.SessionFault.TheVariants.{ReadFailed}
+use Rattle.tcpsim.specs.Debug.{IsDebugSession}
+use Rattle.tcpsim.specs.Ended.{Ended, writes_after}
+use Rattle.tcpsim.proofs.DebugEnds.{text_refused, not_grouped, answered, not_answered, no_failure, groups_no_failure}
 use Rattle.tcpsim.proofs.debug.answer_commands.Goals as goal
 
-pub returns-in-Err-clause-session : goal.returns-in-Err-clause-session
-returns-in-Err-clause-session g c =
-    text_refused c.args.input.now c.split.result.0.now c.in-Err.fault c.read_text.result (g.W.Sink.contents c.args.writer.now) c.split.ensures.text c.requires c.in-Err.is c.read_text.ensures
+abbrev NotRead : Ended → Type 0
+NotRead ended = ended ≡ Err ReadFailed → ⊥
 
-pub returns-in-Err-clause-failures : goal.returns-in-Err-clause-failures
-returns-in-Err-clause-failures g c = (no_failure c.split.result.0.now c.in-Err.fault c.read_text.result c.in-Err.is c.read_text.ensures).0 (g.W.Sink.failures c.args.writer.now)
-
-pub returns-in-Err-clause-no_read : goal.returns-in-Err-clause-no_read
-returns-in-Err-clause-no_read g c = (no_failure c.split.result.0.now c.in-Err.fault c.read_text.result c.in-Err.is c.read_text.ensures).1
-
-pub returns-in_default-clause-session : goal.returns-in_default-clause-session
-returns-in_default-clause-session g c =
+pub returns-in_err-scenario-clause-session : goal.returns-in_err-scenario-clause-session
+returns-in_err-scenario-clause-session g c =
+    let fault = c.in_err-scenario.field-0.0 in
     let known = g.W.Sink.contents c.args.writer.now in
-    not_opened c.args.input.now c.split.result.0.now c.in-Ok.scenario c.read_text.result known known c.split.ensures.text c.requires c.in-Ok.is c.read_text.ensures
+    let is : c.from_residual.result ≡ Err fault = search rules in
+    let P : Ended → Type 0 = λ e. IsDebugSession c.args.sharing.now.groups c.args.input.now e known known in
+    subst P (sym is)
+    (text_refused c.args.sharing.now.groups c.args.input.now c.split.result.0.now fault c.read_text.result known c.split.ensures.text c.requires c.in_err-scenario.was c.read_text.ensures)
 
-pub returns-in_default-clause-failures : goal.returns-in_default-clause-failures
-returns-in_default-clause-failures g c = refl
+pub returns-in_err-scenario-clause-failures : goal.returns-in_err-scenario-clause-failures
+returns-in_err-scenario-clause-failures g c =
+    let fault = c.in_err-scenario.field-0.0 in
+    let is : c.from_residual.result ≡ Err fault = search rules in
+    let n = g.W.Sink.failures c.args.writer.now in
+    let P : Ended → Type 0 = λ e. n ≡ writes_after e n in
+    subst P (sym is) ((no_failure c.split.result.0.now fault c.read_text.result c.in_err-scenario.was c.read_text.ensures).0 n)
 
-pub returns-in_default-clause-no_read : goal.returns-in_default-clause-no_read
-returns-in_default-clause-no_read g c = λ e. cc
+pub returns-in_err-scenario-clause-no_read : goal.returns-in_err-scenario-clause-no_read
+returns-in_err-scenario-clause-no_read g c =
+    let fault = c.in_err-scenario.field-0.0 in
+    let is : c.from_residual.result ≡ Err fault = search rules in
+    subst NotRead (sym is) (no_failure c.split.result.0.now fault c.read_text.result c.in_err-scenario.was c.read_text.ensures).1
 
-pub returns-in-Ok-answer_lines-clause-session : goal.returns-in-Ok-answer_lines-clause-session
-returns-in-Ok-answer_lines-clause-session g c =
-    let before = g.W.Sink.contents c.args.writer.now in
-    let after = g.W.Sink.contents c.answer_lines.new.writer in
-    let means = c.in-Ok.ensures.scenario in
-    answered c.args.input.now c.split.result.0.now c.in-Ok.scenario c.read_text.result before after c.split.ensures.text c.requires c.in-Ok.is c.read_text.ensures
-    (whole_output c.args.input.now c.split.result.0.now c.split.result.1.now c.in-Ok.scenario c.in-Ok-new.debugger c.of-limits.result before after
-    c.split.ensures.text c.split.ensures.commands means c.in-Ok-new.ensures c.of-limits.ensures c.in-Ok-answer_lines.ensures.ok)
+pub returns-in_err-partition-clause-session : goal.returns-in_err-partition-clause-session
+returns-in_err-partition-clause-session g c =
+    let fault = c.in_err-partition.field-0.0 in
+    let known = g.W.Sink.contents c.args.writer.now in
+    let is : c.from_residual-in_err-partition.result ≡ Err fault = search rules in
+    let P : Ended → Type 0 = λ e. IsDebugSession c.args.sharing.now.groups c.args.input.now e known known in
+    subst P (sym is)
+    (not_grouped c.args.sharing.now.groups c.args.input.now c.split.result.0.now c.split.result.1.now c.in_ok-scenario.scenario c.read_text.result known known c.split.ensures.text c.split.ensures.commands
+    c.requires c.in_ok-scenario.was c.read_text.ensures c.in_ok-scenario.ensures.scenario fault c.in_err-partition.ensures.faults)
 
-pub returns-in-Ok-answer_lines-clause-failures : goal.returns-in-Ok-answer_lines-clause-failures
-returns-in-Ok-answer_lines-clause-failures g c = c.in-Ok-answer_lines.ensures.failures
+pub returns-in_err-partition-clause-failures : goal.returns-in_err-partition-clause-failures
+returns-in_err-partition-clause-failures g c =
+    let fault = c.in_err-partition.field-0.0 in
+    let is : c.from_residual-in_err-partition.result ≡ Err fault = search rules in
+    let n = g.W.Sink.failures c.args.writer.now in
+    let P : Ended → Type 0 = λ e. n ≡ writes_after e n in
+    subst P (sym is) ((groups_no_failure c.args.sharing.now.groups c.in_ok-scenario.scenario fault c.in_err-partition.ensures.faults).0 n)
 
-pub returns-in-Ok-answer_lines-clause-no_read : goal.returns-in-Ok-answer_lines-clause-no_read
-returns-in-Ok-answer_lines-clause-no_read g c = λ e. cc
+pub returns-in_err-partition-clause-no_read : goal.returns-in_err-partition-clause-no_read
+returns-in_err-partition-clause-no_read g c =
+    let fault = c.in_err-partition.field-0.0 in
+    let is : c.from_residual-in_err-partition.result ≡ Err fault = search rules in
+    subst NotRead (sym is) (groups_no_failure c.args.sharing.now.groups c.in_ok-scenario.scenario fault c.in_err-partition.ensures.faults).1
+
+pub returns-in-Ok-clause-session : goal.returns-in-Ok-clause-session
+returns-in-Ok-clause-session g c =
+    answered c.args.sharing.now.groups c.args.input.now c.split.result.0.now c.split.result.1.now c.in_ok-scenario.scenario c.read_text.result (g.W.Sink.contents c.args.writer.now) (g.W.Sink.contents c.run_session.new.out)
+    c.split.ensures.text c.split.ensures.commands c.requires c.in_ok-scenario.was c.read_text.ensures c.in_ok-scenario.ensures.scenario c.in_ok-partition.ensures.named c.in-Ok.ensures.output
 
 pub returns-clause-session : goal.returns-clause-session
 returns-clause-session g c =
     let before = g.W.Sink.contents c.args.writer.now in
-    let after = g.W.Sink.contents c.answer_lines.new.writer in
-    let means = c.in-Ok.ensures.scenario in
-    write_failed c.args.input.now c.split.result.0.now c.in-Ok.scenario c.read_text.result before after c.split.ensures.text c.requires c.in-Ok.is c.read_text.ensures
-    (begun_output c.args.input.now c.split.result.0.now c.split.result.1.now c.in-Ok.scenario c.in-Ok-new.debugger c.of-limits.result before after
-    c.split.ensures.text c.split.ensures.commands means c.in-Ok-new.ensures c.of-limits.ensures c.in-Err-answer_lines.ensures.err)
-
-pub returns-clause-failures : goal.returns-clause-failures
-returns-clause-failures g c = c.in-Err-answer_lines.ensures.failures
-
-pub returns-clause-no_read : goal.returns-clause-no_read
-returns-clause-no_read g c = λ e. cc
+    let after = g.W.Sink.contents c.run_session.new.out in
+    let P : SessionFault → Type 0 = λ fault. IsDebugSession c.args.sharing.now.groups c.args.input.now (Err fault) before after in
+    subst P (sym c.from.ensures)
+    (not_answered c.args.sharing.now.groups c.args.input.now c.split.result.0.now c.split.result.1.now c.in_ok-scenario.scenario c.read_text.result before after c.split.ensures.text c.split.ensures.commands c.requires
+    c.in_ok-scenario.was c.read_text.ensures c.in_ok-scenario.ensures.scenario c.in_ok-partition.ensures.named c.in-Err.fault c.in-Err.ensures.output)

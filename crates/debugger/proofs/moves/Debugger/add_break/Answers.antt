@@ -5,7 +5,7 @@ use Rattle.debugger.specs.Debugging.{Debugging}
 use Rattle.debugger.proofs.moves.Debugger.add_break.Goals as goal
 
 pub invariant_of-self : goal.invariant_of-self
-invariant_of-self c = record { shown = c.self.invariant.shown; left = c.self.invariant.left }
+invariant_of-self c = record { moves = record { shown = c.self.invariant.moves.shown; left = c.self.invariant.moves.left }; nodes = c.self.invariant.nodes }
 
 pub returns-clause-same : goal.returns-clause-same
 returns-clause-same c =

@@ -1,7 +1,7 @@
-use Rattle.std.proofs.Common.{◌≡◌, ◌≤◌, ◌-◌, sym, ap, subst, ◌∙◌, arith, IfOk, IfErr, OnErr}
+use Rattle.std.proofs.Common.{◌≡◌, ◌≢◌, ◌≤◌, ◌-◌, sym, ap, subst, ◌∙◌, arith, IfOk, IfErr, OnErr, length}
 use Rattle.table_run.specs.State.{State}
-use Rattle.net_machine.specs.declared.net.StepFault.{StepFault}
-use Rattle.net_machine.specs.declared.net.StepFault.TheVariants.{CountFull}
+use Rattle.debugger.specs.declared.fault.MoveFault.{MoveFault}
+use Rattle.debugger.specs.declared.fault.MoveFault.TheVariants.{CountFull, NoWorker}
 use Rattle.debugger.specs.Moves.{Passes, IsTooLong}
 use Rattle.debugger.specs.Debugging.{Debugging, HasMoved}
 use Rattle.debugger.specs.DebuggerOf.{IsDebugger}
@@ -10,15 +10,20 @@ use Rattle.debugger.proofs.Shown.{ok_shown, err_shown}
 use Rattle.debugger.proofs.moves.Debugger.back.Goals as goal
 
 pub net_at-found-requires-clause-on_run : goal.net_at-found-requires-clause-on_run
-net_at-found-requires-clause-on_run c = c.self.invariant.shown
+net_at-found-requires-clause-on_run c = c.self.invariant.moves.shown
 
 pub net_at-found-requires-clause-position : goal.net_at-found-requires-clause-position
 net_at-found-requires-clause-position c =
     let upto : c.saturating_sub-target.result ≤ c.self.inside.net.position = omega (arith, c.saturating_sub-target.ensures, c.position.ensures.count) in
-    has_earlier c.self.inside.saved c.self.inside.net c.saturating_sub-target.result c.self.invariant.shown upto
+    has_earlier c.self.inside.saved c.self.inside.net c.saturating_sub-target.result c.self.invariant.moves.shown upto
 
 pub invariant_of-self : goal.invariant_of-self
-invariant_of-self c = subst (λ (s : State). IsDebugger (record { start = s; shown = c.self.inside.net; left = c.self.inside.left; breaks = c.self.inside.breaks })) (sym c.net_at-found.ensures.same) c.self.invariant
+invariant_of-self c =
+    let same = c.net_at-found.ensures.same in
+    record {
+      moves = subst (λ (s : State). IsDebugger (record { start = s; shown = c.self.inside.net; left = c.self.inside.left; breaks = c.self.inside.breaks })) (sym same) c.self.invariant.moves;
+      nodes = subst (λ (s : State). length c.self.inside.crew.partition ≡ length s.parts) (sym same) c.self.invariant.nodes;
+    }
 
 pub show-requires : goal.show-requires
 show-requires c = subst (λ (s : State). IfOk c.net_at-found.result (Passes s)) (sym c.net_at-found.ensures.same) c.net_at-found.ensures.on_run
@@ -37,8 +42,11 @@ returns-clause-goes c =
 
 pub returns-clause-full : goal.returns-clause-full
 returns-clause-full c =
-    let here = err_shown (λ (fault : StepFault). fault ≡ CountFull → IsTooLong c.self.inside.saved) c.net_at-found.result c.show.result c.show.ensures.answer c.net_at-found.ensures.full in
-    subst (λ (d : Debugging). IfErr c.show.result (λ (fault : StepFault). fault ≡ CountFull → IsTooLong d.start)) c.self.view_is here
+    let here = err_shown (λ (fault : MoveFault). fault ≡ CountFull → IsTooLong c.self.inside.saved) c.net_at-found.result c.show.result c.show.ensures.answer c.net_at-found.ensures.full in
+    subst (λ (d : Debugging). IfErr c.show.result (λ (fault : MoveFault). fault ≡ CountFull → IsTooLong d.start)) c.self.view_is here
+
+pub returns-clause-no_worker : goal.returns-clause-no_worker
+returns-clause-no_worker c = err_shown (λ (fault : MoveFault). fault ≢ NoWorker) c.net_at-found.result c.show.result c.show.ensures.answer c.net_at-found.ensures.no_worker
 
 pub returns-clause-err : goal.returns-clause-err
 returns-clause-err c =

@@ -1,8 +1,9 @@
-use Rattle.std.proofs.Common.{sym, ap, subst, refl, ◌∙◌, None}
+use Rattle.std.proofs.Common.{sym, ap, subst, refl, ◌∙◌, None, length}
 use Rattle.ranking.proofs.Maps.{not_some}
 use Rattle.table_run.specs.State.{State, opening}
 use Rattle.net_machine.specs.Run.{Reached}
 use Rattle.debugger.specs.Moves.{Passes}
+use Rattle.window_engine.proofs.Between.{opening_nodes}
 use Rattle.debugger.proofs.Walks.{passes_start}
 use Rattle.debugger.proofs.moves.Debugger.new.Goals as goal
 
@@ -10,12 +11,18 @@ pub new-requires-2 : goal.new-requires-2
 new-requires-2 c = ap (λ (r : Reached). r.position) (c.in-Ok-copy.ensures ∙ c.in-Ok.ensures.state)
 
 pub invariant_of-result : goal.invariant_of-result
-invariant_of-result c =
+invariant_of-result c = record { some = c.requires.workers.0; few = c.requires.workers.1 }
+
+pub invariant_of-result-2 : goal.invariant_of-result-2
+invariant_of-result-2 c =
     let start = opening c.args.scenario.now in
     let saved_is = c.new-2.ensures ∙ ap (λ (r : Reached). r.state) (c.in-Ok-copy.ensures ∙ c.in-Ok.ensures.state) in
     record {
-      shown = subst (λ (s : State). Passes s c.in-Ok.net) (sym saved_is) (subst (Passes start) (sym c.in-Ok.ensures.state) (passes_start start));
-      left = λ was e. absurd (not_some e);
+      moves = record {
+        shown = subst (λ (s : State). Passes s c.in-Ok.net) (sym saved_is) (subst (Passes start) (sym c.in-Ok.ensures.state) (passes_start start));
+        left = λ was e. absurd (not_some e);
+      };
+      nodes = c.requires.partition ∙ sym (ap (λ (s : State). length s.parts) saved_is ∙ opening_nodes c.args.scenario.now);
     }
 
 pub returns : goal.returns

@@ -1,40 +1,49 @@
-use Rattle.std.proofs.Common.{◌≡◌, sym, subst, ◌∙◌, IfOk, IfErr, OnErr}
+use Rattle.std.proofs.Common.{◌≡◌, sym, subst, ◌∙◌, IfOk, IfErr, OnErr, length}
 use Rattle.table_run.specs.State.{State}
-use Rattle.net_machine.specs.declared.net.StepFault.{StepFault}
-use Rattle.net_machine.specs.declared.net.StepFault.TheVariants.{CountFull}
+use Rattle.debugger.specs.declared.fault.MoveFault.{MoveFault}
+use Rattle.debugger.specs.declared.fault.MoveFault.TheVariants.{CountFull}
 use Rattle.debugger.specs.Moves.{Passes, RunGoesTo, IsTooLong}
 use Rattle.debugger.specs.Debugging.{Debugging, HasMoved}
 use Rattle.debugger.specs.DebuggerOf.{IsDebugger}
+use Rattle.debugger.proofs.Batches.{same_nodes}
 use Rattle.debugger.proofs.Shown.{ok_shown, err_shown}
 use Rattle.debugger.proofs.moves.Debugger.run.Goals as goal
 
-pub net_at_break-found-requires : goal.net_at_break-found-requires
-net_at_break-found-requires c = c.self.invariant.shown
+pub net_at_break-found-requires-clause-on_run : goal.net_at_break-found-requires-clause-on_run
+net_at_break-found-requires-clause-on_run g c κs within = c.self.invariant.moves.shown
+
+pub net_at_break-found-requires-clause-nodes : goal.net_at_break-found-requires-clause-nodes
+net_at_break-found-requires-clause-nodes g c κs within = c.self.invariant.nodes ∙ sym (same_nodes c.self.inside.saved c.self.inside.net c.self.invariant.moves.shown)
 
 pub invariant_of-self : goal.invariant_of-self
-invariant_of-self c = subst (λ (s : State). IsDebugger (record { start = s; shown = c.self.inside.net; left = c.self.inside.left; breaks = c.self.inside.breaks })) (sym c.net_at_break-found.ensures.same) c.self.invariant
+invariant_of-self g c =
+    let same = c.net_at_break-found.ensures.same in
+    record {
+      moves = subst (λ (s : State). IsDebugger (record { start = s; shown = c.self.inside.net; left = c.self.inside.left; breaks = c.self.inside.breaks })) (sym same) c.self.invariant.moves;
+      nodes = subst (λ (s : State). length c.self.inside.crew.partition ≡ length s.parts) (sym same) c.self.invariant.nodes;
+    }
 
 pub show-requires : goal.show-requires
-show-requires c = subst (λ (s : State). IfOk c.net_at_break-found.result (Passes s)) (sym c.net_at_break-found.ensures.same) c.net_at_break-found.ensures.on_run
+show-requires g c = subst (λ (s : State). IfOk c.net_at_break-found.result (Passes s)) (sym c.net_at_break-found.ensures.same) c.net_at_break-found.ensures.on_run
 
 pub returns-clause-moved : goal.returns-clause-moved
-returns-clause-moved c =
+returns-clause-moved g c =
     let same = c.net_at_break-found.ensures.same in
     let kept : ◌≡◌ {A = Debugging} (record { start = c.net_at_break-found.new.saved; shown = c.self.inside.net; left = c.self.inside.left; breaks = c.self.inside.breaks }) c.args.self.now = (λ i. record { start = same i; shown = c.self.inside.net; left = c.self.inside.left; breaks = c.self.inside.breaks }) ∙ c.self.view_is in
     subst (λ (d : Debugging). IfOk c.show.result (HasMoved d c.show.new.self)) kept c.show.ensures.moved
 
 pub returns-clause-goes : goal.returns-clause-goes
-returns-clause-goes c =
+returns-clause-goes g c =
     let here = ok_shown (RunGoesTo c.self.inside.saved c.self.inside.breaks c.self.inside.net.position) c.net_at_break-found.result c.show.result c.show.ensures.answer c.net_at_break-found.ensures.goes in
     subst (λ (d : Debugging). IfOk c.show.result (RunGoesTo d.start d.breaks d.shown.position)) c.self.view_is here
 
 pub returns-clause-full : goal.returns-clause-full
-returns-clause-full c =
-    let here = err_shown (λ (fault : StepFault). fault ≡ CountFull → IsTooLong c.self.inside.saved) c.net_at_break-found.result c.show.result c.show.ensures.answer c.net_at_break-found.ensures.full in
-    subst (λ (d : Debugging). IfErr c.show.result (λ (fault : StepFault). fault ≡ CountFull → IsTooLong d.start)) c.self.view_is here
+returns-clause-full g c =
+    let here = err_shown (λ (fault : MoveFault). fault ≡ CountFull → IsTooLong c.self.inside.saved) c.net_at_break-found.result c.show.result c.show.ensures.answer c.net_at_break-found.ensures.full in
+    subst (λ (d : Debugging). IfErr c.show.result (λ (fault : MoveFault). fault ≡ CountFull → IsTooLong d.start)) c.self.view_is here
 
 pub returns-clause-err : goal.returns-clause-err
-returns-clause-err c =
+returns-clause-err g c =
     let same = c.net_at_break-found.ensures.same in
     let kept : ◌≡◌ {A = Debugging} (record { start = c.net_at_break-found.new.saved; shown = c.self.inside.net; left = c.self.inside.left; breaks = c.self.inside.breaks }) c.args.self.now = (λ i. record { start = same i; shown = c.self.inside.net; left = c.self.inside.left; breaks = c.self.inside.breaks }) ∙ c.self.view_is in
     subst (λ (d : Debugging). OnErr c.show.result (c.show.new.self ≡ d)) kept c.show.ensures.err

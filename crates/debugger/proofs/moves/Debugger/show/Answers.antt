@@ -12,7 +12,10 @@ pub invariant_of-self : goal.invariant_of-self
 invariant_of-self c =
     let come : Passes c.args.self.now.start c.in-Ok.net = IfOk-at_ok (Passes c.args.self.now.start) c.in-Ok.is c.requires in
     let here : Passes c.self.inside.saved c.replace.new.dest = subst (Passes c.self.inside.saved) (sym c.replace.ensures.after) (subst (λ (s : State). Passes s c.in-Ok.net) (sym (ap (λ (d : Debugging). d.start) c.self.view_is)) come) in
-    record { shown = here; left = λ was e. subst (Passes c.self.inside.saved) (sym c.replace.ensures.value ∙ same_some c.replace.result was e) c.self.invariant.shown }
+    record {
+      moves = record { shown = here; left = λ was e. subst (Passes c.self.inside.saved) (sym c.replace.ensures.value ∙ same_some c.replace.result was e) c.self.invariant.moves.shown };
+      nodes = c.self.invariant.nodes;
+    }
 
 pub same-self : goal.same-self
 same-self c = refl

@@ -1,7 +1,7 @@
-use Rattle.std.proofs.Common.{◌≡◌, sym, subst, ◌∙◌, IfOk, IfErr, OnErr}
+use Rattle.std.proofs.Common.{◌≡◌, ◌≢◌, sym, subst, ◌∙◌, IfOk, IfErr, OnErr, length}
 use Rattle.table_run.specs.State.{State}
-use Rattle.net_machine.specs.declared.net.StepFault.{StepFault}
-use Rattle.net_machine.specs.declared.net.StepFault.TheVariants.{CountFull}
+use Rattle.debugger.specs.declared.fault.MoveFault.{MoveFault}
+use Rattle.debugger.specs.declared.fault.MoveFault.TheVariants.{CountFull, NoWorker}
 use Rattle.debugger.specs.Moves.{Passes, StepGoesTo, IsTooLong}
 use Rattle.debugger.specs.Debugging.{Debugging, HasMoved}
 use Rattle.debugger.specs.DebuggerOf.{IsDebugger}
@@ -9,10 +9,15 @@ use Rattle.debugger.proofs.Shown.{ok_shown, err_shown}
 use Rattle.debugger.proofs.moves.Debugger.step.Goals as goal
 
 pub net_after-found-requires : goal.net_after-found-requires
-net_after-found-requires c = c.self.invariant.shown
+net_after-found-requires c = c.self.invariant.moves.shown
 
 pub invariant_of-self : goal.invariant_of-self
-invariant_of-self c = subst (λ (s : State). IsDebugger (record { start = s; shown = c.self.inside.net; left = c.self.inside.left; breaks = c.self.inside.breaks })) (sym c.net_after-found.ensures.same) c.self.invariant
+invariant_of-self c =
+    let same = c.net_after-found.ensures.same in
+    record {
+      moves = subst (λ (s : State). IsDebugger (record { start = s; shown = c.self.inside.net; left = c.self.inside.left; breaks = c.self.inside.breaks })) (sym same) c.self.invariant.moves;
+      nodes = subst (λ (s : State). length c.self.inside.crew.partition ≡ length s.parts) (sym same) c.self.invariant.nodes;
+    }
 
 pub show-requires : goal.show-requires
 show-requires c = subst (λ (s : State). IfOk c.net_after-found.result (Passes s)) (sym c.net_after-found.ensures.same) c.net_after-found.ensures.on_run
@@ -30,8 +35,11 @@ returns-clause-goes c =
 
 pub returns-clause-full : goal.returns-clause-full
 returns-clause-full c =
-    let here = err_shown (λ (fault : StepFault). fault ≡ CountFull → IsTooLong c.self.inside.saved) c.net_after-found.result c.show.result c.show.ensures.answer c.net_after-found.ensures.full in
-    subst (λ (d : Debugging). IfErr c.show.result (λ (fault : StepFault). fault ≡ CountFull → IsTooLong d.start)) c.self.view_is here
+    let here = err_shown (λ (fault : MoveFault). fault ≡ CountFull → IsTooLong c.self.inside.saved) c.net_after-found.result c.show.result c.show.ensures.answer c.net_after-found.ensures.full in
+    subst (λ (d : Debugging). IfErr c.show.result (λ (fault : MoveFault). fault ≡ CountFull → IsTooLong d.start)) c.self.view_is here
+
+pub returns-clause-no_worker : goal.returns-clause-no_worker
+returns-clause-no_worker c = err_shown (λ (fault : MoveFault). fault ≢ NoWorker) c.net_after-found.result c.show.result c.show.ensures.answer c.net_after-found.ensures.no_worker
 
 pub returns-clause-err : goal.returns-clause-err
 returns-clause-err c =

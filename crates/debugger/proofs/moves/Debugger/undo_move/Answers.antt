@@ -4,10 +4,16 @@ use Rattle.debugger.specs.Debugging.{Debugging}
 use Rattle.debugger.proofs.moves.Debugger.undo_move.Goals as goal
 
 pub invariant_of-self : goal.invariant_of-self
-invariant_of-self c = record { shown = c.self.invariant.left c.in-Some.net (sym c.in-Some.ensures.value); left = λ was e. absurd (not_some (sym c.take.ensures.after ∙ e)) }
+invariant_of-self c = record {
+  moves = record { shown = c.self.invariant.moves.left c.in-Some.net (sym c.in-Some.ensures.value); left = λ was e. absurd (not_some (sym c.take.ensures.after ∙ e)) };
+  nodes = c.self.invariant.nodes;
+}
 
 pub invariant_of-self-in-None : goal.invariant_of-self-in-None
-invariant_of-self-in-None c = record { shown = c.self.invariant.shown; left = λ was e. absurd (not_some (sym c.take.ensures.after ∙ e)) }
+invariant_of-self-in-None c = record {
+  moves = record { shown = c.self.invariant.moves.shown; left = λ was e. absurd (not_some (sym c.take.ensures.after ∙ e)) };
+  nodes = c.self.invariant.nodes;
+}
 
 pub returns-in-Some-clause-none : goal.returns-in-Some-clause-none
 returns-in-Some-clause-none c = λ e. absurd (not_some (sym (c.in-Some.ensures.value ∙ ap (λ (d : Debugging). d.left) c.self.view_is ∙ e)))

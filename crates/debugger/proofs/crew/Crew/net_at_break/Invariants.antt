@@ -1,0 +1,13 @@
+use Rattle.std.proofs.Common.{◌≡◌, ◌≤◌}
+use Rattle.debugger.specs.Courses.{IsOnWay}
+use Rattle.debugger.proofs.Walks.{NoneHit}
+use Rattle.debugger.proofs.crew.Crew.net_at_break.Given as goal
+
+abbrev pub invariant-loop : goal.invariant-loop
+invariant-loop g l = record {
+  same : l.saved ≡ l.fn.saved;
+  on_way : IsOnWay l.fn.saved l.course.engine.net.position l.course;
+  few : l.course.engine.net.position ≤ 1000000000000000;
+  from : l.fn.present.position ≤ l.course.engine.net.position;
+  none : NoneHit l.fn.saved l.breaks l.fn.present.position l.course.engine.net.position;
+}

@@ -1,0 +1,115 @@
+//! A copy of a net, on its way by windows.
+ghost use Rattle.std.specs.Prelude.{◌≡◌, ◌<◌, ◌≤◌, false, length, IfOk, IfErr, OnOk, OnErr};
+ghost use Rattle.window_core.specs.Full.{HasTooMany};
+ghost use Rattle.debugger.specs.Moves.{Passes, HasPosition, IsTooLong};
+ghost use Rattle.debugger.specs.Courses.{IsOnWay, WentOn};
+
+use crate::fault::MoveFault;
+use crate::saved::Saved;
+use crate::walk::reach;
+use net_machine::Net;
+use node_core::Line;
+use sim_time::Time;
+use std::alloc::{AllocError, Global};
+use std::sync::Wait;
+use std::thread::Threads;
+use window_core::{Batch, Partition};
+use window_engine::{Engine, FIRST_SLICE, Gate, next_slice};
+
+/// The net behind is left behind by fewer events than these, and those of a window.
+const MOST_BEHIND: u64 = 8_192;
+
+/// A copy of a net, on its way by windows.
+#[derive(Drop)]
+pub(crate) struct Course {
+    /// The copy, run by windows.
+    pub engine: Engine,
+    /// A net of the same run that is not past it, from which a line of the last window is reached.
+    pub behind: Net,
+    /// How much of the simulated time the next window may span at most, in nanoseconds.
+    pub slice: Time,
+}
+
+impl Course {
+    /// From where a net stands.
+    pub(crate) fn new(
+        alloc: Global,
+        present: &Net,
+        partition: &Partition,
+    ) -> Result<Course, AllocError>
+        requires { length partition.now ≡ length present.now.state.parts }
+        ensures net { IfOk result (λ c. c.engine.net ≡ present.now) }
+        ensures running { IfOk result (λ c. c.engine.failed ≡ false) }
+        ensures behind { IfOk result (λ c. c.behind ≡ present.now) }
+        ensures few { present.now.position ≤ 1000000000000000 }
+    {
+        let _reached = present.position();
+        Ok(Course {
+            engine: Engine::at(alloc, present.copy()?, partition.copy()?)?,
+            behind: present.copy()?,
+            slice: FIRST_SLICE,
+        })
+    }
+
+    /// Runs the next window by workers, and gives its lines; none where no event is left.
+    pub(crate) fn window<G: Gate, R: Threads + Wait + Sync>(
+        &mut self,
+        rt: &R,
+        gate: &G,
+        workers: usize,
+    ) -> Result<Option<Batch>, MoveFault>
+        requires running { self.old.engine.failed ≡ false }
+        requires workers { (0 < workers) × (workers ≤ 64) }
+        ensures gone { IfOk result (λ batch. WentOn self.old.engine.net batch self.new.engine.net) }
+        ensures few { OnOk result (self.new.engine.net.position ≤ 1000000000000000) }
+        ensures running { OnOk result (self.new.engine.failed ≡ false) }
+        ensures full { IfErr result (λ fault. fault ≡ MoveFault.CountFull → HasTooMany self.old.engine.net) }
+        ensures behind { self.new.behind ≡ self.old.behind }
+    {
+        let Some(next) = self.engine.next() else {
+            let _reached = self.engine.position();
+            return Ok(None);
+        };
+        let until = next.saturating_add(self.slice);
+        let batch = self.engine.window(rt, workers, gate, until)?;
+        self.slice = next_slice(self.slice, batch.len());
+        let _reached = self.engine.position();
+        Ok(Some(batch))
+    }
+
+    /// Brings the net behind to the last window's edge, and saves the state there, where enough
+    /// events were passed. Where memory is refused, it stays.
+    pub(crate) fn follow(&mut self, saved: &mut Saved)
+        requires { IsOnWay saved.old self.old.engine.net.position self.old }
+        ensures on_way { IsOnWay saved.old self.new.engine.net.position self.new }
+        ensures engine { self.new.engine ≡ self.old.engine }
+        ensures same { saved.new ≡ saved.old }
+    {
+        if self.engine.position() - self.behind.position() < MOST_BEHIND {
+            return;
+        }
+        if let Ok(edge) = self.engine.edge() {
+            saved.keep(&edge);
+            self.behind = edge;
+        }
+    }
+
+    /// The net at a position that the net behind is not past, and that the run has.
+    pub(crate) fn into_net_at(
+        self,
+        target: u64,
+        saved: &mut Saved,
+        line: &mut Line,
+    ) -> Result<Net, MoveFault>
+        requires on_way { IsOnWay saved.old target self }
+        requires position { HasPosition saved.old target }
+        ensures on_run { IfOk result (Passes saved.old) }
+        ensures goes { IfOk result (λ net. net.position ≡ target) }
+        ensures full { IfErr result (λ fault. fault ≡ MoveFault.CountFull → IsTooLong saved.old) }
+        ensures same { saved.new ≡ saved.old }
+    {
+        let mut net = self.behind;
+        reach(&mut net, target, saved, line)?;
+        Ok(net)
+    }
+}

@@ -1,0 +1,12 @@
+pub mod Gathering
+pub mod Full
+pub mod Bytes
+pub mod Edge
+pub mod Soonest
+pub mod Numbered
+pub mod Parted
+pub mod Laying
+pub mod Resting
+pub mod Writing
+pub mod Between
+pub mod TooMany

@@ -1,0 +1,79 @@
+-- Where the workers' fault is that the count is full, the run has more events than there may be.
+use Rattle.std.proofs.Common.{◌≡◌, ◌≢◌, ◌≤◌, ◌<◌, ◌+◌, ◌-◌, ◌++◌, ℕ, List, length, map, true, Option, Some, None, IsSome, refl, sym, ap, subst, ◌∙◌, arith}
+use Rattle.std.proofs.lemmas.List.{length-map}
+use Rattle.std.proofs.lemmas.Option.{slice_get_within}
+use Rattle.window_core.specs.declared.group.GroupFault.{GroupFault}
+use Rattle.table_run.specs.State.{State, due, run}
+use Rattle.table_run.proofs.Runs.{run_add}
+use Rattle.net_machine.specs.Run.{Reached}
+use Rattle.window_core.specs.Full.{HasTooMany, opening_at}
+use Rattle.window_core.specs.Group.{GroupValue, AfterFirings}
+use Rattle.window_core.specs.Window.{WindowValue, IsFrom, IsWindow, states_of, value_at}
+use Rattle.window_core.specs.Windows.{all_done, all_lines}
+use Rattle.window_core.proofs.TooMany.{full_group_has_too_many, full_turn_has_too_many}
+use Rattle.work_board.specs.Pieces.{PieceState}
+use Rattle.window_engine.specs.declared.fault.EngineFault.{EngineFault}
+use Rattle.window_engine.specs.declared.fault.EngineFault.TheVariants.{NoMemory, CountFull, NoWorker, Sink, Failed}
+use Rattle.window_engine.specs.declared.course.WriteFault.{WriteFault}
+use Rattle.window_engine.specs.declared.course.WriteFault.TheVariants.{Workers, Sink as Failing}
+use Rattle.window_engine.specs.Courses.{Wrote, told_as}
+use Rattle.window_engine.specs.Edges.{IsAtEdge, edge_of, reached_in}
+use Rattle.window_engine.specs.Laid.{laid_for, IsDoneBy}
+use Rattle.window_engine.specs.Outcomes.{SomeLaidFull}
+use Rattle.window_engine.proofs.Edge.{edge_is}
+use Rattle.window_engine.proofs.Laying.{laid_at}
+
+-- what holds of the state at which a window opened holds of its edge
+at_edge : (v w : WindowValue) (is : IsWindow v) → IsAtEdge v → w.position ≡ v.position → HasTooMany (opening_at is.edge w) → HasTooMany (reached_in v)
+at_edge v w is at position many =
+    let state : is.edge ≡ edge_of v = sym (edge_is v is.edge is.from at.unfired) in
+    subst (λ (s : State). HasTooMany (record { state = s; position = v.position })) state
+    (subst (λ (n : ℕ). HasTooMany (record { state = is.edge; position = n })) position many)
+
+-- a piece of a window's groups is full
+pub groups_full : (v w : WindowValue) (end : ℕ) (lent : List GroupValue) (laid : List PieceState) → IsAtEdge v → IsWindow v → IsWindow w → ((edge : State) → IsFrom edge v → IsFrom edge w) → w.position ≡ v.position
+    → lent ≡ w.groups → end ≡ w.until → laid ≡ map (laid_for end) lent → SomeLaidFull laid → HasTooMany (reached_in v)
+groups_full v w end lent laid at is is_w from position lent_is ends laid_is some =
+    let p = some.piece in
+    let n = some.place in
+    let first = laid_at end lent laid laid_is n some.began.0 some.began.1 in
+    let within : n < length laid = slice_get_within laid n some.began.0 some.began.1 in
+    let many : length laid ≡ length w.groups = ap length laid_is ∙ length-map lent (laid_for end) ∙ ap length lent_is in
+    let began : p.began ≡ value_at w.groups n = some.began.2.1 ∙ ap (λ (q : PieceState). q.began) first ∙ ap (λ (l : List GroupValue). value_at l n) lent_is in
+    let same_end : p.end ≡ w.until = some.began.2.0 ∙ ap (λ (q : PieceState). q.end) first ∙ ends in
+    let refused : IsSome p.fault = subst (λ (o : Option GroupFault). IsSome o) (sym some.full.fault) refl in
+    let after : AfterFirings (value_at w.groups n) p.group = subst (λ (g : GroupValue). AfterFirings g p.group) began some.full.after in
+    at_edge v w is at position
+    (full_group_has_too_many is.edge w is_w (from is.edge is.from) n p.group (omega (arith, within, many)) after p.end (omega (arith, same_end)) (some.full.told.due refused) (some.full.told.full some.full.fault))
+
+-- a turn has too many lines
+pub turn_full : (v w : WindowValue) (until : ℕ) → IsAtEdge v → IsWindow v → IsDoneBy until v w → (all_done w.until (states_of w.groups) ≡ true) × (1000000000000000 < w.position + length (all_lines (states_of w.groups)))
+    → HasTooMany (reached_in v)
+turn_full v w until at is by full =
+    let fits = is.split.fits in
+    at_edge v w is at by.position (full_turn_has_too_many is.edge w (by.from is.edge is.from) (omega (arith, fits, by.position)) full.0 full.1)
+
+-- what is so after some lines of the run is so before them
+pub earlier_full : (from to : Reached) (n : ℕ) (a b : Option (List ℕ)) → Wrote from to n a b → to.position ≤ 1000000000000000 → HasTooMany to → HasTooMany from
+earlier_full from to n a b w few many =
+    let at = w.position_is in
+    let count : 1000000000000000 - from.position ≡ length w.lines + (1000000000000000 - to.position) = omega (arith, at, few) in
+    record {
+      lines = w.lines ++ many.lines;
+      last = many.last;
+      is_run = ap (run from.state) count ∙ run_add from.state to.state many.last (length w.lines) (1000000000000000 - to.position) w.lines many.lines w.is_run many.is_run;
+      one_due = many.one_due;
+    }
+
+told_by : WriteFault → EngineFault
+told_by (Workers fault) = fault
+told_by (Failing count) = Failed
+
+-- the workers' fault is that the count is full
+pub workers_full : (at : Reached) (fault : EngineFault) → (fault ≡ CountFull → HasTooMany at) → Workers fault ≡ Workers CountFull → HasTooMany at
+unfolding told_by
+workers_full at fault full is = full (ap told_by is)
+
+pub told_full : (from to : Reached) (n written : ℕ) (a b : Option (List ℕ)) (fault : WriteFault) → Wrote from to n a b → to.position ≤ 1000000000000000 → (fault ≡ Workers CountFull → HasTooMany to) → told_as written fault ≡ CountFull → HasTooMany from
+told_full from to n written a b (Workers fault) w few full is = earlier_full from to n a b w few (full (ap (λ (f : EngineFault). Workers f) is))
+told_full from to n written a b (Failing count) w few full is = let x : ⊥ = cc in absurd x

@@ -1,0 +1,156 @@
+-- What windows that are written leave, one after another.
+use Rattle.std.proofs.Common.{◌≡◌, ◌≤◌, ◌<◌, ◌+◌, ◌*◌, ◌^◌, ℕ, suc, List, [], ◌∷◌, ◌++◌, length, take, Option, Some, Ok, Err, refl, sym, ap, subst, ◌∙◌, arith, length-append, append-nil}
+use Rattle.std.specs.Io.KnownBytes.{Appends}
+use Rattle.node_core.specs.TraceLine.{TraceLine}
+use Rattle.table_run.specs.State.{State, run}
+use Rattle.table_run.proofs.Runs.{run_add}
+use Rattle.net_machine.specs.Run.{Reached}
+use Rattle.window_core.specs.Batches.{BatchValue}
+use Rattle.window_engine.specs.declared.fault.EngineFault.{EngineFault}
+use Rattle.window_engine.specs.declared.fault.EngineFault.TheVariants.{NoMemory, CountFull, NoWorker, Sink, Failed}
+use Rattle.window_engine.specs.Outcomes.{IsOfWorkers}
+use Rattle.window_engine.specs.Puts.{TakesFirst}
+use Rattle.window_engine.specs.Text.{text_from}
+use Rattle.window_engine.specs.Engines.{GoesOn, Commits, Takes, sink_failures}
+use Rattle.window_engine.specs.declared.course.WriteFault.{WriteFault}
+use Rattle.window_engine.specs.declared.course.WriteFault.TheVariants.{Workers, Sink as Failing}
+use Rattle.window_engine.specs.Courses.{CanTell, Wrote, WroteFirst, Broke, told_as, fails_after}
+use Rattle.window_engine.proofs.Bytes.{appends_nothing, appends_more, take_past}
+use Rattle.window_engine.proofs.Numbered.{text_both}
+
+-- nothing was written yet
+pub wrote_none : (net : Reached) (known : Option (List ℕ)) → Wrote net net 0 known known
+wrote_none net known = record { lines = []; is_run = refl; position_is = omega arith; takes = appends_nothing known; count_is = refl; short = omega arith }
+
+-- the text of a batch
+pub batch_text_is : (old new : Reached) (batch : BatchValue) (text : List ℕ) → GoesOn old batch new → text ≡ text_from batch.first batch.lines → text ≡ text_from (old.position + 1) batch.lines
+batch_text_is old new batch text gone is = is ∙ ap (λ n. text_from n batch.lines) gone.first
+
+short_text : (first : ℕ) (lines : List TraceLine) (text : List ℕ) → text ≡ text_from first lines → length text < 2 ^ 71 → length text ≤ length lines * 2 ^ 71
+short_text first [] text is small = let e : length text ≡ 0 = ap length is in omega (arith, e)
+short_text first (l ∷ lines) text is small = omega (arith, small)
+
+-- a window's text was taken
+pub wrote_batch : (old new : Reached) (count : ℕ) (batch : BatchValue) (text : List ℕ) (a b : Option (List ℕ)) → GoesOn old batch new → text ≡ text_from batch.first batch.lines → count ≡ length text → count < 2 ^ 71 → Appends a b text
+    → Wrote old new count a b
+wrote_batch old new count batch text a b gone is many small took =
+    let same = batch_text_is old new batch text gone is in
+    record {
+      lines = batch.lines;
+      is_run = gone.is_run;
+      position_is = gone.position;
+      takes = subst (Appends a b) same took;
+      count_is = many ∙ ap length same;
+      short = (let s = short_text (old.position + 1) batch.lines text same (omega (arith, many, small)) in omega (arith, many, s));
+    }
+
+-- the first bytes of a window's text were taken
+pub broke_batch : (old new : Reached) (position count : ℕ) (batch : BatchValue) (text : List ℕ) (a b : Option (List ℕ)) → GoesOn old batch new → position ≡ new.position → text ≡ text_from batch.first batch.lines
+    → TakesFirst count text a b → count < 2 ^ 71 → WroteFirst old position count a b
+broke_batch old new position count batch text a b gone at is took few =
+    let same = batch_text_is old new batch text gone is in
+    record {
+      lines = batch.lines;
+      state = new.state;
+      is_run = gone.is_run;
+      position_is = at ∙ gone.position;
+      takes = subst (λ l. TakesFirst count l a b) same took;
+      few = few;
+    }
+
+-- lines of the run, and then more
+run_more : (s t u : State) (xs ys : List TraceLine) → run s (length xs) ≡ Some (xs, t) → run t (length ys) ≡ Some (ys, u) → run s (length (xs ++ ys)) ≡ Some (xs ++ ys, u)
+run_more s t u xs ys e f = ap (run s) (length-append xs ys) ∙ run_add s t u (length xs) (length ys) xs ys e f
+
+text_more : (from to : Reached) (xs ys : List TraceLine) → to.position ≡ from.position + length xs → text_from (from.position + 1) (xs ++ ys) ≡ text_from (from.position + 1) xs ++ text_from (to.position + 1) ys
+text_more from to xs ys e =
+    let n : from.position + 1 + length xs ≡ to.position + 1 = omega (arith, e) in
+    text_both (from.position + 1) xs ys ∙ ap (λ k. text_from (from.position + 1) xs ++ text_from k ys) n
+
+-- a window more was written
+pub wrote_more : (from mid to : Reached) (n m : ℕ) (a b c : Option (List ℕ)) → Wrote from mid n a b → Wrote mid to m b c → Wrote from to (n + m) a c
+wrote_more from mid to n m a b c w x =
+    let text = text_more from mid w.lines x.lines w.position_is in
+    record {
+      lines = w.lines ++ x.lines;
+      is_run = run_more from.state mid.state to.state w.lines x.lines w.is_run x.is_run;
+      position_is = (let p = w.position_is in let q = x.position_is in omega (arith, p, q, length-append w.lines x.lines));
+      takes = subst (Appends a c) (sym text) (appends_more a b c _ _ w.takes x.takes);
+      count_is = (let p = w.count_is in let q = x.count_is in omega (arith, p, q, ap length text, length-append (text_from (from.position + 1) w.lines) (text_from (mid.position + 1) x.lines)));
+      short = (let p = w.short in let q = x.short in omega (arith, p, q, length-append w.lines x.lines));
+    }
+
+-- the windows so far, where the call ends with no fault
+pub committed : {T : Type 0} (from to new : Reached) (n : ℕ) (a b : Option (List ℕ)) (answer : T) → Wrote from to n a b → new.position ≡ to.position → new.state ≡ to.state → Commits {T = T} from (Ok answer) new a b
+committed from to new n a b answer w at same = record { lines = w.lines; state = to.state; is_run = w.is_run; position_is = at ∙ w.position_is; state_is = same; takes = w.takes }
+
+takes_all : (T : Type 0) (fault : EngineFault) (text : List ℕ) (a b : Option (List ℕ)) → IsOfWorkers fault → Appends a b text → Takes {T = T} (Err fault) text a b
+takes_all T NoMemory text a b is took = took
+takes_all T CountFull text a b is took = took
+takes_all T NoWorker text a b is took = took
+takes_all T Failed text a b is took = took
+takes_all T (Sink written) text a b is took = absurd is
+
+-- where the next window's workers failed
+pub stopped : {T : Type 0} (from to : Reached) (n : ℕ) (new : Reached) (a b c : Option (List ℕ)) (fault : EngineFault) → Wrote from to n a b → new.position ≡ to.position → Appends b c [] → IsOfWorkers fault
+    → Commits {T = T} from (Err fault) new a c
+stopped {T} from to n new a b c fault w at kept is = record {
+  lines = w.lines;
+  state = to.state;
+  is_run = w.is_run;
+  position_is = at ∙ w.position_is;
+  state_is = tt;
+  takes = takes_all T fault _ a c is (subst (Appends a c) (append-nil _) (appends_more a b c _ [] w.takes kept));
+}
+
+-- where the sink failed in the next window's text
+pub failed : {T : Type 0} (from to : Reached) (n count : ℕ) (new : Reached) (a b c : Option (List ℕ)) → Wrote from to n a b → WroteFirst to new.position count b c → Commits {T = T} from (Err (Sink (n + count))) new a c
+failed from to n count new a b c w x =
+    let text = text_more from to w.lines x.lines w.position_is in
+    let mine = text_from (from.position + 1) w.lines in
+    let rest = text_from (to.position + 1) x.lines in
+    record {
+      lines = w.lines ++ x.lines;
+      state = x.state;
+      is_run = run_more from.state to.state x.state w.lines x.lines w.is_run x.is_run;
+      position_is = (let p = w.position_is in let q = x.position_is in omega (arith, p, q, length-append w.lines x.lines));
+      state_is = tt;
+      takes = (
+        (let p = w.count_is in let q = x.takes.0 in omega (arith, p, q, ap length text, length-append mine rest)),
+        subst (Appends a c) (sym (ap (take (n + count)) text ∙ ap (λ k. take (k + count) (mine ++ rest)) w.count_is ∙ take_past count mine rest)) (appends_more a b c mine (take count rest) w.takes x.takes.1),
+      );
+    }
+
+-- where the next window wasn't written
+pub ended : {T : Type 0} (from to : Reached) (n : ℕ) (new : Reached) (a b c : Option (List ℕ)) (fault : WriteFault) → Wrote from to n a b → Broke to new.position b c fault → Commits {T = T} from (Err (told_as n fault)) new a c
+ended {T} from to n new a b c (Workers fault) w broke = stopped {T = T} from to n new a b c fault w broke.0 broke.1 broke.2
+ended {T} from to n new a b c (Failing count) w broke = failed {T = T} from to n count new a b c w broke
+
+-- a failure is counted once
+pub fails_told : (T U : Type 0) (written n : ℕ) (fault : WriteFault) (old new : Option (List ℕ)) (from : Reached) (at : ℕ) → Broke from at old new fault
+    → fails_after {T = U} (Err fault) n ≡ sink_failures {T = T} (Err (told_as written fault)) n
+fails_told T U written n (Workers NoMemory) old new from at broke = refl
+fails_told T U written n (Workers CountFull) old new from at broke = refl
+fails_told T U written n (Workers NoWorker) old new from at broke = refl
+fails_told T U written n (Workers Failed) old new from at broke = refl
+fails_told T U written n (Workers (Sink count)) old new from at broke = absurd broke.2
+fails_told T U written n (Failing count) old new from at broke = refl
+
+can_tell_of : (from : Reached) (at n : ℕ) (fault : WriteFault) (old new : Option (List ℕ)) → Broke from at old new fault → n < 2 ^ 127 → CanTell n fault
+can_tell_of from at n (Workers fault) old new broke small = tt
+can_tell_of from at n (Failing count) old new broke small = let few = broke.few in omega (arith, few, small)
+
+-- the bytes so far can be counted
+fits : (from to : Reached) (n : ℕ) (a b : Option (List ℕ)) → Wrote from to n a b → to.position ≤ 1000000000000000 → n < 2 ^ 127
+fits from to n a b w few =
+    let p = w.position_is in let q = w.short in
+    let lines : length w.lines ≤ 1000000000000000 = omega (arith, p, few) in
+    omega (arith, q, lines)
+
+-- and with them those of a window that was not written whole
+pub can_tell : (from to : Reached) (n at : ℕ) (a b c : Option (List ℕ)) (fault : WriteFault) → Wrote from to n a b → to.position ≤ 1000000000000000 → Broke to at b c fault → CanTell n fault
+can_tell from to n at a b c fault w few broke = can_tell_of to at n fault b c broke (fits from to n a b w few)
+
+-- and with them those of a window more
+pub still_fits : (from to : Reached) (n m : ℕ) (a b c : Option (List ℕ)) (mid : Reached) → Wrote from mid n a b → mid.position ≤ 1000000000000000 → Wrote mid to m b c → to.position ≤ 1000000000000000 → n + m < 2 ^ 128
+still_fits from to n m a b c mid w few x later = let p = fits from mid n a b w few in let q = fits mid to m b c x later in omega (arith, p, q)

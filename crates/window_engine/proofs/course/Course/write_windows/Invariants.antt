@@ -1,0 +1,13 @@
+-- all windows so far are written, and their bytes counted
+use Rattle.std.proofs.Common.{◌≡◌}
+use Rattle.window_engine.specs.Edges.{StaysNet, reached_in}
+use Rattle.window_engine.specs.Courses.{AtRest, Wrote}
+use Rattle.window_engine.proofs.course.Course.write_windows.Given as goal
+
+abbrev pub invariant-loop : goal.invariant-loop
+invariant-loop g l =
+    AtRest l.self
+    × Wrote (reached_in l.fn.self.window) (reached_in l.self.window) l.written (g.S.Sink.contents l.fn.sink) (g.S.Sink.contents l.sink)
+    × (g.S.Sink.failures l.sink ≡ g.S.Sink.failures l.fn.sink)
+    × StaysNet l.fn.self.window l.self.window
+    × (l.self.end ≡ l.fn.self.end)

@@ -1,0 +1,63 @@
+-- The net on its way: what it is between windows, and what a window that was written leaves.
+use Rattle.std.specs.Prelude.{◌≡◌, ◌≤◌, ◌<◌, ◌+◌, ◌*◌, ◌^◌, ℕ, List, [], length, Option, Some, Result, Err}
+use Rattle.std.specs.Io.KnownBytes.{Appends}
+use Rattle.node_core.specs.TraceLine.{TraceLine}
+use Rattle.table_run.specs.State.{State, run}
+use Rattle.net_machine.specs.Run.{Reached}
+use Rattle.window_core.specs.Partition.{groups_of}
+use Rattle.window_engine.specs.declared.course.Course.{Course}
+use Rattle.window_engine.specs.declared.course.WriteFault.{WriteFault}
+use Rattle.window_engine.specs.declared.course.WriteFault.TheVariants.{Workers, Sink}
+use Rattle.window_engine.specs.declared.fault.EngineFault.{EngineFault}
+use Rattle.window_engine.specs.declared.fault.EngineFault.TheVariants.{Sink as SinkFailed}
+use Rattle.window_engine.specs.Edges.{IsAtEdge}
+use Rattle.window_engine.specs.Failures.{counted}
+use Rattle.window_engine.specs.Outcomes.{IsOfWorkers}
+use Rattle.window_engine.specs.Puts.{TakesFirst}
+use Rattle.window_engine.specs.Text.{text_from}
+
+-- the window is at its edge, and all its events are committed
+pub record AtRest (c : Course) : Type 0 where
+  pub edge : IsAtEdge c.window
+  pub committed : c.position ≡ c.window.position
+  pub few : c.position ≤ 1000000000000000
+  pub end : c.end ≡ c.window.end
+  pub groups : groups_of c.window.entries ≤ 64
+
+-- lines were committed, and the sink took all their text, so many bytes
+pub record Wrote (old new : Reached) (count : ℕ) (before after : Option (List ℕ)) : Type 0 where
+  pub lines : List TraceLine
+  pub is_run : run old.state (length lines) ≡ Some (lines, new.state)
+  pub position_is : new.position ≡ old.position + length lines
+  pub takes : Appends before after (text_from (old.position + 1) lines)
+  pub count_is : count ≡ length (text_from (old.position + 1) lines)
+  pub short : count ≤ length lines * 2 ^ 71
+
+-- lines were committed, and the sink took the first bytes of their text, so many
+pub record WroteFirst (old : Reached) (position count : ℕ) (before after : Option (List ℕ)) : Type 0 where
+  pub lines : List TraceLine
+  pub state : State
+  pub is_run : run old.state (length lines) ≡ Some (lines, state)
+  pub position_is : position ≡ old.position + length lines
+  pub takes : TakesFirst count (text_from (old.position + 1) lines) before after
+  pub few : count < 2 ^ 71
+
+-- what a window that wasn't written leaves: where workers failed, nothing was committed or written
+abbrev pub Broke : Reached → ℕ → Option (List ℕ) → Option (List ℕ) → WriteFault → Type 0
+Broke old position before after (Workers fault) = (position ≡ old.position) × Appends before after [] × IsOfWorkers fault
+Broke old position before after (Sink count) = WroteFirst old position count before after
+
+-- the sink's count of failures after a window
+abbrev pub fails_after : {T : Type 0} → Result T WriteFault → ℕ → ℕ
+fails_after (Err (Sink count)) n = counted n
+fails_after _ n = n
+
+-- the bytes can be counted that went out in a call, so many of them by earlier windows
+abbrev pub CanTell : ℕ → WriteFault → Type 0
+CanTell written (Workers fault) = Unit {0}
+CanTell written (Sink count) = written + count < 2 ^ 128
+
+-- the fault of a call in which earlier windows wrote so many bytes
+abbrev pub told_as : ℕ → WriteFault → EngineFault
+told_as written (Workers fault) = fault
+told_as written (Sink count) = SinkFailed (written + count)

@@ -1,0 +1,13 @@
+pub mod Sweeps
+pub mod Outcomes
+pub mod Failures
+pub mod Over
+pub mod Puts
+pub mod Text
+pub mod Parts
+pub mod Engines
+pub mod EngineCode
+pub mod Edges
+pub mod Laid
+pub mod Courses
+pub mod EngineOf

@@ -1,0 +1,103 @@
+//! One window, run by workers.
+ghost use Rattle.std.specs.Prelude.{◌≡◌, ◌<◌, ◌≤◌, ℕ, All, List, length, map as each, min, true, false, IfOk, IfErr, OnOk};
+ghost use Rattle.window_core.specs.Full.{HasTooMany};
+ghost use Rattle.window_core.specs.Group.{GroupValue, AfterFirings};
+ghost use Rattle.window_core.specs.Partition.{groups_of};
+ghost use Rattle.work_board.specs.Pieces.{PieceState};
+ghost use Rattle.window_engine.specs.Edges.{IsAtEdge, StaysNet, edge_of, reached_in};
+ghost use Rattle.window_engine.specs.Engines.{GoesOn, NoneBelow};
+ghost use Rattle.window_engine.specs.Outcomes.{IsOfWorkers};
+ghost use Rattle.window_engine.specs.Laid.{laid_for, IsDoneBy};
+
+use crate::fault::EngineFault;
+use crate::gate::Gate;
+use crate::pieces::run_pieces;
+use sim_time::Time;
+use std::alloc::{AllocError, Global};
+use std::sync::Wait;
+use std::thread::Threads;
+use window_core::{Batch, Group, TurnFault, Window};
+use work_board::Piece;
+
+/// A piece for each group.
+fn pieces_of(alloc: Global, groups: Vec<Group>, end: Time) -> Result<Vec<Piece>, AllocError>
+    requires { All (λ (g : GroupValue). end ≤ g.until) groups.items }
+    ensures { IfOk result (λ v. v.items ≡ each (laid_for end) groups.items) }
+{
+    let mut pieces = Vec::with_capacity(alloc, groups.len())?;
+    for group in groups {
+        pieces.push_reserved(Piece::new(group, end));
+    }
+    Ok(pieces)
+}
+
+/// The group of each piece.
+fn groups_of(alloc: Global, pieces: Vec<Piece>) -> Result<Vec<Group>, AllocError>
+    ensures groups { IfOk result (λ v. v.items ≡ each (λ (p : PieceState). p.group) pieces.items) }
+    ensures after { OnOk result (All (λ (p : PieceState). AfterFirings p.began p.group) pieces.items) }
+{
+    let mut groups = Vec::with_capacity(alloc, pieces.len())?;
+    for piece in pieces {
+        groups.push_reserved(piece.into_group());
+    }
+    Ok(groups)
+}
+
+/// Has workers run the groups up to the window's end, or a moment that is sooner. Each is then
+/// done. After a fault the groups are out.
+fn run_groups<G: Gate, R: Threads + Wait + Sync>(
+    rt: &R,
+    alloc: Global,
+    workers: usize,
+    gate: &G,
+    until: Time,
+    window: &mut Window,
+) -> Result<(), EngineFault>
+    requires edge { IsAtEdge window.old }
+    requires few { groups_of window.old.entries ≤ 64 }
+    requires workers { (0 < workers) × (workers ≤ 64) }
+    ensures done { OnOk result (IsDoneBy until window.old window.new) }
+    ensures stays { StaysNet window.old window.new }
+    ensures no_sink { IfErr result IsOfWorkers }
+    ensures full { IfErr result (λ fault. fault ≡ EngineFault.CountFull → HasTooMany (reached_in window.old)) }
+{
+    let _began = window.position();
+    window.limit(until);
+    let _limited = window.position();
+    let end = window.end();
+    let pieces = pieces_of(alloc, window.take_groups(), end)?;
+    let done = run_pieces(rt, alloc, workers, gate, pieces)?;
+    window.put_groups(groups_of(alloc, done)?);
+    Ok(())
+}
+
+/// Runs the next window by workers, up to its end or a moment that is sooner. The batch then has
+/// its lines. After a fault groups may be out, and the batch may be empty.
+pub(crate) fn advance<G: Gate, R: Threads + Wait + Sync>(
+    rt: &R,
+    alloc: Global,
+    workers: usize,
+    gate: &G,
+    until: Time,
+    window: &mut Window,
+    batch: &mut Batch,
+) -> Result<(), EngineFault>
+    requires edge { IsAtEdge window.old }
+    requires few { groups_of window.old.entries ≤ 64 }
+    requires workers { (0 < workers) × (workers ≤ 64) }
+    ensures edge { OnOk result (IsAtEdge window.new) }
+    ensures gone { OnOk result (GoesOn (reached_in window.old) batch.new (reached_in window.new)) }
+    ensures none_left { OnOk result (NoneBelow (min window.old.until until) (edge_of window.new)) }
+    ensures stays { StaysNet window.old window.new }
+    ensures no_sink { IfErr result IsOfWorkers }
+    ensures full { IfErr result (λ fault. fault ≡ EngineFault.CountFull → HasTooMany (reached_in window.old)) }
+{
+    let _began = window.position();
+    run_groups(rt, alloc, workers, gate, until, window)?;
+    match window.turn_into(batch) {
+        Ok(()) => Ok(()),
+        Err(TurnFault::NotDone) => unreachable!(),
+        Err(TurnFault::NoMemory) => Err(EngineFault::NoMemory),
+        Err(TurnFault::CountFull) => Err(EngineFault::CountFull),
+    }
+}

@@ -1,0 +1,202 @@
+//! The engine: a scenario's run by windows on many workers.
+ghost use Rattle.std.specs.Prelude.{◌≡◌, ◌≢◌, ◌<◌, ◌≤◌, List, length, true, false, is_err, IfErr, IfOk, IfSome, OnOk, OnErr, None, Some, Err};
+ghost use Rattle.scenario_image.specs.declared.parts.ScenarioParts.{ScenarioParts};
+ghost use Rattle.scenario_image.specs.Scenario.{IsScenario};
+ghost use Rattle.node_core.specs.TraceLine.{TraceLine};
+ghost use Rattle.table_run.specs.State.{due, opening};
+ghost use Rattle.table_run.specs.Laws.{ComesTo};
+ghost use Rattle.net_machine.specs.Run.{IsRun};
+ghost use Rattle.window_core.specs.Full.{HasTooMany};
+ghost use Rattle.window_core.specs.Lookahead.{lookahead};
+ghost use Rattle.window_core.specs.Partition.{group_in};
+ghost use Rattle.window_engine.specs.Outcomes.{IsOfWorkers};
+ghost use Rattle.window_engine.specs.Engines.{GoesOn, NoneBelow, Commits, IsStop, next_time, window_end_by, sink_failures};
+
+use crate::advance::advance;
+use crate::course::Course;
+use crate::fault::{EngineFault, Stop};
+use crate::gate::Gate;
+use crate::sink::Sink;
+use net_machine::Net;
+use scenario_image::Scenario;
+use sim_time::Time;
+use std::alloc::{AllocError, Global};
+use std::marker::Model;
+use std::sync::Wait;
+use std::thread::Threads;
+use window_core::{Batch, Partition, Window};
+
+/// A scenario's run by windows on many workers. After a fault each call answers `Failed`.
+#[derive(Drop)]
+pub struct Engine {
+    /// The net on its way.
+    course: Course,
+    /// Whether a call had a fault.
+    failed: bool,
+}
+
+impl Model for Engine {
+    ghost use Rattle.window_engine.specs.Engines.{EngineValue};
+    ghost use Rattle.window_engine.specs.EngineCode.{engine_code};
+
+    ghost Value = { EngineValue };
+
+    ghost coded = { engine_code };
+
+    ghost use Rattle.window_engine.specs.EngineOf.{engine_of, IsEngineInside};
+
+    ghost view = { engine_of };
+
+    ghost invariant = { IsEngineInside };
+}
+
+impl Engine {
+    /// A scenario's run from its beginning. A refusal gives the partition up.
+    pub fn new(
+        alloc: Global,
+        scenario: &Scenario,
+        partition: Partition,
+    ) -> Result<Engine, AllocError>
+        requires { length partition ≡ length scenario.now.nodes }
+        ensures { IfOk result (λ e. e ≡ record { entries = partition; ahead = lookahead (group_in partition) scenario.now.links; net = record { state = opening scenario.now; position = 0 }; failed = false }) }
+    {
+        let _parts = scenario.parts();
+        let net = Net::new(alloc, scenario)?;
+        Engine::at(alloc, net, partition)
+    }
+
+    /// The run from where a net stands. A refusal gives the net and the partition up.
+    pub fn at(alloc: Global, net: Net, partition: Partition) -> Result<Engine, AllocError>
+        requires { length partition ≡ length net.state.parts }
+        ensures net { IfOk result (λ e. e.net ≡ net) }
+        ensures entries { IfOk result (λ e. e.entries ≡ partition) }
+        ensures ahead { IfOk result (λ e. (p : ScenarioParts) (before : List TraceLine) → IsScenario p → ComesTo p net.position before net.state → e.ahead ≡ lookahead (group_in partition) p.links) }
+        ensures failed { IfOk result (λ e. e.failed ≡ false) }
+    {
+        let _groups = partition.groups();
+        let position = net.position();
+        let end = net.end();
+        match Window::new(alloc, net, partition) {
+            Ok(window) => Ok(Engine {
+                course: Course {
+                    window,
+                    end,
+                    position,
+                    batch: Batch::new(alloc, 0),
+                    text: Vec::new(alloc),
+                    alloc,
+                },
+                failed: false,
+            }),
+            Err(_) => Err(AllocError),
+        }
+    }
+
+    /// How many events of the run are committed.
+    pub fn position(&self) -> u64
+        ensures count { result ≡ self.now.net.position }
+        ensures is_run { self.now.failed ≡ false → IsRun self.now.net }
+    {
+        let _reached = self.course.window.position();
+        self.course.position
+    }
+
+    /// Whether a call had a fault.
+    pub fn failed(&self) -> bool
+        ensures { result ≡ self.now.failed }
+    {
+        self.failed
+    }
+
+    /// The net at the last window's edge.
+    pub fn edge(&self) -> Result<Net, AllocError>
+        requires { self.now.failed ≡ false }
+        ensures { IfOk result (λ net. net ≡ self.now.net) }
+    {
+        let _reached = self.course.window.position();
+        self.course.window.edge()
+    }
+
+    /// When the next event is, in nanoseconds, where one is left below the run's end.
+    pub fn next(&self) -> Option<Time>
+        requires { self.now.failed ≡ false }
+        ensures none { result ≡ None → due self.now.net.state ≡ None }
+        ensures next { IfSome result (λ time. next_time self.now.net.state ≡ Some time) }
+        ensures below { IfSome result (λ time. time < self.now.net.state.end) }
+    {
+        self.course.next()
+    }
+
+    /// Runs the next window by so many workers, to end by a moment at the latest, and gives its
+    /// lines.
+    pub fn window<G: Gate, R: Threads + Wait + Sync>(
+        &mut self,
+        rt: &R,
+        workers: usize,
+        gate: &G,
+        until: Time,
+    ) -> Result<Batch, EngineFault>
+        requires workers { (0 < workers) × (workers ≤ 64) }
+        ensures ok { IfOk result (λ batch. GoesOn self.old.net batch self.new.net) }
+        ensures none_left { OnOk result (NoneBelow (window_end_by self.old until) self.new.net.state) }
+        ensures err { OnErr result (self.new.net.position ≡ self.old.net.position) }
+        ensures no_sink { IfErr result IsOfWorkers }
+        ensures full { IfErr result (λ fault. fault ≡ EngineFault.CountFull → HasTooMany self.old.net) }
+        ensures failed { self.new.failed ≡ is_err result }
+        ensures failed_before { self.old.failed ≡ true → result ≡ Err EngineFault.Failed }
+        ensures entries { self.new.entries ≡ self.old.entries }
+        ensures ahead { self.new.ahead ≡ self.old.ahead }
+    {
+        if self.failed {
+            return Err(EngineFault::Failed);
+        }
+        let _reached = self.course.window.position();
+        let mut batch = Batch::new(self.course.alloc, 0);
+        match advance(
+            rt,
+            self.course.alloc,
+            workers,
+            gate,
+            until,
+            &mut self.course.window,
+            &mut batch,
+        ) {
+            Ok(()) => {}
+            Err(fault) => {
+                self.failed = true;
+                return Err(fault);
+            }
+        }
+        self.course.position = self.course.window.position();
+        Ok(batch)
+    }
+
+    /// Runs windows by so many workers and writes their lines, up to the run's end or until no
+    /// event is left below a moment.
+    pub fn run<G: Gate, S: Sink, R: Threads + Wait + Sync>(
+        &mut self,
+        rt: &R,
+        workers: usize,
+        gate: &G,
+        until: Time,
+        sink: &mut S,
+    ) -> Result<Stop, EngineFault>
+        requires workers { (0 < workers) × (workers ≤ 64) }
+        ensures commits { Commits self.old.net result self.new.net (S.contents sink.old) (S.contents sink.new) }
+        ensures stop { IfOk result (IsStop until self.new.net.state) }
+        ensures full { IfErr result (λ fault. fault ≡ EngineFault.CountFull → HasTooMany self.old.net) }
+        ensures failed { self.new.failed ≡ is_err result }
+        ensures failed_before { self.old.failed ≡ true → result ≡ Err EngineFault.Failed }
+        ensures failures { S.failures sink.new ≡ sink_failures result (S.failures sink.old) }
+        ensures entries { self.new.entries ≡ self.old.entries }
+        ensures ahead { self.new.ahead ≡ self.old.ahead }
+    {
+        if self.failed {
+            return Err(EngineFault::Failed);
+        }
+        let _reached = self.course.window.position();
+        let outcome = self.course.write_windows(rt, workers, gate, until, sink);
+        self.failed = outcome.is_err();
+        outcome
+    }
+}

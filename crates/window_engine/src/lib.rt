@@ -1,0 +1,24 @@
+//! Workers that run the groups of a window, and where its lines go.
+#![tactic(auto)]
+
+mod advance;
+mod course;
+mod engine;
+mod fault;
+mod gate;
+mod gather;
+mod pieces;
+mod put;
+mod sink;
+mod slice;
+mod sweep;
+#[cfg(test)]
+mod tests;
+mod text;
+
+pub use engine::Engine;
+pub use fault::{EngineFault, Stop};
+pub use gate::{Gate, OpenGate};
+pub use put::put_all;
+pub use sink::{OverWrite, Sink, SinkFail};
+pub use slice::{FIRST_SLICE, next_slice};
