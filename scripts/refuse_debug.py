@@ -9,37 +9,6 @@ import os, subprocess, sys, tempfile
 top = os.path.dirname(os.path.dirname(os.path.abspath(__file__)))
 program = os.path.join(top, 'crates/tcpsim/out/tcpsim')
 COMMANDS = 'break kind data\nrun\nrun\nback 1\nuntil 2040000\nbak 1\n'
-REFUSE = r'''
-#define _GNU_SOURCE
-#include <dlfcn.h>
-#include <errno.h>
-#include <stdlib.h>
-static long count, nth = -1;
-static int refused(void) {
-  if (nth < 0) { char *text = getenv("REFUSE"); nth = text ? atol(text) : 0; }
-  return ++count == nth;
-}
-#define REAL(name) (real ? real : (real = dlsym(RTLD_NEXT, name)))
-void *malloc(size_t n) {
-  static void *(*real)(size_t);
-  if (refused()) { errno = ENOMEM; return 0; }
-  return REAL("malloc")(n);
-}
-void *realloc(void *p, size_t n) {
-  static void *(*real)(void *, size_t);
-  if (refused()) { errno = ENOMEM; return 0; }
-  return REAL("realloc")(p, n);
-}
-int posix_memalign(void **p, size_t a, size_t n) {
-  static int (*real)(void **, size_t, size_t);
-  return refused() ? ENOMEM : REAL("posix_memalign")(p, a, n);
-}
-void *aligned_alloc(size_t a, size_t n) {
-  static void *(*real)(size_t, size_t);
-  if (refused()) { errno = ENOMEM; return 0; }
-  return REAL("aligned_alloc")(a, n);
-}
-'''
 
 
 def session(text, commands, **env):
@@ -67,8 +36,7 @@ def main():
     counts = {}
     unharmed = 0
     with tempfile.TemporaryDirectory() as work:
-        source, library = os.path.join(work, 'refuse.c'), os.path.join(work, 'refuse.so')
-        open(source, 'w').write(REFUSE)
+        source, library = os.path.join(top, 'scripts/refuse.c'), os.path.join(work, 'refuse.so')
         subprocess.run(['cc', '-O1', '-shared', '-fPIC', source, '-o', library, '-ldl'], check=True)
         request = 0
         while unharmed < 30:

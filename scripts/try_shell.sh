@@ -72,11 +72,21 @@ Options:
 T
 # help_of SUBCOMMAND WHAT: the help of a subcommand
 help_of() {
-  printf '%s\n\nUsage: tcpsim %s\n\nOptions:\n  -h, --help  Print help\n' "$2" "$1" > "$work/expected"
+  {
+    case $1 in
+      run | debug) printf '%s\n\nUsage: tcpsim %s [OPTIONS]\n\nOptions:\n' "$2" "$1"; cat "$work/options" ;;
+      *) printf '%s\n\nUsage: tcpsim %s\n\nOptions:\n  -h, --help  Print help\n' "$2" "$1" ;;
+    esac
+  } > "$work/expected"
   for flag in --help -h; do
     run "$1" $flag < "$first"; ended "tcpsim $1 $flag" 0 "$work/nothing" "$work/expected"
   done
 }
+cat > "$work/options" <<'T'
+      --workers <N>  How many workers run the groups, 1 to 64 [default: 1]
+      --groups <G>   The group of each node: one, each, or numbers as in 0,0,1 [default: one]
+  -h, --help         Print help
+T
 echo 'tcpsim 0.1.0' > "$work/version"
 run --help < "$first"; ended 'tcpsim --help' 0 "$work/nothing" "$work/help"
 run -h < "$first"; ended 'tcpsim -h' 0 "$work/nothing" "$work/help"
@@ -104,11 +114,28 @@ mistaken 'tcpsim <COMMAND>' "'tcpsim' requires a subcommand but one was not prov
 mistaken 'tcpsim <COMMAND>' "unrecognized subcommand 'verify'" verify
 mistaken 'tcpsim <COMMAND>' "unrecognized subcommand 'help'" help
 mistaken 'tcpsim <COMMAND>' "unexpected argument '--fast' found" --fast run
-mistaken 'tcpsim run' "unexpected argument '--workers' found" run --workers 2
-mistaken 'tcpsim run' "unexpected argument 'run' found" run run
+mistaken 'tcpsim asm' "unexpected argument '--workers' found" asm --workers 2
+mistaken 'tcpsim dis' "unexpected argument '--groups' found" dis --groups each
+mistaken 'tcpsim run [OPTIONS]' "unexpected argument 'run' found" run run
 mistaken 'tcpsim asm' "unexpected argument 'dis' found" asm dis
 mistaken 'tcpsim dis' "unexpected argument '--fast' found" dis --fast
-mistaken 'tcpsim run' "unexpected argument '--version' found" run --version
+mistaken 'tcpsim run [OPTIONS]' "unexpected argument '--version' found" run --version
+# valued LINE WORD..: options whose value is refused, whatever the input is
+valued() {
+  printf "error: %s\n\nFor more information, try '--help'.\n" "$1" > "$work/expected"
+  shift
+  run "$@" < "$first"
+  ended "tcpsim $*" 2 "$work/expected" "$work/nothing"
+  run "$@" <&-
+  ended "tcpsim $* with standard input closed" 2 "$work/expected" "$work/nothing"
+}
+for words in run debug; do
+  for workers in 0 65; do
+    valued "invalid value '$workers' for '--workers <N>': $workers is not in 1..=64" $words --workers $workers
+  done
+  valued "invalid value 'x' for '--workers <N>': invalid digit found in string" $words --workers=x
+  valued "a value is required for '--workers <N>' but none was supplied" $words --workers
+done
 run "$(printf 'r\377n')" < "$first"; told 'a word that is not UTF-8' 2 'error: a word is not valid UTF-8'
 run run "$(printf '\200')" < "$first"; told 'a second word that is not UTF-8' 2 'error: a word is not valid UTF-8'
 
@@ -256,6 +283,33 @@ head -c 2 "$work/image" > "$work/text"; broken 'refused E2 line 1' 'of two bytes
 { head -c 22 "$work/image"; printf '\3'; tail -c +24 "$work/image"; } > "$work/text"; broken 'refused L3' 'with a node of kind 3'
 { cat "$work/image"; head -c 16777083 /dev/zero; } > "$work/text"; broken 'refused I1' 'of 16,777,217 bytes'
 
+# ---- workers and groups
+
+# Whoever runs what, the trace is the stored one. By many workers a window costs as many threads, so
+# the larger examples are run by one.
+for scenario in "$examples"/*.txt; do
+  stored=${scenario%.txt}.trace
+  some=1
+  [ "$(wc -c < "$stored")" -gt 20000 ] || some='1 2 4 64'
+  for workers in $some; do
+    run run --groups each --workers "$workers" < "$scenario"
+    ended "examples/$(basename "$scenario"), each node by itself, workers: $workers" 0 "$work/nothing" "$stored"
+  done
+done
+for options in '--groups one --workers 64' '--workers=2 --groups=63,7' '--groups 0,0' '--workers +1 --groups 0,1'; do
+  run run $options < "$first"; ended "run $options" 0 "$work/nothing" "$first_trace"
+done
+for words in run debug; do
+  for groups in 0 0,1,2 0,64 0,01 0, '' ones; do
+    run $words --groups "$groups" < "$first"; told "$words --groups '$groups'" 2 'refused groups'
+  done
+  run $words --groups 0 < /dev/null; told "$words --groups 0 of an empty input" 1 'refused E10 line 0'
+  run $words --groups 0 <&-; told "$words --groups 0 with standard input closed" 3 'read failed'
+done
+"$program" run --groups each --workers 2 < "$first" > /dev/full 2> "$work/note"; status=$?
+: > "$work/out"
+told 'run by two workers to a full device' 3 'write failed'
+
 # ---- debugging
 
 # hunt NAME: the commands of an example get the answers that docs/DEBUGGING.md shows
@@ -266,6 +320,10 @@ for hunt in two_timeouts_in_a_row codel_enters_drop_state; do
   "$program" debug < "$work/session" > "$work/out.$hunt" 2> "$work/note"; status=$?
   : > "$work/out"
   told "the hunt $hunt" 0 ''
+done
+for options in '--groups each --workers 1' '--groups each --workers 4' '--workers 64 --groups 1,0'; do
+  run debug $options < "$work/session"
+  ended "the hunt codel_enters_drop_state, debug $options" 0 "$work/nothing" "$work/out.codel_enters_drop_state"
 done
 if cat "$work/out.two_timeouts_in_a_row" "$work/out.codel_enters_drop_state" | cmp -s - "$work/answers"; then
   pass 'the answers of docs/DEBUGGING.md'
@@ -329,14 +387,19 @@ told 'an empty input with standard error closed' 1 ''
 
 # ---- want of memory
 
-# refused SUBCOMMAND NAME SCENARIO
+# refused SUBCOMMAND NAME SCENARIO [OPTION]..
 refused() {
-  if said=$("$top/scripts/refuse_memory.sh" "$3" "$1" 2>&1); then
-    pass "memory refused: $1 of $2"
+  what="$1 of $2"
+  subcommand=$1
+  scenario_file=$3
+  shift 3
+  if said=$("$top/scripts/refuse_memory.sh" "$scenario_file" "$subcommand" "$@" 2>&1); then
+    pass "memory refused: $what $*"
   else
-    fail "memory refused: $1 of $2" "$said"
+    fail "memory refused: $what $*" "$said"
   fi
 }
+refused run one_segment "$first" --groups each --workers 1
 for scenario in one_segment slow_start_into_a_full_queue four_flows_before_codel; do
   refused run "$scenario" "$examples/$scenario.txt"
 done
