@@ -12,21 +12,25 @@ import sys
 import tempfile
 import time
 
-TOP = os.path.dirname(os.path.dirname(os.path.abspath(__file__)))
+from results import ENVIRONMENT, PROGRAM, TOP, put_section, table
+
 sys.path.insert(0, os.path.join(TOP, 'scripts', 'model'))
 
 import image  # noqa: E402
 from scenarios import SCENARIOS  # noqa: E402
 from text import assemble, disassemble  # noqa: E402
 
-PROGRAM = os.path.join(TOP, 'crates', 'tcpsim', 'out', 'tcpsim')
-RESULTS = os.path.join(TOP, 'bench', 'RESULTS.md')
 HEAD = '## Images\n'
 FIRST = os.path.join(TOP, 'examples', 'one_segment.txt')
 NAMES = 'chain', 'dumbbell_codel', 'tree', 'largest'
 LOAD_MS, SAVE_MS = 20, 10
-LOAD, SAVE = 'tcpsim::scenario_input::read_scenario', 'tcpsim::conversion::put_image'
-ENVIRONMENT = {'PATH': '/usr/bin:/bin', 'LC_ALL': 'C'}
+# Where the first is made part of the second, it is what that costs without the third.
+LOAD, BOTH, SAVE = 'tcpsim::scenario_input::read_scenario', 'tcpsim::session::answer_bytes', 'tcpsim::conversion::put_image'
+
+
+def cost(said, name):
+    found = re.search(rf'^ *([\d,]+) .*:{name}\b', said, re.M)
+    return int(found[1].replace(',', '')) if found else 0
 
 
 def costs(program, subcommand, path, work):
@@ -37,7 +41,8 @@ def costs(program, subcommand, path, work):
                        stdout=subprocess.DEVNULL, stderr=subprocess.DEVNULL, env=ENVIRONMENT, check=True)
     said = subprocess.run(['callgrind_annotate', '--inclusive=yes', '--threshold=100', out], capture_output=True,
                           text=True, env=ENVIRONMENT, check=True).stdout
-    return [int(re.search(rf'^ *([\d,]+) .*:{name}\b', said, re.M)[1].replace(',', '')) for name in (LOAD, SAVE)]
+    load, both, save = (cost(said, name) for name in (LOAD, BOTH, SAVE))
+    return load or both - save, save
 
 
 def milliseconds(program, subcommand, path):
@@ -75,22 +80,13 @@ def section(program):
            f'the program; the largest image is to be loaded in {LOAD_MS} ms and saved in {SAVE_MS}.\n')
     heads = ('Scenario', 'Bytes of image', 'Instructions to load', 'a byte', 'to save', 'a byte', '`asm` of the image, ms',
              '`dis` of it, ms', '`asm` of the text, ms')
-    yield '| ' + ' | '.join(heads) + ' |'
-    yield '|---' + '|--:' * (len(heads) - 1) + '|'
-    for row in rows(program):
-        yield '| ' + ' | '.join(row) + ' |'
+    yield from table(heads, rows(program))
 
 
 def main(words=None):
     parser = argparse.ArgumentParser(description=__doc__, formatter_class=argparse.RawDescriptionHelpFormatter)
     parser.add_argument('--program', default=PROGRAM)
-    made = '\n'.join(section(parser.parse_args(words).program))
-    with open(RESULTS) as file:
-        before, _, behind = file.read().partition('\n' + HEAD)
-    later = re.search(r'^## ', behind, re.M)
-    with open(RESULTS, 'w') as file:
-        file.write(before.rstrip('\n') + '\n\n' + made + '\n' + ('\n' + behind[later.start():] if later else ''))
-    print(made)
+    put_section(HEAD, section(parser.parse_args(words).program))
 
 
 if __name__ == '__main__':

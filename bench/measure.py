@@ -15,13 +15,13 @@ import time
 from collections import namedtuple
 from concurrent.futures import ThreadPoolExecutor
 
+import beside_ns2
 import images
+import workers
+from results import CALLGRIND, ENVIRONMENT, PROGRAM, RESULTS, TOP, instructions, number, processor, saved, table
 from scenarios import SCENARIOS, disassemble, started
 
-TOP = os.path.dirname(os.path.dirname(os.path.abspath(__file__)))
 CRATE = os.path.join(TOP, 'crates', 'tcpsim')
-PROGRAM = os.path.join(CRATE, 'out', 'tcpsim')
-BENCH = os.path.join(TOP, 'bench')
 FEW, MANY = 20_000, 200_000
 # A link takes at most 64 losses: the 1,000th, 2,000th, .. 64,000th packet.
 LOSSES = ''.join(f'lose a {1000 * k}\n' for k in range(1, 65))
@@ -43,9 +43,6 @@ BARS = (
     ('tree', '100 flows through a tree of routers, one bottleneck', 1_300),
     ('chain', 'one flow through a chain of 16 routers', 1_000),
 )
-# Fixed, since a starting program looks through its environment.
-ENVIRONMENT = {'PATH': '/usr/bin:/bin', 'LC_ALL': 'C'}
-CALLGRIND = ('valgrind', '--tool=callgrind', '--callgrind-out-file=/dev/null')
 DHAT = ('valgrind', '--tool=dhat', '--dhat-out-file=/dev/null')
 Case = namedtuple('Case', 'name segments path')
 Run = namedtuple('Run', 'name segments events packets written resident seconds instructions heap')
@@ -57,16 +54,6 @@ def text(segments, delack=0, losses='', end=10**15, link='100000000 1000000 drop
     100 Mbit/s, 1 ms each way and 20 packets of queue, which the window can overflow."""
     return (f'sim {end}\nnode s sender\nnode r receiver\nlink a s r {link}\nlink b r s {link}\n'
             f'flow f s r 1460 {segments} 0 {1460 * window} {delack}\n{losses}')
-
-
-def saved(name, scenario):
-    """The path of a scenario's file in bench/work."""
-    work = os.path.join(BENCH, 'work')
-    os.makedirs(work, exist_ok=True)
-    path = os.path.join(work, re.sub('[^a-z0-9]+', '_', name.lower()) + '.txt')
-    with open(path, 'w') as file:
-        file.write(scenario)
-    return path
 
 
 def case(name, segments, scenario):
@@ -81,10 +68,6 @@ def run(path, before=()):
     if done.returncode != 0:
         sys.exit(f'{path}: status {done.returncode}: {done.stderr.strip()}')
     return done.stderr
-
-
-def number(pattern, said):
-    return int(re.search(pattern, said)[1].replace(',', ''))
 
 
 def resident(process, before):
@@ -131,7 +114,7 @@ def costs(names, jobs):
     paths += [saved(name, disassemble(SCENARIOS[name]()).decode()) for name, *_ in bars]
     events = [watch(path)[0] for path in paths]
     with ThreadPoolExecutor(jobs) as pool:
-        counts = list(pool.map(lambda path: number(r'Collected : (\d+)', run(path, CALLGRIND)), paths))
+        counts = list(pool.map(lambda path: instructions(run(path, CALLGRIND)), paths))
     for at, (name, what, bar) in enumerate(bars):
         (few, many), (start, whole) = events[at::len(bars)], counts[at::len(bars)]
         yield Cost(name, what, many, (whole - start) / (many - few), bar)
@@ -149,41 +132,15 @@ def measured(cases, jobs):
     with ThreadPoolExecutor(jobs) as pool:
         counts = list(pool.map(lambda c: run(c.path, CALLGRIND), cases))
         heaps = list(pool.map(lambda c: run(c.path, DHAT), cases))
-    return [Run(c.name, c.segments, *s, number(r'Collected : (\d+)', i), number(r't-gmax: ([\d,]+) bytes', h))
+    return [Run(c.name, c.segments, *s, instructions(i), number(r't-gmax: ([\d,]+) bytes', h))
             for c, s, i, h in zip(cases, seen, counts, heaps)]
-
-
-def ns2(segments):
-    """Version and instructions, start taken off, of ns-2 on the first flow; None without ns-2."""
-    if not shutil.which('ns', path=ENVIRONMENT['PATH']):
-        return None
-    counts = []
-    for n in (1, segments):
-        done = subprocess.run([*CALLGRIND, 'ns', os.path.join(BENCH, 'ns2.tcl'), str(n)], text=True,
-                              capture_output=True, env=ENVIRONMENT, check=True)
-        counts.append(number(r'Collected : (\d+)', done.stderr))
-    return done.stdout.strip(), counts[1] - counts[0]
 
 
 def told(*command):
     return subprocess.run(command, capture_output=True, text=True, check=True).stdout.strip()
 
 
-def processor():
-    with open('/proc/cpuinfo') as info:
-        found = re.search(r'model name\s*:\s*(.*)', info.read())
-    return found[1] if found else 'an unnamed processor'
-
-
-def table(heads, rows):
-    yield '| ' + ' | '.join(heads) + ' |'
-    yield '|---' + '|--:' * (len(heads) - 1) + '|'
-    for row in rows:
-        yield '| ' + ' | '.join(row) + ' |'
-    yield ''
-
-
-def report(start, runs, crowded, networks, other):
+def report(start, runs, crowded, networks):
     def an_event(r):
         return (r.instructions - start.instructions) / (r.events - start.events)
 
@@ -224,16 +181,6 @@ def report(start, runs, crowded, networks, other):
         ('Flow', 'Segments', 'Seconds', 'Packets sent a second', 'Events a second', 'Resident memory (VmHWM), bytes'),
         [(r.name, f'{r.segments:,}', f'{r.seconds:.3f}', f'{r.packets / r.seconds:,.0f}',
           f'{r.events / r.seconds:,.0f}', f'{r.resident:,}') for r in runs])
-    if other is not None:
-        ours = pairs[0][0].instructions - start.instructions
-        yield '## Beside ns-2\n'
-        version, theirs = other
-        yield (f'`{version}` on bench/ns2.tcl, the first flow with {FEW:,} segments, its trace written to '
-               '/dev/null as well. Its Reno follows other rules, and its trace has other lines, so this says '
-               'only how large both are. Instructions without the start:\n')
-        yield from table(('Simulator', 'Instructions', 'Instructions a segment'),
-                         [('tcpsim', f'{ours:,}', f'{ours / FEW:,.0f}'),
-                          ('ns-2', f'{theirs:,}', f'{theirs / FEW:,.0f}')])
 
 
 def build():
@@ -275,11 +222,14 @@ def main():
            for w in UNDER_WAY], given.jobs)
     crowded = runs[-len(UNDER_WAY):]
     networks = list(costs([name for name, *_ in BARS], given.jobs))
-    results = '\n'.join(report(start, runs[:-len(UNDER_WAY)], crowded, networks, ns2(FEW)))
-    with open(os.path.join(BENCH, 'RESULTS.md'), 'w') as file:
+    results = '\n'.join(report(start, runs[:-len(UNDER_WAY)], crowded, networks))
+    with open(RESULTS, 'w') as file:
         file.write(results.rstrip('\n') + '\n')
     print(results)
     images.main([f'--program={PROGRAM}'])
+    workers.main([f'--program={PROGRAM}'])
+    if beside_ns2.installed():
+        beside_ns2.main([f'--program={PROGRAM}'])
 
 
 if __name__ == '__main__':

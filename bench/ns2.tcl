@@ -1,7 +1,12 @@
-# The first flow of measure.py for ns-2 (http://www.isi.edu/nsnam/ns): ns ns2.tcl SEGMENTS.
-# Its Reno has rules of its own and writes three trace lines a packet and link.
+# The first flow of measure.py for ns-2 (http://www.isi.edu/nsnam/ns): ns ns2.tcl SEGMENTS [trace].
+# Its Reno has rules of its own; with `trace` it writes three lines a packet and link. Of the headers
+# that ns-2 knows a packet has only those that are used here, which is how it runs fastest.
+remove-all-packet-headers
+add-packet-header IP TCP Flags
 set ns [new Simulator]
-$ns trace-all [open /dev/null w]
+if {[lindex $argv 1] eq "trace"} {
+    $ns trace-all [open /dev/null w]
+}
 set s [$ns node]
 set r [$ns node]
 $ns simplex-link $s $r 100Mb 1ms DropTail

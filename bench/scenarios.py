@@ -81,6 +81,46 @@ def chain(routers, segments):
     return net.scenario(EVER)
 
 
+def islands(flows, crossing, segments):
+    """Four parts, each with a bottleneck of 1 Gbit/s of its own, joined in a ring by cables of 10 ms; of
+    the flows of each part some go over to the next."""
+    net = Net()
+    near, far = ([net.node(ROUTER) for _ in range(4)] for _ in range(2))
+    for part in range(4):
+        net.cable(near[part], far[part], GBIT, 200 * US, droptail(500))
+        net.cable(far[part], near[(part + 1) % 4], GBIT, 10 * MS, droptail(1000))
+    for n in range(4 * flows):
+        part, cable = n % 4, (GBIT, (50 + 37 * n) * US, droptail(1000))
+        to = part if n < 4 * (flows - crossing) else (part + 1) % 4
+        net.flow(near[part], far[to], cable, cable, MSS, segments, n * 100 * US, 200 * MSS)
+    return net.scenario(EVER)
+
+
+def ring(flows, segments):
+    """Four parts in a ring of cables of 10 to 13 ms; all flows of each part go over to the next."""
+    net = Net()
+    gates, senders, receivers = ([net.node(ROUTER) for _ in range(4)] for _ in range(3))
+    for part in range(4):
+        net.cable(gates[part], gates[(part + 1) % 4], GBIT, (10 + part) * MS, droptail(2000))
+        for leaf in senders[part], receivers[part]:
+            net.cable(leaf, gates[part], 10 * GBIT, 100 * US, droptail(2000))
+    for n in range(4 * flows):
+        part, cable = n % 4, (GBIT, (50 + 37 * n) * US, droptail(1000))
+        net.flow(senders[part], receivers[(part + 1) % 4], cable, cable, MSS, segments, n * 100 * US, 300 * MSS)
+    return net.scenario(EVER)
+
+
+def rate_jump(segments):
+    """A flow over 1,000 bit/s, and one over 10^12 bit/s that starts 1,000 s later; each over a router."""
+    net = Net()
+    near, far = net.node(ROUTER), net.node(ROUTER)
+    net.cable(near, far, 10**12, 1000 * MS, droptail(65_535))
+    for rate, window, start in ((1_000, 4, 0), (10**12, 735_439, 1_000_000 * MS)):
+        cable = rate, MS, droptail(65_535)
+        net.flow(near, far, cable, cable, MSS, segments if start else 1_000, start, window * MSS)
+    return net.scenario(EVER)
+
+
 def largest(segments):
     """256 nodes of which 128 are routers in a ring, each with one end and with cables to its three
     neighbours on either side; 1,024 links with 64 losses each; every route."""
@@ -107,8 +147,18 @@ SCENARIOS = {
     'dumbbell_codel': lambda: dumbbell(14, 10_000, codel(1000, 5 * MS, 100 * MS, 1500)),
     'tree': lambda: tree(100, 1_000),
     'chain': lambda: chain(16, 20_000),
+    'islands': lambda: islands(12, 2, 20_000),
+    'ring': lambda: ring(14, 10_000),
+    'rate_jump': lambda: rate_jump(2_000_000),
     'largest': lambda: largest(100),
 }
+
+
+def four_groups(s):
+    """The groups of `islands` and `ring`, as the program's option has them: a router's is its part, an
+    end's that of the router that it is cabled to."""
+    of = {link.source: link.to for link in s.links}
+    return ','.join(str((node if kind == ROUTER else of[node]) % 4) for node, kind in enumerate(s.nodes))
 
 
 def started(s):

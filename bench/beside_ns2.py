@@ -1,0 +1,82 @@
+#!/usr/bin/env python3
+"""Measures the first flow of measure.py here and with ns-2, and writes that section of bench/RESULTS.md:
+bench/beside_ns2.py [--program PATH] [--rounds N]
+
+`bench/measure.py` writes the section too, where ns-2 is installed (apt-get install ns2).
+"""
+import argparse
+import os
+import shutil
+import subprocess
+import sys
+import time
+
+from results import BENCH, CALLGRIND, ENVIRONMENT, PROGRAM, instructions, processor, put_section, saved, table
+from scenarios import disassemble, one_flow
+
+HEAD = '## Beside ns-2\n'
+CORE = '0'
+FEW, MANY = 20_000, 200_000
+
+
+def installed():
+    return shutil.which('ns', path=ENVIRONMENT['PATH']) is not None
+
+
+def simulators(program):
+    """Each simulator's name, and the command and the input for so many segments."""
+    def ours(segments):
+        return (program, 'run'), saved(f'one flow {segments}', disassemble(one_flow(segments)).decode())
+
+    def theirs(*words):
+        return lambda segments: (('ns', os.path.join(BENCH, 'ns2.tcl'), str(segments), *words), os.devnull)
+
+    return ('tcpsim, with its trace', ours), ('ns-2 without a trace', theirs()), ('ns-2 with its trace', theirs('trace'))
+
+
+def ran(command, given, before=()):
+    with open(given) as text:
+        return subprocess.run([*before, *command], stdin=text, stdout=subprocess.DEVNULL, stderr=subprocess.PIPE,
+                              text=True, env=ENVIRONMENT, check=True).stderr
+
+
+def seconds(kinds, rounds):
+    """The least seconds of each, one after another in each round."""
+    least = [float('inf')] * len(kinds)
+    for _ in range(rounds):
+        for at, kind in enumerate(kinds):
+            begin = time.perf_counter()
+            ran(*kind, ('taskset', '-c', CORE))
+            least[at] = min(least[at], time.perf_counter() - begin)
+    return least
+
+
+def section(program, rounds):
+    version = subprocess.run(['ns', os.path.join(BENCH, 'ns2.tcl'), '1'], capture_output=True, text=True, check=True).stdout.strip()
+    known = simulators(program)
+    starts, few, many = ([make(segments) for _, make in known] for segments in (1, FEW, MANY))
+    counts = [instructions(ran(*whole, CALLGRIND)) - instructions(ran(*start, CALLGRIND)) for start, whole in zip(starts, few)]
+    took = seconds(starts + many, rounds)
+    yield HEAD
+    yield (f'`{version}` on bench/ns2.tcl, the first flow above, its packets with the headers alone that are used here. What a '
+           'run of one segment costs is taken off. tcpsim has no run without a trace: it writes a line for each event; ns-2 writes '
+           'three for each packet and link, both to /dev/null. Their rules differ too, so this says only how large both are. '
+           f'Instructions with {FEW:,} segments; seconds with {MANY:,}, on one core of {processor()}, each in turn, the least of '
+           f'{rounds} rounds.\n')
+    yield from table(('Simulator', 'Instructions a segment', 'Seconds', 'Segments a second'),
+                     [(name, f'{count / FEW:,.0f}', f'{whole - start:.3f}', f'{MANY / (whole - start):,.0f}')
+                      for (name, _), count, start, whole in zip(known, counts, took, took[len(known):])])
+
+
+def main(words=None):
+    parser = argparse.ArgumentParser(description=__doc__, formatter_class=argparse.RawDescriptionHelpFormatter)
+    parser.add_argument('--program', default=PROGRAM)
+    parser.add_argument('--rounds', type=int, default=9)
+    given = parser.parse_args(words)
+    if not installed():
+        sys.exit('ns-2 is not installed')
+    put_section(HEAD, section(given.program, given.rounds))
+
+
+if __name__ == '__main__':
+    main()

@@ -1,0 +1,140 @@
+#!/usr/bin/env python3
+"""Measures runs by workers and groups and writes that section of bench/RESULTS.md:
+bench/workers.py [--program PATH] [--rounds N] [--priority P]
+
+`bench/measure.py` writes the section too. Instructions are counted by valgrind, with one worker, and do
+not depend on the machine's speed. Seconds are whole runs, their trace thrown away, each kind of run in
+turn in each round, so that what else the machine does disturbs them alike; the least of all rounds counts.
+On a machine with other work a real-time priority keeps the cores for them (as root). Windows are counted
+by the threads that are started, with strace. It wants valgrind, strace, taskset and GNU time.
+"""
+import argparse
+import os
+import subprocess
+import time
+from collections import namedtuple
+
+from results import CALLGRIND, ENVIRONMENT, PROGRAM, instructions, number, processor, put_section, saved, table
+from scenarios import SCENARIOS, chain, disassemble, four_groups, one_flow, started, tree
+
+HEAD = '## Workers and groups\n'
+SPED_UP = 'islands', 'ring'
+# Shorter than in the table of events, since valgrind is slow.
+COUNTED = {'tree': lambda: tree(100, 200), 'chain': lambda: chain(16, 4_000)}
+ONE, EACH = 1.1, 1.6                    # at most so many times the instructions of a run without options
+LEAST, MOST = 2.5, 64                   # four workers to one; megabytes of memory
+Counted = namedtuple('Counted', 'name a_window plain one each')
+
+
+def ran(program, path, words=(), before=()):
+    with open(path) as scenario:
+        return subprocess.run([*before, program, 'run', *words], stdin=scenario, stdout=subprocess.DEVNULL,
+                              stderr=subprocess.PIPE, text=True, env=ENVIRONMENT, check=True).stderr
+
+
+def path_of(name, scenario):
+    return saved(name, disassemble(scenario).decode())
+
+
+def cost(program, name, words):
+    """Instructions of a run less those of one that ends where its last flow starts."""
+    whole, start = (instructions(ran(program, path, words, CALLGRIND))
+                    for path in (path_of(name + ' short', COUNTED[name]()), path_of(name + ' started', started(COUNTED[name]()))))
+    return whole - start
+
+
+def counted(program):
+    for name, scenario in COUNTED.items():
+        many = windows(program, path_of(name + ' short', scenario()), ('--groups', 'each'))
+        events = events_of(program, path_of(name + ' short', scenario()))
+        plain, *grouped = (cost(program, name, words) for words in
+                           ((), ('--workers', '1', '--groups', 'one'), ('--workers', '1', '--groups', 'each')))
+        yield Counted(name, events / many, plain, *grouped)
+
+
+def events_of(program, path):
+    done = subprocess.run(f'{program} run < {path} | tail -n 1', shell=True, capture_output=True, text=True, check=True)
+    return number(r'end (\d+)\n$', done.stdout)
+
+
+def windows(program, path, groups):
+    """How many windows a run has: one worker is one thread for each."""
+    said = ran(program, path, ('--workers', '1', *groups), ('strace', '-f', '-qq', '-e', 'trace=clone3'))
+    return said.count('clone3(')
+
+
+def seconds(kinds, rounds, before):
+    """The least seconds of each kind of run, a program with its words and cores over a scenario."""
+    least = [float('inf')] * len(kinds)
+    for _ in range(rounds):
+        for at, (program, path, words, cores) in enumerate(kinds):
+            begin = time.perf_counter()
+            ran(program, path, words, (*before, 'taskset', '-c', cores))
+            least[at] = min(least[at], time.perf_counter() - begin)
+    return least
+
+
+def sped_up(program, rounds, before):
+    for name in SPED_UP:
+        scenario = SCENARIOS[name]()
+        path, groups = path_of(name, scenario), ('--groups', four_groups(scenario))
+        kinds = [(program, path, (), '0')] + [(program, path, ('--workers', str(n), *groups), f'0-{n - 1}') for n in (1, 2, 4)]
+        yield name, events_of(program, path), windows(program, path, groups), seconds(kinds, rounds, before)
+
+
+def megabytes(program, path, words):
+    said = ran(program, path, words, ('/usr/bin/time', '-f', '%M kB'))
+    return number(r'(\d+) kB', said) / 1024
+
+
+def memory(program):
+    """The most resident memory of runs, by scenario and words."""
+    long, jump = path_of('ten million events', one_flow(2_500_000)), path_of('rate_jump', SCENARIOS['rate_jump']())
+    cases = [('one flow, ten million events', long, ()), ('`rate_jump`', jump, ()),
+             ('`rate_jump`', jump, ('--workers', '4', '--groups', '0,1,0,1,0,1'))]
+    for name in SPED_UP:
+        scenario = SCENARIOS[name]()
+        path, groups = path_of(name, scenario), four_groups(scenario)
+        cases += [(f'`{name}`', path, ()), (f'`{name}`', path, ('--workers', '4', '--groups', groups))]
+    for name, path, words in cases:
+        yield name, path, words, megabytes(program, path, words)
+
+
+def shown(words):
+    """The options of a run; a long list of groups by its first ones."""
+    return '`run' + ''.join(' ' + (word if len(word) < 12 else word[:8] + '..') for word in words) + '`'
+
+
+def section(program, rounds, before):
+    yield HEAD
+    yield ('Instructions of a run by one worker, those of its start taken off, beside those of `run` without options; '
+           f'`--groups one` is to cost {ONE} times as much at most, `--groups each` {EACH} times. With one group the program '
+           'runs one event at a time.\n')
+    yield from table(('Scenario', '`run`', '`--workers 1 --groups one`', 'times', '`--workers 1 --groups each`', 'times', 'events a window'),
+                     [(f'`{c.name}`', f'{c.plain:,}', f'{c.one:,}', f'{c.one / c.plain:.2f}', f'{c.each:,}', f'{c.each / c.plain:.2f}',
+                       f'{c.a_window:,.0f}')
+                      for c in counted(program)])
+    yield (f'Seconds of whole runs on {processor()}, {os.cpu_count()} cores, pinned to as many cores as workers'
+           + (', with real-time priority beside other work' if before else '') + f', the least of {rounds} rounds; the four '
+           'groups are the four parts of each scenario (bench/scenarios.py), joined by links of 10 ms and more. Four workers '
+           f'are to be {LEAST} times as fast as one.\n')
+    yield from table(('Scenario', 'Events', 'Events a window', '`run`', '1 worker', '2 workers', '4 workers', 'four to one', 'four to `run`'),
+                     [(f'`{name}`', f'{events:,}', f'{events / many:,.0f}', *(f'{s:.3f}' for s in took),
+                       f'{took[1] / took[3]:.2f}', f'{took[0] / took[3]:.2f}')
+                      for name, events, many, took in sped_up(program, rounds, before)])
+    yield f'The most resident memory of a run (GNU time), at most {MOST} MB:\n'
+    yield from table(('Scenario', 'Run', 'MB'), [(name, shown(words), f'{most:.1f}') for name, _, words, most in memory(program)])
+
+
+def main(words=None):
+    parser = argparse.ArgumentParser(description=__doc__, formatter_class=argparse.RawDescriptionHelpFormatter)
+    parser.add_argument('--program', default=PROGRAM)
+    parser.add_argument('--rounds', type=int, default=9)
+    parser.add_argument('--priority', type=int, help='the real-time priority of the timed runs, 1 to 99')
+    given = parser.parse_args(words)
+    before = ('chrt', '-f', str(given.priority)) if given.priority else ()
+    put_section(HEAD, section(given.program, given.rounds, before))
+
+
+if __name__ == '__main__':
+    main()
