@@ -127,15 +127,8 @@ timer_out agenda key number some within at timed rest =
     alarm)
     timed
 
--- an agenda, once an alarm is taken out and set anew
-abbrev pub renewing : AgendaState → ℕ → Option ℕ → AgendaState
-renewing agenda which time = record agenda {
-  alarms = set agenda.alarms which time;
-  pending = apply (alarm_cleared (numbered_key agenda.owner.node which) (get_or agenda.alarms which None) ++ alarm_set (numbered_key agenda.owner.node which) (alarm_event agenda.owner which) time) agenda.pending;
-}
-
 -- an alarm's own event leaves as the alarm is set anew
-pub renewed : (agenda : AgendaState) (key : Key) (which : ℕ) (time : Option ℕ) → key.node ≡ agenda.owner.node → IsAlarm agenda key which → renewing agenda which time ≡ moved_to (after_take agenda key) which time
+pub renewed : (agenda : AgendaState) (key : Key) (which : ℕ) (time : Option ℕ) → key.node ≡ agenda.owner.node → IsAlarm agenda key which → moved_to agenda which time ≡ moved_to (after_take agenda key) which time
 renewed agenda key which time at own =
     let set_it = alarm_set (numbered_key agenda.owner.node which) (alarm_event agenda.owner which) time in
     let gone : cleared key agenda.alarms ≡ set agenda.alarms which None = cleared_alarm key agenda.alarms which own.source own.number_is in

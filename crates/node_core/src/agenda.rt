@@ -1,11 +1,11 @@
 //! What is pending at a node: its alarms and what comes over its links, ranked by their next keys.
-ghost use Rattle.std.specs.Prelude.{◌≡◌, ◌+◌, ◌<◌, ◌≤◌, ◌^◌, ◌++◌, [], ℕ, All, EachIndex, IfOk, IsSome, Option, Some, None, length, map as each, replicate, slice_index, slice_index_or, slice_set, vec_len};
+ghost use Rattle.std.specs.Prelude.{◌≡◌, ◌+◌, ◌<◌, ◌≤◌, ◌^◌, [], All, EachIndex, IfOk, Option, Some, None, length, map as each, replicate, slice_index, vec_len};
 ghost use Rattle.std.specs.Option.{option_map};
 ghost use Rattle.std.specs.List.Sorted.{IsStrictlyIncreasing};
 ghost use Rattle.std.specs.FinMap as map;
 ghost use Rattle.sim_time.specs.declared.key.Key.{Key};
-ghost use Rattle.ranking.specs.Keyed.{least, next_key, apply, entering, EachKey};
-ghost use Rattle.node_core.specs.Alarms.{numbered_key, alarm_cleared, alarm_set};
+ghost use Rattle.ranking.specs.Keyed.{least, next_key, EachKey};
+ghost use Rattle.node_core.specs.Alarms.{alarm_number, numbered_key};
 ghost use Rattle.node_core.specs.WireState.{stamps_of};
 ghost use Rattle.node_core.specs.AgendaState.{alarm_event, cleared, incoming_at, entry_of, come_over, AreApart, fresh_wire, fresh_agenda, IsAlarm, IsDue};
 ghost use Rattle.node_core.specs.Passing.{after_take, moved_to};
@@ -13,6 +13,7 @@ ghost use Rattle.packet_chain.specs.declared.packet.Packet.{Packet};
 ghost use Rattle.node_core.specs.declared.event.Event.{Event};
 ghost use Rattle.node_core.specs.declared.event.Event.TheVariants.{Arrive};
 
+use crate::alarm::{Alarm, OWN_ALARMS};
 use crate::event::Event;
 use crate::wire::Wire;
 use packet_chain::{PacketCell, PacketChain};
@@ -121,7 +122,7 @@ impl Agenda {
         requires apart { AreApart links.now }
         ensures { IfOk result (λ agenda. agenda ≡ fresh_agenda (record { node = node; flow = flow; exits = exits.items }) links.now) }
     {
-        let alarms = 3 + exits.len();
+        let alarms = OWN_ALARMS + exits.len();
         Ok(Agenda {
             node,
             flow,
@@ -192,21 +193,25 @@ impl Agenda {
     }
 
     /// Sets an alarm to this time, or clears it.
-    pub fn set_alarm(&mut self, which: usize, time: Option<Time>)
-        requires { which < length self.old.alarms }
-        ensures { self.new ≡ record self.old { alarms = slice_set self.old.alarms which time; pending = apply (alarm_cleared (numbered_key self.old.owner.node which) (slice_index_or self.old.alarms which None) ++ alarm_set (numbered_key self.old.owner.node which) (alarm_event self.old.owner which) time) self.old.pending } }
+    #[inline(always)]
+    pub fn set_alarm(&mut self, alarm: Alarm, time: Option<Time>)
+        requires { alarm_number alarm < length self.old.alarms }
+        ensures { self.new ≡ moved_to self.old (alarm_number alarm) time }
     {
+        let which = alarm.number() as usize;
         self.alarms[which] = time;
         self.ranking.set(which, key_of(self.node, which, time));
     }
 
     /// The event of a key, which is this alarm's, leaves, and the alarm is set to this time, or is
     /// set no more.
-    pub fn reset(&mut self, key: Key, which: usize, time: Option<Time>)
+    #[inline(always)]
+    pub fn reset(&mut self, key: Key, alarm: Alarm, time: Option<Time>)
         requires at_node { key.node ≡ self.old.owner.node }
-        requires alarm { IsAlarm self.old key which }
-        ensures { self.new ≡ moved_to (after_take self.old key) which time }
+        requires alarm { IsAlarm self.old key (alarm_number alarm) }
+        ensures { self.new ≡ moved_to (after_take self.old key) (alarm_number alarm) time }
     {
+        let which = alarm.number() as usize;
         self.alarms[which] = time;
         let next = key_of(self.node, which, time);
         self.ranking.set(which, next);
@@ -238,7 +243,7 @@ impl Agenda {
             0 => Event::Start(self.flow),
             1 => Event::Rto(self.flow),
             2 => Event::DelAck(self.flow),
-            _ => Event::Free(self.exits.get(number - 3).copied().unwrap_or(0)),
+            _ => Event::Free(self.exits.get(number - OWN_ALARMS).copied().unwrap_or(0)),
         }
     }
 

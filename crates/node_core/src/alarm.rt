@@ -2,6 +2,9 @@
 ghost use Rattle.std.specs.Prelude.{◌≡◌, ◌<◌};
 ghost use Rattle.node_core.specs.Alarms.{alarm_number};
 
+/// How many alarms a node has besides those of its outgoing links.
+pub(crate) const OWN_ALARMS: usize = 3;
+
 /// An alarm of a node: it is set at one moment at most.
 #[derive(Clone, Copy, Debug, PartialEq, Eq)]
 pub enum Alarm {
@@ -17,6 +20,7 @@ pub enum Alarm {
 
 impl Alarm {
     /// The alarm's number in the key of its event.
+    #[inline(always)]
     pub fn number(self) -> u64
         ensures { result ≡ alarm_number self }
     {
@@ -24,7 +28,7 @@ impl Alarm {
             Alarm::Start => 0,
             Alarm::Retransmission => 1,
             Alarm::DelayedAcknowledgement => 2,
-            Alarm::Free(index) => 3 + u64::from(index),
+            Alarm::Free(index) => OWN_ALARMS as u64 + u64::from(index),
         }
     }
 }

@@ -12,6 +12,7 @@ ghost use Rattle.node_core.specs.Row.{data_packet, ack_of};
 ghost use Rattle.node_core.specs.Links.{packets_of};
 
 use crate::agenda::Agenda;
+use crate::alarm::Alarm;
 use crate::cells::{acknowledgement, alone, later_segments, segments, segments_from};
 use crate::link::Link;
 use crate::passing::offer;
@@ -21,12 +22,6 @@ use reno_receiver::Reply;
 use reno_sender::{Plan, Sender};
 use sim_time::{Key, Time};
 use std::alloc::{AllocError, Global};
-
-/// The number of the retransmission timer among a node's alarms.
-const RETRANSMISSION: usize = 1;
-
-/// The number of the delayed acknowledgement among a node's alarms.
-const DELAYED_ACKNOWLEDGEMENT: usize = 2;
 
 // The segments of a plan in cells, the first in that of the packet that arrives, if one does. The
 // event leaves once there is memory for all.
@@ -92,7 +87,7 @@ pub(crate) fn run_plan(
 {
     acts.reserve(plan.count() as usize + 2)?;
     let cells = take_cells(alloc, flow, &plan, key, agenda)?;
-    agenda.set_alarm(RETRANSMISSION, plan.as_fields().deadline);
+    agenda.set_alarm(Alarm::Retransmission, plan.as_fields().deadline);
     let departs = offer(link, 0, cells, agenda, key.time, acts, out);
     sender.commit(plan);
     Ok(departs)
@@ -127,7 +122,7 @@ pub(crate) fn give_answer(
     ensures acts { acts.new.acts ≡ acts.old.acts ++ (offered_all now link.old.port (ack_of flow reply)).acts }
     ensures departs { result ≡ is_some (offered_all now link.old.port (ack_of flow reply)).departure }
 {
-    agenda.set_alarm(DELAYED_ACKNOWLEDGEMENT, alarm);
+    agenda.set_alarm(Alarm::DelayedAcknowledgement, alarm);
     let cells = answer_cells(alloc, flow, reply, cell);
     offer(link, 0, cells, agenda, now, acts, out)
 }

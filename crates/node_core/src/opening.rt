@@ -11,6 +11,7 @@ ghost use Rattle.node_core.specs.Opening.{node_kind, opening_queue as queue_at_f
 ghost use Rattle.node_core.specs.OpeningAgenda.{numbers_of, flow_sent, flow_received, start_at as start_of_flow, opening_agenda as agenda_at_first};
 
 use crate::agenda::Agenda;
+use crate::alarm::Alarm;
 use crate::link::Link;
 use crate::role::Role;
 use crate::routes::{FlowExits, RouteTable};
@@ -21,9 +22,6 @@ use reno_sender::Sender;
 use scenario_image::{FlowPart, LinkPart, NodeKind, QueueKind, RoutePart, ScenarioParts};
 use sim_time::{Rate, Time};
 use std::alloc::{AllocError, Global};
-
-/// The number of the flow's start among a node's alarms.
-const START: usize = 0;
 
 // A link's queue, in which nothing waits.
 fn opening_queue(alloc: Global, kind: QueueKind, capacity: u16) -> Queue
@@ -223,6 +221,6 @@ pub(crate) fn opening_agenda(
 {
     let coming = coming_numbers(alloc, parts.links.as_slice(), node)?;
     let mut agenda = Agenda::new(alloc, node, flow, leaving, &coming)?;
-    agenda.set_alarm(START, start_at(parts.flows.as_slice(), node));
+    agenda.set_alarm(Alarm::Start, start_at(parts.flows.as_slice(), node));
     Ok(agenda)
 }

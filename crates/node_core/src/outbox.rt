@@ -1,5 +1,5 @@
 //! What leaves a node over its links.
-ghost use Rattle.std.specs.Prelude.{◌≡◌, ◌<◌, [], IfOk, length, replicate, slice_index_or};
+ghost use Rattle.std.specs.Prelude.{◌≡◌, ◌==◌, ◌<◌, [], IfOk, length, replicate, slice_index_or};
 ghost use Rattle.std.specs.Borrow.{sem};
 
 use packet_chain::PacketChain;
@@ -44,7 +44,9 @@ impl Outbox {
     }
 
     /// Whether it is for no link.
-    pub fn is_empty(&self) -> bool {
+    pub fn is_empty(&self) -> bool
+        ensures { result ≡ (length self.now == 0) }
+    {
         self.chains.is_empty()
     }
 

@@ -8,6 +8,7 @@ ghost use Rattle.node_core.specs.Passing.{passed, after_take};
 ghost use Rattle.node_core.specs.AgendaState.{IsAlarm};
 
 use crate::agenda::Agenda;
+use crate::alarm::Alarm;
 use crate::link::Link;
 use packet_chain::PacketChain;
 use port::Acts;
@@ -44,7 +45,7 @@ pub(crate) fn offer(
         return false;
     }
     let next_free = link.port().next_free();
-    agenda.set_alarm(3 + index, next_free);
+    agenda.set_alarm(Alarm::Free(index as u16), next_free);
     next_free.is_some()
 }
 
@@ -75,6 +76,6 @@ pub(crate) fn free(
 {
     link.free(key.time, acts, out);
     let next_free = link.port().next_free();
-    agenda.reset(key, 3 + index, next_free);
+    agenda.reset(key, Alarm::Free(index as u16), next_free);
     next_free.is_some()
 }

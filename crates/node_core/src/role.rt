@@ -32,17 +32,6 @@ impl Role {
         }
     }
 
-    /// What a line shows of it.
-    pub fn after(&self) -> After
-        ensures { result ≡ after_of self.now }
-    {
-        match self {
-            Role::Sends(_, sender) => After::AtSender(sender.fields()),
-            Role::Receives(_, receiver) => After::AtReceiver(receiver.next()),
-            Role::Routes(_) => After::AtRouter,
-        }
-    }
-
     /// Writes what a line shows of it, where that lies.
     pub fn show(&self, after: &mut After)
         ensures { after.new ≡ after_of self.now }

@@ -14,6 +14,7 @@ ghost use Rattle.node_core.specs.Running.{HasRun, part};
 ghost use Rattle.node_core.specs.Row.{Leaving, passed_on, free_row};
 
 use crate::agenda::Agenda;
+use crate::alarm::OWN_ALARMS;
 use crate::cells::alone;
 use crate::link::Link;
 use crate::outbox::Outbox;
@@ -102,7 +103,7 @@ pub(crate) fn run_free(
     ensures same_out { OnErr result (out.new ≡ out.old) }
 {
     let _stays = role;
-    let place = (key.number - 3) as usize;
+    let place = (key.number - OWN_ALARMS as u64) as usize;
     let link = &mut links[place];
     acts.reserve(link.port().room_at(key.time))?;
     let chain = out.chain(place);

@@ -9,7 +9,7 @@ ghost use Rattle.node_core.specs.Ready.{IsRunnable};
 use super::two_flows::{opened, run_next};
 use crate::net::{MOST_EVENTS, Net};
 use crate::nodes::Nodes;
-use node_core::{Line, Node, Outbox};
+use node_core::{Act, DropReason, Line, Node, Outbox};
 use ranking::Ranking;
 use std::alloc::{AllocError, Global};
 use std::process::Abort;
@@ -98,17 +98,36 @@ fn runs_by_both(
     Ok(true)
 }
 
-// Runs all events of two flows over a router, of which the second has so many segments and loses the
-// packet of that number, and answers how many there were.
-fn runs_all(rt: &impl Abort, alloc: Global, segments: u32, lost: u32) -> Result<u64, Fail> {
-    let mut net = opened(alloc, segments, lost)?;
+// Whether CoDel dropped a packet in a line's event.
+fn tells_of_codel(line: &Line) -> bool {
+    for act in line.acts.as_slice() {
+        if let Act::Dropped(DropReason::Codel, _) = act {
+            return true;
+        }
+    }
+    false
+}
+
+// Runs all events of two flows over a router, of which the second has so many segments, loses the
+// packet of that number, and leaves the router at this rate. How many there were, and whether
+// CoDel dropped a packet.
+fn runs_all(
+    rt: &impl Abort,
+    alloc: Global,
+    segments: u32,
+    lost: u32,
+    rate: u64,
+) -> Result<(u64, bool), Fail> {
+    let mut net = opened(alloc, segments, lost, rate)?;
     let mut told = Line::new(alloc);
+    let mut dropped = false;
     for count in 0..200 {
         if !runs_by_both(rt, alloc, &mut net, &mut told)? {
             assert!(rt; net.step().map_err(|_| "step")?.is_none());
             assert_eq!(rt; net.position(), count);
-            return Ok(count);
+            return Ok((count, dropped));
         }
+        dropped = dropped || tells_of_codel(&told);
     }
     Err(Fail::from("no end"))
 }
@@ -116,15 +135,16 @@ fn runs_all(rt: &impl Abort, alloc: Global, segments: u32, lost: u32) -> Result<
 // The second packet of two is lost, and comes again after the timer.
 #[test]
 fn nodes_run_their_events_as_the_net_does(rt: HostRuntime) -> Result<(), Fail> {
-    let count = runs_all(&rt, rt.alloc(), 2, 2)?;
-    assert_eq!(rt; count, 28);
+    let (count, dropped) = runs_all(&rt, rt.alloc(), 2, 2, 8_000_000)?;
+    assert_eq!(rt; (count, dropped), (28, false));
     Ok(())
 }
 
-// The first packet of five is lost: the receiver holds the others, for which it asks for memory.
+// The first packet of five is lost: the receiver holds the others, for which it asks for memory. The
+// router sends them eight times as slowly as they come, and CoDel drops one there.
 #[test]
-fn receivers_hold_segments_as_in_the_net(rt: HostRuntime) -> Result<(), Fail> {
-    let count = runs_all(&rt, rt.alloc(), 5, 1)?;
-    assert!(rt; count > 28);
+fn receivers_hold_segments_and_codel_drops_as_in_the_net(rt: HostRuntime) -> Result<(), Fail> {
+    let (count, dropped) = runs_all(&rt, rt.alloc(), 5, 1, 1_000_000)?;
+    assert!(rt; count > 28 && dropped);
     Ok(())
 }

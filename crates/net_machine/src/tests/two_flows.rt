@@ -3,15 +3,25 @@
 use crate::net::{Net, StepFault};
 use crate::tests::{link, route};
 use node_core::{After, Line};
-use scenario_image::{FlowPart, LinkPart, NodeKind, Records, Scenario, ScenarioParts};
+use scenario_image::{
+    Codel, FlowPart, LinkPart, NodeKind, QueueKind, Records, Scenario, ScenarioParts,
+};
 use sim_time::Key;
 use std::alloc::{AllocError, Global};
 use std::process::Abort;
 use std::test::Fail;
 
+// CoDel with the least of each number, which drops as soon as it may.
+const STRICT: QueueKind = QueueKind::Codel(Codel {
+    target: 1,
+    interval: 1,
+    maxpacket: 1,
+});
+
 // Links of the senders (0 and 1, which loses the packet of this number), of the router to the
-// receivers (2 and 3), of the receivers (4 and 5), and of the router to the senders (6 and 7).
-fn links(alloc: Global, lost: u32) -> Result<Vec<LinkPart>, AllocError> {
+// receivers (2, and 3 with this rate and CoDel), of the receivers (4 and 5), and of the router to
+// the senders (6 and 7).
+fn links(alloc: Global, lost: u32, rate: u64) -> Result<Vec<LinkPart>, AllocError> {
     let mut links = Vec::new(alloc);
     for (from, to) in [
         (0, 2),
@@ -26,6 +36,10 @@ fn links(alloc: Global, lost: u32) -> Result<Vec<LinkPart>, AllocError> {
         let mut part = link(alloc, from, to);
         if from == 1 {
             part.lose = Records::new(vec![in alloc; lost]?);
+        }
+        if to == 4 {
+            part.rate = rate;
+            part.queue = STRICT;
         }
         links.push(part)?;
     }
@@ -45,9 +59,14 @@ fn flow(sender: u16, receiver: u16, segments: u32, delack: u32) -> FlowPart {
     }
 }
 
-// Flow 0 has one segment, whose acknowledgement is delayed; flow 1 has so many, and the packet of
-// this number is lost.
-fn two_flows(alloc: Global, segments: u32, lost: u32) -> Result<Option<Scenario>, AllocError> {
+// Flow 0 has one segment, whose acknowledgement is delayed; flow 1 has so many, of which the packet
+// of this number is lost and the others go on from the router at this rate.
+fn two_flows(
+    alloc: Global,
+    segments: u32,
+    lost: u32,
+    rate: u64,
+) -> Result<Option<Scenario>, AllocError> {
     let nodes = [
         NodeKind::Sender,
         NodeKind::Sender,
@@ -65,7 +84,7 @@ fn two_flows(alloc: Global, segments: u32, lost: u32) -> Result<Option<Scenario>
     let parts = ScenarioParts {
         end: 3_000_000_000,
         nodes: Records::new(Vec::from_slice(alloc, &nodes)?),
-        links: Records::new(links(alloc, lost)?),
+        links: Records::new(links(alloc, lost, rate)?),
         flows: Records::new(Vec::from_slice(alloc, &flows)?),
         routes: Records::new(Vec::from_slice(alloc, &routes)?),
     };
@@ -73,10 +92,10 @@ fn two_flows(alloc: Global, segments: u32, lost: u32) -> Result<Option<Scenario>
 }
 
 // The net of it. What is refused memory is asked for again.
-pub(super) fn opened(alloc: Global, segments: u32, lost: u32) -> Result<Net, Fail> {
-    let scenario = match two_flows(alloc, segments, lost) {
+pub(super) fn opened(alloc: Global, segments: u32, lost: u32, rate: u64) -> Result<Net, Fail> {
+    let scenario = match two_flows(alloc, segments, lost, rate) {
         Ok(scenario) => scenario,
-        Err(_) => two_flows(alloc, segments, lost)?,
+        Err(_) => two_flows(alloc, segments, lost, rate)?,
     };
     let scenario = scenario.ok_or("scenario")?;
     match Net::new(alloc, &scenario) {
@@ -151,7 +170,7 @@ fn runs_all(rt: &impl Abort, net: &mut Net, line: &mut Line) -> Result<(), Fail>
 
 #[test]
 fn every_event_is_run_also_where_memory_was_refused(rt: HostRuntime) -> Result<(), Fail> {
-    let mut net = opened(rt.alloc(), 2, 2)?;
+    let mut net = opened(rt.alloc(), 2, 2, 8_000_000)?;
     let mut line = Line::new(rt.alloc());
     runs_all(&rt, &mut net, &mut line)
 }
