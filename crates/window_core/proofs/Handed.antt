@@ -1,6 +1,6 @@
 -- What groups are when what they held back for each other was handed over, link by link.
-use Rattle.std.proofs.Common.{◌≡◌, ◌≢◌, ◌≤◌, ◌<◌, ◌+◌, ◌==◌, ℕ, List, [], length, map, set, Bool, true, false, cond, Option, Some, None, refl, sym, ap, subst, ◌∙◌, ⊎_elim, arith, eq-eqb, ne_eqb, ext_get_or}
-use Rattle.std.proofs.lemmas.Bool.{cases_eq, cases_lt}
+use Rattle.std.proofs.Common.{◌≡◌, ◌≢◌, ◌≤◌, ◌<◌, ◌+◌, ◌==◌, ℕ, List, [], length, map, set, Bool, true, false, cond, Option, Some, None, refl, sym, ap, subst, ◌∙◌, ⊎_elim, arith, eq-eqb, ne_eqb, true≢false, ext_get_or}
+use Rattle.std.proofs.lemmas.Bool.{cases_eq, cases_lt, cases_Bool}
 use Rattle.std.proofs.lemmas.List.{get_or_past, length-map, get_or-set_same, get_or-set_other, length-set}
 use Rattle.std.specs.Option.{option_or}
 use Rattle.std.specs.FinMap.{get, get-empty, retain_keys, get-retain_keys, entries as entries_of}
@@ -34,17 +34,18 @@ use Rattle.window_core.proofs.HeldForOthers.{held, no_key, in_range, crossing, o
 module _ (entries : List ℕ) (links : List LinkEnds) (old : List GroupValue) (ready : AreReady entries links old) where
   -- SO FAR
 
-  pub record HandedTo (now : List GroupValue) (i : ℕ) : Type 0 where
+  -- what was held back of some links was handed over, and of the others nothing yet
+  pub record HandedOver (now : List GroupValue) (done : ℕ → Bool) : Type 0 where
     pub size : length now ≡ length old
     pub same : (h : ℕ) → value_at now h ≡ record (value_at old h) { seats = (value_at now h).seats; held = (value_at now h).held }
     pub seats_stay : (h : ℕ) → taken (value_at now h).seats ≡ taken (value_at old h).seats
     pub parts : (h : ℕ) → parts_of (seated (value_at now h).seats) ≡ parts_of (seated (value_at old h).seats)
     pub wires : (h : ℕ) → length (value_at now h).held ≡ length (value_at old h).held
-    pub waits : (h link : ℕ) → i ≤ link → held_over now h link ≡ held_over old h link
-    pub gone : (h link : ℕ) → h < length old → link < i → link < length links → (held_over now h link).under_way ≡ []
+    pub waits : (h link : ℕ) → done link ≡ false → held_over now h link ≡ held_over old h link
+    pub gone : (h link : ℕ) → h < length old → done link ≡ true → link < length links → (held_over now h link).under_way ≡ []
     pub across : (link : ℕ) → link < length links → from_group entries links link ≢ to_group entries links link → came_in (value_at now (to_group entries links link)) link ≡ (held_over now (from_group entries links link) link).taken
-    pub pending_waits : (h : ℕ) → h < length old → (k : Key) → i ≤ over_link k → get (pending_in (value_at now h)) k ≡ get (pending_in (value_at old h)) k
-    pub pending_came : (h : ℕ) → h < length old → (k : Key) → over_link k < i → get (pending_in (value_at now h)) k ≡ option_or (cond (group_in entries k.node == h) (get (held ready) k) None) (get (pending_in (value_at old h)) k)
+    pub pending_waits : (h : ℕ) → h < length old → (k : Key) → done (over_link k) ≡ false → get (pending_in (value_at now h)) k ≡ get (pending_in (value_at old h)) k
+    pub pending_came : (h : ℕ) → h < length old → (k : Key) → done (over_link k) ≡ true → get (pending_in (value_at now h)) k ≡ option_or (cond (group_in entries k.node == h) (get (held ready) k) None) (get (pending_in (value_at old h)) k)
 
   -- nothing at a key is put in
   nothing_more : (h : ℕ) (k : Key) (x : Option Event) → ((v : Event) → get (held ready) k ≡ Some v → group_in entries k.node ≢ h) → x ≡ option_or (cond (group_in entries k.node == h) (get (held ready) k) None) x
@@ -58,28 +59,8 @@ module _ (entries : List ℕ) (links : List LinkEnds) (old : List GroupValue) (r
           both false = refl
       at (Some v) e = ap (λ b. option_or (cond b (get (held ready) k) None) x) (sym (ne_eqb (group_in entries k.node) h (off v e)))
 
-  -- a link inside a group
-  module _ (now : List GroupValue) (i : ℕ) (to_i : i < length links) (is : HandedTo now i) where
-    pub handed_inside : from_group entries links i ≡ to_group entries links i → HandedTo now (i + 1)
-    handed_inside inside = record {
-      size = is.size;
-      same = is.same;
-      seats_stay = is.seats_stay;
-      parts = is.parts;
-      wires = is.wires;
-      waits = λ h link upto. is.waits h link (omega (arith, upto));
-      gone = λ h link here below under. ⊎_elim
-          (λ (before : link < i). is.gone h link here before under)
-          (λ (upto : i ≤ link). let at : link ≡ i = omega (arith, below, upto) in ap (λ (w : WireState). w.under_way) (is.waits h link upto) ∙ ap (λ l. (held_over old h l).under_way) at ∙ ready.inside h i here (sym inside))
-          (cases_lt link i);
-      across = is.across;
-      pending_waits = λ h here k upto. is.pending_waits h here k (omega (arith, upto));
-      pending_came = λ h here k below. ⊎_elim
-          (λ (before : over_link k < i). is.pending_came h here k before)
-          (λ (upto : i ≤ over_link k). let at : over_link k ≡ i = omega (arith, below, upto) in is.pending_waits h here k upto ∙ nothing_more h k (get (pending_in (value_at old h)) k) (λ v there. absurd (((crossing ready) k v there).crosses (ap (from_group entries links) at ∙ inside ∙ ap (to_group entries links) (sym at)))))
-          (cases_lt (over_link k) i);
-    }
-
+  -- a link
+  module _ (now : List GroupValue) (done : ℕ → Bool) (is : HandedOver now done) (i : ℕ) (to_i : i < length links) (fresh : done i ≡ false) where
     -- a link to another group
     module _ (crosses : from_group entries links i ≢ to_group entries links i) where
       abbrev f : ℕ
@@ -110,7 +91,7 @@ module _ (entries : List ℕ) (links : List LinkEnds) (old : List GroupValue) (r
       leaves_from h here l = (λ j. group_in (theirs h here j) (ends_at (its h here j) l).from)
 
       same_wire : held_over now f i ≡ held_over old f i
-      same_wire = is.waits f i (omega arith)
+      same_wire = is.waits f i fresh
 
       to_wires : i < length (value_at old f).held
       to_wires = let wires = (ready.shapes f f_in).wires in omega (arith, to_i, wires)
@@ -132,7 +113,7 @@ module _ (entries : List ℕ) (links : List LinkEnds) (old : List GroupValue) (r
         came = is.across i to_i crosses;
         later = subst (λ (w : WireState). ComesLater w (value_at now t)) (sym same_wire)
             (λ j d below k v there source. ready.later i to_i crosses j d below k v
-            (sym (is.pending_waits t t_in k (let number = wire_number in omega (arith, source, number))) ∙ there) source);
+            (sym (is.pending_waits t t_in k (ap done (let number = wire_number in omega (arith, source, number)) ∙ fresh)) ∙ there) source);
       }
 
       module _ (new : List GroupValue) (was : WasHanded now new f t i) where
@@ -224,17 +205,31 @@ module _ (entries : List ℕ) (links : List LinkEnds) (old : List GroupValue) (r
         at_end : {A : Type 0} (read : GroupValue → A) → read (value_at new f) ≡ read (value_at now f) → read (value_at new t) ≡ read (value_at now t) → (h : ℕ) → read (value_at new h) ≡ read (value_at now h)
         at_end read at_f at_t h = by_group {P = λ h. read (value_at new h) ≡ read (value_at now h)} at_f at_t (λ h a b. ap read (was.others h a b)) h
 
-        pub handed_across : HandedTo new (i + 1)
+        -- that link too
+        abbrev pub more : ℕ → Bool
+        more link = cond (link == i) true (done link)
+
+        more_here : more i ≡ true
+        more_here = ap (λ b. cond b true (done i)) (eq-eqb i i refl)
+
+        more_away : (link : ℕ) → link ≢ i → more link ≡ done link
+        more_away link off = ap (λ b. cond b true (done link)) (ne_eqb link i off)
+
+        -- one that is not among them
+        not_here_yet : (link : ℕ) → more link ≡ false → link ≢ i
+        not_here_yet link not at = true≢false (sym more_here ∙ ap more (sym at) ∙ not)
+
+        pub handed_across : HandedOver new more
         handed_across = record {
           size = was.size ∙ is.size;
           same = λ h. same_new h ∙ ap (λ (g : GroupValue). record g { seats = (value_at new h).seats; held = (value_at new h).held }) (is.same h);
           seats_stay = λ h. at_end (λ g. taken g.seats) (ap (λ (g : GroupValue). taken g.seats) was.from_is) was.seats_stay h ∙ is.seats_stay h;
           parts = λ h. at_end (λ g. parts_of (seated g.seats)) (ap (λ (g : GroupValue). parts_of (seated g.seats)) was.from_is) was.parts h ∙ is.parts h;
           wires = λ h. wires_new h ∙ is.wires h;
-          waits = λ h link upto. held_other h link (λ e. absurd (omega (arith, upto, e))) ∙ is.waits h link (omega (arith, upto));
-          gone = λ h link here below under. ⊎_elim
+          waits = λ h link not. let off = not_here_yet link not in held_other h link off ∙ is.waits h link (sym (more_away link off) ∙ not);
+          gone = λ h link here among under. ⊎_elim
               (λ (at : link ≡ i). subst (λ l. (held_over new h l).under_way ≡ []) (sym at) (gone_here h here))
-              (λ (off : link ≢ i). ap (λ (w : WireState). w.under_way) (held_other h link off) ∙ is.gone h link here (omega (arith, below, off)) under)
+              (λ (off : link ≢ i). ap (λ (w : WireState). w.under_way) (held_other h link off) ∙ is.gone h link here (sym (more_away link off) ∙ among) under)
               (cases_eq link i);
           across = λ link under off. came_new link under ∙ ⊎_elim
               (λ (at : link ≡ i).
@@ -246,17 +241,17 @@ module _ (entries : List ℕ) (links : List LinkEnds) (old : List GroupValue) (r
               ∙ is.across link under off
               ∙ sym (ap (λ (w : WireState). w.taken) (held_other (from_group entries links link) link away)))
               (cases_eq link i);
-          pending_waits = λ h here k upto. not_here h k (λ e. absurd (omega (arith, upto, e))) ∙ is.pending_waits h here k (omega (arith, upto));
-          pending_came = λ h here k below. ⊎_elim
+          pending_waits = λ h here k not. let off = not_here_yet (over_link k) not in not_here h k off ∙ is.pending_waits h here k (sym (more_away (over_link k) off) ∙ not);
+          pending_came = λ h here k among. ⊎_elim
               (λ (at : over_link k ≡ i). came_at h here k at)
-              (λ (off : over_link k ≢ i). not_here h k off ∙ is.pending_came h here k (omega (arith, below, off)))
+              (λ (off : over_link k ≢ i). not_here h k off ∙ is.pending_came h here k (sym (more_away (over_link k) off) ∙ among))
               (cases_eq (over_link k) i);
         }
           where
             gone_here : (h : ℕ) → h < length old → (held_over new h i).under_way ≡ []
             gone_here h here = ⊎_elim
                 (λ (e : h ≡ f). subst (λ n. (held_over new n i).under_way ≡ []) (sym e) (ap (λ (w : WireState). w.under_way) held_here))
-                (λ (off : h ≢ f). ap (λ (w : WireState). w.under_way) (held_away h off ∙ is.waits h i (omega arith)) ∙ ready.own h i here (λ e. off (sym e)))
+                (λ (off : h ≢ f). ap (λ (w : WireState). w.under_way) (held_away h off ∙ is.waits h i fresh) ∙ ready.own h i here (λ e. off (sym e)))
                 (cases_eq h f)
 
             put_in : (k : Key) → over_link k ≡ i → (x : Option Event) → option_or (get (held ready) k) x ≡ option_or (cond (group_in entries k.node == t) (get (held ready) k) None) x
@@ -271,17 +266,43 @@ module _ (entries : List ℕ) (links : List LinkEnds) (old : List GroupValue) (r
                 (λ (e : h ≡ t). subst (λ n. get (pending_in (value_at new n)) k ≡ option_or (cond (group_in entries k.node == n) (get (held ready) k) None) (get (pending_in (value_at old n)) k)) (sym e)
                 (pending_here k
                 ∙ ap (λ o. option_or o (get (pending_in (value_at now t)) k)) ((on_wire ready) i to_i k at)
-                ∙ ap (option_or (get (held ready) k)) (is.pending_waits t t_in k (omega (arith, at)))
+                ∙ ap (option_or (get (held ready) k)) (is.pending_waits t t_in k (ap done at ∙ fresh))
                 ∙ put_in k at (get (pending_in (value_at old t)) k)))
                 (λ (away : h ≢ t).
                 ap (λ (m : Events). get m k) (pending_away h away)
-                ∙ is.pending_waits h here k (omega (arith, at))
+                ∙ is.pending_waits h here k (ap done at ∙ fresh)
                 ∙ nothing_more h k (get (pending_in (value_at old h)) k) (λ v there e. away (sym e ∙ ((crossing ready) k v there).its_end ∙ ap (to_group entries links) at)))
                 (cases_eq h t)
 
+  -- where the others held nothing back, of all
+  module _ (now : List GroupValue) (done : ℕ → Bool) (is : HandedOver now done) (none : (h link : ℕ) → h < length old → link < length links → (held_over now h link).under_way ≡ []) where
+    nothing_came : (h : ℕ) (k : Key) → done (over_link k) ≡ false → (v : Event) → get (held ready) k ≡ Some v → group_in entries k.node ≢ h
+    nothing_came h k not v there _ =
+        let under = ((crossing ready) k v there).known in
+        let f = from_group entries links (over_link k) in
+        let empty : (held_over old f (over_link k)).under_way ≡ [] = ap (λ (w : WireState). w.under_way) (sym (is.waits f (over_link k) not)) ∙ none f (over_link k) ((in_range ready) (ends_at links (over_link k)).from) under in
+        (no_key ready) (held_over old f (over_link k)) empty k v ((on_wire ready) (over_link k) under k refl ∙ there)
+
+    pub handed_rest : HandedOver now (λ _. true)
+    handed_rest = record {
+      size = is.size;
+      same = is.same;
+      seats_stay = is.seats_stay;
+      parts = is.parts;
+      wires = is.wires;
+      waits = λ h link not. absurd (true≢false not);
+      gone = λ h link here _ under. none h link here under;
+      across = is.across;
+      pending_waits = λ h here k not. absurd (true≢false not);
+      pending_came = λ h here k _. ⊎_elim
+          (λ (among : done (over_link k) ≡ true). is.pending_came h here k among)
+          (λ (not : done (over_link k) ≡ false). is.pending_waits h here k not ∙ nothing_more h k (get (pending_in (value_at old h)) k) (nothing_came h k not))
+          (cases_Bool (done (over_link k)));
+    }
+
   -- AT THE END
 
-  module _ (now : List GroupValue) (is : HandedTo now (length links)) where
+  module _ (now : List GroupValue) (is : HandedOver now (λ _. true)) where
     no_wires : (ws : List WireState) → ((link : ℕ) → link < length ws → (wire_at ws link).under_way ≡ []) → held_on ws ≡ nothing_due Event
     no_wires ws none = same_at (held_on ws) (nothing_due Event) (λ k. get-gathered (λ _. 0) (map pending_on ws) (λ j q v there. absurd (empty j q v there)) k ∙ first k ∙ sym (get-empty _ k))
       where
@@ -299,13 +320,10 @@ module _ (entries : List ℕ) (links : List LinkEnds) (old : List GroupValue) (r
         let many = is.wires h in
         let wires = (ready.shapes h here).wires in
         let below : link < length links = omega (arith, under, many, wires) in
-        is.gone h link here below below)
+        is.gone h link here refl below)
 
     pending_all : (h : ℕ) → h < length old → pending_in (value_at now h) ≡ apply (entering (entries_of (retain_keys (held ready) (λ k. group_in entries k.node == h)))) (pending_in (value_at old h))
-    pending_all h here = same_at _ _ (λ k. ⊎_elim
-        (λ (under : over_link k < length links). is.pending_came h here k under)
-        (λ (past : length links ≤ over_link k). is.pending_waits h here k past ∙ nothing_more h k (get (pending_in (value_at old h)) k) (λ v there. let known = ((crossing ready) k v there).known in absurd (omega (arith, known, past))))
-        (cases_lt (over_link k) (length links))
+    pending_all h here = same_at _ _ (λ k. is.pending_came h here k refl
         ∙ sym (get-entering (retain_keys (held ready) (λ q. group_in entries q.node == h)) (pending_in (value_at old h)) k
         ∙ ap (λ o. option_or o (get (pending_in (value_at old h)) k)) (get-retain_keys (held ready) (λ q. group_in entries q.node == h) k (λ q e. ap (λ (y : Key). group_in entries y.node == h) (sym (exact_keys k q e))))))
 

@@ -21,14 +21,14 @@ all_put P k v (e ∷ es) one all =
       | Greater ↦ λ o. (all.0, all_put P k v es one all.1)
     ] refl
 
-no_entries : entries {X = TraceLine} {R = key_cmp} empty ≡ []
+pub no_entries : entries {X = TraceLine} {R = key_cmp} empty ≡ []
 no_entries =
     let none : List (Key × TraceLine) = [] in
     let are : entries {R = key_cmp} (from_sorted none) ≡ none = entries-from_sorted key_cmp none tt in
     ap entries (sym (empty_of_len (from_sorted {R = key_cmp} none) (len-entries _ ∙ ap length are))) ∙ are
 
 -- what holds of all entries holds of those of the map
-all_entries : (P : Key × TraceLine → Type 0) (es : List (Key × TraceLine)) → AllByRecursion P es → AllByRecursion P (entries (from_entries {R = key_cmp} es))
+pub all_entries : (P : Key × TraceLine → Type 0) (es : List (Key × TraceLine)) → AllByRecursion P es → AllByRecursion P (entries (from_entries {R = key_cmp} es))
 all_entries P [] all = subst (AllByRecursion P) (sym no_entries) tt
 all_entries P (e ∷ es) all = subst (AllByRecursion P) (sym (entries-insert keys_total (from_entries es) e.0 e.1)) (all_put P e.0 e.1 _ all.0 (all_entries P es all.1))
 
@@ -44,14 +44,14 @@ keyed_again [] all = refl
 keyed_again (e ∷ es) all = λ i. (all.0 i, e.1) ∷ keyed_again es all.1 i
 
 -- the lines in order, under their keys, are the entries
-entries_are : (ls : List TraceLine) → map keyed (in_order ls) ≡ entries (from_entries {R = key_cmp} (map keyed ls))
+pub entries_are : (ls : List TraceLine) → map keyed (in_order ls) ≡ entries (from_entries {R = key_cmp} (map keyed ls))
 entries_are ls = keyed_again _ (all_entries IsKeyed (map keyed ls) (all_keyed ls))
 
-both : (a b : Bool) → T a → T b → T (a && b)
+pub both : (a b : Bool) → T a → T b → T (a && b)
 both true b p q = q
 both false b p q = p
 
-below_of_all : (k : Key) (es : List (Key × TraceLine)) → AllByRecursion (λ (e : Key × TraceLine). key_cmp k e.0 ≡ Less) es → T (below_all key_cmp k es)
+pub below_of_all : (k : Key) (es : List (Key × TraceLine)) → AllByRecursion (λ (e : Key × TraceLine). key_cmp k e.0 ≡ Less) es → T (below_all key_cmp k es)
 below_of_all k [] all = tt
 below_of_all k (e ∷ es) all = both _ _ (subst (λ r. T (is_lt r)) (sym all.0) tt) (below_of_all k es all.1)
 

@@ -20,7 +20,10 @@ pub mod Seated
 pub mod AtSeats
 pub mod Aheads
 pub mod HeldBack
+pub mod Listed
 pub mod InOrder
+pub mod Sheaves
+pub mod Cuts
 pub mod Rests
 pub mod Each
 pub mod Windowed
@@ -30,6 +33,7 @@ pub mod HandedOver
 pub mod Arriving
 pub mod HeldForOthers
 pub mod Handed
+pub mod HandedEach
 pub mod Made
 pub mod DueHere
 pub mod AfterEvent

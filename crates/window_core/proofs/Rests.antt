@@ -1,6 +1,6 @@
 -- A merge by the least of the next lines: what is left of the lists, and what one line less leaves in order.
-use Rattle.std.proofs.Common.{◌≡◌, ◌≢◌, ◌<◌, ◌+◌, ℕ, zero, suc, List, [], ◌∷◌, ◌++◌, length, map, set, get_or, drop, replicate, true, false, cond, T, Option, Some, None, Less, Equal, Greater, refl, sym, ap, subst, ◌∙◌, arith, append_assoc, length-append, drop-cons}
-use Rattle.std.proofs.lemmas.List.{map-set}
+use Rattle.std.proofs.Common.{◌≡◌, ◌≢◌, ◌<◌, ◌+◌, ℕ, zero, suc, List, [], ◌∷◌, ◌++◌, length, map, set, get_or, take, drop, replicate, true, false, cond, T, Option, Some, None, Less, Equal, Greater, refl, sym, ap, subst, ◌∙◌, arith, append_assoc, length-append, drop-cons}
+use Rattle.std.proofs.lemmas.List.{map-append, map-set, take_more}
 use Rattle.std.proofs.Math.ListN.{get_or-map}
 use Rattle.std.specs.List.{AllByRecursion, slice_get}
 use Rattle.std.specs.Option.{option_map}
@@ -73,7 +73,7 @@ apart_rests lists nexts size are = record {
 abbrev pub AllAfter : Key → List TraceLine → Type 0
 AllAfter key lines = AllByRecursion (λ (m : TraceLine). key_cmp key m.key ≡ Less) lines
 
-below_all_after : (key : Key) (lines : List TraceLine) → T (below_all key_cmp key (map keyed lines)) → AllAfter key lines
+pub below_all_after : (key : Key) (lines : List TraceLine) → T (below_all key_cmp key (map keyed lines)) → AllAfter key lines
 below_all_after key [] h = tt
 below_all_after key (l ∷ lines) h = (is_less (key_cmp key l.key) (both_of _ _ h).0, below_all_after key lines (both_of _ _ h).1)
 
@@ -182,7 +182,7 @@ pub record IsTaken (lists : List (List TraceLine)) (nexts : List ℕ) (list : �
   pub fewer : length (all_of (rests lists nexts)) ≡ length (all_of (rests lists (set nexts list (get_or nexts list 0 + 1)))) + 1
   pub ranked : set (map first_key (rests lists nexts)) list (option_map (λ (line : TraceLine). line.key) (slice_get (lines_of lists list) (get_or nexts list 0 + 1))) ≡ map first_key (rests lists (set nexts list (get_or nexts list 0 + 1)))
 
-first_drop : (n : ℕ) (lines : List TraceLine) → slice_get (drop n lines) 0 ≡ slice_get lines n
+pub first_drop : (n : ℕ) (lines : List TraceLine) → slice_get (drop n lines) 0 ≡ slice_get lines n
 first_drop zero lines = refl
 first_drop (suc n) [] = refl
 first_drop (suc n) (l ∷ lines) = first_drop n lines
@@ -224,3 +224,14 @@ taken_by lists nexts ranks list key ranked size are leads = taken_next lists nex
 
 pub next_within : (lists : List (List TraceLine)) (nexts : List ℕ) (ranks : List (Option Key)) (list : ℕ) (key : Key) → ranks ≡ map first_key (rests lists nexts) → length nexts ≡ length lists → AreApart lists → Leads ranks list key → list < length nexts
 next_within lists nexts ranks list key ranked size are leads = let under = (taken_by lists nexts ranks list key ranked size are leads).within in omega (arith, under, size)
+
+-- the keys of the next lines, one list after another
+pub ranked_more : (lists : List (List TraceLine)) (nexts : List ℕ) (old now : List (Option Key)) (i : ℕ) (rank : Option Key) → length nexts ≡ length lists → i < length lists
+    → take i old ≡ map first_key (take i (rests lists nexts)) → take (i + 1) now ≡ take i old ++ rank ∷ [] → rank ≡ option_map (λ (line : TraceLine). line.key) (slice_get (lines_of lists i) (get_or nexts i 0))
+    → take (i + 1) now ≡ map first_key (take (i + 1) (rests lists nexts))
+ranked_more lists nexts old now i rank size under are more is =
+    let here : rank ≡ first_key (lines_of (rests lists nexts) i) = is ∙ ap (option_map (λ (line : TraceLine). line.key)) (sym (first_drop (get_or nexts i 0) (lines_of lists i))) ∙ ap first_key (sym (rest_at lists nexts i size)) in
+    more
+    ∙ (λ j. are j ++ here j ∷ [])
+    ∙ sym (map-append first_key (take i (rests lists nexts)) (lines_of (rests lists nexts) i ∷ []))
+    ∙ ap (map first_key) (sym (take_more (rests lists nexts) i [] (let all = length_rests lists nexts in omega (arith, all, under))))

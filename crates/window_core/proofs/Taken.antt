@@ -1,5 +1,5 @@
 -- A window that has taken a batch, and what a turn leaves.
-use Rattle.std.proofs.Common.{◌≡◌, ℕ, List, [], ◌∷◌, ◌+◌, map, Bool, true, false, cond, Some, None, Result, Ok, Err, refl, sym, ap, ◌∙◌}
+use Rattle.std.proofs.Common.{◌≡◌, ℕ, List, [], ◌∷◌, ◌+◌, length, map, Bool, true, false, cond, Some, None, Result, Ok, Err, refl, sym, ap, ◌∙◌}
 use Rattle.std.specs.List.{enumerate_from}
 use Rattle.std.specs.Result.{OnOk, OnErr, is_ok}
 use Rattle.ranking.proofs.Maps.{not_some, same_some}
@@ -13,6 +13,8 @@ use Rattle.window_core.specs.Partition.{group_in}
 use Rattle.window_core.specs.Window.{WindowValue, states_of, machine_of, setting_in, IsSplit, IsFrom, HasGoneOn, HasTurned}
 use Rattle.window_core.specs.WindowOf.{window_of, IsWindowInside}
 use Rattle.window_core.specs.Windows.{WindowState, all_done, all_held, all_lines, delivered, delivered_to, in_order, none_fired, opened}
+use Rattle.window_core.proofs.Turn.{length_delivered}
+use Rattle.window_core.proofs.Windowed.{length_states}
 
 -- ANOTHER BATCH
 
@@ -76,3 +78,8 @@ turned_unfired old new batch has = ap none_fired (turned_groups old new batch ha
 pub turned_inside : (old new : WindowValue) (batch : BatchValue) (r : Result (Unit {0}) Rattle.window_core.specs.declared.window.turning.TurnFault.TurnFault) → OnOk r (HasTurned old batch new) → OnErr r (new ≡ old) → old.out ≡ false → new.out ≡ false
 turned_inside old new batch (Ok x) has same out = ap (λ (v : WindowValue). v.out) has.rest ∙ out
 turned_inside old new batch (Err x) has same out = ap (λ (v : WindowValue). v.out) same ∙ out
+
+-- as many as before
+pub turned_size : (old new : WindowValue) (batch : BatchValue) → HasTurned old batch new → length new.groups ≡ length old.groups
+turned_size old new batch has =
+    sym (length_states new.groups) ∙ ap length (turned_groups old new batch has) ∙ length_delivered (group_in old.entries) (states_of old.groups) ∙ length_states old.groups

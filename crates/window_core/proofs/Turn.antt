@@ -30,21 +30,21 @@ use Rattle.window_core.proofs.Matches.{Matches, IsHeld}
 
 -- LINES IN ORDER
 
-or_else : Option TraceLine → Option TraceLine → Option TraceLine
+pub or_else : Option TraceLine → Option TraceLine → Option TraceLine
 or_else None p = p
 or_else (Some x) p = Some x
 
-find_append : (xs ys : List TraceLine) (q : Key) → find key_cmp q (map keyed (xs ++ ys)) ≡ or_else (find key_cmp q (map keyed xs)) (find key_cmp q (map keyed ys))
+pub find_append : (xs ys : List TraceLine) (q : Key) → find key_cmp q (map keyed (xs ++ ys)) ≡ or_else (find key_cmp q (map keyed xs)) (find key_cmp q (map keyed ys))
 unfolding or_else
 find_append [] ys q = refl
 find_append (x ∷ xs) ys q = elim (same q x.key) as (λ b. cond b (Some x) (find key_cmp q (map keyed (xs ++ ys))) ≡ or_else (cond b (Some x) (find key_cmp q (map keyed xs))) (find key_cmp q (map keyed ys))) [ true ↦ refl | false ↦ find_append xs ys q ]
 
-or_none : (o : Option TraceLine) → or_else o None ≡ o
+pub or_none : (o : Option TraceLine) → or_else o None ≡ o
 unfolding or_else
 or_none None = refl
 or_none (Some x) = refl
 
-none_or : (o p : Option TraceLine) → o ≡ None → or_else o p ≡ p
+pub none_or : (o p : Option TraceLine) → o ≡ None → or_else o p ≡ p
 unfolding or_else
 none_or o p e = ap (λ x. or_else x p) e
 

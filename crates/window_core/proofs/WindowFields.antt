@@ -24,3 +24,7 @@ module _ (w : Inside) (v : WindowValue) (view : window_of w ≡ v) where
 
     pub shares_many : IsWindow v → length w.shares.items ≡ groups_of w.partition
     shares_many is = ap length shares_are ∙ is.split.count ∙ ap (λ (x : WindowValue). groups_of x.entries) (sym view)
+
+    -- the window with the groups that are in
+    pub in_is : record (window_of w) { groups = w.shares.items } ≡ v
+    in_is = (λ i. record (window_of w) { groups = cond (sym its_out i) w.lent.value.items w.shares.items }) ∙ view

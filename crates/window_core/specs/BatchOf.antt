@@ -5,8 +5,8 @@ use Rattle.window_core.specs.Batches.{BatchValue}
 use Rattle.window_core.specs.Merged.{IsSpot, lines_at}
 
 abbrev pub batch_of : Inside → BatchValue
-batch_of b = record { first = b.first; lines = lines_at b.lists.items b.order.items }
+batch_of b = record { first = b.sheaf.first; lines = lines_at b.sheaf.lists b.order.items }
 
 -- each spot is one of a line
 abbrev pub IsBatch : Inside → Type 0
-IsBatch b = All (IsSpot b.lists.items) b.order.items
+IsBatch b = All (IsSpot b.sheaf.lists) b.order.items

@@ -6,6 +6,9 @@ pub mod Groups
 pub mod Windows
 pub mod Merged
 pub mod Batches
+pub mod Sheaves
+pub mod SheafCode
+pub mod SheafOf
 pub mod BatchCode
 pub mod BatchOf
 pub mod Window

@@ -1,17 +1,24 @@
 -- Groups that are about to be brought together by a turn, and what that leaves of them.
-use Rattle.std.specs.Prelude.{◌≡◌, ◌≢◌, ◌<◌, ◌+◌, ◌==◌, if◌then◌else◌, ℕ, List, [], All, length, slice_set}
+use Rattle.std.specs.Prelude.{◌≡◌, ◌≢◌, ◌<◌, ◌≤◌, ◌+◌, ◌==◌, if◌then◌else◌, ℕ, true, false, List, [], All, length, slice_set}
 use Rattle.ranking.specs.Keyed.{EachKey, apply, entering}
 use Rattle.node_core.specs.Pending.{Events}
 use Rattle.node_core.specs.WireState.{WireState, arrivals_on, came_over, stamps_of}
 use Rattle.net_machine.specs.declared.places.LinkEnds.{LinkEnds}
 use Rattle.net_machine.specs.Nodes.{net_pending, parts_of}
 use Rattle.net_machine.specs.Wiring.{ends_at, place_at}
-use Rattle.window_core.specs.Group.{GroupValue, group_from, group_to, came_in}
-use Rattle.window_core.specs.Held.{wire_at, AreByLink}
+use Rattle.window_core.specs.Group.{GroupValue, IsGroup, group_from, group_to, came_in}
+use Rattle.window_core.specs.Held.{wire_at, is_idle, AreByLink}
 use Rattle.window_core.specs.Partition.{group_in, groups_of}
 use Rattle.window_core.specs.Seats.{seated, taken}
-use Rattle.window_core.specs.Window.{value_at, states_of}
-use Rattle.window_core.specs.Windows.{delivered}
+use Rattle.window_core.specs.Window.{WindowValue, value_at, states_of}
+use Rattle.window_core.specs.Windows.{all_done, all_lines, delivered}
+
+-- a turn can be taken, with so many lines
+pub record CanTurn (v : WindowValue) (count : ℕ) : Type 0 where
+  pub done : all_done v.until (states_of v.groups) ≡ true
+  pub are_groups : All IsGroup v.groups
+  pub count_is : count ≡ length (all_lines (states_of v.groups))
+  pub fits : v.position + count ≤ 1000000000000000
 
 -- the groups of the nodes that a link leaves and ends at
 abbrev pub from_group : List ℕ → List LinkEnds → ℕ → ℕ
@@ -71,6 +78,13 @@ pub record CanHand (groups : List GroupValue) (from to link : ℕ) : Type 0 wher
 abbrev pub handed : WireState → WireState
 handed w = record w { taken = came_over w; under_way = [] }
 
+-- a group of which whatever it holds back of any link may come to another
+pub record CanHandEach (entries : List ℕ) (links : List LinkEnds) (groups : List GroupValue) (from : ℕ) : Type 0 where
+  pub within : from < length groups
+  pub comes : (link : ℕ) → link < length links → (place_at links link).node < length entries
+  pub wires : length (value_at groups from).held ≡ length links
+  pub can : (link : ℕ) → link < length links → is_idle (held_over groups from link) ≡ false → CanHand groups from (to_group entries links link) link
+
 -- it has come, and is held back no more
 pub record WasHanded (old new : List GroupValue) (from to link : ℕ) : Type 0 where
   pub size : length new ≡ length old
@@ -81,6 +95,12 @@ pub record WasHanded (old new : List GroupValue) (from to link : ℕ) : Type 0 w
   pub seats_stay : taken (value_at new to).seats ≡ taken (value_at old to).seats
   pub pending : pending_in (value_at new to) ≡ apply (entering (arrivals_on (held_over old from link))) (pending_in (value_at old to))
   pub came : (l : ℕ) → l < length (value_at old to).links → group_to (value_at old to) l ≡ (value_at old to).number → came_in (value_at new to) l ≡ (if l == link then came_over (held_over old from link) else came_in (value_at old to) l)
+
+-- what a group held back of a link has come to the group at the link's end
+pub record HasHandedOne (entries : List ℕ) (links : List LinkEnds) (old new : List GroupValue) (from link : ℕ) : Type 0 where
+  pub within : link < length links
+  pub busy : is_idle (held_over old from link) ≡ false
+  pub was : WasHanded old new from (to_group entries links link) link
 
 -- the groups have what was held back for them, and hold nothing back; their nodes are as they were
 pub record HasHanded (entries : List ℕ) (links : List LinkEnds) (old new : List GroupValue) : Type 0 where

@@ -1,27 +1,26 @@
 //! The lines of a window, in the order of their keys.
-ghost use Rattle.std.specs.Prelude.{◌≡◌, ◌==◌, ◌<◌, [], length};
+ghost use Rattle.std.specs.Prelude.{◌≡◌, ◌==◌, ◌<◌, [], length, IfOk};
 ghost use Rattle.node_core.specs.TraceLine.{shown};
-ghost use Rattle.window_core.specs.Merged.{line_in};
+ghost use Rattle.window_core.specs.Merged.{all_of, line_in};
+ghost use Rattle.window_core.specs.Sheaves.{merged};
 
-mod gathering;
-pub(crate) mod lines;
-
-use self::lines::Lines;
+use crate::merge::merge;
 use crate::merge::spot::Spot;
+use crate::sheaf::Sheaf;
 use node_core::Line;
-use std::alloc::Global;
+use ranking::Ranking;
+use std::alloc::{AllocError, Global};
 use std::marker::Model;
+use std::mem::replace;
 
 /// The lines of a window in the order of their keys, and the number of the first. The lines stay
-/// where they were written, list by list; their order is kept beside them.
+/// where they were written, group by group; their order is kept beside them.
 #[derive(Drop)]
 pub struct Batch {
     /// The lines of each group.
-    lists: Vec<Lines>,
+    sheaf: Sheaf,
     /// Where the lines stand.
     order: Vec<Spot>,
-    /// The number of the first line in the run, from 1 on; of the next to come where there is none.
-    first: u64,
 }
 
 impl Model for Batch {
@@ -45,9 +44,8 @@ impl Batch {
         ensures { result ≡ record { first = first; lines = [] } }
     {
         Batch {
-            lists: Vec::new(alloc),
+            sheaf: Sheaf::new(alloc, first),
             order: Vec::new(alloc),
-            first,
         }
     }
 
@@ -69,7 +67,7 @@ impl Batch {
     pub fn first(&self) -> u64
         ensures { result ≡ self.now.first }
     {
-        self.first
+        self.sheaf.first()
     }
 
     /// The line at an index.
@@ -77,7 +75,34 @@ impl Batch {
         requires { index < length self.now.lines }
         ensures { shown result.now ≡ line_in self.now.lines index }
     {
-        let spot = self.order[index];
-        self.lists[spot.list].line(spot.index)
+        self.sheaf.line(self.order[index])
+    }
+
+    /// The lines of a sheaf. The memory for their order is given, as long as there are lines.
+    pub(crate) fn of(
+        sheaf: Sheaf,
+        nexts: &mut [usize],
+        ranking: &mut Ranking,
+        mut order: Vec<Spot>,
+    ) -> Batch
+        requires nexts { length nexts.old ≡ length sheaf.lists }
+        requires ranking { length ranking.old ≡ length sheaf.lists }
+        requires order { length order.items ≡ length (all_of sheaf.lists) }
+        ensures batch { result ≡ merged sheaf }
+        ensures sizes { length ranking.new ≡ length ranking.old }
+    {
+        merge(&sheaf.lists, nexts, ranking, &mut order);
+        Batch { sheaf, order }
+    }
+
+    /// Its memory, with room for the order of so many lines. The batch is then empty.
+    pub(crate) fn take_room(&mut self, count: usize) -> Result<(Sheaf, Vec<Spot>), AllocError>
+        ensures { IfOk result (λ room. length room.1.items ≡ count) }
+    {
+        self.order.clear();
+        self.order.resize(count, Spot { list: 0, index: 0 })?;
+        let alloc = *self.order.allocator();
+        let order = replace(&mut self.order, Vec::new(alloc));
+        Ok((replace(&mut self.sheaf, Sheaf::new(alloc, 0)), order))
     }
 }

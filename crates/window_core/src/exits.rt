@@ -1,10 +1,10 @@
 //! What a group holds back for others, a chain for each link of the net.
-ghost use Rattle.std.specs.Prelude.{◌≡◌, ◌+◌, ◌<◌, ◌≤◌, ◌^◌, ◌++◌, ◌∷◌, [], length, slice_set, All, OnOk, OnErr};
+ghost use Rattle.std.specs.Prelude.{◌≡◌, ◌+◌, ◌<◌, ◌≤◌, ◌^◌, ◌++◌, ◌∷◌, [], length, slice_set, All, OnOk, OnErr, IfSome, None};
 ghost use Rattle.std.specs.List.Sorted.{IsStrictlyIncreasing};
 ghost use Rattle.sim_time.specs.declared.key.Key.{Key};
 ghost use Rattle.ranking.specs.Keyed.{apply, entering, EachKey};
 ghost use Rattle.node_core.specs.WireState.{WireState, arrivals, pending_on, came_over, stamps_of};
-ghost use Rattle.window_core.specs.Held.{wire_at, held_on};
+ghost use Rattle.window_core.specs.Held.{wire_at, held_on, HoldsNothing, IsReleased};
 
 use crate::held::Held;
 use packet_chain::PacketChain;
@@ -15,18 +15,21 @@ use std::marker::Model;
 #[derive(Drop)]
 pub(crate) struct Exits {
     held: Vec<Held>,
+    /// The links of which something is held back, with room for each other one.
+    busy: Vec<usize>,
 }
 
 impl Model for Exits {
     ghost use Rattle.std.specs.Prelude.{List};
     ghost use Rattle.node_core.specs.WireState.{WireState};
-    ghost use Rattle.window_core.specs.Held.{AreByLink};
+    ghost use Rattle.std.specs.Prelude.{vec_capacity};
+    ghost use Rattle.window_core.specs.Held.{AreListed};
 
     ghost Value = { List WireState };
 
     ghost view = { λ e. e.held.items };
 
-    ghost invariant = { λ e. AreByLink e.held.items };
+    ghost invariant = { λ e. AreListed e.held.items e.busy.items (vec_capacity e.busy) };
 }
 
 impl Exits {
@@ -36,15 +39,18 @@ impl Exits {
     {
         Exits {
             held: Vec::new(alloc),
+            busy: Vec::new(alloc),
         }
     }
 
     /// The next link, of which nothing is held back.
     pub(crate) fn push(&mut self, held: Held) -> Result<(), AllocError>
         requires link { held.link ≡ length self.old }
+        requires idle { held.under_way ≡ [] }
         ensures ok { OnOk result (self.new ≡ self.old ++ held ∷ []) }
         ensures err { OnErr result (self.new ≡ self.old) }
     {
+        self.busy.reserve(self.held.len() + 1)?;
         self.held.push(held)?;
         Ok(())
     }
@@ -60,18 +66,25 @@ impl Exits {
         ensures held { held_on self.new ≡ apply (entering (arrivals (wire_at self.old link).node link (came_over (wire_at self.old link)) sent.old)) (held_on self.old) }
         ensures sent { sent.new ≡ [] }
     {
+        if self.held[link].is_idle() && sent.len() > 0 {
+            self.busy.push_reserved(link);
+        }
         self.held[link].hold(sent);
     }
 
-    /// Gives what is held back of a link to an empty chain.
-    pub(crate) fn release(&mut self, link: usize, packets: &mut PacketChain)
-        requires within { link < length self.old }
-        requires empty { packets.old ≡ [] }
-        ensures packets { packets.new ≡ (wire_at self.old link).under_way }
-        ensures rising { IsStrictlyIncreasing (stamps_of packets.new) }
-        ensures few { came_over (wire_at self.old link) ≤ 2 ^ 50 }
-        ensures state { self.new ≡ slice_set self.old link (record (wire_at self.old link) { taken = came_over (wire_at self.old link); under_way = [] }) }
+    /// Gives what is held back of a link to an empty chain. The answer is the link, or none where
+    /// nothing is held back.
+    pub(crate) fn release_next(&mut self, packets: &mut PacketChain) -> Option<usize>
+        requires { packets.old ≡ [] }
+        ensures some { IfSome result (λ link. IsReleased self.old self.new link packets.new) }
+        ensures none { result ≡ None → HoldsNothing self.old × (self.new ≡ self.old) × (packets.new ≡ []) }
     {
-        self.held[link].release(packets);
+        while let Some(link) = self.busy.pop() {
+            if !self.held[link].is_idle() {
+                self.held[link].release(packets);
+                return Some(link);
+            }
+        }
+        None
     }
 }

@@ -4,6 +4,7 @@ ghost use Rattle.std.specs.List.Sorted.{IsStrictlyIncreasing};
 ghost use Rattle.sim_time.specs.declared.key.Key.{Key};
 ghost use Rattle.ranking.specs.Keyed.{apply, entering, EachKey};
 ghost use Rattle.node_core.specs.WireState.{arrivals, pending_on, came_over, stamps_of};
+ghost use Rattle.window_core.specs.Held.{is_idle};
 
 use packet_chain::PacketChain;
 use std::alloc::Global;
@@ -45,6 +46,13 @@ impl Held {
             before,
             packets: PacketChain::new(alloc),
         }
+    }
+
+    /// Whether nothing is held back.
+    pub(crate) fn is_idle(&self) -> bool
+        ensures { result ≡ is_idle self.now }
+    {
+        self.packets.len() == 0
     }
 
     /// Holds packets back, behind the others, and leaves the chain with none. It takes no memory.

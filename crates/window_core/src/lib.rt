@@ -13,6 +13,7 @@ mod partition;
 mod passing;
 mod share;
 mod sharing;
+pub mod sheaf;
 #[cfg(test)]
 mod tests;
 pub mod window;
@@ -21,4 +22,5 @@ pub use ahead::{lookahead, window_end};
 pub use batch::Batch;
 pub use group::{Group, GroupFault, run_group};
 pub use partition::Partition;
+pub use sheaf::{Cursor, Sheaf};
 pub use window::{Action, TurnFault, Window};

@@ -7,24 +7,38 @@ ghost use Rattle.window_core.specs.Windows.{in_order};
 pub mod spot;
 
 use self::spot::Spot;
-use crate::batch::lines::Lines;
+use crate::sheaf::lines::Lines;
 use ranking::Ranking;
+
+/// Has the keys of the next lines.
+pub(crate) fn rank_nexts(lists: &[Lines], nexts: &[usize], ranking: &mut Ranking)
+    requires nexts { length nexts.now ≡ length lists.now }
+    requires ranking { length ranking.old ≡ length lists.now }
+    ensures { AreNext lists.now nexts.now ranking.new }
+{
+    // Where no place has a key, a list with no line left needs no call.
+    let vacant = ranking.first().is_none();
+    for (number, lines) in lists.iter().enumerate() {
+        let key = lines.key(nexts[number]);
+        if !vacant || key.is_some() {
+            ranking.set(number, key);
+        }
+    }
+}
 
 // The first line of each list is its next.
 fn begin(lists: &[Lines], nexts: &mut [usize], ranking: &mut Ranking)
     requires nexts { length nexts.old ≡ length lists.now }
     requires ranking { length ranking.old ≡ length lists.now }
     ensures nexts { nexts.new ≡ replicate (length lists.now) 0 }
-    ensures ranking { ranking.new ≡ each first_key lists.now }
+    ensures next { AreNext lists.now nexts.new ranking.new }
 {
-    for (number, lines) in lists.iter().enumerate() {
-        nexts[number] = 0;
-        ranking.set(number, lines.key(0));
-    }
+    nexts.fill(0);
+    rank_nexts(lists, nexts, ranking);
 }
 
 // The spot of the line of the least key among those that are left; that line is then gone.
-fn next_spot(lists: &[Lines], nexts: &mut [usize], ranking: &mut Ranking) -> Spot
+pub(crate) fn next_spot(lists: &[Lines], nexts: &mut [usize], ranking: &mut Ranking) -> Spot
     requires next { AreNext lists.now nexts.old ranking.old }
     requires apart { AreApart lists.now }
     requires some { 0 < length (all_of (rests lists.now nexts.old)) }

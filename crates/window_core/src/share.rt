@@ -1,5 +1,5 @@
 //! What is a group's of a net.
-ghost use Rattle.std.specs.Prelude.{◌≡◌, ◌≢◌, ◌+◌, ◌<◌, ◌≤◌, ◌^◌, [], All, IfOk, IfErr, OnOk, OnErr, length, map as each, take, replicate, slice_index_or, slice_set, None};
+ghost use Rattle.std.specs.Prelude.{◌≡◌, ◌≢◌, ◌+◌, ◌<◌, ◌≤◌, ◌^◌, [], All, IfOk, IfErr, OnOk, OnErr, IfSome, length, map as each, take, replicate, slice_index_or, slice_set, None};
 ghost use Rattle.std.specs.List.Sorted.{IsStrictlyIncreasing};
 ghost use Rattle.std.specs.Option.{option_copied};
 ghost use Rattle.sim_time.specs.declared.key.Key.{Key};
@@ -12,7 +12,7 @@ ghost use Rattle.net_machine.specs.Nodes.{net_pending};
 ghost use Rattle.net_machine.specs.Wiring.{place_at};
 ghost use Rattle.window_core.specs.Groups.{up_to};
 ghost use Rattle.window_core.specs.Windows.{first_time};
-ghost use Rattle.window_core.specs.Held.{wire_at};
+ghost use Rattle.window_core.specs.Held.{HoldsNothing, IsReleased};
 ghost use Rattle.window_core.specs.Seats.{seated, taken};
 ghost use Rattle.window_core.specs.Group.{GroupValue, state_of, group_from, group_to, member, came_in, IsGroup, IsOnRun, AfterFirings, Fired};
 
@@ -179,22 +179,23 @@ impl Share {
         ensures state { self.new ≡ record self.old { lines = []; position = position } }
     {
         let count = self.count;
-        std::mem::swap(&mut self.lines, lines);
+        if count > 0 {
+            std::mem::swap(&mut self.lines, lines);
+        }
         self.count = 0;
         self.position = position;
         count
     }
 
-    /// Gives what is held back of a link to an empty chain.
-    pub(crate) fn release(&mut self, link: usize, packets: &mut PacketChain)
-        requires within { link < length self.old.links }
-        requires empty { packets.old ≡ [] }
-        ensures packets { packets.new ≡ (wire_at self.old.held link).under_way }
-        ensures rising { IsStrictlyIncreasing (stamps_of packets.new) }
-        ensures few { came_over (wire_at self.old.held link) ≤ 2 ^ 50 }
-        ensures state { self.new ≡ record self.old { held = slice_set self.old.held link (record (wire_at self.old.held link) { taken = came_over (wire_at self.old.held link); under_way = [] }) } }
+    /// Gives what is held back of a link to an empty chain. The answer is the link, or none where
+    /// nothing is held back.
+    pub(crate) fn release_next(&mut self, packets: &mut PacketChain) -> Option<usize>
+        requires { packets.old ≡ [] }
+        ensures rest { self.new ≡ record self.old { held = self.new.held } }
+        ensures some { IfSome result (λ link. IsReleased self.old.held self.new.held link packets.new) }
+        ensures none { result ≡ None → HoldsNothing self.old.held × (self.new ≡ self.old) × (packets.new ≡ []) }
     {
-        self.exits.release(link, packets);
+        self.exits.release_next(packets)
     }
 
     /// Packets come from another group over a link that ends at a node of this one, after all that

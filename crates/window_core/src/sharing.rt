@@ -5,7 +5,7 @@ ghost use Rattle.net_machine.specs.declared.places.LinkEnds.{LinkEnds};
 ghost use Rattle.net_machine.specs.Nodes.{IsPlaced};
 ghost use Rattle.net_machine.specs.NetOf.{AreNetParts};
 ghost use Rattle.window_core.specs.Partition.{groups_of};
-ghost use Rattle.window_core.specs.Shares.{AreJoined, AreIdle, IsRoom, AreSeatedFrom, AreSharesOf};
+ghost use Rattle.window_core.specs.Shares.{AreJoined, AreIdle, IsRoom, AreSeatedFrom, AreSharesOf, idle_wire};
 
 use crate::exits::Exits;
 use crate::held::Held;
@@ -45,19 +45,26 @@ fn sent_by(node: &Node, index: usize) -> u64
     }
 }
 
-// For each link of a net a wire over which all has come.
+// A wire over which all that a link of a net sent has come.
+fn idle_held(alloc: Global, nodes: &[Node], links: &[LinkEnds], link: usize) -> Held
+    requires joined { AreJoined links.now nodes.now }
+    requires within { link < length links.now }
+    ensures { result ≡ idle_wire links.now nodes.now link }
+{
+    let ends = links[link];
+    let from = &nodes[usize::from(ends.from)];
+    let sent = sent_by(from, leaving(&links[..link], ends.from));
+    Held::new(alloc, ends.to.node, link as u16, sent)
+}
+
+// For each link of a net such a wire.
 fn idle_exits(alloc: Global, nodes: &[Node], links: &[LinkEnds]) -> Result<Exits, AllocError>
     requires { AreJoined links.now nodes.now }
     ensures { IfOk result (λ exits. AreIdle links.now nodes.now exits) }
 {
     let mut exits = Exits::new(alloc);
     for link in 0..links.len() {
-        let ends = links[link];
-        let sent = sent_by(
-            &nodes[usize::from(ends.from)],
-            leaving(&links[..link], ends.from),
-        );
-        exits.push(Held::new(alloc, ends.to.node, link as u16, sent))?;
+        exits.push(idle_held(alloc, nodes, links, link))?;
     }
     Ok(exits)
 }

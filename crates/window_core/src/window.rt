@@ -1,8 +1,9 @@
 //! A net's run by windows: groups run apart up to a common end, and a turn brings them together.
-ghost use Rattle.std.specs.Prelude.{◌≡◌, ◌<◌, ◌≤◌, [], ℕ, length, map as each, min, true, false, All, IfOk, IfErr, OnErr, vec_capacity};
-ghost use Rattle.table_run.specs.State.{State};
+ghost use Rattle.std.specs.Prelude.{◌≡◌, ◌≢◌, ◌+◌, ◌<◌, ◌≤◌, [], ℕ, length, map as each, min, true, false, All, IfOk, IfErr, OnOk, OnErr, None, slice_set, vec_capacity};
+ghost use Rattle.table_run.specs.State.{State, due};
+ghost use Rattle.window_core.specs.Groups.{up_to};
 ghost use Rattle.window_core.specs.Full.{IsDueAt, events_with};
-ghost use Rattle.window_core.specs.Group.{GroupValue, AfterFirings, IsOnRun};
+ghost use Rattle.window_core.specs.Group.{GroupValue, AfterFirings, IsOnRun, state_of};
 ghost use Rattle.window_core.specs.Window.{IsFrom, IsWindow, HasFiredOr, states_of, value_at};
 ghost use Rattle.window_core.specs.Windows.{none_fired, soonest};
 
@@ -146,6 +147,31 @@ impl Window {
         let until = self.until;
         let share = &mut self.shares[group];
         share.fire_below(until)
+    }
+
+    /// How many groups there are.
+    pub fn groups(&self) -> usize
+        requires { self.now.out ≡ false }
+        ensures { result ≡ length self.now.groups }
+    {
+        self.shares.len()
+    }
+
+    /// Runs a group's events before the window's end, one after another in the order of their keys,
+    /// while the groups are in. Where it stops before, the group stands after some whole events.
+    pub fn run_group(&mut self, group: usize) -> Result<(), GroupFault>
+        requires inside { self.old.out ≡ false }
+        requires within { group < length self.old.groups }
+        ensures state { self.new ≡ record self.old { groups = slice_set self.old.groups group (value_at self.new.groups group) } }
+        ensures after { AfterFirings (value_at self.old.groups group) (value_at self.new.groups group) }
+        ensures done { OnOk result (due (up_to self.old.until (state_of (value_at self.new.groups group))) ≡ None) }
+        ensures from { (edge : State) → IsFrom edge self.old → IsFrom edge self.new }
+        ensures full { IfErr result (λ fault. fault ≡ GroupFault.CountFull → (due (up_to self.old.until (state_of (value_at self.new.groups group))) ≢ None) × ((value_at self.new.groups group).position + length (value_at self.new.groups group).lines ≡ 1000000000000000)) }
+        ensures memory { IfErr result (λ fault. fault ≡ GroupFault.NoMemory → (due (up_to self.old.until (state_of (value_at self.new.groups group))) ≢ None) × ((value_at self.new.groups group).position + length (value_at self.new.groups group).lines < 1000000000000000)) }
+    {
+        let until = self.until;
+        let share = &mut self.shares[group];
+        share.run(until)
     }
 
     /// Hands the groups out. No memory is taken.

@@ -1,11 +1,7 @@
 //! What groups held back for each other is handed over.
-ghost use Rattle.std.specs.Prelude.{◌≡◌, ◌≢◌, ◌<◌, ◌==◌, ℕ, [], length, slice_set, if◌then◌else◌};
-ghost use Rattle.ranking.specs.Keyed.{apply, entering};
-ghost use Rattle.node_core.specs.WireState.{arrivals_on, came_over};
-ghost use Rattle.net_machine.specs.Nodes.{parts_of};
-ghost use Rattle.window_core.specs.Group.{group_to, came_in};
-ghost use Rattle.window_core.specs.Seats.{seated, taken};
-ghost use Rattle.window_core.specs.Turning.{AreReady, CanHand, HasHanded, handed, held_over, pending_in};
+ghost use Rattle.std.specs.Prelude.{◌≡◌, [], None, IfSome};
+ghost use Rattle.window_core.specs.Held.{HoldsNothing};
+ghost use Rattle.window_core.specs.Turning.{AreReady, CanHandEach, HasHanded, HasHandedOne};
 ghost use Rattle.window_core.specs.Window.{value_at};
 
 use crate::partition::Partition;
@@ -14,36 +10,36 @@ use net_machine::LinkEnds;
 use packet_chain::PacketChain;
 use std::alloc::Global;
 
-// What a group held back of a link comes to the group at the link's end. The chain is empty.
-fn hand_over(shares: &mut [Share], from: usize, to: usize, link: usize, chain: &mut PacketChain)
-    requires can { CanHand shares.old from to link }
+// What a group held back of one link comes to the group at the link's end. The chain is empty. The
+// answer is the link, or none where the group holds nothing back.
+fn hand_one(
+    shares: &mut [Share],
+    from: usize,
+    partition: &Partition,
+    links: &[LinkEnds],
+    chain: &mut PacketChain,
+) -> Option<usize>
+    requires can { CanHandEach partition.now links.now shares.old from }
     requires empty { chain.old ≡ [] }
-    ensures from { value_at shares.new from ≡ record (value_at shares.old from) { held = slice_set (value_at shares.old from).held link (handed (held_over shares.old from link)) } }
-    ensures to { value_at shares.new to ≡ record (value_at shares.old to) { seats = (value_at shares.new to).seats } }
-    ensures others { (h : ℕ) → h ≢ from → h ≢ to → value_at shares.new h ≡ value_at shares.old h }
-    ensures parts { parts_of (seated (value_at shares.new to).seats) ≡ parts_of (seated (value_at shares.old to).seats) }
-    ensures seats_stay { taken (value_at shares.new to).seats ≡ taken (value_at shares.old to).seats }
-    ensures pending { pending_in (value_at shares.new to) ≡ apply (entering (arrivals_on (held_over shares.old from link))) (pending_in (value_at shares.old to)) }
-    ensures came { (l : ℕ) → l < length (value_at shares.old to).links → group_to (value_at shares.old to) l ≡ (value_at shares.old to).number → came_in (value_at shares.new to) l ≡ (if l == link then came_over (held_over shares.old from link) else came_in (value_at shares.old to) l) }
+    ensures some { IfSome result (λ link. HasHandedOne partition.now links.now shares.old shares.new from link) }
+    ensures none { result ≡ None → HoldsNothing (value_at shares.old from).held × (shares.new ≡ shares.old) }
     ensures empty { chain.new ≡ [] }
 {
-    shares[from].release(link, chain);
+    let link = shares[from].release_next(chain)?;
+    let to = partition.group(usize::from(links[link].to.node));
     let end = &mut shares[to];
     let _ = end.number();
     end.deliver(link, chain);
+    Some(link)
 }
 
-/// What each group held back for others comes to them, link by link.
+/// What each group held back for others comes to them.
 pub fn hand_all(shares: &mut [Share], partition: &Partition, links: &[LinkEnds], alloc: Global)
     requires { AreReady partition.now links.now shares.old }
     ensures { HasHanded partition.now links.now shares.old shares.new }
 {
     let mut chain = PacketChain::new(alloc);
-    for (link, ends) in links.iter().enumerate() {
-        let from = partition.group(usize::from(ends.from));
-        let to = partition.group(usize::from(ends.to.node));
-        if from != to {
-            hand_over(shares, from, to, link, &mut chain);
-        }
+    for from in 0..shares.len() {
+        while hand_one(shares, from, partition, links, &mut chain).is_some() {}
     }
 }

@@ -1,8 +1,11 @@
 //! A turn brings the groups of a window together.
-ghost use Rattle.std.specs.Prelude.{◌≡◌, ◌+◌, ◌<◌, ◌↔◌, length, map as each, true, false, Err, IfOk, IsErrOf, OnOk, OnErr};
+ghost use Rattle.std.specs.Prelude.{◌≡◌, ◌+◌, ◌<◌, ◌↔◌, length, map as each, true, false, Err, IfErr, IfOk, IsErrOf, OnOk, OnErr};
 ghost use Rattle.table_run.specs.State.{State};
 ghost use Rattle.window_core.specs.Acting.{nothing_after};
 ghost use Rattle.window_core.specs.Full.{HasTooMany, opening_at};
+ghost use Rattle.window_core.specs.Group.{GroupValue};
+ghost use Rattle.window_core.specs.Sheaves.{merged};
+ghost use Rattle.window_core.specs.Turning.{CanTurn};
 ghost use Rattle.window_core.specs.Window.{IsFrom, HasGoneOn, HasTurned, states_of};
 ghost use Rattle.window_core.specs.Windows.{all_done, all_lines, none_fired};
 
@@ -11,6 +14,7 @@ use super::reading::{all_done, soonest, told};
 use super::{Window, set_until};
 use crate::ahead::window_end;
 use crate::batch::Batch;
+use crate::sheaf::Sheaf;
 use std::mem::{replace, swap};
 
 /// The most events of a run.
@@ -28,6 +32,64 @@ pub enum TurnFault {
 }
 
 impl Window {
+    // How many lines the groups have told, where a turn can be taken.
+    fn ready(&self) -> Result<usize, TurnFault>
+        requires { self.now.out ≡ false }
+        ensures ok { IfOk result (λ count. CanTurn self.now count) }
+        ensures not_done { (IsErrOf result TurnFault.NotDone) ↔ (all_done self.now.until (states_of self.now.groups) ≡ false) }
+        ensures full { (IsErrOf result TurnFault.CountFull) ↔ ((all_done self.now.until (states_of self.now.groups) ≡ true) × (1000000000000000 < self.now.position + length (all_lines (states_of self.now.groups)))) }
+        ensures too_many { IsErrOf result TurnFault.CountFull → (edge : State) → IsFrom edge self.now → HasTooMany (opening_at edge self.now) }
+    {
+        if !all_done(&self.shares, self.until) {
+            return Err(TurnFault::NotDone);
+        }
+        let _ = self.partition.groups();
+        let count = told(&self.shares);
+        if self.position + count as u64 > MOST_EVENTS {
+            return Err(TurnFault::CountFull);
+        }
+        Ok(count)
+    }
+
+    // The turn that can be taken, with so many lines.
+    fn turn_with(&mut self, sheaf: &mut Sheaf, count: usize) -> Result<(), TurnFault>
+        requires inside { self.old.out ≡ false }
+        requires can { CanTurn self.old count }
+        ensures ok { OnOk result (HasTurned self.old (merged sheaf.new) self.new) }
+        ensures run { OnOk result ((edge : State) → IsFrom edge self.old → HasGoneOn edge (merged sheaf.new).lines self.new) }
+        ensures lists { OnOk result (sheaf.new.lists ≡ each (λ (g : GroupValue). g.lines) self.old.groups) }
+        ensures memory { IfErr result (λ fault. fault ≡ TurnFault.NoMemory) }
+        ensures err { OnErr result (self.new ≡ self.old) }
+    {
+        let _ = self.partition.groups();
+        let gathered = sheaf.gather(&mut self.shares, self.position, count);
+        if gathered.is_err() {
+            return Err(TurnFault::NoMemory);
+        }
+        self.position += count as u64;
+        hand_all(&mut self.shares, &self.partition, &self.links, self.alloc);
+        self.until = window_end(soonest(&self.shares), self.ahead, self.end);
+        set_until(&mut self.shares, self.until);
+        Ok(())
+    }
+
+    /// Brings the groups together where none has an event left before the window's end: the sheaf
+    /// has the window's lines, group by group, each group has what others held back for it, and the
+    /// next window begins. Where no turn is taken nothing changes, but the sheaf may be empty.
+    pub fn turn_apart(&mut self, sheaf: &mut Sheaf) -> Result<(), TurnFault>
+        requires { self.old.out ≡ false }
+        ensures ok { OnOk result (HasTurned self.old (merged sheaf.new) self.new) }
+        ensures run { OnOk result ((edge : State) → IsFrom edge self.old → HasGoneOn edge (merged sheaf.new).lines self.new) }
+        ensures lists { OnOk result (sheaf.new.lists ≡ each (λ (g : GroupValue). g.lines) self.old.groups) }
+        ensures not_done { (result ≡ Err TurnFault.NotDone) ↔ (all_done self.old.until (states_of self.old.groups) ≡ false) }
+        ensures full { (result ≡ Err TurnFault.CountFull) ↔ ((all_done self.old.until (states_of self.old.groups) ≡ true) × (1000000000000000 < self.old.position + length (all_lines (states_of self.old.groups)))) }
+        ensures too_many { result ≡ Err TurnFault.CountFull → (edge : State) → IsFrom edge self.old → HasTooMany (opening_at edge self.old) }
+        ensures err { OnErr result (self.new ≡ self.old) }
+    {
+        let count = self.ready()?;
+        self.turn_with(sheaf, count)
+    }
+
     /// Brings the groups together where none has an event left before the window's end: the batch
     /// has the window's lines, each group has what others held back for it, and the next window
     /// begins. Where no turn is taken nothing changes, but the batch may be empty. What was `taken`
@@ -41,29 +103,12 @@ impl Window {
         ensures too_many { result ≡ Err TurnFault.CountFull → (edge : State) → IsFrom edge self.old → HasTooMany (opening_at edge self.old) }
         ensures err { OnErr result (self.new ≡ self.old) }
     {
-        if !all_done(&self.shares, self.until) {
-            return Err(TurnFault::NotDone);
-        }
-        let _ = self.partition.groups();
-        let count = told(&self.shares);
-        let events = self.position + count as u64;
-        if events > MOST_EVENTS {
-            return Err(TurnFault::CountFull);
-        }
-        let gathered = batch.gather(
-            &mut self.shares,
-            &mut self.nexts,
-            &mut self.ranking,
-            self.position,
-            count,
-        );
-        if gathered.is_err() {
+        let count = self.ready()?;
+        let Ok((mut sheaf, order)) = batch.take_room(count) else {
             return Err(TurnFault::NoMemory);
-        }
-        self.position = events;
-        hand_all(&mut self.shares, &self.partition, &self.links, self.alloc);
-        self.until = window_end(soonest(&self.shares), self.ahead, self.end);
-        set_until(&mut self.shares, self.until);
+        };
+        self.turn_with(&mut sheaf, count)?;
+        *batch = Batch::of(sheaf, &mut self.nexts, &mut self.ranking, order);
         Ok(())
     }
 

@@ -17,7 +17,7 @@ loop-spot-init c =
     record {
       merged = ap (λ (ls : List (List TraceLine)). in_order (all_of ls)) whole;
       spots = λ k d under. absurd (omega (arith, under));
-      next = record { size = c.begin.auto.nexts ∙ c.requires.nexts; ranked = c.begin.ensures.ranking ∙ ap (map first_key) (sym whole) };
+      next = c.begin.ensures.next;
       count = omega (arith, count);
     }
 

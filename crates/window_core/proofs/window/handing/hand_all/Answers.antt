@@ -1,62 +1,54 @@
-use Rattle.std.proofs.Common.{◌≡◌, ◌≢◌, ◌<◌, ◌+◌, List, length, sym, ap, subst, ◌∙◌, arith}
+use Rattle.std.proofs.Common.{◌≡◌, ◌<◌, ◌+◌, ℕ, List, length, Bool, true, false, Option, Some, None, refl, sym, ap, subst, ◌∙◌, arith, true≢false}
+use Rattle.std.specs.Option.{IfSome, is_some}
+use Rattle.net_machine.specs.declared.places.LinkEnds.{LinkEnds}
 use Rattle.window_core.specs.Group.{GroupValue}
-use Rattle.window_core.specs.Partition.{group_in}
-use Rattle.window_core.specs.Turning.{from_group, to_group, CanHand, WasHanded}
-use Rattle.window_core.proofs.Handed.{HandedTo, handed_inside, can_hand, handed_across, has_handed}
+use Rattle.window_core.specs.Turning.{AreReady, HasHandedOne}
+use Rattle.window_core.specs.Window.{value_at}
+use Rattle.window_core.proofs.HandedEach.{HandedFrom, none_yet, can_each, handed_one, handed_next, handed_all, fewer, left_over}
 use Rattle.window_core.proofs.window.handing.hand_all.Goals as goal
-use Rattle.window_core.proofs.window.handing.hand_all.Goals.{then-from-to, else-from-to}
 
-pub hand_over-requires-clause-can : goal.hand_over-requires-clause-can
-hand_over-requires-clause-can c =
-    let entries = c.args.partition.now in
-    let links = c.args.links.now in
-    let at = c.loop-link.link in
-    let shares = c.loop-link.shares in
-    let from : c.group-from.result ≡ from_group entries links at = c.group-from.ensures ∙ ap (group_in entries) c.from.ensures in
-    let to : c.group-to.result ≡ to_group entries links at = c.group-to.ensures ∙ ap (group_in entries) c.from-in-loop-link.ensures in
-    let under : at < length links = c.loop-link-test.true in
-    let crosses : from_group entries links at ≢ to_group entries links at = λ e. c.if-from-to.true (from ∙ e ∙ sym to) in
-    let can = can_hand entries links c.args.shares.now c.requires shares at under (c.loop-link.invariant c.requires).0 crosses in
-    subst (λ f. CanHand shares f c.group-to.result at) (sym from) (subst (λ t. CanHand shares (from_group entries links at) t at) (sym to) can)
+some_of : {P : ℕ → Type 0} (o : Option ℕ) → is_some o ≡ true → IfSome o P → (link : ℕ) × P link
+some_of None e h = absurd (true≢false (sym e))
+some_of (Some link) e h = (link, h)
 
-pub hand_over-requires-clause-empty : goal.hand_over-requires-clause-empty
-hand_over-requires-clause-empty c = (c.loop-link.invariant c.requires).1
+none_of : (o : Option ℕ) → is_some o ≡ false → o ≡ None
+none_of None e = refl
+none_of (Some link) e = absurd (true≢false e)
 
-pub loop-link-preserved : goal.loop-link-preserved
-loop-link-preserved c ready =
-    let entries = c.args.partition.now in
-    let links = c.args.links.now in
-    let at = c.loop-link.link in
-    let shares = c.loop-link.shares in
-    let from : c.group-from.result ≡ from_group entries links at = c.group-from.ensures ∙ ap (group_in entries) c.from.ensures in
-    let to : c.group-to.result ≡ to_group entries links at = c.group-to.ensures ∙ ap (group_in entries) c.from-in-loop-link.ensures in
-    let under : at < length links = c.loop-link-test.true in
-    let is = c.loop-link.invariant ready in
-    let old = c.args.shares.now in
-    elim c.if-from-to.branch [
-      | then-from-to w ↦
-          let crosses : from_group entries links at ≢ to_group entries links at = λ e. w.if-from-to.true (from ∙ e ∙ sym to) in
-          let ens = w.hand_over.ensures in
-          let was : WasHanded shares w.hand_over.new.shares c.group-from.result c.group-to.result at = record {
-            size = w.hand_over.auto.shares;
-            from_is = ens.from;
-            to_is = ens.to;
-            others = ens.others;
-            parts = ens.parts;
-            seats_stay = ens.seats_stay;
-            pending = ens.pending;
-            came = ens.came;
-          } in
-          let was_links : WasHanded shares w.hand_over.new.shares (from_group entries links at) (to_group entries links at) at = subst (λ t. WasHanded shares w.hand_over.new.shares (from_group entries links at) t at) to (subst (λ f. WasHanded shares w.hand_over.new.shares f c.group-to.result at) from was) in
-          let next = handed_across entries links old ready shares at under is.0 crosses w.hand_over.new.shares was_links in
-          (subst (λ (gs : List GroupValue). HandedTo entries links old ready gs (at + 1)) (sym w.shares-is) next, w.chain-is ∙ ens.empty)
-      | else-from-to w ↦
-          let next = handed_inside entries links old ready shares at under is.0 (sym from ∙ w.if-from-to.false ∙ to) in
-          (subst (λ (gs : List GroupValue). HandedTo entries links old ready gs (at + 1)) (sym w.shares-is) next, w.chain-is ∙ is.1)
-    ]
+pub loop-from-init : goal.loop-from-init
+loop-from-init c ready = (none_yet c.args.partition.now c.args.links.now c.args.shares.now ready, c.new-chain.ensures)
+
+pub loop-init : goal.loop-init
+loop-init c = c.loop-from.invariant
+
+pub hand_one-requires-clause-can : goal.hand_one-requires-clause-can
+hand_one-requires-clause-can c =
+    let is = (c.loop.invariant c.requires).0 in
+    can_each c.args.partition.now c.args.links.now c.args.shares.now c.requires c.loop.shares c.loop-from.from is c.loop-from-test.true
+
+pub hand_one-requires-clause-empty : goal.hand_one-requires-clause-empty
+hand_one-requires-clause-empty c = (c.loop.invariant c.requires).1
+
+pub loop-smaller : goal.loop-smaller
+loop-smaller c =
+    let is = (c.loop.invariant c.requires).0 in
+    let one = some_of c.hand_one.result (sym c.is_some.ensures ∙ c.loop-test.true) c.hand_one.ensures.some in
+    fewer c.args.partition.now c.args.links.now c.args.shares.now c.requires c.loop.shares c.loop-from.from is c.loop-from-test.true c.hand_one.new.shares one.0 one.1
+
+pub loop-preserved : goal.loop-preserved
+loop-preserved c ready =
+    let is = (c.loop.invariant ready).0 in
+    let one = some_of c.hand_one.result (sym c.is_some.ensures ∙ c.loop-test.true) c.hand_one.ensures.some in
+    (handed_one c.args.partition.now c.args.links.now c.args.shares.now ready c.loop.shares c.loop-from.from is c.loop-from-test.true c.hand_one.new.shares one.0 one.1, c.hand_one.ensures.empty)
+
+pub loop-from-preserved : goal.loop-from-preserved
+loop-from-preserved c ready =
+    let is = (c.loop.invariant ready).0 in
+    let none = c.hand_one.ensures.none (none_of c.hand_one.result (sym c.is_some.ensures ∙ c.loop-test.false)) in
+    (subst (λ (gs : List GroupValue). HandedFrom c.args.partition.now c.args.links.now c.args.shares.now ready gs (c.loop-from.from + 1)) (sym none.1) (handed_next c.args.partition.now c.args.links.now c.args.shares.now ready c.loop.shares c.loop-from.from is c.loop-from-test.true none.0), c.hand_one.ensures.empty)
 
 pub returns : goal.returns
 returns c =
-    let is = (c.loop-link.invariant c.requires).0 in
-    let last : c.loop-link.link ≡ length c.args.links.now = let past = c.loop-link-test.false in let upto = c.loop-link.auto.link-end in omega (arith, past, upto) in
-    has_handed c.args.partition.now c.args.links.now c.args.shares.now c.requires c.loop-link.shares (subst (HandedTo c.args.partition.now c.args.links.now c.args.shares.now c.requires c.loop-link.shares) last is)
+    let is = (c.loop-from.invariant c.requires).0 in
+    let last : c.loop-from.from ≡ length c.args.shares.now = (let past = c.loop-from-test.false in let upto = c.loop-from.auto.from-end in omega (arith, past, upto)) in
+    handed_all c.args.partition.now c.args.links.now c.args.shares.now c.requires c.loop-from.shares (subst (HandedFrom c.args.partition.now c.args.links.now c.args.shares.now c.requires c.loop-from.shares) last is)

@@ -1,7 +1,16 @@
 use Rattle.std.proofs.Common.{◌≡◌, []}
 use Rattle.window_core.specs.Turning.{AreReady}
-use Rattle.window_core.proofs.Handed.{HandedTo}
+use Rattle.window_core.specs.Window.{value_at}
+use Rattle.window_core.proofs.HandedEach.{HandedFrom, left_over}
 use Rattle.window_core.proofs.window.handing.hand_all.Given as goal
 
-abbrev pub invariant-loop-link : goal.invariant-loop-link
-invariant-loop-link l = (ready : AreReady l.partition l.links l.initial.shares) → (HandedTo l.partition l.links l.initial.shares ready l.shares l.link) × (l.chain ≡ [])
+-- the groups before this one have handed over what they held back
+abbrev pub invariant-loop-from : goal.invariant-loop-from
+invariant-loop-from l = (ready : AreReady l.partition l.links l.fn.shares) → HandedFrom l.partition l.links l.fn.shares ready l.shares l.from × (l.chain ≡ [])
+
+-- so too while this one does
+abbrev pub invariant-loop : goal.invariant-loop
+invariant-loop l = (ready : AreReady l.partition l.links l.fn.shares) → HandedFrom l.partition l.links l.fn.shares ready l.shares l.from × (l.chain ≡ [])
+
+abbrev pub decreases-loop : goal.decreases-loop
+decreases-loop l = left_over (value_at l.shares l.from).held

@@ -1,17 +1,14 @@
-//! The lines of all groups come into a batch.
+//! The lines of all groups come into a sheaf.
 ghost use Rattle.std.specs.Prelude.{◌≡◌, ◌+◌, ◌≤◌, [], length, map as each, OnOk, OnErr};
 ghost use Rattle.node_core.specs.TraceLine.{TraceLine};
 ghost use Rattle.window_core.specs.Group.{GroupValue};
 ghost use Rattle.window_core.specs.Merged.{AreApart, all_of};
-ghost use Rattle.window_core.specs.Windows.{in_order};
 
-use super::Batch;
+use super::Sheaf;
 use super::lines::Lines;
-use crate::merge::merge;
-use crate::merge::spot::Spot;
 use crate::share::Share;
-use ranking::Ranking;
 use std::alloc::AllocError;
+use std::mem::replace;
 
 // As many lists as that; what they hold has no meaning.
 fn fit(lists: &mut Vec<Lines>, count: usize) -> Result<(), AllocError>
@@ -37,34 +34,31 @@ fn take_lines(lists: &mut [Lines], shares: &mut [Share], position: u64)
     }
 }
 
-impl Batch {
+impl Sheaf {
     /// Has the lines that the groups have told, so many in all, after so many events: then the
-    /// groups have told none, and stand after those too. Where memory is refused the batch is
+    /// groups have told none, and stand after those too. Where memory is refused the sheaf is
     /// empty.
     pub(crate) fn gather(
         &mut self,
         shares: &mut [Share],
-        nexts: &mut [usize],
-        ranking: &mut Ranking,
         position: u64,
         count: usize,
     ) -> Result<(), AllocError>
-        requires nexts { length nexts.old ≡ length shares.old }
-        requires ranking { length ranking.old ≡ length shares.old }
+        requires few { length shares.old ≤ 64 }
         requires apart { AreApart (each (λ (g : GroupValue). g.lines) shares.old) }
         requires count { count ≡ length (all_of (each (λ (g : GroupValue). g.lines) shares.old)) }
         requires fits { position + count ≤ 1000000000000000 }
-        ensures batch { OnOk result (self.new ≡ record { first = position + 1; lines = in_order (all_of (each (λ (g : GroupValue). g.lines) shares.old)) }) }
+        ensures sheaf { OnOk result (self.new ≡ record { first = position + 1; lists = each (λ (g : GroupValue). g.lines) shares.old }) }
         ensures shares { OnOk result (shares.new ≡ each (λ (g : GroupValue). record g { lines = []; position = position + count }) shares.old) }
-        ensures count { OnOk result (length self.new.lines ≡ count) }
         ensures err { OnErr result (shares.new ≡ shares.old) }
-        ensures sizes { length ranking.new ≡ length ranking.old }
     {
-        self.order.clear();
-        fit(&mut self.lists, shares.len())?;
-        self.order.resize(count, Spot { list: 0, index: 0 })?;
-        take_lines(&mut self.lists, shares, position + count as u64);
-        merge(&self.lists, nexts, ranking, &mut self.order);
+        let alloc = *self.lists.allocator();
+        let mut lists = replace(&mut self.lists, Vec::new(alloc));
+        self.count = 0;
+        fit(&mut lists, shares.len())?;
+        take_lines(&mut lists, shares, position + count as u64);
+        self.lists = lists;
+        self.count = count;
         self.first = position + 1;
         Ok(())
     }

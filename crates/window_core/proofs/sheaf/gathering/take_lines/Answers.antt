@@ -4,7 +4,7 @@ use Rattle.node_core.specs.TraceLine.{TraceLine}
 use Rattle.window_core.specs.Group.{GroupValue}
 use Rattle.window_core.specs.Window.{no_value, value_at}
 use Rattle.window_core.proofs.Each.{one_changed}
-use Rattle.window_core.proofs.batch.gathering.take_lines.Goals as goal
+use Rattle.window_core.proofs.sheaf.gathering.take_lines.Goals as goal
 
 pub loop-at-preserved : goal.loop-at-preserved
 loop-at-preserved c =

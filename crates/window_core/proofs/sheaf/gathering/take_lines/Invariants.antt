@@ -2,7 +2,7 @@ use Rattle.std.proofs.Common.{◌≡◌, [], length, map, take}
 use Rattle.window_core.specs.Group.{GroupValue}
 use Rattle.window_core.specs.Window.{no_value}
 use Rattle.window_core.proofs.Each.{IsChangedTo}
-use Rattle.window_core.proofs.batch.gathering.take_lines.Given as goal
+use Rattle.window_core.proofs.sheaf.gathering.take_lines.Given as goal
 
 abbrev pub invariant-loop-at : goal.invariant-loop-at
 invariant-loop-at l = record {

@@ -4,10 +4,11 @@ ghost use Rattle.std.specs.List.{slice_get};
 ghost use Rattle.std.specs.Option.{option_map};
 ghost use Rattle.node_core.specs.TraceLine.{TraceLine, shown};
 ghost use Rattle.window_core.specs.Merged.{line_in};
+ghost use Rattle.window_core.specs.Sheaves.{IsCut, IsRising};
 
 use crate::share::Share;
 use node_core::Line;
-use sim_time::Key;
+use sim_time::{Key, Time};
 use std::alloc::Global;
 use std::marker::Model;
 
@@ -84,5 +85,18 @@ impl Lines {
         } else {
             None
         }
+    }
+
+    /// How many lines are before a moment, in nanoseconds.
+    pub(crate) fn before(&self, moment: Time) -> usize
+        requires { IsRising self.now }
+        ensures within { result ≤ length self.now }
+        ensures cut { IsCut moment result self.now }
+    {
+        // Time begins at 0: nothing has to be looked for.
+        if moment == 0 {
+            return 0;
+        }
+        self.items[..self.count].partition_point(|line| line.key.time < moment)
     }
 }

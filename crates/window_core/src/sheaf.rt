@@ -1,0 +1,132 @@
+//! The lines of a window, group by group: threads can merge them in parts.
+ghost use Rattle.std.specs.Prelude.{◌≡◌, ◌==◌, ◌+◌, ◌<◌, [], length};
+ghost use Rattle.node_core.specs.TraceLine.{shown};
+ghost use Rattle.window_core.specs.Merged.{IsSpot, line_at, line_in};
+ghost use Rattle.window_core.specs.Sheaves.{StandsIn, merged};
+
+mod beginning;
+mod cursor;
+mod gathering;
+pub(crate) mod lines;
+
+pub use self::cursor::Cursor;
+use self::lines::Lines;
+use crate::merge::next_spot;
+use crate::merge::spot::Spot;
+use node_core::Line;
+use sim_time::Time;
+use std::alloc::Global;
+use std::marker::Model;
+
+/// The lines of a window, group by group as they were written, and the number of the first in the
+/// run. Any number of cursors may merge parts of them at the same time.
+#[derive(Drop)]
+pub struct Sheaf {
+    /// The lines of each group.
+    pub(crate) lists: Vec<Lines>,
+    /// How many lines.
+    count: usize,
+    /// The number of the first line in the run, from 1 on; of the next to come where there is none.
+    first: u64,
+}
+
+// The number of a list that has the most lines.
+fn longest(lists: &[Lines]) -> usize
+    requires { 0 < length lists.now }
+    ensures { result < length lists.now }
+{
+    let mut longest = 0;
+    for number in 1..lists.len() {
+        if lists[number].len() > lists[longest].len() {
+            longest = number;
+        }
+    }
+    longest
+}
+
+impl Model for Sheaf {
+    ghost use Rattle.window_core.specs.Sheaves.{SheafValue};
+    ghost use Rattle.window_core.specs.SheafCode.{sheaf_code};
+
+    ghost Value = { SheafValue };
+
+    ghost coded = { sheaf_code };
+
+    ghost use Rattle.window_core.specs.SheafOf.{sheaf_of, IsSheaf};
+
+    ghost view = { sheaf_of };
+
+    ghost invariant = { IsSheaf };
+}
+
+impl Sheaf {
+    /// No line, where the next to come has this number. No memory is taken.
+    pub fn new(alloc: Global, first: u64) -> Sheaf
+        ensures { result ≡ record { first = first; lists = [] } }
+    {
+        Sheaf {
+            lists: Vec::new(alloc),
+            count: 0,
+            first,
+        }
+    }
+
+    /// How many lines.
+    pub fn len(&self) -> usize
+        ensures { result ≡ length (merged self.now).lines }
+    {
+        self.count
+    }
+
+    /// Whether there is no line.
+    pub fn is_empty(&self) -> bool
+        ensures { result ≡ (length (merged self.now).lines == 0) }
+    {
+        self.count == 0
+    }
+
+    /// The number of the first line in the run, from 1 on; of the next to come where there is none.
+    pub fn first(&self) -> u64
+        ensures { result ≡ self.now.first }
+    {
+        self.first
+    }
+
+    /// A moment at which a part of so many may begin, in nanoseconds, so that about as many lines are
+    /// in each; it goes by the group of the most lines. Part 0 begins with the first line.
+    pub fn moment_at(&self, part: usize, parts: usize) -> Time
+        requires { 0 < parts }
+        ensures { part ≡ 0 → result ≡ 0 }
+    {
+        if part == 0 || self.lists.is_empty() {
+            return 0;
+        }
+        let lines = &self.lists[longest(&self.lists)];
+        match lines.key((lines.len() / parts).saturating_mul(part)) {
+            Some(key) => key.time,
+            None => Time::MAX,
+        }
+    }
+
+    /// The line at a spot.
+    pub(crate) fn line(&self, spot: Spot) -> &Line
+        requires { IsSpot self.now.lists spot }
+        ensures { shown result.now ≡ line_at self.now.lists spot }
+    {
+        self.lists[spot.list].line(spot.index)
+    }
+
+    /// The next line in the order of the keys. The cursor is then behind it.
+    pub fn next(&self, cursor: &mut Cursor) -> &Line
+        requires at { StandsIn self.now cursor.old }
+        requires some { cursor.old.at < length (merged self.now).lines }
+        ensures line { shown result.now ≡ line_in (merged self.now).lines cursor.old.at }
+        ensures at { StandsIn self.now cursor.new }
+        ensures count { cursor.new.at ≡ cursor.old.at + 1 }
+    {
+        prove!(cursor.at < self.count);
+        let spot = next_spot(&self.lists, &mut cursor.nexts, &mut cursor.ranking);
+        cursor.at += 1;
+        self.line(spot)
+    }
+}

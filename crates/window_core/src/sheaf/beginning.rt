@@ -1,0 +1,47 @@
+//! A merge begins at a moment: each list is cut there.
+ghost use Rattle.std.specs.Prelude.{◌≡◌, ◌+◌, ◌≤◌, length, replicate, OnOk};
+ghost use Rattle.window_core.specs.Merged.{AreApart, all_of, rests};
+ghost use Rattle.window_core.specs.Sheaves.{AreCuts, IsCut, StandsIn, merged};
+
+use super::lines::Lines;
+use super::{Cursor, Sheaf};
+use crate::merge::rank_nexts;
+use ranking::Ranking;
+use sim_time::Time;
+use std::alloc::AllocError;
+
+// Has how many lines of each list are before a moment. The answer is how many are in all.
+fn cut(lists: &[Lines], moment: Time, nexts: &mut [usize]) -> usize
+    requires zeros { nexts.old ≡ replicate (length lists.now) 0 }
+    requires apart { AreApart lists.now }
+    requires few { length (all_of lists.now) ≤ 1000000000000000 }
+    ensures cuts { AreCuts moment lists.now nexts.new }
+    ensures count { result + length (all_of (rests lists.now nexts.new)) ≡ length (all_of lists.now) }
+{
+    let mut at = 0;
+    for (number, lines) in lists.iter().enumerate() {
+        let next = lines.before(moment);
+        nexts[number] = next;
+        at += next;
+    }
+    at
+}
+
+impl Sheaf {
+    /// Puts a cursor behind the lines before a moment, in nanoseconds. Where memory is refused it
+    /// stands nowhere.
+    pub fn begin_at(&self, cursor: &mut Cursor, moment: Time) -> Result<(), AllocError>
+        ensures at { OnOk result (StandsIn self.now cursor.new) }
+        ensures cut { OnOk result (IsCut moment cursor.new.at (merged self.now).lines) }
+    {
+        let places = self.lists.len();
+        cursor.nexts.clear();
+        cursor.nexts.resize(places, 0)?;
+        if cursor.ranking.places() != places {
+            cursor.ranking = Ranking::new(*self.lists.allocator(), places)?;
+        }
+        cursor.at = cut(&self.lists, moment, &mut cursor.nexts);
+        rank_nexts(&self.lists, &cursor.nexts, &mut cursor.ranking);
+        Ok(())
+    }
+}

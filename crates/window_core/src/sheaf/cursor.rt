@@ -1,0 +1,59 @@
+//! Where a merge of a sheaf's lines stands.
+ghost use Rattle.std.specs.Prelude.{◌≡◌, [], IfOk};
+
+use ranking::Ranking;
+use std::alloc::{AllocError, Global};
+use std::marker::Model;
+
+/// Where a merge stands in a sheaf. Its memory is used again.
+#[derive(Drop)]
+pub struct Cursor {
+    /// How many lines are before it.
+    pub(super) at: usize,
+    /// The index of the next line of each group.
+    pub(super) nexts: Vec<usize>,
+    /// The keys of those lines.
+    pub(super) ranking: Ranking,
+}
+
+impl Model for Cursor {
+    ghost use Rattle.window_core.specs.Sheaves.{CursorValue};
+    ghost use Rattle.window_core.specs.SheafCode.{cursor_code};
+
+    ghost Value = { CursorValue };
+
+    ghost coded = { cursor_code };
+
+    ghost view = { λ c. record { at = c.at; nexts = c.nexts.items; ranks = c.ranking } };
+}
+
+impl Cursor {
+    /// A cursor that stands in no sheaf of any group yet.
+    pub fn new(alloc: Global) -> Result<Cursor, AllocError>
+        ensures { IfOk result (λ cursor. cursor ≡ record { at = 0; nexts = []; ranks = [] }) }
+    {
+        Ok(Cursor {
+            at: 0,
+            nexts: Vec::new(alloc),
+            ranking: Ranking::new(alloc, 0)?,
+        })
+    }
+
+    /// A cursor in memory of its own that stands where this one does.
+    pub fn copy(&self) -> Result<Cursor, AllocError>
+        ensures { IfOk result (λ cursor. cursor ≡ self.now) }
+    {
+        Ok(Cursor {
+            at: self.at,
+            nexts: self.nexts.clone()?,
+            ranking: self.ranking.copy()?,
+        })
+    }
+
+    /// How many lines are before it.
+    pub fn at(&self) -> usize
+        ensures { result ≡ self.now.at }
+    {
+        self.at
+    }
+}
