@@ -3,8 +3,8 @@ ghost use Rattle.work_board.specs.Seats.{IsOf, HoldsNothing};
 
 mod laid;
 
-use self::laid::{groups, pieces};
-use crate::{Board, Seat, Slot};
+use self::laid::{groups, pieces, whole};
+use crate::{Board, Piece, Seat, Slot};
 use std::alloc::{AllocError, Global};
 use std::sync::Wait;
 use std::sync::atomic::AtomicU64;
@@ -13,7 +13,7 @@ use std::test::Fail;
 use std::thread;
 use std::thread::Threads;
 
-const ROUNDS: usize = 4000;
+const ROUNDS: usize = 10_000;
 
 const THREADS: usize = 16;
 
@@ -43,6 +43,30 @@ fn reads_a_finish_back(rt: HostRuntime) -> Result<(), Fail> {
     assert!(rt; matches!(first, Some(Slot::Finished(_))));
     assert!(rt; matches!(second, Some(Slot::Waiting(_))));
     assert!(rt; matches!(third, Some(Slot::Out)));
+    Ok(())
+}
+
+#[test]
+fn runs_to_the_end_of_its_window(rt: HostRuntime) -> Result<(), Fail> {
+    let (group, end) = whole(&rt, rt.alloc())?;
+    let mut piece = Piece::new(group, end);
+    assert!(rt; !piece.is_done());
+    piece.run();
+    assert!(rt; piece.is_done() && piece.fault().is_none());
+    let left = piece.into_group().next();
+    assert!(rt; left.is_none());
+    Ok(())
+}
+
+#[test]
+fn all_wait_at_first(rt: HostRuntime) -> Result<(), Fail> {
+    let alloc = rt.alloc();
+    let pieces = pieces(alloc, groups(&rt, alloc, 1)?)?;
+    assert!(rt; pieces.len() == 2);
+    let (board, seat) = Board::lay(alloc, pieces)?;
+    for slot in board.clear(seat)? {
+        assert!(rt; matches!(slot, Slot::Waiting(_)));
+    }
     Ok(())
 }
 

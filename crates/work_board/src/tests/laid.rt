@@ -1,6 +1,9 @@
+ghost use Rattle.std.specs.Prelude.{◌≤◌, IfOk};
+
 use crate::Piece;
 use net_machine::Net;
 use scenario_image::{FlowPart, LinkPart, NodeKind, QueueKind, Records, Scenario, ScenarioParts};
+use sim_time::Time;
 use std::alloc::{AllocError, Global};
 use std::process::Abort;
 use std::test::Fail;
@@ -50,6 +53,20 @@ pub(super) fn groups(rt: &impl Abort, alloc: Global, last: u8) -> Result<Vec<Gro
     assert!(rt; partition.nodes() == net.nodes().len());
     let mut window = Window::new(alloc, net, partition).map_err(|_| "a window")?;
     Ok(window.take_groups())
+}
+
+/// The group of all nodes, and where its window ends.
+pub(super) fn whole(rt: &impl Abort, alloc: Global) -> Result<(Group, Time), Fail>
+    ensures { IfOk result (λ r. r.1 ≤ r.0.until) }
+{
+    let net = Net::new(alloc, &one_segment(alloc)?)?;
+    let partition = Partition::new(vec![in alloc; 0, 0]?).ok_or("one group")?;
+    assert!(rt; partition.nodes() == net.nodes().len());
+    let mut window = Window::new(alloc, net, partition).map_err(|_| "a window")?;
+    window.limit(500_000_000);
+    let end = window.end();
+    let group = window.take_groups().pop().ok_or("a group")?;
+    Ok((group, end))
 }
 
 /// A piece for each of the groups, with an end before every event.
