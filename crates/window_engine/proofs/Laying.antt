@@ -51,7 +51,7 @@ may_run until end groups lent is ends =
     let Q : ℕ → Type 0 = λ e. All (λ (g : GroupValue). e ≤ g.until) (map (ended_by until) groups) in
     subst P (sym is) (subst Q (sym ends) (within_ended_by until groups))
 
-all_done_of : (end : ℕ) (groups : List GroupValue) → ((n : ℕ) → n < length groups → due (group_up_to end (state_of (value_at groups n))) ≡ None) → all_done end (states_of groups) ≡ true
+pub all_done_of : (end : ℕ) (groups : List GroupValue) → ((n : ℕ) → n < length groups → due (group_up_to end (state_of (value_at groups n))) ≡ None) → all_done end (states_of groups) ≡ true
 all_done_of end [] each = refl
 all_done_of end (g ∷ groups) each =
     ap (λ (o : Option (Key × Event)). is_none o && all_done end (states_of groups)) (each 0 (omega arith))

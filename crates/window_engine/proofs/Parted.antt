@@ -1,15 +1,14 @@
 -- A text that is made in parts, and written part by part.
-use Rattle.std.proofs.Common.{◌≡◌, ◌≤◌, ◌<◌, ◌+◌, ◌*◌, ℕ, zero, suc, List, [], ◌∷◌, ◌++◌, All, length, take, drop, get_or, Option, refl, sym, ap, subst, ◌∙◌, arith, false, append_assoc, append-nil, length-append}
-use Rattle.std.proofs.lemmas.List.{take_more, take_all, take-append-drop, take-append-le, drop_more, drop-drop}
+use Rattle.std.proofs.Common.{◌≡◌, ◌≤◌, ◌<◌, ◌+◌, ◌⊎◌, ⊎_elim, ℕ, zero, suc, List, [], ◌∷◌, ◌++◌, All, length, take, drop, get_or, Option, refl, sym, ap, subst, ◌∙◌, arith, false, append_assoc, append-nil, length-append}
+use Rattle.std.proofs.lemmas.List.{take_more, take_all, take-append-drop, take-append-le, drop_more, drop-drop, drop_all, length-take, length-drop}
 use Rattle.std.specs.Io.KnownBytes.{Appends}
-use Rattle.node_core.specs.TraceLine.{TraceLine}
-use Rattle.window_core.specs.Batches.{BatchValue}
+use Rattle.window_core.specs.Sheaves.{SheafValue, merged}
 use Rattle.window_engine.specs.declared.text.Part.{Part}
-use Rattle.window_engine.specs.Parts.{HasText, text_of}
+use Rattle.window_engine.specs.Parts.{Covers, IsMade, text_of}
 use Rattle.window_engine.specs.Puts.{TakesFirst}
 use Rattle.window_engine.specs.Text.{text_from}
 use Rattle.window_engine.proofs.Bytes.{appends_more, take_past}
-use Rattle.window_engine.proofs.Numbered.{text_split}
+use Rattle.window_engine.proofs.Numbered.{text_both}
 
 text_of-append : (ps qs : List Part) → text_of (ps ++ qs) ≡ text_of ps ++ text_of qs
 text_of-append [] qs = refl
@@ -49,43 +48,47 @@ part_broken ps i done n d a b c l count h k =
       subst (Appends a c) (sym first) (appends_more a b c before (take n part) h k.1),
     )
 
--- parts of so many lines each have the text of as many lines as they are
-parts_text : (batch : BatchValue) (size : ℕ) (ps : List Part) (from : ℕ)
-    → ((i : ℕ) (d : Part) → i < length ps → (get_or ps i d).text.items ≡ text_from (batch.first + (from + i * size)) (take size (drop (from + i * size) batch.lines)))
-    → text_of ps ≡ text_from (batch.first + from) (take (length ps * size) (drop from batch.lines))
-parts_text batch size [] from each = let e : 0 ≡ 0 * size = omega arith in ap (λ n. text_from (batch.first + from) (take n (drop from batch.lines))) e
-parts_text batch size (p ∷ ps) from each =
-    let here : from + 0 * size ≡ from = omega arith in
-    let rest = drop from batch.lines in
-    let mine : p.text.items ≡ text_from (batch.first + from) (take size rest) =
-    each 0 p (omega arith) ∙ ap (λ n. text_from (batch.first + n) (take size (drop n batch.lines))) here
-    in
-    let after = parts_text batch size ps (from + size) (λ i d l.
-    let there : from + suc i * size ≡ from + size + i * size = omega arith in
-    each (suc i) d (omega (arith, l)) ∙ ap (λ n. text_from (batch.first + n) (take size (drop n batch.lines))) there)
-    in
-    let number : batch.first + (from + size) ≡ batch.first + from + size = omega arith in
-    let count : size + length ps * size ≡ suc (length ps) * size = omega arith in
-    ap (λ (bytes : List ℕ). bytes ++ text_of ps) mine
-    ∙ ap (λ (bytes : List ℕ). text_from (batch.first + from) (take size rest) ++ bytes)
-    (after ∙ ap (λ n. text_from n (take (length ps * size) (drop (from + size) batch.lines))) number
-    ∙ ap (λ (lines : List TraceLine). text_from (batch.first + from + size) (take (length ps * size) lines)) (sym (drop-drop size from batch.lines)))
-    ∙ text_split (batch.first + from) size (length ps * size) rest
-    ∙ ap (λ n. text_from (batch.first + from) (take n rest)) count
+covers_to : (ps : List Part) (from end : ℕ) → Covers from ps end → from ≤ end
+covers_to [] from end c = omega (arith, c)
+covers_to (p ∷ ps) from end c = let l = covers_to ps (from + p.count) end c.1 in omega (arith, l)
 
--- parts that are enough for all lines have the text of the batch
-pub all_text : (batch : BatchValue) (size count : ℕ) (ps : List Part) → length ps ≡ count → length batch.lines ≤ count * size
-    → ((i : ℕ) (d : Part) → i < length ps → HasText batch (i * size) size (get_or ps i d)) → All (λ (p : Part). p.refused ≡ false) ps
-    → text_of ps ≡ text_from batch.first batch.lines
-all_text batch size count ps many covers each made =
-    let enough : length batch.lines ≤ length ps * size = subst (λ n. length batch.lines ≤ n * size) (sym many) covers in
-    let zeroth : batch.first + 0 ≡ batch.first = omega arith in
-    parts_text batch size ps 0 (λ i d l.
-    let at : i * size ≡ 0 + i * size = omega arith in
-    each i d l (made i d l) ∙ ap (λ n. text_from (batch.first + n) (take size (drop n batch.lines))) at)
-    ∙ ap (λ n. text_from n (take (length ps * size) batch.lines)) zeroth
-    ∙ ap (text_from batch.first) (take_all (length ps * size) batch.lines enough)
+-- a part that is made, of parts that have all lines from an index on, has the text of the lines there
+part_text : (s : SheafValue) (from : ℕ) (old new : Part) → (old.count ≡ 0) ⊎ (old.from ≡ from) → IsMade s old new → new.refused ≡ false → new.text.items ≡ text_from (s.first + from) (take old.count (drop from (merged s).lines))
+part_text s from old new at made ok =
+    let lines = (merged s).lines in
+    made.text ok
+    ∙ ap (λ n. text_from (s.first + n) (take new.count (drop n lines))) made.from
+    ∙ ap (λ n. text_from (s.first + old.from) (take n (drop old.from lines))) made.count
+    ∙ ⊎_elim
+    (λ (none : old.count ≡ 0). ap (λ n. text_from (s.first + old.from) (take n (drop old.from lines))) none ∙ sym (ap (λ n. text_from (s.first + from) (take n (drop from lines))) none))
+    (λ (is : old.from ≡ from). ap (λ n. text_from (s.first + n) (take old.count (drop n lines))) is)
+    at
 
--- what is left of a list whose first elements were lent and came back
-pub slice_back : (n : ℕ) (new rest : List Part) → length new ≡ n → take n (new ++ rest) ≡ new
-slice_back n new rest e = ap (λ k. take k (new ++ rest)) (sym e) ∙ take-append-le (length new) new rest (omega arith) ∙ take_all (length new) new (omega arith)
+-- parts that have all lines from an index on, once they are made, have the text of those
+parts_text : (s : SheafValue) (olds news : List Part) (from : ℕ) → length news ≡ length olds → Covers from olds (length (merged s).lines)
+    → ((i : ℕ) (d : Part) → i < length olds → IsMade s (get_or olds i d) (get_or news i d)) → All (λ (p : Part). p.refused ≡ false) news
+    → text_of news ≡ text_from (s.first + from) (drop from (merged s).lines)
+parts_text s [] [] from many covers each made = ap (text_from (s.first + from)) (sym (drop_all from (merged s).lines (omega (arith, covers))))
+parts_text s [] (q ∷ qs) from many covers each made = absurd (omega (arith, many))
+parts_text s (p ∷ ps) [] from many covers each made = absurd (omega (arith, many))
+parts_text s (p ∷ ps) (q ∷ qs) from many covers each made =
+    let lines = (merged s).lines in
+    let rest = drop from lines in
+    let mine : q.text.items ≡ text_from (s.first + from) (take p.count rest) = part_text s from p q covers.0 (each 0 p (omega arith)) (made 0 p (omega arith)) in
+    let to : from + p.count ≤ length lines = covers_to ps (from + p.count) (length lines) covers.1 in
+    let theirs = parts_text s ps qs (from + p.count) (omega (arith, many)) covers.1 (λ i d l. each (suc i) d (omega (arith, l))) (λ i d l. made (suc i) d (omega (arith, l))) in
+    let number : s.first + (from + p.count) ≡ s.first + from + length (take p.count rest) = omega (arith, to, length-take p.count rest, length-drop from lines) in
+    ap (λ (bytes : List ℕ). bytes ++ text_of qs) mine
+    ∙ ap (λ (bytes : List ℕ). text_from (s.first + from) (take p.count rest) ++ bytes)
+    (theirs ∙ ap (λ n. text_from n (drop (from + p.count) lines)) number
+    ∙ ap (text_from (s.first + from + length (take p.count rest))) (sym (drop-drop p.count from lines)))
+    ∙ sym (text_both (s.first + from) (take p.count rest) (drop p.count rest))
+    ∙ ap (text_from (s.first + from)) (take-append-drop p.count rest)
+
+-- parts that have all lines have the text of the sheaf
+pub all_text : (s : SheafValue) (olds news : List Part) → length news ≡ length olds → Covers 0 olds (length (merged s).lines)
+    → ((i : ℕ) (d : Part) → i < length olds → IsMade s (get_or olds i d) (get_or news i d)) → All (λ (p : Part). p.refused ≡ false) news
+    → text_of news ≡ text_from s.first (merged s).lines
+all_text s olds news many covers each made =
+    let zeroth : s.first + 0 ≡ s.first = omega arith in
+    parts_text s olds news 0 many covers each made ∙ ap (λ n. text_from n (merged s).lines) zeroth

@@ -7,7 +7,8 @@ use Rattle.table_run.specs.State.{State, due, run}
 use Rattle.table_run.proofs.Runs.{run_add}
 use Rattle.net_machine.specs.Run.{Reached}
 use Rattle.window_core.specs.Full.{HasTooMany, opening_at}
-use Rattle.window_core.specs.Group.{GroupValue, AfterFirings}
+use Rattle.window_core.specs.Group.{GroupValue, AfterFirings, state_of}
+use Rattle.window_core.specs.Groups.{up_to}
 use Rattle.window_core.specs.Window.{WindowValue, IsFrom, IsWindow, states_of, value_at}
 use Rattle.window_core.specs.Windows.{all_done, all_lines}
 use Rattle.window_core.proofs.TooMany.{full_group_has_too_many, full_turn_has_too_many}
@@ -18,7 +19,7 @@ use Rattle.window_engine.specs.declared.course.WriteFault.{WriteFault}
 use Rattle.window_engine.specs.declared.course.WriteFault.TheVariants.{Workers, Sink as Failing}
 use Rattle.window_engine.specs.Courses.{Wrote, told_as}
 use Rattle.window_engine.specs.Edges.{IsAtEdge, edge_of, reached_in}
-use Rattle.window_engine.specs.Laid.{laid_for, IsDoneBy}
+use Rattle.window_engine.specs.Laid.{laid_for, HasFullGroup, IsDoneBy}
 use Rattle.window_engine.specs.Outcomes.{SomeLaidFull}
 use Rattle.window_engine.proofs.Edge.{edge_is}
 use Rattle.window_engine.proofs.Laying.{laid_at}
@@ -31,9 +32,8 @@ at_edge v w is at position many =
     (subst (λ (n : ℕ). HasTooMany (record { state = is.edge; position = n })) position many)
 
 -- a piece of a window's groups is full
-pub groups_full : (v w : WindowValue) (end : ℕ) (lent : List GroupValue) (laid : List PieceState) → IsAtEdge v → IsWindow v → IsWindow w → ((edge : State) → IsFrom edge v → IsFrom edge w) → w.position ≡ v.position
-    → lent ≡ w.groups → end ≡ w.until → laid ≡ map (laid_for end) lent → SomeLaidFull laid → HasTooMany (reached_in v)
-groups_full v w end lent laid at is is_w from position lent_is ends laid_is some =
+pub pieces_full : (w : WindowValue) (end : ℕ) (lent : List GroupValue) (laid : List PieceState) → lent ≡ w.groups → end ≡ w.until → laid ≡ map (laid_for end) lent → SomeLaidFull laid → HasFullGroup w
+pieces_full w end lent laid lent_is ends laid_is some =
     let p = some.piece in
     let n = some.place in
     let first = laid_at end lent laid laid_is n some.began.0 some.began.1 in
@@ -42,9 +42,19 @@ groups_full v w end lent laid at is is_w from position lent_is ends laid_is some
     let began : p.began ≡ value_at w.groups n = some.began.2.1 ∙ ap (λ (q : PieceState). q.began) first ∙ ap (λ (l : List GroupValue). value_at l n) lent_is in
     let same_end : p.end ≡ w.until = some.began.2.0 ∙ ap (λ (q : PieceState). q.end) first ∙ ends in
     let refused : IsSome p.fault = subst (λ (o : Option GroupFault). IsSome o) (sym some.full.fault) refl in
-    let after : AfterFirings (value_at w.groups n) p.group = subst (λ (g : GroupValue). AfterFirings g p.group) began some.full.after in
-    at_edge v w is at position
-    (full_group_has_too_many is.edge w is_w (from is.edge is.from) n p.group (omega (arith, within, many)) after p.end (omega (arith, same_end)) (some.full.told.due refused) (some.full.told.full some.full.fault))
+    record {
+      number = n;
+      group = p.group;
+      within = omega (arith, within, many);
+      after = subst (λ (g : GroupValue). AfterFirings g p.group) began some.full.after;
+      due_there = subst (λ (e : ℕ). due (up_to e (state_of p.group)) ≢ None) same_end (some.full.told.due refused);
+      full = some.full.told.full some.full.fault;
+    }
+
+-- a group of a window that ends by a moment is full
+pub group_full : (v w : WindowValue) → IsAtEdge v → IsWindow v → IsWindow w → ((edge : State) → IsFrom edge v → IsFrom edge w) → w.position ≡ v.position → HasFullGroup w → HasTooMany (reached_in v)
+group_full v w at is is_w from position f =
+    at_edge v w is at position (full_group_has_too_many is.edge w is_w (from is.edge is.from) f.number f.group f.within f.after w.until (omega arith) f.due_there f.full)
 
 -- a turn has too many lines
 pub turn_full : (v w : WindowValue) (until : ℕ) → IsAtEdge v → IsWindow v → IsDoneBy until v w → (all_done w.until (states_of w.groups) ≡ true) × (1000000000000000 < w.position + length (all_lines (states_of w.groups)))

@@ -1,14 +1,32 @@
 -- The pieces that are laid out for a window's groups, and the groups that come back.
-use Rattle.std.specs.Prelude.{◌≡◌, ℕ, true, false, min, None}
-use Rattle.table_run.specs.State.{State}
-use Rattle.window_core.specs.Group.{GroupValue}
-use Rattle.window_core.specs.Window.{WindowValue, IsFrom, states_of}
+use Rattle.std.specs.Prelude.{◌≡◌, ◌≢◌, ◌+◌, ◌<◌, ℕ, length, true, false, min, None}
+use Rattle.table_run.specs.State.{State, due}
+use Rattle.window_core.specs.Group.{GroupValue, AfterFirings, state_of}
+use Rattle.window_core.specs.Groups.{up_to}
+use Rattle.window_core.specs.Window.{WindowValue, IsFrom, states_of, value_at}
 use Rattle.window_core.specs.Windows.{all_done}
 use Rattle.work_board.specs.Pieces.{PieceState}
 
 -- the piece of a group that has not run
 abbrev pub laid_for : ℕ → GroupValue → PieceState
 laid_for end g = record { end = end; began = g; group = g; fault = None }
+
+-- a window's groups ran up to its end, and none has an event left below: it is still one that opened where it did
+pub record HasRun (old new : WindowValue) : Type 0 where
+  pub inside : new.out ≡ false
+  pub until : new.until ≡ old.until
+  pub position : new.position ≡ old.position
+  pub from : (edge : State) → IsFrom edge old → IsFrom edge new
+  pub done : all_done new.until (states_of new.groups) ≡ true
+
+-- a group of a window, after some firings of its own, has an event left below the window's end, and with its lines the run has as many events as there may be
+pub record HasFullGroup (v : WindowValue) : Type 0 where
+  pub number : ℕ
+  pub group : GroupValue
+  pub within : number < length v.groups
+  pub after : AfterFirings (value_at v.groups number) group
+  pub due_there : due (up_to v.until (state_of group)) ≢ None
+  pub full : group.position + length group.lines ≡ 1000000000000000
 
 -- a window's groups ran up to its end or a bound, and none has an event left below: it is still one that opened where it did
 pub record IsDoneBy (until : ℕ) (old new : WindowValue) : Type 0 where

@@ -3,20 +3,21 @@ ghost use Rattle.std.specs.Prelude.{◌≡◌, ◌<◌, ◌≤◌, ℕ, All, Lis
 ghost use Rattle.window_core.specs.Full.{HasTooMany};
 ghost use Rattle.window_core.specs.Group.{GroupValue, AfterFirings};
 ghost use Rattle.window_core.specs.Partition.{groups_of};
+ghost use Rattle.window_core.specs.Sheaves.{merged};
 ghost use Rattle.work_board.specs.Pieces.{PieceState};
 ghost use Rattle.window_engine.specs.Edges.{IsAtEdge, StaysNet, edge_of, reached_in};
 ghost use Rattle.window_engine.specs.Engines.{GoesOn, NoneBelow};
 ghost use Rattle.window_engine.specs.Outcomes.{IsOfWorkers};
-ghost use Rattle.window_engine.specs.Laid.{laid_for, IsDoneBy};
+ghost use Rattle.window_engine.specs.Laid.{laid_for, HasRun, HasFullGroup, IsDoneBy};
 
-use crate::fault::EngineFault;
+use crate::fault::{EngineFault, group_fault};
 use crate::gate::Gate;
 use crate::pieces::run_pieces;
 use sim_time::Time;
 use std::alloc::{AllocError, Global};
 use std::sync::Wait;
 use std::thread::Threads;
-use window_core::{Batch, Group, TurnFault, Window};
+use window_core::{Batch, Group, Sheaf, TurnFault, Window};
 use work_board::Piece;
 
 /// A piece for each group.
@@ -43,8 +44,54 @@ fn groups_of(alloc: Global, pieces: Vec<Piece>) -> Result<Vec<Group>, AllocError
     Ok(groups)
 }
 
-/// Has workers run the groups up to the window's end, or a moment that is sooner. Each is then
-/// done. After a fault the groups are out.
+/// Runs the groups one after another on the calling thread, up to the window's end.
+fn run_in_turn<G: Gate>(gate: &G, window: &mut Window) -> Result<(), EngineFault>
+    requires inside { window.old.out ≡ false }
+    requires few { length window.old.groups ≤ 64 }
+    ensures done { OnOk result (HasRun window.old window.new) }
+    ensures stays { StaysNet window.old window.new }
+    ensures no_sink { IfErr result IsOfWorkers }
+    ensures full { IfErr result (λ fault. fault ≡ EngineFault.CountFull → HasFullGroup window.old) }
+{
+    for i in 0..window.groups() {
+        gate.enter(i as u64);
+        let ran = window.run_group(i);
+        gate.leave(i as u64);
+        if let Err(fault) = ran {
+            return Err(group_fault(fault));
+        }
+    }
+    Ok(())
+}
+
+/// Takes the groups out, has workers run them up to the window's end, and puts them back. After a
+/// fault they are out.
+fn run_apart<G: Gate, R: Threads + Wait + Sync>(
+    rt: &R,
+    alloc: Global,
+    workers: usize,
+    gate: &G,
+    window: &mut Window,
+) -> Result<(), EngineFault>
+    requires inside { window.old.out ≡ false }
+    requires least { 0 < length window.old.groups }
+    requires few { length window.old.groups ≤ 64 }
+    requires ends { All (λ (g : GroupValue). window.old.until ≤ g.until) window.old.groups }
+    requires workers { (0 < workers) × (workers ≤ 64) }
+    ensures done { OnOk result (HasRun window.old window.new) }
+    ensures stays { StaysNet window.old window.new }
+    ensures no_sink { IfErr result IsOfWorkers }
+    ensures full { IfErr result (λ fault. fault ≡ EngineFault.CountFull → HasFullGroup window.old) }
+{
+    let end = window.end();
+    let pieces = pieces_of(alloc, window.take_groups(), end)?;
+    let done = run_pieces(rt, alloc, workers, gate, pieces)?;
+    window.put_groups(groups_of(alloc, done)?);
+    Ok(())
+}
+
+/// Runs the groups up to the window's end, or a moment that is sooner: by workers, or where there
+/// is one alone on the calling thread. Each is then done. After a fault the groups may be out.
 fn run_groups<G: Gate, R: Threads + Wait + Sync>(
     rt: &R,
     alloc: Global,
@@ -64,11 +111,11 @@ fn run_groups<G: Gate, R: Threads + Wait + Sync>(
     let _began = window.position();
     window.limit(until);
     let _limited = window.position();
-    let end = window.end();
-    let pieces = pieces_of(alloc, window.take_groups(), end)?;
-    let done = run_pieces(rt, alloc, workers, gate, pieces)?;
-    window.put_groups(groups_of(alloc, done)?);
-    Ok(())
+    if workers == 1 {
+        run_in_turn(gate, window)
+    } else {
+        run_apart(rt, alloc, workers, gate, window)
+    }
 }
 
 /// Runs the next window by workers, up to its end or a moment that is sooner. The batch then has
@@ -95,6 +142,36 @@ pub(crate) fn advance<G: Gate, R: Threads + Wait + Sync>(
     let _began = window.position();
     run_groups(rt, alloc, workers, gate, until, window)?;
     match window.turn_into(batch) {
+        Ok(()) => Ok(()),
+        Err(TurnFault::NotDone) => unreachable!(),
+        Err(TurnFault::NoMemory) => Err(EngineFault::NoMemory),
+        Err(TurnFault::CountFull) => Err(EngineFault::CountFull),
+    }
+}
+
+/// The same, and the sheaf then has its lines, group by group. After a fault it may be empty.
+pub(crate) fn advance_apart<G: Gate, R: Threads + Wait + Sync>(
+    rt: &R,
+    alloc: Global,
+    workers: usize,
+    gate: &G,
+    until: Time,
+    window: &mut Window,
+    sheaf: &mut Sheaf,
+) -> Result<(), EngineFault>
+    requires edge { IsAtEdge window.old }
+    requires few { groups_of window.old.entries ≤ 64 }
+    requires workers { (0 < workers) × (workers ≤ 64) }
+    ensures edge { OnOk result (IsAtEdge window.new) }
+    ensures gone { OnOk result (GoesOn (reached_in window.old) (merged sheaf.new) (reached_in window.new)) }
+    ensures none_left { OnOk result (NoneBelow (min window.old.until until) (edge_of window.new)) }
+    ensures stays { StaysNet window.old window.new }
+    ensures no_sink { IfErr result IsOfWorkers }
+    ensures full { IfErr result (λ fault. fault ≡ EngineFault.CountFull → HasTooMany (reached_in window.old)) }
+{
+    let _began = window.position();
+    run_groups(rt, alloc, workers, gate, until, window)?;
+    match window.turn_apart(sheaf) {
         Ok(()) => Ok(()),
         Err(TurnFault::NotDone) => unreachable!(),
         Err(TurnFault::NoMemory) => Err(EngineFault::NoMemory),

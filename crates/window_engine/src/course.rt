@@ -6,7 +6,7 @@ ghost use Rattle.window_engine.specs.Edges.{StaysNet, edge_of, reached_in};
 ghost use Rattle.window_engine.specs.Engines.{Commits, IsStop, next_time, sink_failures};
 ghost use Rattle.window_engine.specs.Courses.{AtRest, CanTell, Wrote, Broke, fails_after, told_as};
 
-use crate::advance::advance;
+use crate::advance::advance_apart;
 use crate::fault::{EngineFault, Stop};
 use crate::gate::Gate;
 use crate::sink::Sink;
@@ -16,7 +16,7 @@ use sim_time::Time;
 use std::alloc::Global;
 use std::sync::Wait;
 use std::thread::Threads;
-use window_core::{Batch, Window};
+use window_core::{Sheaf, Window};
 
 /// The net on its way, with what is used again from window to window.
 #[derive(Drop)]
@@ -28,7 +28,7 @@ pub(crate) struct Course {
     /// How many events are committed.
     pub position: u64,
     /// A window's lines.
-    pub batch: Batch,
+    pub sheaf: Sheaf,
     /// A window's text, in parts.
     pub text: Vec<Part>,
     /// Where memory is taken.
@@ -99,26 +99,26 @@ impl Course {
         ensures stays { StaysNet self.old.window self.new.window }
         ensures end { self.new.end ≡ self.old.end }
     {
-        match advance(
+        match advance_apart(
             rt,
             self.alloc,
             workers,
             gate,
             until,
             &mut self.window,
-            &mut self.batch,
+            &mut self.sheaf,
         ) {
             Ok(()) => {}
             Err(fault) => return Err(WriteFault::Workers(fault)),
         }
         let position = self.window.position();
-        let Ok(()) = make_text(rt, workers, &self.batch, &mut self.text) else {
+        let Ok(()) = make_text(rt, workers, &self.sheaf, &mut self.text) else {
             return Err(WriteFault::Workers(EngineFault::NoMemory));
         };
         self.position = position;
         match put_text(self.text.as_slice(), sink) {
             Ok(bytes) => Ok(Written {
-                events: self.batch.len(),
+                events: self.sheaf.len(),
                 bytes,
             }),
             Err(written) => Err(WriteFault::Sink(written)),

@@ -24,7 +24,7 @@ use std::alloc::{AllocError, Global};
 use std::marker::Model;
 use std::sync::Wait;
 use std::thread::Threads;
-use window_core::{Batch, Partition, Window};
+use window_core::{Batch, Partition, Sheaf, Window};
 
 /// A scenario's run by windows on many workers. After a fault each call answers `Failed`.
 #[derive(Drop)]
@@ -82,7 +82,7 @@ impl Engine {
                     window,
                     end,
                     position,
-                    batch: Batch::new(alloc, 0),
+                    sheaf: Sheaf::new(alloc, 0),
                     text: Vec::new(alloc),
                     alloc,
                 },

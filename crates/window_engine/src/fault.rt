@@ -1,6 +1,9 @@
 //! How the engine's calls end.
+ghost use Rattle.std.specs.Prelude.{◌≡◌};
+ghost use Rattle.window_engine.specs.Outcomes.{as_fault};
 
 use std::alloc::AllocError;
+use window_core::GroupFault;
 
 /// Why windows were not run, or not written. Each later call answers `Failed`.
 #[derive(Clone, Copy, PartialEq, Eq, Debug, Drop)]
@@ -28,6 +31,16 @@ impl From<AllocError> for EngineFault {
 
     fn from(_error: AllocError) -> EngineFault {
         EngineFault::NoMemory
+    }
+}
+
+/// A group's fault as the engine tells it.
+pub(crate) fn group_fault(fault: GroupFault) -> EngineFault
+    ensures { result ≡ as_fault fault }
+{
+    match fault {
+        GroupFault::NoMemory => EngineFault::NoMemory,
+        GroupFault::CountFull => EngineFault::CountFull,
     }
 }
 

@@ -1,21 +1,10 @@
 //! What came back of a board's pieces.
 ghost use Rattle.std.specs.Prelude.{◌≡◌, ◌⊎◌, Some, None, IfOk, IfErr};
-ghost use Rattle.window_engine.specs.Outcomes.{NoneWaits, SomeFull, fault_of, finished_of, as_fault};
+ghost use Rattle.window_engine.specs.Outcomes.{NoneWaits, SomeFull, fault_of, finished_of};
 
-use crate::fault::EngineFault;
+use crate::fault::{EngineFault, group_fault};
 use std::alloc::Global;
-use window_core::GroupFault;
 use work_board::{Piece, Slot};
-
-/// A group's fault as the engine tells it.
-fn group_fault(fault: GroupFault) -> EngineFault
-    ensures { result ≡ as_fault fault }
-{
-    match fault {
-        GroupFault::NoMemory => EngineFault::NoMemory,
-        GroupFault::CountFull => EngineFault::CountFull,
-    }
-}
 
 /// The pieces, where all came back and none is refused. A piece that did not come back is told
 /// before a refusal, and of several refusals the first.

@@ -1,12 +1,14 @@
+ghost use Rattle.std.specs.Prelude.{◌≡◌, ◌<◌, ◌≤◌, length, IfOk};
+
 mod meeting;
 mod nets;
 
 use self::meeting::Meeting;
-use self::nets::{EQUAL_TIMES, ONE_SEGMENT, equal_times, flows, text_of};
+use self::nets::{EQUAL_TIMES, ONE_SEGMENT, equal_times, one_flow, text_of, two_flows};
 use crate::engine::Engine;
 use crate::fault::{EngineFault, Stop};
-use crate::gate::OpenGate;
-use crate::sink::OverWrite;
+use crate::gate::{Gate, OpenGate};
+use crate::sink::{OverWrite, Sink};
 use net_machine::Net;
 use scenario_image::Scenario;
 use std::alloc::Global;
@@ -17,111 +19,162 @@ use std::test::Fail;
 use std::thread::Threads;
 use window_core::Partition;
 
-// The ways to run a net: whether each node is a group of its own, and by how many workers.
-const WAYS: [(bool, usize); 6] = [
-    (false, 1),
-    (false, 2),
-    (false, 64),
-    (true, 1),
-    (true, 2),
-    (true, 64),
-];
+// The partition with these groups, one for each of so many nodes.
+fn partition<R: Abort>(
+    rt: &R,
+    alloc: Global,
+    groups: &[u8],
+    nodes: usize,
+) -> Result<Partition, Fail>
+    ensures { IfOk result (λ p. length p ≡ nodes) }
+{
+    let partition = Partition::new(Vec::from_slice(alloc, groups)?).ok_or("partition")?;
+    assert!(rt; partition.nodes() == nodes);
+    Ok(partition)
+}
 
-// Sees that a scenario's run, by so many workers, has just this text.
+// The engine of a scenario whose nodes are in these groups.
+fn engine_of<R: Abort>(
+    rt: &R,
+    alloc: Global,
+    scenario: &Scenario,
+    groups: &[u8],
+) -> Result<Engine, Fail> {
+    let partition = partition(rt, alloc, groups, scenario.parts().nodes.len())?;
+    Ok(Engine::new(alloc, scenario, partition)?)
+}
+
+// Runs an engine by so many workers up to a moment.
+fn run_to<G: Gate, S: Sink, R: Threads + Wait + Sync>(
+    rt: &R,
+    engine: &mut Engine,
+    workers: usize,
+    gate: &G,
+    until: u64,
+    sink: &mut S,
+) -> Result<Stop, EngineFault>
+    requires { (0 < workers) × (workers ≤ 64) }
+{
+    engine.run(rt, workers, gate, until, sink)
+}
+
+// Sees that a scenario's run, in these groups and by so many workers, has just this text.
 fn expect_run<R: Threads + Wait + Abort + Sync>(
     rt: &R,
     alloc: Global,
     scenario: &Scenario,
-    way: (bool, usize),
+    groups: &[u8],
+    workers: usize,
     text: &[u8],
-) -> Result<(), Fail> {
-    let (apart, workers) = way;
-    let nodes = scenario.parts().nodes.len();
-    assert!(rt; nodes >= 2 && nodes <= 256 && workers > 0 && workers <= 64);
-    let partition = if apart {
-        Partition::each(nodes)
-    } else {
-        Partition::one(nodes)
-    };
-    assert!(rt; partition.nodes() == nodes);
-    let mut engine = Engine::new(alloc, scenario, partition)?;
+) -> Result<(), Fail>
+    requires { (0 < workers) × (workers ≤ 64) }
+{
+    let mut engine = engine_of(rt, alloc, scenario, groups)?;
     let mut room = vec![in alloc; 0u8; text.len().saturating_add(1)]?;
     let mut sink = OverWrite::new(room.as_mut_slice());
-    let stop = engine.run(rt, workers, &OpenGate, u64::MAX, &mut sink);
-    assert_eq!(rt; stop, Ok(Stop::End));
+    let stop = run_to(rt, &mut engine, workers, &OpenGate, u64::MAX, &mut sink);
+    assert!(rt; stop == Ok(Stop::End));
     assert!(rt; !engine.failed());
+    expect_text(rt, room.as_slice(), text);
+    Ok(())
+}
+
+// Sees that the text lies in a room, and behind it nothing.
+fn expect_text<R: Abort>(rt: &R, room: &[u8], text: &[u8]) {
     assert_eq!(rt; room.get(..text.len()), Some(text));
     assert_eq!(rt; room.get(text.len()), Some(&0));
-    Ok(())
+}
+
+// Sees that a scenario's run has just this text, by 1, 2 and 64 workers.
+fn expect_runs<R: Threads + Wait + Abort + Sync>(
+    rt: &R,
+    alloc: Global,
+    scenario: &Scenario,
+    groups: &[u8],
+    text: &str,
+) -> Result<(), Fail> {
+    expect_run(rt, alloc, scenario, groups, 1, text.as_bytes())?;
+    expect_run(rt, alloc, scenario, groups, 2, text.as_bytes())?;
+    expect_run(rt, alloc, scenario, groups, 64, text.as_bytes())
 }
 
 #[test]
-fn each_way_to_run_gives_the_stored_lines(rt: HostRuntime) -> Result<(), Fail> {
+fn one_segment_gives_the_stored_lines(rt: HostRuntime) -> Result<(), Fail> {
     let alloc = rt.alloc();
-    let (first, second) = (flows(alloc, 1, 1)?, equal_times(alloc)?);
-    for way in WAYS {
-        expect_run(&rt, alloc, &first, way, ONE_SEGMENT.as_bytes())?;
-        expect_run(&rt, alloc, &second, way, EQUAL_TIMES.as_bytes())?;
-    }
-    Ok(())
+    let scenario = one_flow(alloc, 1)?;
+    expect_runs(&rt, alloc, &scenario, &[0, 0], ONE_SEGMENT)?;
+    expect_runs(&rt, alloc, &scenario, &[0, 1], ONE_SEGMENT)
 }
 
+#[test]
+fn equal_times_give_the_stored_lines(rt: HostRuntime) -> Result<(), Fail> {
+    let alloc = rt.alloc();
+    let scenario = equal_times(alloc)?;
+    expect_runs(&rt, alloc, &scenario, &[0; 5], EQUAL_TIMES)?;
+    expect_runs(&rt, alloc, &scenario, &[0, 1, 2, 3, 4], EQUAL_TIMES)
+}
+
+// In the last groups windows have lines enough for a part of their text by each worker, and each
+// part is merged from both groups.
 #[test]
 fn text_that_threads_make_is_that_of_the_net(rt: HostRuntime) -> Result<(), Fail> {
     let alloc = rt.alloc();
-    let scenario = flows(alloc, 8, 2_000)?;
+    let scenario = two_flows(alloc, 2_000)?;
     let text = text_of(alloc, Net::new(alloc, &scenario)?)?;
-    for way in [(false, 3), (true, 2)] {
-        expect_run(&rt, alloc, &scenario, way, &text)?;
-    }
-    Ok(())
+    expect_run(&rt, alloc, &scenario, &[0, 1, 2, 3], 2, text.as_slice())?;
+    expect_run(&rt, alloc, &scenario, &[0, 0, 1, 1], 3, text.as_slice())
+}
+
+// The net after three events of one segment's run.
+fn after_three<R: Threads + Wait + Abort + Sync>(rt: &R, alloc: Global) -> Result<Net, Fail> {
+    let mut engine = engine_of(rt, alloc, &one_flow(alloc, 1)?, &[0, 1])?;
+    let mut sink = OverWrite::new(VecDeque::new(alloc));
+    let stop = run_to(rt, &mut engine, 2, &OpenGate, 2_040_001, &mut sink);
+    assert!(rt; stop == Ok(Stop::Until));
+    assert!(rt; engine.position() == 3);
+    assert!(rt; !engine.failed());
+    Ok(engine.edge()?)
 }
 
 #[test]
 fn a_run_goes_on_from_the_net_at_its_edge(rt: HostRuntime) -> Result<(), Fail> {
     let alloc = rt.alloc();
-    let scenario = flows(alloc, 1, 1)?;
-    assert!(rt; scenario.parts().nodes.len() == 2);
-    let partition = Partition::each(2);
-    assert!(rt; partition.nodes() == 2);
-    let mut engine = Engine::new(alloc, &scenario, partition)?;
+    let net = after_three(&rt, alloc)?;
+    assert!(rt; net.position() == 3);
+    let partition = partition(&rt, alloc, &[0, 0], net.nodes().len())?;
+    let mut rest = Engine::at(alloc, net, partition)?;
     let mut sink = OverWrite::new(VecDeque::new(alloc));
-    let stop = engine.run(&rt, 2, &OpenGate, 2_040_001, &mut sink);
-    assert_eq!(rt; stop, Ok(Stop::Until));
-    assert_eq!(rt; engine.position(), 3);
-    assert!(rt; !engine.failed());
-    let edge = engine.edge()?;
-    assert_eq!(rt; edge.position(), 3);
-    let partition = Partition::one(2);
-    assert!(rt; partition.nodes() == edge.nodes().len());
-    let mut rest = Engine::at(alloc, edge, partition)?;
-    let stop = rest.run(&rt, 1, &OpenGate, u64::MAX, &mut sink);
-    assert_eq!(rt; stop, Ok(Stop::End));
-    assert_eq!(rt; rest.position(), 5);
+    let stop = run_to(&rt, &mut rest, 1, &OpenGate, u64::MAX, &mut sink);
+    assert!(rt; stop == Ok(Stop::End));
+    assert!(rt; rest.position() == 5);
+    Ok(())
+}
+
+// Runs three windows by two workers, each from where the last one ended.
+fn three_windows<R: Threads + Wait + Abort + Sync>(
+    rt: &R,
+    engine: &mut Engine,
+    gate: &Meeting,
+) -> Result<(), Fail> {
+    let mut next = 1u64;
+    for _window in 0..3 {
+        let batch = engine.window(rt, 2, gate, u64::MAX).ok().ok_or("a window")?;
+        assert!(rt; batch.first() == next);
+        next = engine.position().saturating_add(1);
+    }
     Ok(())
 }
 
 #[test]
 fn two_workers_are_at_work_at_once(rt: HostRuntime) -> Result<(), Fail> {
     let alloc = rt.alloc();
-    let scenario = flows(alloc, 2, 4)?;
-    assert!(rt; scenario.parts().nodes.len() == 4);
-    let partition = Partition::each(4);
-    assert!(rt; partition.nodes() == 4);
-    let mut engine = Engine::new(alloc, &scenario, partition)?;
     let gate = Meeting::new();
-    let mut next = 1u64;
-    for _window in 0..3 {
-        let batch = engine
-            .window(&rt, 2, &gate, u64::MAX)
-            .map_err(|_| "a window")?;
-        assert_eq!(rt; batch.first(), next);
-        next = engine.position().saturating_add(1);
-    }
-    assert_eq!(rt; gate.entered(), (3, 3));
+    let mut engine = engine_of(&rt, alloc, &two_flows(alloc, 4)?, &[0, 1, 2, 3])?;
+    three_windows(&rt, &mut engine, &gate)?;
+    assert!(rt; gate.entered() == (3, 3));
     let mut sink = OverWrite::new(VecDeque::new(alloc));
-    let stop = engine.run(&rt, 2, &gate, u64::MAX, &mut sink);
-    assert_eq!(rt; stop, Ok(Stop::End));
+    let stop = run_to(&rt, &mut engine, 2, &gate, u64::MAX, &mut sink);
+    assert!(rt; stop == Ok(Stop::End));
     assert!(rt; !gate.missed());
     Ok(())
 }
@@ -129,17 +182,13 @@ fn two_workers_are_at_work_at_once(rt: HostRuntime) -> Result<(), Fail> {
 #[test]
 fn a_sink_that_fails_says_what_went_out(rt: HostRuntime) -> Result<(), Fail> {
     let alloc = rt.alloc();
-    let scenario = flows(alloc, 1, 1)?;
-    assert!(rt; scenario.parts().nodes.len() == 2);
-    let partition = Partition::each(2);
-    assert!(rt; partition.nodes() == 2);
-    let mut engine = Engine::new(alloc, &scenario, partition)?;
+    let mut engine = engine_of(&rt, alloc, &one_flow(alloc, 1)?, &[0, 1])?;
     let mut room = [0u8; 100];
     let mut sink = OverWrite::new(room.as_mut_slice());
-    let fault = engine.run(&rt, 2, &OpenGate, u64::MAX, &mut sink);
-    assert_eq!(rt; fault, Err(EngineFault::Sink { written: 100 }));
+    let fault = run_to(&rt, &mut engine, 2, &OpenGate, u64::MAX, &mut sink);
+    assert!(rt; fault == Err(EngineFault::Sink { written: 100 }));
     assert!(rt; engine.failed());
-    let again = engine.run(&rt, 2, &OpenGate, u64::MAX, &mut sink);
-    assert_eq!(rt; again, Err(EngineFault::Failed));
+    let again = run_to(&rt, &mut engine, 2, &OpenGate, u64::MAX, &mut sink);
+    assert!(rt; again == Err(EngineFault::Failed));
     Ok(())
 }

@@ -1,62 +1,108 @@
-//! A batch's lines as text, which threads make in parts.
-ghost use Rattle.std.specs.Prelude.{◌≡◌, ℕ, ◌+◌, ◌*◌, ◌<◌, ◌≤◌, ◌^◌, [], length, take, drop, slice_index_or, IfOk, IfErr, OnOk, All, false};
+//! A window's lines as text, which threads merge and make in parts.
+ghost use Rattle.std.specs.Prelude.{◌≡◌, ℕ, ◌+◌, ◌-◌, ◌<◌, ◌≤◌, ◌^◌, [], length, take, drop, slice_index_or, IfOk, IfErr, OnOk, All, false};
 ghost use Rattle.std.specs.Bool.{OnFalse};
 ghost use Rattle.std.specs.Io.KnownBytes.{Appends};
+ghost use Rattle.window_core.specs.Sheaves.{StandsIn, merged};
 ghost use Rattle.window_engine.specs.Failures.{failures_after};
-ghost use Rattle.window_engine.specs.Parts.{HasText, text_of};
+ghost use Rattle.window_engine.specs.Parts.{Covers, IsCutOut, IsMade, text_of};
 ghost use Rattle.window_engine.specs.Puts.{TakesFirst};
 ghost use Rattle.window_engine.specs.Text.{text_from};
 ghost use Rattle.window_engine.specs.declared.text.Part.{Part};
 
 use crate::put::put_all;
 use crate::sink::Sink;
+use sim_time::Time;
 use std::alloc::AllocError;
+use std::mem::replace;
 use std::thread;
 use std::thread::Threads;
 use trace_text::line_text;
-use window_core::Batch;
+use window_core::{Cursor, Sheaf};
 
 /// Fewer lines are one part, for which no thread is started.
 const FEW: usize = 1_000;
 
-/// A part of a batch's text.
+/// A part of a window's text.
 #[derive(Drop)]
 pub(crate) struct Part {
+    /// Where the merge of its lines stands.
+    cursor: Cursor,
+    /// The index of its first line.
+    from: usize,
+    /// How many lines it has.
+    count: usize,
     /// The text of its lines.
     text: Vec<u8>,
     /// Whether memory was refused for it.
     refused: bool,
 }
 
-/// Writes the lines of a batch from an index on, so many as far as there are such. Where memory is
-/// refused, some may have been written.
+/// Writes the lines that a cursor comes to next, so many. Where memory is refused, some may have
+/// been written.
 fn lines_text(
-    batch: &Batch,
-    from: usize,
+    sheaf: &Sheaf,
+    cursor: &mut Cursor,
     count: usize,
     text: &mut Vec<u8>,
 ) -> Result<(), AllocError>
     requires empty { text.old.items ≡ [] }
-    requires room { from + count < 2 ^ 64 }
-    requires fits { batch.now.first + length batch.now.lines < 2 ^ 63 }
-    ensures { OnOk result (text.new.items ≡ text_from (batch.now.first + from) (take count (drop from batch.now.lines))) }
+    requires stands { StandsIn sheaf.now cursor.old }
+    requires within { cursor.old.at + count ≤ length (merged sheaf.now).lines }
+    requires fits { sheaf.now.first + length (merged sheaf.now).lines < 2 ^ 63 }
+    ensures { OnOk result (text.new.items ≡ text_from (sheaf.now.first + cursor.old.at) (take count (drop cursor.old.at (merged sheaf.now).lines))) }
 {
-    for i in from..batch.len().min(from + count) {
-        line_text(batch.first() + i as u64, batch.line(i), text)?;
+    for _ in 0..count {
+        let number = sheaf.first() + cursor.at() as u64;
+        line_text(number, sheaf.next(cursor), text)?;
     }
     Ok(())
 }
 
+/// Writes the lines from a cursor on, so many, by a cursor in memory that the calling thread takes:
+/// those of all parts lie side by side, and threads that write into one line of the cache wait for
+/// each other.
+fn text_from_here(
+    sheaf: &Sheaf,
+    cursor: &Cursor,
+    count: usize,
+    text: &mut Vec<u8>,
+) -> Result<(), AllocError>
+    requires empty { text.old.items ≡ [] }
+    requires stands { StandsIn sheaf.now cursor.now }
+    requires within { cursor.now.at + count ≤ length (merged sheaf.now).lines }
+    requires fits { sheaf.now.first + length (merged sheaf.now).lines < 2 ^ 63 }
+    ensures { OnOk result (text.new.items ≡ text_from (sheaf.now.first + cursor.now.at) (take count (drop cursor.now.at (merged sheaf.now).lines))) }
+{
+    let mut own = cursor.copy()?;
+    lines_text(sheaf, &mut own, count, text)
+}
+
 impl Part {
-    /// Makes the text of the lines from an index on, so many as far as there are such. Its memory
-    /// is used again.
-    fn make(&mut self, batch: &Batch, from: usize, count: usize)
-        requires room { from + count < 2 ^ 64 }
-        requires fits { batch.now.first + length batch.now.lines < 2 ^ 63 }
-        ensures { HasText batch.now from count self.new }
+    /// Has its cursor stand before the first line at or past a moment. Its lines go from there up to
+    /// an index; there are none where that is not past it.
+    fn begin(&mut self, sheaf: &Sheaf, moment: Time, end: usize) -> Result<(), AllocError>
+        requires { end ≤ length (merged sheaf.now).lines }
+        ensures ready { OnOk result (IsCutOut sheaf.now self.new) }
+        ensures count { OnOk result (self.new.count ≡ end - self.new.from) }
+        ensures first { OnOk result (moment ≡ 0 → self.new.from ≡ 0) }
     {
-        self.text.clear();
-        self.refused = lines_text(batch, from, count, &mut self.text).is_err();
+        sheaf.begin_at(&mut self.cursor, moment)?;
+        self.from = self.cursor.at();
+        self.count = end.saturating_sub(self.from);
+        Ok(())
+    }
+
+    /// Makes the text of its lines. Its memory is used again.
+    fn make(&mut self, sheaf: &Sheaf)
+        requires ready { IsCutOut sheaf.now self.old }
+        requires fits { sheaf.now.first + length (merged sheaf.now).lines < 2 ^ 63 }
+        ensures { IsMade sheaf.now self.old self.new }
+    {
+        let alloc = *self.text.allocator();
+        let mut text = replace(&mut self.text, Vec::new(alloc));
+        text.clear();
+        self.refused = text_from_here(sheaf, &self.cursor, self.count, &mut text).is_err();
+        self.text = text;
     }
 }
 
@@ -66,50 +112,67 @@ fn fit(parts: &mut Vec<Part>, count: usize) -> Result<(), AllocError>
 {
     parts.truncate(count);
     for _number in parts.len()..count {
-        let text = Vec::new(*parts.allocator());
-        let refused = false;
-        parts.push(Part { text, refused })?;
+        let alloc = *parts.allocator();
+        parts.push(Part {
+            cursor: Cursor::new(alloc)?,
+            from: 0,
+            count: 0,
+            text: Vec::new(alloc),
+            refused: false,
+        })?;
     }
     Ok(())
 }
 
-/// How many lines are a part's, where so many are cut into so many parts.
-fn part_size(lines: usize, parts: usize) -> usize
-    requires some { 0 < parts }
-    requires few { lines ≤ 2 ^ 50 }
-    ensures covers { lines ≤ parts * result }
-    ensures few { result ≤ 2 ^ 51 }
+/// When a part of so many is to begin, in nanoseconds. Few lines are all of the first.
+fn begins(sheaf: &Sheaf, part: usize, parts: usize) -> Time
+    requires { 0 < parts }
+    ensures { part ≡ 0 → result ≡ 0 }
 {
-    if lines < FEW {
-        lines
+    if part > 0 && sheaf.len() < FEW {
+        Time::MAX
     } else {
-        lines / parts + 1
+        sheaf.moment_at(part, parts)
     }
 }
 
-/// Makes the text of each part's lines, so many of them one after another, by so many threads.
-fn make_parts<R: Threads + Sync>(
-    rt: &R,
-    threads: usize,
-    batch: &Batch,
-    size: usize,
-    parts: &mut [Part],
-)
+/// Cuts the lines into parts, from the last part to the first: each goes up to where the next
+/// begins.
+fn cut(sheaf: &Sheaf, parts: &mut [Part]) -> Result<(), AllocError>
+    requires { 0 < length parts.old }
+    ensures count { length parts.new ≡ length parts.old }
+    ensures ready { OnOk result (All (IsCutOut sheaf.now) parts.new) }
+    ensures covers { OnOk result (Covers 0 parts.new (length (merged sheaf.now).lines)) }
+{
+    let count = parts.len();
+    let mut end = sheaf.len();
+    let mut number = count;
+    while number > 0 {
+        number -= 1;
+        let moment = begins(sheaf, number, count);
+        let part = &mut parts[number];
+        part.begin(sheaf, moment, end)?;
+        end = end.min(part.from);
+    }
+    Ok(())
+}
+
+/// Makes the text of each part's lines, by so many threads.
+fn make_parts<R: Threads + Sync>(rt: &R, threads: usize, sheaf: &Sheaf, parts: &mut [Part])
     requires threads { 0 < threads }
-    requires few { length parts.old ≤ 64 }
-    requires size { size ≤ 2 ^ 51 }
-    requires fits { batch.now.first + length batch.now.lines < 2 ^ 63 }
-    ensures { (i : ℕ) (d : Part) → i < length parts.old → HasText batch.now (i * size) size (slice_index_or parts.new i d) }
+    requires ready { All (IsCutOut sheaf.now) parts.old }
+    requires fits { sheaf.now.first + length (merged sheaf.now).lines < 2 ^ 63 }
+    ensures { (i : ℕ) (d : Part) → i < length parts.old → IsMade sheaf.now (slice_index_or parts.old i d) (slice_index_or parts.new i d) }
 {
     thread::for_each_mut(
         rt,
         parts,
         threads,
-        &|i: usize, part: &mut Part|
-            requires room { i * size + size < 2 ^ 64 }
-            requires fits { batch.now.first + length batch.now.lines < 2 ^ 63 }
-            ensures { HasText batch.entry.now (i * size) size part.exit.now }
-        { part.make(batch, i * size, size) },
+        &|_, part: &mut Part|
+            requires ready { IsCutOut sheaf.now part.now }
+            requires fits { sheaf.now.first + length (merged sheaf.now).lines < 2 ^ 63 }
+            ensures { IsMade sheaf.entry.now part.entry.now part.exit.now }
+        { part.make(sheaf) },
     );
 }
 
@@ -125,28 +188,43 @@ fn any_refused(parts: &[Part]) -> bool
     false
 }
 
-/// Makes the text of a batch, in as many parts as there are workers, and each by a thread of its
-/// own. Where memory is refused, some may have been made.
-pub(crate) fn make_text<R: Threads + Sync>(
+/// Cuts the lines into the parts, and has threads make their text.
+fn make_all<R: Threads + Sync>(
     rt: &R,
     workers: usize,
-    batch: &Batch,
-    parts: &mut Vec<Part>,
+    sheaf: &Sheaf,
+    parts: &mut [Part],
 ) -> Result<(), AllocError>
-    requires workers { (0 < workers) × (workers ≤ 64) }
-    requires few { length batch.now.lines ≤ 2 ^ 50 }
-    requires fits { batch.now.first + length batch.now.lines < 2 ^ 63 }
-    ensures text { OnOk result (text_of parts.new.items ≡ text_from batch.now.first batch.now.lines) }
-    ensures few { OnOk result (length parts.new.items ≤ 64) }
+    requires workers { 0 < workers }
+    requires some { 0 < length parts.old }
+    requires fits { sheaf.now.first + length (merged sheaf.now).lines < 2 ^ 63 }
+    ensures count { length parts.new ≡ length parts.old }
+    ensures text { OnOk result (text_of parts.new ≡ text_from sheaf.now.first (merged sheaf.now).lines) }
 {
-    fit(parts, workers)?;
-    let threads = if batch.len() < FEW { 1 } else { workers };
-    let size = part_size(batch.len(), workers);
-    make_parts(rt, threads, batch, size, parts.as_mut_slice());
-    if any_refused(parts.as_slice()) {
+    cut(sheaf, parts)?;
+    let threads = if sheaf.len() < FEW { 1 } else { workers };
+    make_parts(rt, threads, sheaf, parts);
+    if any_refused(parts) {
         return Err(AllocError);
     }
     Ok(())
+}
+
+/// Makes the text of a window's lines, in as many parts as there are workers, and each by a thread
+/// of its own. Where memory is refused, some may have been made.
+pub(crate) fn make_text<R: Threads + Sync>(
+    rt: &R,
+    workers: usize,
+    sheaf: &Sheaf,
+    parts: &mut Vec<Part>,
+) -> Result<(), AllocError>
+    requires workers { (0 < workers) × (workers ≤ 64) }
+    requires fits { sheaf.now.first + length (merged sheaf.now).lines < 2 ^ 63 }
+    ensures text { OnOk result (text_of parts.new.items ≡ text_from sheaf.now.first (merged sheaf.now).lines) }
+    ensures few { OnOk result (length parts.new.items ≤ 64) }
+{
+    fit(parts, workers)?;
+    make_all(rt, workers, sheaf, parts.as_mut_slice())
 }
 
 /// Writes the text of all parts. The answer is how many bytes went out: all of them, or those

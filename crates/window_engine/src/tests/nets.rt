@@ -2,58 +2,114 @@ use net_machine::Net;
 use scenario_image::{
     FlowPart, LinkPart, NodeKind, QueueKind, Records, RoutePart, Scenario, ScenarioParts,
 };
-use std::alloc::Global;
+use std::alloc::{AllocError, Global};
 use std::test::Fail;
 use trace_text::line_text;
 
-// A link of 8 Mbit/s and a millisecond, with room for 10 packets.
-fn link(alloc: Global, from: u16, to: u16) -> LinkPart {
-    LinkPart {
-        from,
-        to,
-        rate: 8_000_000,
-        delay: 1_000_000,
-        queue: QueueKind::DropTail,
-        capacity: 10,
-        lose: Records::new(Vec::new(alloc)),
-    }
-}
-
-// So many segments of 1,000 bytes, from the beginning on.
-fn sending(sender: u16, receiver: u16, segments: u32) -> FlowPart {
-    FlowPart {
-        sender,
-        receiver,
-        mss: 1_000,
-        segments,
-        start: 0,
-        rwnd: 64_000,
-        delack: 0,
-    }
-}
-
-/// So many senders, each of which gives a receiver of its own so many segments of 1,000 bytes,
-/// over a link each way.
-pub(super) fn flows(alloc: Global, count: u16, segments: u32) -> Result<Scenario, Fail> {
-    let mut nodes = Vec::new(alloc);
+// Links of 8 Mbit/s and a millisecond, each with room for 10 packets, between these ends.
+fn links(alloc: Global, ends: &[(u16, u16)]) -> Result<Vec<LinkPart>, AllocError> {
     let mut links = Vec::new(alloc);
-    let mut flows = Vec::new(alloc);
-    for flow in 0..count.min(8) {
-        let (sender, receiver) = (2 * flow, 2 * flow + 1);
-        nodes.push(NodeKind::Sender)?;
-        nodes.push(NodeKind::Receiver)?;
-        links.push(link(alloc, sender, receiver))?;
-        links.push(link(alloc, receiver, sender))?;
-        flows.push(sending(sender, receiver, segments))?;
+    for (from, to) in ends {
+        links.push(LinkPart {
+            from: *from,
+            to: *to,
+            rate: 8_000_000,
+            delay: 1_000_000,
+            queue: QueueKind::DropTail,
+            capacity: 10,
+            lose: Records::new(Vec::new(alloc)),
+        })?;
     }
+    Ok(links)
+}
+
+// Segments of 1,000 bytes from the beginning on, so many over each of these ways.
+fn flows_over(
+    alloc: Global,
+    ways: &[(u16, u16)],
+    segments: u32,
+) -> Result<Vec<FlowPart>, AllocError> {
+    let mut flows = Vec::new(alloc);
+    for (sender, receiver) in ways {
+        flows.push(FlowPart {
+            sender: *sender,
+            receiver: *receiver,
+            mss: 1_000,
+            segments,
+            start: 0,
+            rwnd: 64_000,
+            delack: 0,
+        })?;
+    }
+    Ok(flows)
+}
+
+// The routes of router 2: for which end, over which link.
+fn routes(alloc: Global, ways: &[(u16, u16)]) -> Result<Vec<RoutePart>, AllocError> {
+    let mut routes = Vec::new(alloc);
+    for (destination, link) in ways {
+        routes.push(RoutePart {
+            router: 2,
+            destination: *destination,
+            link: *link,
+        })?;
+    }
+    Ok(routes)
+}
+
+// The scenario of these parts.
+fn scenario(
+    end: u64,
+    nodes: Vec<NodeKind>,
+    links: Vec<LinkPart>,
+    flows: Vec<FlowPart>,
+    routes: Vec<RoutePart>,
+) -> Result<Scenario, Fail> {
     let parts = ScenarioParts {
-        end: 1_000_000_000,
+        end,
         nodes: Records::new(nodes),
         links: Records::new(links),
         flows: Records::new(flows),
-        routes: Records::new(Vec::new(alloc)),
+        routes: Records::new(routes),
     };
-    Ok(Scenario::of_parts(parts).map_err(|_| "scenario")?)
+    Ok(Scenario::of_parts(parts).ok().ok_or("scenario")?)
+}
+
+// So many senders, each with the receiver behind it.
+fn pairs(alloc: Global, count: u16) -> Result<Vec<NodeKind>, AllocError> {
+    let mut nodes = Vec::new(alloc);
+    for _pair in 0..count {
+        for kind in [NodeKind::Sender, NodeKind::Receiver] {
+            nodes.push(kind)?;
+        }
+    }
+    Ok(nodes)
+}
+
+/// A sender gives a receiver so many segments of 1,000 bytes, over a link each way.
+pub(super) fn one_flow(alloc: Global, segments: u32) -> Result<Scenario, Fail> {
+    let links = links(alloc, &[(0, 1), (1, 0)])?;
+    let flows = flows_over(alloc, &[(0, 1)], segments)?;
+    scenario(
+        1_000_000_000,
+        pairs(alloc, 1)?,
+        links,
+        flows,
+        Vec::new(alloc),
+    )
+}
+
+/// The same, twice.
+pub(super) fn two_flows(alloc: Global, segments: u32) -> Result<Scenario, Fail> {
+    let links = links(alloc, &[(0, 1), (1, 0), (2, 3), (3, 2)])?;
+    let flows = flows_over(alloc, &[(0, 1), (2, 3)], segments)?;
+    scenario(
+        1_000_000_000,
+        pairs(alloc, 2)?,
+        links,
+        flows,
+        Vec::new(alloc),
+    )
 }
 
 /// The text of the run in which one sender gives one receiver one segment.
@@ -81,37 +137,21 @@ const STAR: [(u16, u16); 8] = [
 // Where the router sends packets: for which end, over which link.
 const ROUTES: [(u16, u16); 4] = [(0, 6), (1, 7), (3, 2), (4, 4)];
 
+// The ways of its two flows.
+const WAYS: [(u16, u16); 2] = [(0, 3), (1, 4)];
+
 /// Two flows over a router, whose events come at the same moments.
 pub(super) fn equal_times(alloc: Global) -> Result<Scenario, Fail> {
-    let mut nodes = Vec::new(alloc);
-    nodes.push(NodeKind::Sender)?;
-    nodes.push(NodeKind::Sender)?;
-    nodes.push(NodeKind::Router)?;
-    nodes.push(NodeKind::Receiver)?;
-    nodes.push(NodeKind::Receiver)?;
-    let mut links = Vec::new(alloc);
-    for (from, to) in STAR {
-        links.push(link(alloc, from, to))?;
-    }
-    let mut flows = Vec::new(alloc);
-    flows.push(sending(0, 3, 1))?;
-    flows.push(sending(1, 4, 1))?;
-    let mut routes = Vec::new(alloc);
-    for (destination, link) in ROUTES {
-        routes.push(RoutePart {
-            router: 2,
-            destination,
-            link,
-        })?;
-    }
-    let parts = ScenarioParts {
-        end: 2_040_001,
-        nodes: Records::new(nodes),
-        links: Records::new(links),
-        flows: Records::new(flows),
-        routes: Records::new(routes),
-    };
-    Ok(Scenario::of_parts(parts).map_err(|_| "scenario")?)
+    let nodes = vec![in alloc;
+        NodeKind::Sender,
+        NodeKind::Sender,
+        NodeKind::Router,
+        NodeKind::Receiver,
+        NodeKind::Receiver,
+    ]?;
+    let links = links(alloc, &STAR)?;
+    let flows = flows_over(alloc, &WAYS, 1)?;
+    scenario(2_040_001, nodes, links, flows, routes(alloc, &ROUTES)?)
 }
 
 /// The text of the run of [`equal_times`]: the node decides, lines 1 to 4, and then the link that

@@ -1,47 +1,23 @@
-use Rattle.std.proofs.Common.{ap, sym, ◌∙◌, min, List, ◌≡◌, ℕ}
-use Rattle.window_core.specs.Group.{GroupValue}
-use Rattle.window_core.specs.Window.{WindowValue, states_of}
-use Rattle.window_core.specs.Windows.{all_done}
-use Rattle.window_engine.proofs.Laying.{may_run, come_back, all_are_done}
-use Rattle.std.proofs.lemmas.Result.{err_from_is_err_and}
-use Rattle.window_engine.proofs.TooMany.{groups_full}
+use Rattle.std.proofs.Common.{ap, IfErr, ◌≡◌}
+use Rattle.std.proofs.lemmas.Result.{IfErr-weaker}
+use Rattle.window_core.specs.Full.{HasTooMany}
+use Rattle.window_core.specs.Window.{WindowValue}
+use Rattle.window_engine.specs.declared.fault.EngineFault.TheVariants.{CountFull}
+use Rattle.window_engine.specs.Edges.{reached_in}
+use Rattle.window_engine.specs.Laid.{HasFullGroup}
+use Rattle.window_engine.proofs.TooMany.{group_full}
 use Rattle.window_engine.proofs.advance.run_groups.Goals as goal
 
-pub pieces_of-requires : goal.pieces_of-requires
-pieces_of-requires g c =
-    let v = c.args.window.now in
-    may_run (min v.until c.args.until) c.end-end.result v.groups c.take_groups.result.items
-    (c.take_groups.ensures.groups ∙ ap (λ (w : WindowValue). w.groups) c.limit.ensures.state) (c.end-end.ensures ∙ ap (λ (w : WindowValue). w.until) c.limit.ensures.state)
+pub returns-then-workers-eq1-clause-full : goal.returns-then-workers-eq1-clause-full
+returns-then-workers-eq1-clause-full g c =
+    let v = c.args.window.now in let w = c.limit.new.self in
+    IfErr-weaker c.run_in_turn.result (λ fault. fault ≡ CountFull → HasFullGroup w) (λ fault. fault ≡ CountFull → HasTooMany (reached_in v))
+    (λ fault full is. group_full v w c.requires.edge c.position-began.ensures.is_window c.position-limited.ensures.is_window c.limit.ensures.from (ap (λ (x : WindowValue). x.position) c.limit.ensures.state) (full is))
+    c.run_in_turn.ensures.full
 
-pub put_groups-requires-clause-fired : goal.put_groups-requires-clause-fired
-put_groups-requires-clause-fired g c =
-    let lent_is = ap (λ (w : WindowValue). w.groups) c.take_groups.ensures.state ∙ sym c.take_groups.ensures.groups in
-    let fired = come_back c.end-end.result c.take_groups.result.items c.in_ok-pieces.pieces.items c.in_ok-done.done.items c.in_ok-groups_of.field-0.items
-    c.in_ok-pieces.ensures c.in_ok-done.ensures.done c.in_ok-groups_of.ensures.groups c.in_ok-groups_of.ensures.after in
-    rw lent_is fired
-
-pub returns-clause-done : goal.returns-clause-done
-returns-clause-done g c =
-    let v = c.args.window.now in
-    let until_is = ap (λ (w : WindowValue). w.until) c.put_groups.ensures.state ∙ ap (λ (w : WindowValue). w.until) c.take_groups.ensures.state in
-    let groups_are = ap (λ (w : WindowValue). w.groups) c.put_groups.ensures.state in
-    let ends : c.put_groups.new.self.until ≡ c.end-end.result = until_is ∙ sym c.end-end.ensures in
-    let done = all_are_done c.end-end.result c.take_groups.result.items c.in_ok-pieces.pieces.items c.in_ok-done.done.items c.in_ok-groups_of.field-0.items
-    c.in_ok-pieces.ensures c.in_ok-done.ensures.done c.in_ok-groups_of.ensures.groups in
-    record {
-      inside = ap (λ (w : WindowValue). w.out) c.put_groups.ensures.state;
-      end_is = until_is ∙ ap (λ (w : WindowValue). w.until) c.limit.ensures.state;
-      position = ap (λ (w : WindowValue). w.position) c.put_groups.ensures.state ∙ ap (λ (w : WindowValue). w.position) c.take_groups.ensures.state ∙ ap (λ (w : WindowValue). w.position) c.limit.ensures.state;
-      from = λ edge f. c.put_groups.ensures.from edge (c.take_groups.ensures.from edge (c.limit.ensures.from edge f));
-      done =
-          ap (λ (e : ℕ). all_done e (states_of c.put_groups.new.self.groups)) ends
-          ∙ ap (λ (gs : List GroupValue). all_done c.end-end.result (states_of gs)) groups_are
-          ∙ done;
-    }
-
-pub returns-in_err-done-clause-full : goal.returns-in_err-done-clause-full
-returns-in_err-done-clause-full g c =
-    let p = err_from_is_err_and c.from_residual-in_err-done.result c.from_residual-in_err-done.ensures.1 in
-    rw (p.1, p.2)
-    (λ is. groups_full c.args.window.now c.limit.new.self c.end-end.result c.take_groups.result.items c.in_ok-pieces.pieces.items c.requires.edge c.position-began.ensures.is_window c.position-limited.ensures.is_window c.limit.ensures.from
-    (ap (λ (w : WindowValue). w.position) c.limit.ensures.state) c.take_groups.ensures.groups c.end-end.ensures c.in_ok-pieces.ensures (c.in_err-done.ensures.full is))
+pub returns-else-workers-eq1-clause-full : goal.returns-else-workers-eq1-clause-full
+returns-else-workers-eq1-clause-full g c =
+    let v = c.args.window.now in let w = c.limit.new.self in
+    IfErr-weaker c.run_apart.result (λ fault. fault ≡ CountFull → HasFullGroup w) (λ fault. fault ≡ CountFull → HasTooMany (reached_in v))
+    (λ fault full is. group_full v w c.requires.edge c.position-began.ensures.is_window c.position-limited.ensures.is_window c.limit.ensures.from (ap (λ (x : WindowValue). x.position) c.limit.ensures.state) (full is))
+    c.run_apart.ensures.full

@@ -1,26 +1,28 @@
-use Rattle.std.proofs.Common.{◌++◌, ◌+◌, ◌-◌, ◌≤◌, min, length, ◌∙◌, ap, sym, arith, List, ℕ, take, drop}
+use Rattle.std.proofs.Common.{◌≡◌, ◌+◌, ◌<◌, ◌++◌, ℕ, List, length, take, drop, ap, sym, ◌∙◌, arith}
 use Rattle.node_core.specs.TraceLine.{TraceLine, shown}
 use Rattle.trace_text.specs.Line.{line_bytes}
+use Rattle.window_core.specs.Merged.{line_in}
+use Rattle.window_core.specs.Sheaves.{merged}
 use Rattle.window_engine.specs.Text.{text_from}
-use Rattle.window_engine.proofs.Numbered.{text_next_from, text_to_end}
+use Rattle.window_engine.proofs.Numbered.{text_one_more}
 use Rattle.window_engine.proofs.text.lines_text.Goals as goal
 
-pub loop-i-preserved : goal.loop-i-preserved
-loop-i-preserved c =
-    let i = c.loop-i.i in
-    let from = c.args.from in
-    let batch = c.args.batch.now in
-    let so_far = text_from (batch.first + from) (take (i - from) (drop from batch.lines)) in
-    c.in_ok-line_text.ensures.ok
-    ∙ ap (λ (l : List ℕ). l ++ line_bytes (c.first.result + i) (shown c.line.result.now)) c.loop-i.invariant
-    ∙ ap (λ (n : ℕ). so_far ++ line_bytes (n + i) (shown c.line.result.now)) c.first.ensures
-    ∙ ap (λ (x : TraceLine). so_far ++ line_bytes (batch.first + i) x) c.line.ensures
-    ∙ sym (text_next_from batch.first from i batch.lines c.loop-i.auto.i (omega (arith, c.loop-i-test.true, c.len.ensures, c.min-i-end.ensures)))
-
-pub returns : goal.returns
-returns c =
-    let past = c.loop-i.auto.i in
-    let end = c.min-i-end.ensures ∙ ap (λ (n : ℕ). min n (c.args.from + c.args.count)) c.len.ensures in
-    c.loop-i.invariant
-    ∙ text_to_end c.args.batch.now.first c.args.from c.args.count c.loop-i.i c.args.batch.now.lines past (omega (arith, end, c.loop-i-test.false))
-    (λ (h : c.args.from ≤ min (length c.args.batch.now.lines) (c.args.from + c.args.count)). let stop = c.loop-i.auto.i-end (omega (arith, h, end)) in omega (arith, stop, end))
+pub loop-preserved : goal.loop-preserved
+loop-preserved c =
+    let first = c.args.sheaf.now.first in
+    let lines = (merged c.args.sheaf.now).lines in
+    let from = c.args.cursor.now.at in
+    let i = c.loop.counter in
+    let was = c.loop.invariant in
+    let line = shown c.next.result.now in
+    let number : c.first.result + c.at.result ≡ first + (from + i) = omega (arith, c.first.ensures, c.at.ensures, was.1) in
+    let within : from + i < length lines = omega (arith, c.loop-test.true, c.requires.within) in
+    let so_far = text_from (first + from) (take i (drop from lines)) in (
+      c.next.ensures.at,
+      omega (arith, c.next.ensures.count, was.1),
+      c.in_ok-line_text.ensures.ok
+          ∙ ap (λ (l : List ℕ). l ++ line_bytes (c.first.result + c.at.result) line) was.2
+          ∙ ap (λ (n : ℕ). so_far ++ line_bytes n line) number
+          ∙ ap (λ (x : TraceLine). so_far ++ line_bytes (first + (from + i)) x) (c.next.ensures.line ∙ ap (λ (n : ℕ). line_in lines n) was.1)
+          ∙ sym (text_one_more first from i lines within),
+    )

@@ -1,6 +1,11 @@
-use Rattle.std.proofs.Common.{◌≡◌, ◌+◌, ◌-◌, take, drop}
+-- the lines so far are written, and the cursor stands behind them
+use Rattle.std.proofs.Common.{◌≡◌, ◌+◌, take, drop}
+use Rattle.window_core.specs.Sheaves.{StandsIn, merged}
 use Rattle.window_engine.specs.Text.{text_from}
 use Rattle.window_engine.proofs.text.lines_text.Given as goal
 
-abbrev pub invariant-loop-i : goal.invariant-loop-i
-invariant-loop-i l = l.text.items ≡ text_from (l.batch.first + l.from) (take (l.i - l.from) (drop l.from l.batch.lines))
+abbrev pub invariant-loop : goal.invariant-loop
+invariant-loop l =
+    StandsIn l.sheaf l.cursor
+    × (l.cursor.at ≡ l.fn.cursor.at + l.counter)
+    × (l.text.items ≡ text_from (l.sheaf.first + l.fn.cursor.at) (take l.counter (drop l.fn.cursor.at (merged l.sheaf).lines)))

@@ -1,0 +1,39 @@
+use Rattle.std.proofs.Common.{ap, sym, ◌∙◌, List, ◌≡◌, ℕ}
+use Rattle.std.proofs.lemmas.Result.{err_from_is_err_and}
+use Rattle.window_core.specs.Group.{GroupValue}
+use Rattle.window_core.specs.Window.{WindowValue, states_of}
+use Rattle.window_core.specs.Windows.{all_done}
+use Rattle.window_engine.proofs.Laying.{come_back, all_are_done}
+use Rattle.window_engine.proofs.TooMany.{pieces_full}
+use Rattle.window_engine.proofs.advance.run_apart.Goals as goal
+
+pub put_groups-requires-clause-fired : goal.put_groups-requires-clause-fired
+put_groups-requires-clause-fired g c =
+    let lent_is = ap (λ (w : WindowValue). w.groups) c.take_groups.ensures.state ∙ sym c.take_groups.ensures.groups in
+    let fired = come_back c.end-end.result c.take_groups.result.items c.in_ok-pieces.pieces.items c.in_ok-done.done.items c.in_ok-groups_of.field-0.items
+    c.in_ok-pieces.ensures c.in_ok-done.ensures.done c.in_ok-groups_of.ensures.groups c.in_ok-groups_of.ensures.after in
+    rw lent_is fired
+
+pub returns-clause-done : goal.returns-clause-done
+returns-clause-done g c =
+    let until_is = ap (λ (w : WindowValue). w.until) c.put_groups.ensures.state ∙ ap (λ (w : WindowValue). w.until) c.take_groups.ensures.state in
+    let groups_are = ap (λ (w : WindowValue). w.groups) c.put_groups.ensures.state in
+    let ends : c.put_groups.new.self.until ≡ c.end-end.result = until_is ∙ sym c.end-end.ensures in
+    let done = all_are_done c.end-end.result c.take_groups.result.items c.in_ok-pieces.pieces.items c.in_ok-done.done.items c.in_ok-groups_of.field-0.items
+    c.in_ok-pieces.ensures c.in_ok-done.ensures.done c.in_ok-groups_of.ensures.groups in
+    record {
+      inside = ap (λ (w : WindowValue). w.out) c.put_groups.ensures.state;
+      until = until_is;
+      position = ap (λ (w : WindowValue). w.position) c.put_groups.ensures.state ∙ ap (λ (w : WindowValue). w.position) c.take_groups.ensures.state;
+      from = λ edge f. c.put_groups.ensures.from edge (c.take_groups.ensures.from edge f);
+      done =
+          ap (λ (e : ℕ). all_done e (states_of c.put_groups.new.self.groups)) ends
+          ∙ ap (λ (gs : List GroupValue). all_done c.end-end.result (states_of gs)) groups_are
+          ∙ done;
+    }
+
+pub returns-in_err-done-clause-full : goal.returns-in_err-done-clause-full
+returns-in_err-done-clause-full g c =
+    let p = err_from_is_err_and c.from_residual-in_err-done.result c.from_residual-in_err-done.ensures.1 in
+    rw (p.1, p.2)
+    (λ is. pieces_full c.args.window.now c.end-end.result c.take_groups.result.items c.in_ok-pieces.pieces.items c.take_groups.ensures.groups c.end-end.ensures c.in_ok-pieces.ensures (c.in_err-done.ensures.full is))
