@@ -1,5 +1,10 @@
 //! Sessions whose answers were worked out by hand from the tables, with several groups and workers.
 
+mod at_once;
+mod meeting;
+mod texts;
+
+use self::texts::{ONE_SEGMENT, TWO_FLOWS};
 use crate::{SessionFault, run_session, split};
 use scenario_asm::assemble;
 use std::io::Write;
@@ -9,40 +14,6 @@ use std::test::Fail;
 use std::thread::Threads;
 use window_core::Partition;
 use window_engine::{OpenGate, OverWrite};
-
-/// One segment goes there and is acknowledged.
-const ONE_SEGMENT: &str = "sim 1000000000
-node s sender
-node r receiver
-link a s r 8000000 1000000 droptail 10
-link b r s 8000000 1000000 droptail 10
-flow f s r 1000 1 0 64000 0
----
-";
-
-/// Two flows whose events fall on the same times: 6 events.
-const TWO_FLOWS: &str = "sim 2040001
-node s sender
-node t sender
-node q router
-node u receiver
-node v receiver
-link a s q 8000000 1000000 droptail 10
-link b t q 8000000 1000000 droptail 10
-link c q u 8000000 1000000 droptail 10
-link d u q 8000000 1000000 droptail 10
-link e q v 8000000 1000000 droptail 10
-link g v q 8000000 1000000 droptail 10
-link h q s 8000000 1000000 droptail 10
-link i q t 8000000 1000000 droptail 10
-flow x s u 1000 1 0 64000 0
-flow y t v 1000 1 0 64000 0
-route q u c
-route q v e
-route q s h
-route q t i
----
-";
 
 /// Who runs the windows of a session's moves: whether each node has a group of its own (else all
 /// are in one), and how many workers there are.
@@ -275,25 +246,38 @@ fn a_flow_of_two(rt: HostRuntime) -> Result<(), Fail> {
     Ok(())
 }
 
-/// Each state is the same whether it was stepped to, gone back to, or reached at once.
-#[test]
-fn one_event_at_a_time(rt: HostRuntime) -> Result<(), Fail> {
+/// 50 events forwards and 50 back, one at a time: each state is the one that is reached at once.
+/// The run is at its end after `last` of them.
+fn expect_steps<R: Abort + AllocGlobal + Threads + Wait + Sync>(
+    rt: &R,
+    text: &str,
+    last: u64,
+) -> Result<(), Fail> {
     let mut commands = String::new(rt.alloc());
     let mut positions = Vec::new(rt.alloc());
     for stepped in 0..50u64 {
         commands.push_str("step 1\n")?;
-        positions.push((stepped + 1).min(6))?;
+        positions.push((stepped + 1).min(last))?;
     }
     for stepped in 0..50u64 {
         commands.push_str("back 1\n")?;
-        positions.push(6 - (stepped + 1).min(6))?;
+        positions.push(last - (stepped + 1).min(last))?;
     }
-    let shown = states(&rt, TWO_FLOWS, positions.as_slice())?;
+    let shown = states(rt, text, positions.as_slice())?;
     for crew in [ALONE, PAIR] {
-        let out = answers(&rt, TWO_FLOWS, commands.as_str(), crew)?;
+        let out = answers(rt, text, commands.as_str(), crew)?;
         assert!(rt; out.as_slice() == shown.as_slice());
     }
     Ok(())
+}
+
+/// A run of 6 events, and one of so many that no step comes to its end.
+#[test]
+fn one_event_at_a_time(rt: HostRuntime) -> Result<(), Fail> {
+    expect_steps(&rt, TWO_FLOWS, 6)?;
+    let longer = TWO_FLOWS.replace(rt.alloc(), "sim 2040001", "sim 1000000000")?;
+    let many = longer.replace(rt.alloc(), " 1000 1 0 ", " 1000 20 0 ")?;
+    expect_steps(&rt, many.as_str(), 50)
 }
 
 /// An output that has room for 100 bytes takes the first of the answers, and the session ends.

@@ -3,3 +3,4 @@ pub mod Thinned
 pub mod Shown
 pub mod Faults
 pub mod Batches
+pub mod Aims

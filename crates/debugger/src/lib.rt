@@ -1,6 +1,7 @@
 //! The debugger: the state after any number of events of a scenario's run, forwards and backwards.
 #![tactic(auto)]
 
+mod aim;
 pub mod breaks;
 mod course;
 mod crew;
@@ -8,7 +9,6 @@ mod fault;
 pub mod moves;
 pub mod reached;
 pub mod saved;
-mod scan;
 pub mod walk;
 
 pub use breaks::{Break, BreakFault, Breaks, EventKind};

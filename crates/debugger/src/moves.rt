@@ -6,6 +6,7 @@ ghost use Rattle.debugger.specs.Moves.{Passes, StepGoesTo, RunGoesTo, UntilGoesT
 ghost use Rattle.debugger.specs.Debugging.{opened, HasMoved};
 ghost use Rattle.trace_text.specs.Dump.{dump_bytes};
 
+use crate::aim::Aim;
 use crate::breaks::{Break, BreakFault, Breaks};
 use crate::crew::Crew;
 use crate::fault::MoveFault;
@@ -151,14 +152,10 @@ impl Debugger {
         ensures full { IfErr result (λ fault. fault ≡ MoveFault.CountFull → IsTooLong self.old.start) }
         ensures err { OnErr result (self.new ≡ self.old) }
     {
-        let found = self.crew.net_at_break(
-            rt,
-            gate,
-            &self.net,
-            &self.breaks,
-            &mut self.saved,
-            &mut self.line,
-        );
+        let aim = &Aim::Hit(&self.breaks);
+        let found = self
+            .crew
+            .find(rt, gate, &self.net, aim, &mut self.saved, &mut self.line);
         self.show(found)
     }
 
@@ -174,9 +171,10 @@ impl Debugger {
         ensures full { IfErr result (λ fault. fault ≡ MoveFault.CountFull → IsTooLong self.old.start) }
         ensures err { OnErr result (self.new ≡ self.old) }
     {
+        let aim = &Aim::Moment(time);
         let found = self
             .crew
-            .net_at_time(rt, gate, &self.net, time, &mut self.saved, &mut self.line);
+            .find(rt, gate, &self.net, aim, &mut self.saved, &mut self.line);
         self.show(found)
     }
 

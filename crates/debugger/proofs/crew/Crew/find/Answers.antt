@@ -1,17 +1,17 @@
-use Rattle.std.proofs.Common.{◌≡◌, ◌≤◌, ◌+◌, ◌-◌, ℕ, Option, refl, sym, ap, subst, ◌∙◌, arith, IfOk, IfErr}
+use Rattle.std.proofs.Common.{◌≡◌, refl, sym, ap, subst, ◌∙◌, arith, IfOk, IfErr}
 use Rattle.std.proofs.lemmas.Result.{IfOk-weaker}
 use Rattle.table_run.specs.State.{State}
 use Rattle.net_machine.specs.Run.{Reached}
-use Rattle.node_core.specs.TraceLine.{TraceLine}
 use Rattle.window_engine.specs.Engines.{EngineValue}
 use Rattle.debugger.specs.declared.fault.MoveFault.{MoveFault}
 use Rattle.debugger.specs.declared.fault.MoveFault.TheVariants.{CountFull}
-use Rattle.debugger.specs.Moves.{Passes, HasPosition, UntilGoesTo, IsTooLong}
-use Rattle.debugger.specs.Courses.{IsOnWay, Finds}
+use Rattle.debugger.specs.Moves.{Passes, HasPosition, IsTooLong}
+use Rattle.debugger.specs.Courses.{IsOnWay}
+use Rattle.debugger.specs.Aims.{EndsIn, GoesTo}
 use Rattle.debugger.proofs.Faults.{not_ok, full_of_move, full_of_memory}
-use Rattle.debugger.proofs.Walks.{SomeBefore, some_before_yet, until_ended}
-use Rattle.debugger.proofs.Batches.{no_more, window_of, no_window, way_on, too_long_from, some_before_on, until_ends_in}
-use Rattle.debugger.proofs.crew.Crew.net_at_time.Goals as goal
+use Rattle.debugger.proofs.Batches.{no_more, window_of, no_window, way_on, too_long_from}
+use Rattle.debugger.proofs.Aims.{NotYet, not_yet_at, ended, not_yet_on, ends_in, not_before}
+use Rattle.debugger.proofs.crew.Crew.find.Goals as goal
 
 pub new-requires : goal.new-requires
 new-requires g c = c.requires.nodes
@@ -39,7 +39,7 @@ loop-init g c =
       on_way = record { running = e.running; ahead = subst (Passes start) (sym e.net) c.requires.on_run; behind = subst (Passes start) (sym e.behind) c.requires.on_run; upto = omega (arith, at, was) };
       few = omega (arith, at, e.few);
       from = omega (arith, at);
-      some = subst (SomeBefore c.args.saved.now c.args.time c.args.present.now.position) (sym at) (some_before_yet start c.args.time c.args.present.now.position);
+      yet = subst (NotYet start c.args.aim.now c.args.present.now.position) (sym at) (not_yet_at start c.args.aim.now c.args.present.now.position);
     }
 
 pub window-requires-clause-running : goal.window-requires-clause-running
@@ -87,47 +87,53 @@ pub returns-in_default-clause-goes : goal.returns-in_default-clause-goes
 returns-in_default-clause-goes g c =
     let i = c.loop.invariant in
     let none = no_window c.loop.course.engine.net c.window.new.self.engine.net c.in_ok-batch.field-0 c.in_default.is c.in_ok-batch.ensures.gone in
-    let goes = until_ended c.args.saved.now c.args.time c.args.present.now.position c.loop.course.engine.net i.some i.from i.on_way.ahead (no_more c.loop.course.engine.net.state none.0) in
-    subst (λ (r : Reached). UntilGoesTo c.args.saved.now c.args.time c.args.present.now.position r.position) (sym (c.in_ok-edge.ensures ∙ none.1)) goes
+    let goes = ended c.args.saved.now c.args.aim.now c.args.present.now.position c.loop.course.engine.net i.yet i.from i.on_way.ahead (no_more c.loop.course.engine.net.state none.0) in
+    subst (λ (r : Reached). GoesTo c.args.saved.now c.args.aim.now c.args.present.now.position r.position) (sym (c.in_ok-edge.ensures ∙ none.1)) goes
 
 pub returns-in_default-clause-same : goal.returns-in_default-clause-same
 returns-in_default-clause-same g c = c.loop.invariant.same
 
 -- the move ends in the window
-pub overflow_add-first : goal.overflow_add-first
-overflow_add-first g c =
+pub end_in-requires-clause-some : goal.end_in-requires-clause-some
+end_in-requires-clause-some g c =
     let gone = window_of c.loop.course.engine.net c.window.new.self.engine.net c.in_ok-batch.field-0 c.in-Some-2.batch c.in-Some-2.is c.in_ok-batch.ensures.gone in
-    omega (arith, gone.first, gone.position, c.in-Some-first_late.ensures.within, c.in_ok-batch.ensures.few, c.first.ensures)
+    omega (arith, gone.first)
+
+pub end_in-requires-clause-few : goal.end_in-requires-clause-few
+end_in-requires-clause-few g c =
+    let gone = window_of c.loop.course.engine.net c.window.new.self.engine.net c.in_ok-batch.field-0 c.in-Some-2.batch c.in-Some-2.is c.in_ok-batch.ensures.gone in
+    omega (arith, gone.first, gone.position, c.in_ok-batch.ensures.few)
 
 pub into_net_at-requires-clause-on_way : goal.into_net_at-requires-clause-on_way
 into_net_at-requires-clause-on_way g c =
     let i = c.loop.invariant in
     let gone = window_of c.loop.course.engine.net c.window.new.self.engine.net c.in_ok-batch.field-0 c.in-Some-2.batch c.in-Some-2.is c.in_ok-batch.ensures.gone in
-    subst (λ (s : State). IsOnWay s (c.first.result - 1 + c.in-Some-first_late.index) c.window.new.self) (sym i.same)
-    (way_on c.args.saved.now c.loop.course c.window.new.self c.in-Some-2.batch (c.first.result - 1 + c.in-Some-first_late.index) i.on_way gone c.in_ok-batch.ensures.running c.window.ensures.behind (omega (arith, gone.first, c.first.ensures)))
+    let past = not_before c.args.saved.now c.args.present.now.position c.loop.course.engine.net c.in-Some-2.batch c.window.new.self.engine.net i.on_way.ahead i.from gone c.args.aim.now c.in-Some-end_in.target c.in-Some-end_in.ensures in
+    subst (λ (s : State). IsOnWay s c.in-Some-end_in.target c.window.new.self) (sym i.same)
+    (way_on c.args.saved.now c.loop.course c.window.new.self c.in-Some-2.batch c.in-Some-end_in.target i.on_way gone c.in_ok-batch.ensures.running c.window.ensures.behind past)
 
 pub into_net_at-requires-clause-position : goal.into_net_at-requires-clause-position
 into_net_at-requires-clause-position g c =
     let i = c.loop.invariant in
     let gone = window_of c.loop.course.engine.net c.window.new.self.engine.net c.in_ok-batch.field-0 c.in-Some-2.batch c.in-Some-2.is c.in_ok-batch.ensures.gone in
-    let ends = until_ends_in c.args.saved.now c.args.present.now.position c.loop.course.engine.net c.in-Some-2.batch c.window.new.self.engine.net i.on_way.ahead i.from gone c.args.time c.in-Some-first_late.index (c.first.result - 1 + c.in-Some-first_late.index) i.some c.in-Some-first_late.ensures (omega (arith, c.first.ensures, gone.first)) in
-    subst (λ (s : State). HasPosition s (c.first.result - 1 + c.in-Some-first_late.index)) (sym i.same) ends.1
+    let ends = ends_in c.args.saved.now c.args.present.now.position c.loop.course.engine.net c.in-Some-2.batch c.window.new.self.engine.net i.on_way.ahead i.from gone c.args.aim.now c.in-Some-end_in.target i.yet c.in-Some-end_in.ensures in
+    subst (λ (s : State). HasPosition s c.in-Some-end_in.target) (sym i.same) ends.1
 
-pub returns-in-Some-first_late-clause-on_run : goal.returns-in-Some-first_late-clause-on_run
-returns-in-Some-first_late-clause-on_run g c = subst (λ (s : State). IfOk c.into_net_at.result (Passes s)) c.loop.invariant.same c.into_net_at.ensures.on_run
+pub returns-in-Some-end_in-clause-on_run : goal.returns-in-Some-end_in-clause-on_run
+returns-in-Some-end_in-clause-on_run g c = subst (λ (s : State). IfOk c.into_net_at.result (Passes s)) c.loop.invariant.same c.into_net_at.ensures.on_run
 
-pub returns-in-Some-first_late-clause-goes : goal.returns-in-Some-first_late-clause-goes
-returns-in-Some-first_late-clause-goes g c =
+pub returns-in-Some-end_in-clause-goes : goal.returns-in-Some-end_in-clause-goes
+returns-in-Some-end_in-clause-goes g c =
     let i = c.loop.invariant in
     let gone = window_of c.loop.course.engine.net c.window.new.self.engine.net c.in_ok-batch.field-0 c.in-Some-2.batch c.in-Some-2.is c.in_ok-batch.ensures.gone in
-    let ends = until_ends_in c.args.saved.now c.args.present.now.position c.loop.course.engine.net c.in-Some-2.batch c.window.new.self.engine.net i.on_way.ahead i.from gone c.args.time c.in-Some-first_late.index (c.first.result - 1 + c.in-Some-first_late.index) i.some c.in-Some-first_late.ensures (omega (arith, c.first.ensures, gone.first)) in
-    IfOk-weaker c.into_net_at.result (λ (net : Reached). net.position ≡ (c.first.result - 1 + c.in-Some-first_late.index)) (λ (net : Reached). UntilGoesTo c.args.saved.now c.args.time c.args.present.now.position net.position) (λ net e. subst (UntilGoesTo c.args.saved.now c.args.time c.args.present.now.position) (sym e) ends.0) c.into_net_at.ensures.goes
+    let ends = ends_in c.args.saved.now c.args.present.now.position c.loop.course.engine.net c.in-Some-2.batch c.window.new.self.engine.net i.on_way.ahead i.from gone c.args.aim.now c.in-Some-end_in.target i.yet c.in-Some-end_in.ensures in
+    IfOk-weaker c.into_net_at.result (λ (net : Reached). net.position ≡ c.in-Some-end_in.target) (λ (net : Reached). GoesTo c.args.saved.now c.args.aim.now c.args.present.now.position net.position) (λ net e. subst (GoesTo c.args.saved.now c.args.aim.now c.args.present.now.position) (sym e) ends.0) c.into_net_at.ensures.goes
 
-pub returns-in-Some-first_late-clause-full : goal.returns-in-Some-first_late-clause-full
-returns-in-Some-first_late-clause-full g c = subst (λ (s : State). IfErr c.into_net_at.result (λ (fault : MoveFault). fault ≡ CountFull → IsTooLong s)) c.loop.invariant.same c.into_net_at.ensures.full
+pub returns-in-Some-end_in-clause-full : goal.returns-in-Some-end_in-clause-full
+returns-in-Some-end_in-clause-full g c = subst (λ (s : State). IfErr c.into_net_at.result (λ (fault : MoveFault). fault ≡ CountFull → IsTooLong s)) c.loop.invariant.same c.into_net_at.ensures.full
 
-pub returns-in-Some-first_late-clause-same : goal.returns-in-Some-first_late-clause-same
-returns-in-Some-first_late-clause-same g c = c.into_net_at.ensures.same ∙ c.loop.invariant.same
+pub returns-in-Some-end_in-clause-same : goal.returns-in-Some-end_in-clause-same
+returns-in-Some-end_in-clause-same g c = c.into_net_at.ensures.same ∙ c.loop.invariant.same
 
 -- or goes on
 pub follow-requires : goal.follow-requires
@@ -143,11 +149,11 @@ loop-preserved g c =
     let i = c.loop.invariant in
     let gone = window_of c.loop.course.engine.net c.window.new.self.engine.net c.in_ok-batch.field-0 c.in-Some-2.batch c.in-Some-2.is c.in_ok-batch.ensures.gone in
     let at = ap (λ (e : EngineValue). e.net.position) c.follow.ensures.engine in
-    let missed = subst (λ (o : Option ℕ). Finds (λ (line : TraceLine). c.args.time ≤ line.key.time) c.in-Some-2.batch o) c.in_default-first_late.is c.first_late.ensures in
+    let missed = subst (EndsIn c.args.aim.now c.in-Some-2.batch) c.in_default-end_in.is c.end_in.ensures in
     record {
       same = c.follow.ensures.same ∙ i.same;
       on_way = subst (λ (s : State). IsOnWay s c.follow.new.self.engine.net.position c.follow.new.self) i.same c.follow.ensures.on_way;
       few = omega (arith, at, c.in_ok-batch.ensures.few);
       from = omega (arith, at, gone.position, i.from);
-      some = subst (SomeBefore c.args.saved.now c.args.time c.args.present.now.position) (sym at) (some_before_on c.args.saved.now c.args.present.now.position c.loop.course.engine.net c.in-Some-2.batch c.window.new.self.engine.net i.on_way.ahead i.from gone c.args.time i.some missed);
+      yet = subst (NotYet c.args.saved.now c.args.aim.now c.args.present.now.position) (sym at) (not_yet_on c.args.saved.now c.args.present.now.position c.loop.course.engine.net c.in-Some-2.batch c.window.new.self.engine.net i.on_way.ahead i.from gone c.args.aim.now i.yet missed);
     }

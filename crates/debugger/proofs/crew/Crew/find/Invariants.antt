@@ -1,7 +1,7 @@
 use Rattle.std.proofs.Common.{◌≡◌, ◌≤◌}
 use Rattle.debugger.specs.Courses.{IsOnWay}
-use Rattle.debugger.proofs.Walks.{SomeBefore}
-use Rattle.debugger.proofs.crew.Crew.net_at_time.Given as goal
+use Rattle.debugger.proofs.Aims.{NotYet}
+use Rattle.debugger.proofs.crew.Crew.find.Given as goal
 
 abbrev pub invariant-loop : goal.invariant-loop
 invariant-loop g l = record {
@@ -9,5 +9,5 @@ invariant-loop g l = record {
   on_way : IsOnWay l.fn.saved l.course.engine.net.position l.course;
   few : l.course.engine.net.position ≤ 1000000000000000;
   from : l.fn.present.position ≤ l.course.engine.net.position;
-  some : SomeBefore l.fn.saved l.time l.fn.present.position l.course.engine.net.position;
+  yet : NotYet l.fn.saved l.aim l.fn.present.position l.course.engine.net.position;
 }

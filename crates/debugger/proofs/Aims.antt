@@ -1,0 +1,43 @@
+-- A move by windows, whatever it looks for.
+use Rattle.std.proofs.Common.{◌≡◌, ℕ, ◌≤◌, None, Some, arith}
+use Rattle.table_run.specs.State.{State, step}
+use Rattle.net_machine.specs.Run.{Reached}
+use Rattle.window_core.specs.Batches.{BatchValue}
+use Rattle.window_engine.specs.Engines.{GoesOn}
+use Rattle.debugger.specs.declared.aim.Aim.{Aim}
+use Rattle.debugger.specs.declared.aim.Aim.TheVariants.{Hit, Moment}
+use Rattle.debugger.specs.Moves.{Passes, HasPosition}
+use Rattle.debugger.specs.Courses.{HasNone}
+use Rattle.debugger.specs.Aims.{IsMet, EndsIn, GoesTo}
+use Rattle.debugger.proofs.Walks.{NoneHit, none_hit_yet, run_ended, SomeBefore, some_before_yet, until_ended}
+use Rattle.debugger.proofs.Batches.{none_hit_on, run_ends_in, some_before_on, until_ends_in}
+
+-- a move from m has not come to its end at a position
+abbrev pub NotYet : State → Aim → ℕ → ℕ → Type 0
+NotYet start (Hit breaks) m = NoneHit start breaks.now m
+NotYet start (Moment time) m = SomeBefore start time m
+
+pub not_yet_at : (start : State) (aim : Aim) (m : ℕ) → NotYet start aim m m
+not_yet_at start (Hit breaks) m = none_hit_yet start breaks.now m
+not_yet_at start (Moment time) m = some_before_yet start time m
+
+-- it ends with the run
+pub ended : (start : State) (aim : Aim) (m : ℕ) (at : Reached) → NotYet start aim m at.position → m ≤ at.position → Passes start at → step at.state ≡ None → GoesTo start aim m at.position
+ended start (Hit breaks) m at yet from here no_more = run_ended start breaks.now m at yet here no_more
+ended start (Moment time) m at yet from here no_more = until_ended start time m at yet from here no_more
+
+module _ (start : State) (m : ℕ) (old : Reached) (batch : BatchValue) (new : Reached) (here : Passes start old) (from : m ≤ old.position) (gone : GoesOn old batch new) where
+  -- it goes on past a window
+  pub not_yet_on : (aim : Aim) → NotYet start aim m old.position → HasNone (IsMet aim) batch → NotYet start aim m new.position
+  not_yet_on (Hit breaks) yet none = none_hit_on start m old batch new here from gone breaks.now yet none
+  not_yet_on (Moment time) yet none = some_before_on start m old batch new here from gone time yet none
+
+  -- or ends in it
+  pub ends_in : (aim : Aim) (p : ℕ) → NotYet start aim m old.position → EndsIn aim batch (Some p) → GoesTo start aim m p × HasPosition start p
+  ends_in (Hit breaks) p yet (index, is, at) = run_ends_in start m old batch new here from gone breaks.now index p yet is at
+  ends_in (Moment time) p yet (index, is, at) = until_ends_in start m old batch new here from gone time index p yet is (let first = gone.first in omega (arith, at, first))
+
+  -- and not before it
+  pub not_before : (aim : Aim) (p : ℕ) → EndsIn aim batch (Some p) → old.position ≤ p
+  not_before (Hit breaks) p (index, is, at) = let first = gone.first in omega (arith, at, first)
+  not_before (Moment time) p (index, is, at) = let first = gone.first in omega (arith, at, first)
