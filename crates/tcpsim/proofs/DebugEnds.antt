@@ -8,6 +8,7 @@ use Rattle.debug_session.specs.Sessions.{Ended as CommandsEnded, IsEnding}
 use Rattle.debug_session.specs.declared.session.SessionFault.{SessionFault as CommandsFault}
 use Rattle.debug_session.specs.declared.session.SessionFault.TheVariants.{NoMemory as commands_NoMemory, OutputFailed}
 use Rattle.debug_session.proofs.Meanings.{scenario_of, fault_of}
+use Rattle.window_engine.proofs.Bytes.{appends_nothing}
 use Rattle.tcpsim.specs.declared.fault.SessionFault.{SessionFault}
 use Rattle.tcpsim.specs.declared.fault.SessionFault.TheVariants.{TooLong, Refused, Groups, ReadFailed, WriteFailed, NoMemory}
 use Rattle.tcpsim.specs.Debug.{IsDebugEnding, IsDebugDue, IsDebugSession}
@@ -17,7 +18,6 @@ use Rattle.tcpsim.specs.Input.{IsTextFault, Reads}
 use Rattle.tcpsim.specs.Nodes.{HasGroups, LacksGroups}
 use Rattle.tcpsim.specs.Session.{IsWithin}
 use Rattle.tcpsim.specs.Written.{Writes}
-use Rattle.tcpsim.proofs.Bytes.{appends_nothing}
 
 abbrev Read : Type 0
 Read = Result ScenarioParts SessionFault

@@ -6,6 +6,7 @@ use Rattle.scenario_image.specs.declared.parts.ScenarioParts.{ScenarioParts}
 use Rattle.scenario_asm.specs.CanonicalText.{canonical_text}
 use Rattle.table_run.specs.State.{State, opening, run, step, one_more}
 use Rattle.node_core.specs.TraceLine.{TraceLine}
+use Rattle.window_engine.proofs.Bytes.{appends_nothing}
 use Rattle.tcpsim.specs.declared.fault.SessionFault.{SessionFault}
 use Rattle.tcpsim.specs.declared.fault.SessionFault.TheVariants.{TooLong, Refused, RefusedImage, Groups, ReadFailed, WriteFailed, NoMemory, CountFull, NoWorker}
 use Rattle.tcpsim.specs.declared.subcommand.Subcommand.{Subcommand}
@@ -17,7 +18,6 @@ use Rattle.tcpsim.specs.Trace.{IsTrace, IsTooLong}
 use Rattle.tcpsim.specs.Written.{Writes}
 use Rattle.tcpsim.specs.Ended.{Ended, IsHindered, IsRunOutput, IsReadFault}
 use Rattle.tcpsim.specs.Session.{IsWithin, IsOfScenario, IsEnding, IsDue, IsSession}
-use Rattle.tcpsim.proofs.Bytes.{appends_nothing}
 use Rattle.tcpsim.proofs.Lines.{due_steps}
 use Rattle.tcpsim.proofs.Options.{some_none, same_some}
 

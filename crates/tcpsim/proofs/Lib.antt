@@ -1,5 +1,4 @@
 pub mod Options
-pub mod Bytes
 pub mod Lines
 pub mod Ends
 pub mod Reading

@@ -15,13 +15,13 @@ use Rattle.node_core.specs.TraceLine.{TraceLine, shown}
 use Rattle.node_core.specs.declared.line.Line.{Line}
 use Rattle.trace_text.specs.Line.{line_bytes}
 use Rattle.trace_text.specs.End.{end_bytes}
+use Rattle.window_engine.proofs.Bytes.{appends_nothing, appends_more}
 use Rattle.tcpsim.specs.Trace.{lines_bytes, IsTrace, IsTraceStart, IsTooLong, IsTraceOrStart}
 use Rattle.tcpsim.specs.declared.fault.SessionFault.TheVariants.{WriteFailed, NoMemory, CountFull, NoWorker}
 use Rattle.tcpsim.specs.Faults.{of_step}
 use Rattle.tcpsim.specs.Ended.{Ended, IsRunOutput}
 use Rattle.tcpsim.specs.Written.{Writes, WritesBefore, IsBeginningOf}
 use Rattle.tcpsim.proofs.Options.{some_none}
-use Rattle.tcpsim.proofs.Bytes.{appends_nothing, appends_more}
 
 -- a net that started in this state has made these bytes
 pub record IsAt (s : State) (net : Reached) (made : List ℕ) : Type 0 where
@@ -137,9 +137,11 @@ begun P Q page a b c weaken made part =
 pub written : (P : List ℕ → Type 0) (page : List ℕ) (a b c : Option (List ℕ)) → WritesBefore page P a b → Appends b c page → Writes P a c
 written P page a b c made h = (made.0 ++ page, appends_more a b c made.0 page made.1 h, made.2)
 
--- before the first event
-pub nothing_yet : (s : State) (known : Option (List ℕ)) → Writes (IsTraceStart s) known known
-nothing_yet s known = ([], appends_nothing known, record { n = 0; lines = []; last = s; is_run = refl; bytes_are = refl })
+-- memory was refused before the first event
+pub nothing_made : (s : State) (ended : Ended) (known : Option (List ℕ)) → ended ≡ Err NoMemory → Writes (IsRunOutput s ended) known known
+nothing_made s ended known is =
+    let P : Ended → Type 0 = λ e. Writes (IsRunOutput s e) known known in
+    subst P (sym is) ([], appends_nothing known, record { n = 0; lines = []; last = s; is_run = refl; bytes_are = refl })
 
 -- the line could not be added
 pub line_written : (s : State) (net : Reached) (page : List ℕ) (a b c : Option (List ℕ)) → Made s net page a b → Writes (IsBeginningOf (λ all. all ≡ page)) b c → Writes (IsBeginningOf (IsTraceOrStart s)) a c

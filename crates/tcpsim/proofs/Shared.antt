@@ -3,6 +3,7 @@ use Rattle.std.proofs.Common.{◌≡◌, ◌∙◌, inl, inr, ℕ, zero, suc, Li
 use Rattle.scenario_image.specs.declared.parts.ScenarioParts.{ScenarioParts}
 use Rattle.table_run.specs.State.{opening}
 use Rattle.window_core.specs.Partition.{alone}
+use Rattle.window_engine.proofs.Bytes.{appends_nothing}
 use Rattle.tcpsim.specs.declared.fault.SessionFault.{SessionFault}
 use Rattle.tcpsim.specs.declared.fault.SessionFault.TheVariants.{NoMemory, Groups}
 use Rattle.tcpsim.specs.Ended.{Ended, IsRunOutput}
@@ -10,7 +11,6 @@ use Rattle.tcpsim.specs.Groups.{MeansGroups}
 use Rattle.tcpsim.specs.Nodes.{HasGroups, LacksGroups}
 use Rattle.tcpsim.specs.Output.{IsSharedOutput}
 use Rattle.tcpsim.specs.Written.{Writes}
-use Rattle.tcpsim.proofs.Bytes.{appends_nothing}
 
 -- there were no groups, or no memory for them, and nothing was written
 pub not_shared : (groups : List ℕ) (parts : ScenarioParts) (fault : SessionFault) (known : Option (List ℕ)) → LacksGroups groups parts fault → Writes (IsSharedOutput groups parts (Err fault)) known known

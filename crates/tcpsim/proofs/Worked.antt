@@ -16,11 +16,11 @@ use Rattle.window_engine.specs.declared.fault.EngineFault.TheVariants.{NoMemory 
 use Rattle.window_engine.specs.declared.fault.Stop.{Stop}
 use Rattle.window_engine.specs.declared.fault.Stop.TheVariants.{End, Until}
 use Rattle.window_engine.specs.Engines.{Commits, IsStop}
+use Rattle.window_engine.proofs.Bytes.{appends_more}
 use Rattle.tcpsim.specs.Ended.{IsRunOutput}
 use Rattle.tcpsim.specs.Faults.{of_engine}
 use Rattle.tcpsim.specs.Trace.{lines_bytes, IsTrace, IsTraceStart, IsTraceOrStart}
 use Rattle.tcpsim.specs.Written.{Writes, IsBeginningOf}
-use Rattle.tcpsim.proofs.Bytes.{appends_more}
 
 -- the net before the first event
 abbrev pub at_first : State → Reached

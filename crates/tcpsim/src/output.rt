@@ -18,11 +18,10 @@ pub(crate) fn put_all<W: Sink>(writer: &mut W, bytes: &[u8]) -> Result<(), SinkF
     ensures err { OnErr result (Writes (IsBeginningOf (λ all. all ≡ bytes.now)) (W.contents writer.old) (W.contents writer.new)) }
     ensures failures { W.failures writer.new ≡ failures_after result (W.failures writer.old) }
 {
-    let mut done = 0;
-    while done < bytes.len() {
-        done += writer.put(&bytes[done..])?;
+    match window_engine::put_all(writer, bytes) {
+        Ok(()) => Ok(()),
+        Err(_) => Err(SinkFail),
     }
-    Ok(())
 }
 
 /// Writes a page of whole lines, and empties it.

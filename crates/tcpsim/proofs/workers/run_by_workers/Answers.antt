@@ -7,17 +7,12 @@ use Rattle.tcpsim.specs.declared.fault.SessionFault.TheVariants.{NoMemory, Write
 use Rattle.tcpsim.specs.Ended.{Ended, IsRunOutput}
 use Rattle.tcpsim.specs.Faults.{of_engine}
 use Rattle.tcpsim.specs.Written.{Writes}
-use Rattle.tcpsim.proofs.Lines.{nothing_yet}
+use Rattle.tcpsim.proofs.Lines.{nothing_made}
 use Rattle.tcpsim.proofs.Worked.{at_first, Committed, from_start, engine_failed, all_written, last_refused, last_failed}
 use Rattle.tcpsim.proofs.workers.run_by_workers.Goals as goal
 
 pub returns-in_err-engine-clause-output : goal.returns-in_err-engine-clause-output
-returns-in_err-engine-clause-output g c =
-    let known = g.W.Sink.contents c.args.writer.now in
-    let s = opening c.args.scenario.now in
-    let is : c.from_residual.result ≡ Err NoMemory = search rules in
-    let P : Ended → Type 0 = λ ended. Writes (IsRunOutput s ended) known known in
-    subst P (sym is) (nothing_yet s known)
+returns-in_err-engine-clause-output g c = nothing_made (opening c.args.scenario.now) c.from_residual.result (g.W.Sink.contents c.args.writer.now) (search rules)
 
 pub returns-in_err-run-clause-output : goal.returns-in_err-run-clause-output
 returns-in_err-run-clause-output g c =
