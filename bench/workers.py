@@ -6,7 +6,8 @@ bench/workers.py [--program PATH] [--rounds N] [--priority P]
 not depend on the machine's speed. Seconds are whole runs, their trace thrown away, each kind of run in
 turn in each round, so that what else the machine does disturbs them alike; the least of all rounds counts.
 On a machine with other work a real-time priority keeps the cores for them (as root). Windows are counted
-by the threads that are started, with strace. It wants valgrind, strace, taskset and GNU time.
+by the threads that are started with two workers and with three, with strace: one worker starts none. It
+wants valgrind, strace, taskset and GNU time.
 """
 import argparse
 import os
@@ -58,9 +59,11 @@ def events_of(program, path):
 
 
 def windows(program, path, groups):
-    """How many windows a run has: one worker is one thread for each."""
-    said = ran(program, path, ('--workers', '1', *groups), ('strace', '-f', '-qq', '-e', 'trace=clone3'))
-    return said.count('clone3(')
+    """How many windows a run has. In each n workers are n threads, and where its text is made in parts,
+    n - 1 more."""
+    two, three = (ran(program, path, ('--workers', str(n), *groups), ('strace', '-f', '-qq', '-e', 'trace=clone3'))
+                  .count('clone3(') for n in (2, 3))
+    return 2 * two - three
 
 
 def seconds(kinds, rounds, before):
