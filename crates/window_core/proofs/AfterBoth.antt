@@ -8,13 +8,13 @@ times_both : (group : ℕ → ℕ) (number until m n : ℕ) (s : GroupState) →
 times_both group number until zero n s = ap (λ k. fire_times group number until k s) {x = n} {y = zero + n} (omega arith)
 times_both group number until (suc m) n s = times_both group number until m n (fire_or_stay group number until s) ∙ ap (λ k. fire_times group number until k s) {x = suc (m + n)} {y = suc m + n} (omega arith)
 
-pub after_both : (a b c : GroupValue) → AfterFirings a b → AfterFirings b c → AfterFirings a c
-after_both a b c ab bc = record {
+pub after_both : (end : ℕ) (a b c : GroupValue) → AfterFirings end a b → AfterFirings end b c → AfterFirings end a c
+after_both end a b c ab bc = record {
   times = ab.times + bc.times;
   state =
       bc.state
-      ∙ (λ i. fire_times (group_in (ab.rest i).entries) (ab.rest i).number (ab.rest i).until bc.times (ab.state i))
-      ∙ times_both (group_in a.entries) a.number a.until ab.times bc.times (state_of a);
+      ∙ (λ i. fire_times (group_in (ab.rest i).entries) (ab.rest i).number end bc.times (ab.state i))
+      ∙ times_both (group_in a.entries) a.number end ab.times bc.times (state_of a);
   rest = bc.rest ∙ ap (λ (v : GroupValue). record v { seats = c.seats; held = c.held; lines = c.lines }) ab.rest;
   seats_stay = bc.seats_stay ∙ ab.seats_stay;
   from_others = λ link under apart.

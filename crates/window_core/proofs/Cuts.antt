@@ -1,11 +1,11 @@
 -- A merge may begin at a moment: the lines before it come first in order, and then the others.
-use Rattle.std.proofs.Common.{◌≡◌, ◌≢◌, ◌≤◌, ◌<◌, ◌+◌, ◌-◌, ℕ, zero, suc, List, [], ◌∷◌, ◌++◌, length, map, set, get_or, take, drop, true, false, cond, T, Option, Some, None, Less, refl, sym, ap, subst, ◌∙◌, ⊎_elim, arith, length-append}
+use Rattle.std.proofs.Common.{◌≡◌, ◌≤◌, ◌<◌, ◌+◌, ℕ, zero, suc, List, [], ◌∷◌, ◌++◌, length, map, set, get_or, take, drop, true, false, cond, T, Option, Some, None, Less, refl, sym, ap, subst, ◌∙◌, ⊎_elim, arith, length-append}
 use Rattle.std.proofs.lemmas.Bool.{cases_lt}
-use Rattle.std.proofs.lemmas.List.{length-drop, map-append, take-append-drop}
+use Rattle.std.proofs.lemmas.List.{length-drop, take-append-drop}
 use Rattle.std.proofs.Math.Seq.{drop-append_seam}
 use Rattle.std.specs.List.{AllByRecursion}
 use Rattle.std.specs.Ordering.{is_lt}
-use Rattle.std.specs.FinMap.{find, is_sorted, entries, entries_sorted, from_entries, get-entries, get-from_entries}
+use Rattle.std.specs.FinMap.{find, is_sorted, entries_sorted, from_entries, get-entries, get-from_entries}
 use Rattle.std.specs.FinMap.Entries.{below_all}
 use Rattle.sim_time.specs.declared.key.Key.{Key}
 use Rattle.sim_time.specs.Keys.{key_cmp}
@@ -19,7 +19,7 @@ use Rattle.window_core.specs.Windows.{keyed, in_order}
 use Rattle.window_core.proofs.Changes.{same, same_is}
 use Rattle.window_core.proofs.Due.{key_time}
 use Rattle.window_core.proofs.InOrder.{all_entries, both, entries_are}
-use Rattle.window_core.proofs.Rests.{AllAfter, apart_rests, below_all_after, length_rests, rest_at, rest_set}
+use Rattle.window_core.proofs.Rests.{apart_rests, below_all_after, length_rests, rest_at, rest_set}
 use Rattle.window_core.proofs.Sheaves.{length_in_order}
 use Rattle.window_core.proofs.Turn.{or_else, find_append, or_none, none_or, ordered}
 

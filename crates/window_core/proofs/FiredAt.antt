@@ -49,11 +49,11 @@ module _ (v : WindowValue) (is : IsWindow v) (number : ℕ) (under : number < le
   many : length back ≡ length v.groups
   many = length-set v.groups number g
 
-  module _ (after : AfterFirings old g) where
-    fired_each : (h : ℕ) → h < length back → AfterFirings (value_at v.groups h) (value_at back h)
+  module _ (after : AfterFirings v.until old g) where
+    fired_each : (h : ℕ) → h < length back → AfterFirings v.until (value_at v.groups h) (value_at back h)
     fired_each h here = ⊎_elim
-        (λ (at : h ≡ number). subst (λ n. AfterFirings (value_at v.groups n) (value_at back n)) (sym at) (subst (AfterFirings old) (sym (get_or-set_same v.groups number g no_value under)) after))
-        (λ (off : h ≢ number). subst (AfterFirings (value_at v.groups h)) (sym (get_or-set_other v.groups number h g no_value off)) (no_firing (value_at v.groups h)))
+        (λ (at : h ≡ number). subst (λ n. AfterFirings v.until (value_at v.groups n) (value_at back n)) (sym at) (subst (AfterFirings v.until old) (sym (get_or-set_same v.groups number g no_value under)) after))
+        (λ (off : h ≢ number). subst (AfterFirings v.until (value_at v.groups h)) (sym (get_or-set_other v.groups number h g no_value off)) (no_firing v.until (value_at v.groups h)))
         (cases_eq h number)
 
     pub from_fired : (edge : State) → IsFrom edge v → IsFrom edge now
@@ -84,7 +84,7 @@ module _ (v : WindowValue) (is : IsWindow v) (number : ℕ) (under : number < le
   )
 
   -- one more event
-  room : (b : Bool) → AfterFirings old g → Fired v.until old b g → g.position + length g.lines ≤ 1000000000000000 → b ≡ true → events_with v number < 1000000000000000
+  room : (b : Bool) → AfterFirings v.until old g → Fired v.until old b g → g.position + length g.lines ≤ 1000000000000000 → b ≡ true → events_with v number < 1000000000000000
   room true after e fits _ =
       let more = one_line (group_in old.entries) old.number v.until (state_of old) (state_of g) e in
       let position = ap (λ (x : GroupValue). x.position) after.rest in
@@ -92,7 +92,7 @@ module _ (v : WindowValue) (is : IsWindow v) (number : ℕ) (under : number < le
       omega (arith, more, position, part, fits)
   room false after e fits t = absurd (true≢false (sym t))
 
-  pub has_room : {E : Type 0} (r : Result Bool E) → AfterFirings old g → IfOk r (λ fired. Fired v.until old fired g) → g.position + length g.lines ≤ 1000000000000000 → IfOk r (λ fired. fired ≡ true → events_with v number < 1000000000000000)
+  pub has_room : {E : Type 0} (r : Result Bool E) → AfterFirings v.until old g → IfOk r (λ fired. Fired v.until old fired g) → g.position + length g.lines ≤ 1000000000000000 → IfOk r (λ fired. fired ≡ true → events_with v number < 1000000000000000)
   has_room (Ok b) after h fits = room b after h fits
   has_room (Err x) after h fits = tt
 

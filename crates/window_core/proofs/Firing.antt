@@ -65,7 +65,7 @@ pub record IsFiring (g : GroupValue) (end : ℕ) (new : GroupValue) : Type 0 whe
   pub fires : fire (group_in g.entries) g.number end (state_of g) ≡ Some (state_of new)
   pub is_group : IsGroup new
   pub on_run : IsOnRun new
-  pub after : AfterFirings g new
+  pub after : AfterFirings end g new
 
 module _ (g : GroupValue) (is : IsGroup g) (on : IsOnRun g) (end : ℕ) (below : end ≤ g.until) (place : ℕ) (first : IsFirst (seated g.seats) place) where
   -- the least key is the first node's
@@ -215,5 +215,5 @@ module _ (g : GroupValue) (is : IsGroup g) (on : IsOnRun g) (end : ℕ) (below :
           };
         }
 
-        pub one_firing : state_of new ≡ Rattle.window_core.specs.Groups.fire_times (group_in g.entries) g.number g.until 1 (state_of g)
-        one_firing = sym (ap (λ (o : Option GroupState). unwrap_or o (state_of g)) (fires_by g.until (omega (arith, early, below))))
+        pub one_firing : state_of new ≡ Rattle.window_core.specs.Groups.fire_times (group_in g.entries) g.number end 1 (state_of g)
+        one_firing = sym (ap (λ (o : Option GroupState). unwrap_or o (state_of g)) (fires_by end early))

@@ -29,6 +29,7 @@ pub mod Each
 pub mod Windowed
 pub mod WindowFields
 pub mod Readings
+pub mod Rosters
 pub mod HandedOver
 pub mod Arriving
 pub mod HeldForOthers
@@ -45,6 +46,7 @@ pub mod SentOn
 pub mod EndsInside
 pub mod EndsAcross
 pub mod Endings
+pub mod Emptied
 pub mod Lines
 pub mod AfterBoth
 pub mod EndOfWindow

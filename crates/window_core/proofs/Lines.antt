@@ -24,8 +24,8 @@ told_same old lines count line kept = ap (map shown) (take-set lines count line 
 pub firing_as : (g : GroupValue) (end : ℕ) (seats : Seats) (held : List WireState) (lines ls : List TraceLine) → ls ≡ lines → IsFiring g end (record g { seats = seats; held = held; lines = lines }) → IsFiring g end (record g { seats = seats; held = held; lines = ls })
 firing_as g end seats held lines ls same f = subst (λ (all : List TraceLine). IsFiring g end (record g { seats = seats; held = held; lines = all })) (sym same) f
 
-pub no_firing : (g : GroupValue) → AfterFirings g g
-no_firing g = record { times = 0; state = refl; rest = refl; seats_stay = refl; from_others = λ link under off. refl; wires_stay = refl }
+pub no_firing : (end : ℕ) (g : GroupValue) → AfterFirings end g g
+no_firing end g = record { times = 0; state = refl; rest = refl; seats_stay = refl; from_others = λ link under off. refl; wires_stay = refl }
 
 -- what holds of a result that is no error
 pub on_ok : {T E P : Type 0} (r : Result T E) → OnOk r P → is_err r ≡ false → P

@@ -1,7 +1,7 @@
 -- How many lines there are in order; what a merge of a sheaf has left.
-use Rattle.std.proofs.Common.{◌≡◌, ◌≢◌, ◌<◌, ◌≤◌, ◌+◌, ℕ, zero, suc, List, [], ◌∷◌, ◌++◌, length, map, drop, true, false, cond, T, Option, Some, None, is_some, Less, true≢false, refl, sym, ap, subst, ◌∙◌, arith, length-append}
-use Rattle.std.proofs.lemmas.List.{length-map, length-drop}
-use Rattle.std.specs.FinMap.{find, is_sorted, from_entries, entries, len, len-entries, len-insert, contains_key, get, get-from_entries}
+use Rattle.std.proofs.Common.{◌≡◌, ◌+◌, ℕ, zero, suc, List, [], ◌∷◌, ◌++◌, length, map, drop, true, false, cond, T, Some, None, is_some, Less, true≢false, refl, sym, ap, subst, ◌∙◌, arith}
+use Rattle.std.proofs.lemmas.List.{length-map}
+use Rattle.std.specs.FinMap.{find, is_sorted, from_entries, entries, len, len-entries, len-insert, contains_key, get-from_entries}
 use Rattle.std.specs.FinMap.Entries.{below_all}
 use Rattle.sim_time.specs.declared.key.Key.{Key}
 use Rattle.sim_time.specs.Keys.{key_cmp}

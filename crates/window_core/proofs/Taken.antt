@@ -39,8 +39,6 @@ inside_taken w t s is = record {
   window = record { split = split_taken (window_of w) t is.window.split; edge = is.window.edge; from = from_taken (window_of w) t is.window.edge is.window.from };
   nexts = is.nexts;
   ranks = is.ranks;
-  room_out = is.room_out;
-  room_back = is.room_back;
 }
 
 -- RESULTS

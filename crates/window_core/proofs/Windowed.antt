@@ -124,7 +124,7 @@ from_limited v moment none edge is =
 
 -- GROUPS THAT COME BACK
 
-module _ (v : WindowValue) (back : List GroupValue) (size : length back ≡ length v.groups) (fired : (h : ℕ) → h < length back → AfterFirings (value_at v.groups h) (value_at back h)) where
+module _ (v : WindowValue) (back : List GroupValue) (size : length back ≡ length v.groups) (fired : (h : ℕ) → h < length back → AfterFirings v.until (value_at v.groups h) (value_at back h)) where
   abbrev returned : WindowValue
   returned = record v { groups = back; out = false }
 
@@ -140,9 +140,8 @@ module _ (v : WindowValue) (back : List GroupValue) (size : length back ≡ leng
         after.times,
         state_at back h l
             ∙ after.state
-            ∙ ap (λ (entries : List ℕ). fire_times (group_in entries) g.number g.until after.times (state_of g)) part.entries_are
-            ∙ ap (λ (number : ℕ). fire_times (group_in v.entries) number g.until after.times (state_of g)) part.number_is
-            ∙ ap (λ (until : ℕ). fire_times (group_in v.entries) h until after.times (state_of g)) part.until_is
+            ∙ ap (λ (entries : List ℕ). fire_times (group_in entries) g.number v.until after.times (state_of g)) part.entries_are
+            ∙ ap (λ (number : ℕ). fire_times (group_in v.entries) number v.until after.times (state_of g)) part.number_is
             ∙ ap (fire_times (group_in v.entries) h v.until after.times) (sym (state_at v.groups h (inside h l))),
       )
 

@@ -21,7 +21,7 @@ opening_at edge v = record { state = edge; position = v.position }
 
 -- a group of a window, after some firings of its own: with its lines there are 10^15 events, and one more is due before the window's end
 abbrev pub FullGroupHasTooMany : Type 0
-FullGroupHasTooMany = (edge : State) (v : WindowValue) → IsWindow v → IsFrom edge v → (number : ℕ) (g : GroupValue) → number < length v.groups → AfterFirings (value_at v.groups number) g
+FullGroupHasTooMany = (edge : State) (v : WindowValue) → IsWindow v → IsFrom edge v → (number : ℕ) (g : GroupValue) → number < length v.groups → AfterFirings v.until (value_at v.groups number) g
     → (end : ℕ) → end ≤ v.until → due (up_to end (state_of g)) ≢ None → g.position + length g.lines ≡ 1000000000000000 → HasTooMany (opening_at edge v)
 
 -- no group has an event left before the window's end, and with all lines there are more than 10^15 events

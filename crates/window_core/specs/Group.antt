@@ -103,10 +103,10 @@ pub record IsOnRun (g : GroupValue) : Type 0 where
 abbrev pub bare : WireState → WireState
 bare w = record w { under_way = [] }
 
--- a group after some firings of its own below its window's end: its nodes, what it holds back and its lines may be new, and from other groups nothing came
-pub record AfterFirings (old new : GroupValue) : Type 0 where
+-- a group after some firings of its own below a moment: its nodes, what it holds back and its lines may be new, and from other groups nothing came
+pub record AfterFirings (end : ℕ) (old new : GroupValue) : Type 0 where
   pub times : ℕ
-  pub state : state_of new ≡ fire_times (group_in old.entries) old.number old.until times (state_of old)
+  pub state : state_of new ≡ fire_times (group_in old.entries) old.number end times (state_of old)
   pub rest : new ≡ record old { seats = new.seats; held = new.held; lines = new.lines }
   pub seats_stay : taken new.seats ≡ taken old.seats
   pub from_others : (link : ℕ) → link < length old.links → group_from old link ≢ old.number → came_in new link ≡ came_in old link

@@ -15,7 +15,9 @@ pub mod Window
 pub mod WindowCode
 pub mod WindowOf
 pub mod Turning
-pub mod Reading
+pub mod Rosters
+pub mod RosterCode
+pub mod RosterOf
 pub mod Standing
 pub mod Calls
 pub mod Schedules

@@ -12,7 +12,7 @@ group_of s = record {
   seats = s.members;
   held = s.exits;
   lines = each shown (take s.count s.lines.items);
-  until = s.until;
+  until = s.until.value;
   position = s.position;
 }
 

@@ -1,5 +1,5 @@
 //! What a group holds back for others, a chain for each link of the net.
-ghost use Rattle.std.specs.Prelude.{◌≡◌, ◌+◌, ◌<◌, ◌≤◌, ◌^◌, ◌++◌, ◌∷◌, [], length, slice_set, All, OnOk, OnErr, IfSome, None};
+ghost use Rattle.std.specs.Prelude.{◌≡◌, ◌+◌, ◌<◌, ◌≤◌, ◌^◌, ◌++◌, ◌∷◌, [], length, slice_set, All, OnOk, OnErr, IfSome, None, true};
 ghost use Rattle.std.specs.List.Sorted.{IsStrictlyIncreasing};
 ghost use Rattle.sim_time.specs.declared.key.Key.{Key};
 ghost use Rattle.ranking.specs.Keyed.{apply, entering, EachKey};
@@ -70,6 +70,14 @@ impl Exits {
             self.busy.push_reserved(link);
         }
         self.held[link].hold(sent);
+    }
+
+    /// Whether it is known that nothing is held back of any link.
+    #[inline(always)]
+    pub(crate) fn holds_nothing(&self) -> bool
+        ensures { result ≡ true → HoldsNothing self.now }
+    {
+        self.busy.is_empty()
     }
 
     /// Gives what is held back of a link to an empty chain. The answer is the link, or none where

@@ -68,7 +68,7 @@ impl Group {
 /// keys. Where it stops before, the group stands after some whole events.
 pub fn run_group(group: &mut Group, end: Time) -> Result<(), GroupFault>
     requires { end ≤ group.old.until }
-    ensures after { AfterFirings group.old group.new }
+    ensures after { AfterFirings end group.old group.new }
     ensures done { OnOk result (due (up_to end (state_of group.new)) ≡ None) }
     ensures full { IfErr result (λ fault. fault ≡ GroupFault.CountFull → (due (up_to end (state_of group.new)) ≢ None) × (group.new.position + length group.new.lines ≡ 1000000000000000)) }
     ensures memory { IfErr result (λ fault. fault ≡ GroupFault.NoMemory → (due (up_to end (state_of group.new)) ≢ None) × (group.new.position + length group.new.lines < 1000000000000000)) }

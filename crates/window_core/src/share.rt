@@ -1,5 +1,5 @@
 //! What is a group's of a net.
-ghost use Rattle.std.specs.Prelude.{◌≡◌, ◌≢◌, ◌+◌, ◌<◌, ◌≤◌, ◌^◌, [], All, IfOk, IfErr, OnOk, OnErr, IfSome, length, map as each, take, replicate, slice_index_or, slice_set, None};
+ghost use Rattle.std.specs.Prelude.{◌≡◌, ◌≢◌, ◌+◌, ◌<◌, ◌≤◌, ◌^◌, [], All, IfOk, IfErr, OnOk, OnErr, IfSome, length, map as each, take, replicate, slice_index_or, slice_set, None, true};
 ghost use Rattle.std.specs.List.Sorted.{IsStrictlyIncreasing};
 ghost use Rattle.std.specs.Option.{option_copied};
 ghost use Rattle.sim_time.specs.declared.key.Key.{Key};
@@ -51,8 +51,8 @@ pub(crate) struct Share {
     /// the next.
     lines: Vec<Line>,
     count: usize,
-    /// Events before this moment may be run, in nanoseconds.
-    until: Time,
+    /// Events before this moment may be run, in nanoseconds. Only clauses read it.
+    until: Snapshot<Time>,
     /// How many events the run had at the last turn.
     position: u64,
     /// Where memory is taken.
@@ -123,7 +123,7 @@ impl Share {
             out: parts.out,
             lines: Vec::new(alloc),
             count: 0,
-            until,
+            until: Snapshot::of(&until),
             position,
             alloc,
         }
@@ -163,10 +163,11 @@ impl Share {
     }
 
     /// Names the moment before which events may be run.
+    #[inline(always)]
     pub(crate) fn set_until(&mut self, until: Time)
         ensures { self.new ≡ record self.old { until = until } }
     {
-        self.until = until;
+        self.until = Snapshot::of(&until);
     }
 
     /// Gives the lines that were told in exchange for memory for others, and names how many events
@@ -181,10 +182,27 @@ impl Share {
         let count = self.count;
         if count > 0 {
             std::mem::swap(&mut self.lines, lines);
+            self.count = 0;
         }
-        self.count = 0;
         self.position = position;
         count
+    }
+
+    /// Whether it is known that nothing is held back.
+    #[inline(always)]
+    pub(crate) fn holds_nothing(&self) -> bool
+        ensures { result ≡ true → HoldsNothing self.now.held }
+    {
+        self.exits.holds_nothing()
+    }
+
+    /// Has memory for lines in exchange for its own, where it has told none.
+    pub(crate) fn take_memory(&mut self, lines: &mut Vec<Line>)
+        ensures { self.new ≡ self.old }
+    {
+        if self.count == 0 {
+            std::mem::swap(&mut self.lines, lines);
+        }
     }
 
     /// Gives what is held back of a link to an empty chain. The answer is the link, or none where
@@ -222,7 +240,7 @@ impl Share {
         requires within { end ≤ self.old.until }
         requires on_run { IsOnRun self.old }
         ensures ok { IfOk result (λ fired. Fired end self.old fired self.new) }
-        ensures after { AfterFirings self.old self.new }
+        ensures after { AfterFirings end self.old self.new }
         ensures on_run { IsOnRun self.new }
         ensures fits { self.new.position + length self.new.lines ≤ 1000000000000000 }
         ensures full { IfErr result (λ fault. fault ≡ GroupFault.CountFull → (due (up_to end (state_of self.old)) ≢ None) × (self.old.position + length self.old.lines ≡ 1000000000000000)) }
@@ -267,7 +285,7 @@ impl Share {
     pub(crate) fn run(&mut self, end: Time) -> Result<(), GroupFault>
         requires within { end ≤ self.old.until }
         requires on_run { IsOnRun self.old }
-        ensures after { AfterFirings self.old self.new }
+        ensures after { AfterFirings end self.old self.new }
         ensures on_run { IsOnRun self.new }
         ensures done { OnOk result (due (up_to end (state_of self.new)) ≡ None) }
         ensures full { IfErr result (λ fault. fault ≡ GroupFault.CountFull → (due (up_to end (state_of self.new)) ≢ None) × (self.new.position + length self.new.lines ≡ 1000000000000000)) }

@@ -7,14 +7,15 @@ ghost use Rattle.window_core.specs.Sheaves.{StandsIn, merged};
 mod beginning;
 mod cursor;
 mod gathering;
+mod giving;
 pub(crate) mod lines;
+mod parting;
 
 pub use self::cursor::Cursor;
 use self::lines::Lines;
 use crate::merge::next_spot;
 use crate::merge::spot::Spot;
 use node_core::Line;
-use sim_time::Time;
 use std::alloc::Global;
 use std::marker::Model;
 
@@ -28,20 +29,6 @@ pub struct Sheaf {
     count: usize,
     /// The number of the first line in the run, from 1 on; of the next to come where there is none.
     first: u64,
-}
-
-// The number of a list that has the most lines.
-fn longest(lists: &[Lines]) -> usize
-    requires { 0 < length lists.now }
-    ensures { result < length lists.now }
-{
-    let mut longest = 0;
-    for number in 1..lists.len() {
-        if lists[number].len() > lists[longest].len() {
-            longest = number;
-        }
-    }
-    longest
 }
 
 impl Model for Sheaf {
@@ -90,22 +77,6 @@ impl Sheaf {
         ensures { result ≡ self.now.first }
     {
         self.first
-    }
-
-    /// A moment at which a part of so many may begin, in nanoseconds, so that about as many lines are
-    /// in each; it goes by the group of the most lines. Part 0 begins with the first line.
-    pub fn moment_at(&self, part: usize, parts: usize) -> Time
-        requires { 0 < parts }
-        ensures { part ≡ 0 → result ≡ 0 }
-    {
-        if part == 0 || self.lists.is_empty() {
-            return 0;
-        }
-        let lines = &self.lists[longest(&self.lists)];
-        match lines.key((lines.len() / parts).saturating_mul(part)) {
-            Some(key) => key.time,
-            None => Time::MAX,
-        }
     }
 
     /// The line at a spot.

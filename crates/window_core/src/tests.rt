@@ -1,4 +1,5 @@
 mod acting;
+mod apart;
 mod nets;
 mod schedules;
 

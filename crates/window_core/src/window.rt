@@ -13,11 +13,12 @@ mod joining;
 mod lending;
 mod opening;
 mod reading;
+mod reclaiming;
+mod roster;
 mod turning;
 
 pub use self::acting::Action;
-use self::lending::{lend, regain};
-use self::reading::soonest;
+use self::roster::Roster;
 pub use self::turning::TurnFault;
 use crate::batch::Batch;
 use crate::group::{Group, GroupFault};
@@ -28,7 +29,6 @@ use ranking::Ranking;
 use sim_time::Time;
 use std::alloc::Global;
 use std::marker::Model;
-use std::snapshot::Snapshot;
 
 /// A net's groups of nodes, on their way through the windows of a scenario's run.
 #[derive(Drop)]
@@ -45,13 +45,8 @@ pub struct Window {
     until: Time,
     /// How many events were run to the last turn.
     position: u64,
-    /// The groups, by number, while they are in.
-    shares: Vec<Share>,
-    /// Whether the groups are out, and how they were when they went.
-    out: bool,
-    lent: Snapshot<Vec<Share>>,
-    /// Room for the groups to go out in.
-    groups: Vec<Group>,
+    /// The groups, by number.
+    roster: Roster,
     /// For a merge: the index of the next line of each group, and their keys.
     nexts: Vec<usize>,
     ranking: Ranking,
@@ -115,7 +110,7 @@ impl Window {
         requires { self.now.out ≡ false }
         ensures { result ≡ soonest (states_of self.now.groups) }
     {
-        soonest(&self.shares)
+        self.roster.soonest()
     }
 
     /// Ends the window by a moment, in nanoseconds, at the latest. No event was run in it yet.
@@ -126,7 +121,7 @@ impl Window {
         ensures from { (edge : State) → IsFrom edge self.old → IsFrom edge self.new }
     {
         self.until = self.until.min(until);
-        set_until(&mut self.shares, self.until);
+        self.roster.set_until(self.until);
     }
 
     /// Runs the least event of a group, where there is such a group and it has one before the
@@ -141,37 +136,35 @@ impl Window {
         ensures memory { IfErr result (λ fault. fault ≡ GroupFault.NoMemory → IsDueAt self.old group × (events_with self.old group < 1000000000000000)) }
         ensures err { OnErr result (self.new ≡ self.old) }
     {
-        if group >= self.shares.len() {
+        if group >= self.roster.len() {
             return Ok(false);
         }
-        let until = self.until;
-        let share = &mut self.shares[group];
-        share.fire_below(until)
+        self.roster.fire(group, self.until)
     }
 
     /// How many groups there are.
+    #[inline(always)]
     pub fn groups(&self) -> usize
         requires { self.now.out ≡ false }
         ensures { result ≡ length self.now.groups }
     {
-        self.shares.len()
+        self.roster.len()
     }
 
     /// Runs a group's events before the window's end, one after another in the order of their keys,
     /// while the groups are in. Where it stops before, the group stands after some whole events.
+    #[inline]
     pub fn run_group(&mut self, group: usize) -> Result<(), GroupFault>
         requires inside { self.old.out ≡ false }
         requires within { group < length self.old.groups }
         ensures state { self.new ≡ record self.old { groups = slice_set self.old.groups group (value_at self.new.groups group) } }
-        ensures after { AfterFirings (value_at self.old.groups group) (value_at self.new.groups group) }
+        ensures after { AfterFirings self.old.until (value_at self.old.groups group) (value_at self.new.groups group) }
         ensures done { OnOk result (due (up_to self.old.until (state_of (value_at self.new.groups group))) ≡ None) }
         ensures from { (edge : State) → IsFrom edge self.old → IsFrom edge self.new }
         ensures full { IfErr result (λ fault. fault ≡ GroupFault.CountFull → (due (up_to self.old.until (state_of (value_at self.new.groups group))) ≢ None) × ((value_at self.new.groups group).position + length (value_at self.new.groups group).lines ≡ 1000000000000000)) }
         ensures memory { IfErr result (λ fault. fault ≡ GroupFault.NoMemory → (due (up_to self.old.until (state_of (value_at self.new.groups group))) ≢ None) × ((value_at self.new.groups group).position + length (value_at self.new.groups group).lines < 1000000000000000)) }
     {
-        let until = self.until;
-        let share = &mut self.shares[group];
-        share.run(until)
+        self.roster.run(group, self.until)
     }
 
     /// Hands the groups out. No memory is taken.
@@ -181,12 +174,7 @@ impl Window {
         ensures state { self.new ≡ record self.old { out = true } }
         ensures from { (edge : State) → IsFrom edge self.old → IsFrom edge self.new }
     {
-        self.lent = Snapshot::of(&self.shares);
-        self.out = true;
-        let mut groups = Vec::new(self.alloc);
-        std::mem::swap(&mut self.groups, &mut groups);
-        lend(&mut self.shares, &mut groups);
-        groups
+        self.roster.hand_out(self.alloc)
     }
 
     /// Has the groups back, each after events of its own before the window's end. No memory is
@@ -194,12 +182,10 @@ impl Window {
     pub fn put_groups(&mut self, groups: Vec<Group>)
         requires out { self.old.out ≡ true }
         requires count { length groups.items ≡ length self.old.groups }
-        requires fired { (number : ℕ) → number < length groups.items → AfterFirings (value_at self.old.groups number) (value_at groups.items number) }
+        requires fired { (number : ℕ) → number < length groups.items → AfterFirings self.old.until (value_at self.old.groups number) (value_at groups.items number) }
         ensures state { self.new ≡ record self.old { groups = groups.items; out = false } }
         ensures from { (edge : State) → IsFrom edge self.old → IsFrom edge self.new }
     {
-        self.groups = groups;
-        regain(&mut self.groups, &mut self.shares);
-        self.out = false;
+        self.roster.take_back(groups);
     }
 }

@@ -18,6 +18,10 @@ fn cut(lists: &[Lines], moment: Time, nexts: &mut [usize]) -> usize
     ensures cuts { AreCuts moment lists.now nexts.new }
     ensures count { result + length (all_of (rests lists.now nexts.new)) ≡ length (all_of lists.now) }
 {
+    // Time begins at 0: nothing has to be looked for.
+    if moment == 0 {
+        return 0;
+    }
     let mut at = 0;
     for (number, lines) in lists.iter().enumerate() {
         let next = lines.before(moment);

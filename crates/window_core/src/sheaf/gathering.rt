@@ -10,6 +10,9 @@ use crate::share::Share;
 use std::alloc::AllocError;
 use std::mem::replace;
 
+/// For how many lines memory is kept from window to window, over all groups. A burst takes more.
+const KEPT: usize = 32_768;
+
 // As many lists as that; what they hold has no meaning.
 fn fit(lists: &mut Vec<Lines>, count: usize) -> Result<(), AllocError>
     ensures { OnOk result (length lists.new.items ≡ count) }
@@ -29,8 +32,9 @@ fn take_lines(lists: &mut [Lines], shares: &mut [Share], position: u64)
     ensures lists { lists.new ≡ each (λ (g : GroupValue). g.lines) shares.old }
     ensures shares { shares.new ≡ each (λ (g : GroupValue). record g { lines = []; position = position }) shares.old }
 {
+    let most = KEPT / shares.len().max(1);
     for at in 0..shares.len() {
-        lists[at].take_from(&mut shares[at], position);
+        lists[at].take_from(&mut shares[at], position, most);
     }
 }
 

@@ -43,13 +43,29 @@ impl Lines {
         }
     }
 
-    /// Has the lines that a group has told, and gives the group its memory for others.
-    pub(crate) fn take_from(&mut self, share: &mut Share, position: u64)
+    /// Has the lines that a group has told, and gives the group its memory for others, of so many
+    /// lines at most.
+    pub(crate) fn take_from(&mut self, share: &mut Share, position: u64, most: usize)
         requires { position ≤ 1000000000000000 }
         ensures lines { self.new ≡ share.old.lines }
         ensures share { share.new ≡ record share.old { lines = []; position = position } }
     {
+        if self.items.len() > most {
+            self.items.truncate(most);
+            self.items.shrink_to_fit();
+        }
         self.count = share.take_lines(&mut self.items, position);
+    }
+
+    /// Gives its memory back to a group that has told no line, and has no line then.
+    pub(crate) fn give_back(&mut self, share: &mut Share)
+        ensures lines { self.new ≡ [] }
+        ensures share { share.new ≡ share.old }
+    {
+        if self.count > 0 {
+            share.take_memory(&mut self.items);
+        }
+        self.count = 0;
     }
 
     /// How many lines.
@@ -93,10 +109,6 @@ impl Lines {
         ensures within { result ≤ length self.now }
         ensures cut { IsCut moment result self.now }
     {
-        // Time begins at 0: nothing has to be looked for.
-        if moment == 0 {
-            return 0;
-        }
         self.items[..self.count].partition_point(|line| line.key.time < moment)
     }
 }

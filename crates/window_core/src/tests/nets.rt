@@ -72,6 +72,25 @@ pub fn pair(alloc: Global) -> Result<Net, Fail> {
     net_of(alloc, parts)
 }
 
+/// Twice a sender that gives a receiver so many segments, with no link between the two.
+pub fn two_pairs(alloc: Global, segments: u32) -> Result<Net, Fail> {
+    let nodes = [
+        NodeKind::Sender,
+        NodeKind::Receiver,
+        NodeKind::Sender,
+        NodeKind::Receiver,
+    ];
+    let flows = [flow(0, 1, segments), flow(2, 3, segments)];
+    let parts = ScenarioParts {
+        end: 3_000_000_000,
+        nodes: Records::new(Vec::from_slice(alloc, &nodes)?),
+        links: Records::new(links(alloc, &[(0, 1), (1, 0), (2, 3), (3, 2)])?),
+        flows: Records::new(Vec::from_slice(alloc, &flows)?),
+        routes: Records::new(Vec::new(alloc)),
+    };
+    net_of(alloc, parts)
+}
+
 /// Two flows of so many segments over one router: from node 0 to 3, and from 1 to 4.
 pub fn crossed(alloc: Global, end: u64, segments: u32) -> Result<Net, Fail> {
     let nodes = [

@@ -31,7 +31,8 @@ impl Draws {
     }
 }
 
-fn is_same(rt: &impl Abort, line: &Line, other: &Line) {
+/// The two lines are the same.
+pub fn is_same(rt: &impl Abort, line: &Line, other: &Line) {
     assert_eq!(rt; line.key, other.key);
     assert!(rt; line.event == other.event && line.after == other.after);
     assert!(rt; line.acts.as_slice() == other.acts.as_slice());

@@ -7,7 +7,6 @@ ghost use Rattle.window_core.specs.Window.{IsFrom, states_of};
 ghost use Rattle.window_core.specs.Windows.{none_fired};
 
 use super::Window;
-use super::reading::told;
 use crate::partition::Partition;
 use crate::share::Share;
 use net_machine::{LinkEnds, Net, NetParts, Spare};
@@ -56,8 +55,8 @@ impl Window {
         ensures { (edge : State) → IsFrom edge self.now → IfOk result (λ net. net ≡ record { state = edge; position = self.now.position }) }
     {
         let _ = self.partition.groups();
-        let _ = told(&self.shares);
-        let nodes = copies_of(self.alloc, &self.shares, &self.partition)?;
+        let _ = self.roster.told();
+        let nodes = copies_of(self.alloc, self.roster.shares(), &self.partition)?;
         let links = copied(&self.links)?;
         let spare = Spare::new(self.alloc, nodes.len())?;
         Ok(Net::of_parts(NetParts {

@@ -14,6 +14,7 @@ ghost use Rattle.window_core.specs.Window.{IsFrom, setting_in, states_of};
 ghost use Rattle.window_core.specs.Windows.{none_fired, window_end};
 
 use super::reading::soonest;
+use super::roster::Roster;
 use super::{Window, set_until};
 use crate::ahead::{lookahead, window_end};
 use crate::batch::Batch;
@@ -24,8 +25,8 @@ use crate::sharing::{rooms_of, share_out};
 use net_machine::{LinkEnds, Net, NetParts};
 use node_core::Node;
 use ranking::Ranking;
+use sim_time::Time;
 use std::alloc::{AllocError, Global};
-use std::snapshot::Snapshot;
 
 // Memory for a window of so many groups.
 #[derive(Drop)]
@@ -33,6 +34,7 @@ struct Room {
     rooms: Vec<ShareParts>,
     shares: Vec<Share>,
     groups: Vec<Group>,
+    times: Vec<Time>,
     nexts: Vec<usize>,
     ranking: Ranking,
 }
@@ -51,12 +53,14 @@ fn room_for(
     ensures each { IfOk result (λ room. All (IsRoom links.now.items nodes.now) room.rooms.items) }
     ensures shares { IfOk result (λ room. (room.shares.items ≡ []) × (groups ≤ vec_capacity room.shares)) }
     ensures out { IfOk result (λ room. (room.groups.items ≡ []) × (groups ≤ vec_capacity room.groups)) }
+    ensures times { IfOk result (λ room. length room.times.items ≡ groups) }
     ensures merge { IfOk result (λ room. (length room.nexts.items ≡ groups) × (length room.ranking ≡ groups)) }
 {
     Ok(Room {
         rooms: rooms_of(alloc, nodes, links, groups)?,
         shares: Vec::with_capacity(alloc, groups)?,
         groups: Vec::with_capacity(alloc, groups)?,
+        times: vec![in alloc; 0; groups]?,
         nexts: vec![in alloc; 0; groups]?,
         ranking: Ranking::new(alloc, groups)?,
     })
@@ -70,6 +74,7 @@ fn opened(alloc: Global, parts: NetParts, partition: Partition, room: Room) -> W
     requires each { All (IsRoom parts.links.items parts.nodes.items) room.rooms.items }
     requires shares { (room.shares.items ≡ []) × (groups_of partition ≤ vec_capacity room.shares) }
     requires out { (room.groups.items ≡ []) × (groups_of partition ≤ vec_capacity room.groups) }
+    requires times { length room.times.items ≡ groups_of partition }
     requires merge { (length room.nexts.items ≡ groups_of partition) × (length room.ranking ≡ groups_of partition) }
     ensures entries { result.entries ≡ partition }
     ensures position { result.position ≡ parts.position }
@@ -88,6 +93,7 @@ fn opened(alloc: Global, parts: NetParts, partition: Partition, room: Room) -> W
         rooms,
         mut shares,
         groups,
+        times,
         nexts,
         ranking,
     } = room;
@@ -105,7 +111,6 @@ fn opened(alloc: Global, parts: NetParts, partition: Partition, room: Room) -> W
     );
     let until = window_end(soonest(&shares), ahead, end);
     set_until(&mut shares, until);
-    let lent = Snapshot::of(&shares);
     Window {
         partition,
         links,
@@ -113,10 +118,7 @@ fn opened(alloc: Global, parts: NetParts, partition: Partition, room: Room) -> W
         end,
         until,
         position,
-        shares,
-        out: false,
-        lent,
-        groups,
+        roster: Roster::new(shares, times, groups),
         nexts,
         ranking,
         taken: Batch::new(alloc, position + 1),

@@ -1,34 +1,23 @@
 //! What groups have come to.
 ghost use Rattle.std.specs.Prelude.{◌≡◌, ◌≤◌, All, length};
-ghost use Rattle.window_core.specs.Group.{IsGroup};
+ghost use Rattle.window_core.specs.Group.{IsGroup, state_of};
 ghost use Rattle.window_core.specs.Lookahead.{lesser};
 ghost use Rattle.window_core.specs.Window.{states_of};
-ghost use Rattle.window_core.specs.Windows.{all_done, all_lines, soonest};
-ghost use Rattle.window_core.specs.Reading.{is_late};
+ghost use Rattle.window_core.specs.Rosters.{next_of};
+ghost use Rattle.window_core.specs.Windows.{all_lines, soonest};
 
 use crate::share::Share;
 use sim_time::Time;
 
-// Whether a moment, where there is one, is not before another.
-fn is_late(next: Option<Time>, until: Time) -> bool
-    ensures { result ≡ is_late next until }
+/// When the least event of a group is, in nanoseconds; the last moment that there is where it has
+/// none.
+pub fn next_of(share: &Share) -> Time
+    ensures { result ≡ next_of (state_of share.now) }
 {
-    match next {
-        Some(time) => time >= until,
-        None => true,
+    match share.next() {
+        Some(time) => time,
+        None => Time::MAX,
     }
-}
-
-/// Whether no group has an event before a moment.
-pub fn all_done(shares: &[Share], until: Time) -> bool
-    ensures { result ≡ all_done until (states_of shares.now) }
-{
-    for share in shares {
-        if !is_late(share.next(), until) {
-            return false;
-        }
-    }
-    true
 }
 
 // The lesser of two moments, where there are such.
@@ -53,8 +42,8 @@ pub fn soonest(shares: &[Share]) -> Option<Time>
     least
 }
 
-// How many lines a group has told.
-fn told_by(share: &Share) -> usize
+/// How many lines a group has told.
+pub fn told_by(share: &Share) -> usize
     ensures count { result ≡ length share.now.lines }
     ensures few { result ≤ 1000000000000000 }
     ensures is_group { IsGroup share.now }

@@ -9,9 +9,7 @@ ghost use Rattle.window_core.specs.Turning.{CanTurn};
 ghost use Rattle.window_core.specs.Window.{IsFrom, HasGoneOn, HasTurned, states_of};
 ghost use Rattle.window_core.specs.Windows.{all_done, all_lines, none_fired};
 
-use super::handing::hand_all;
-use super::reading::{all_done, soonest, told};
-use super::{Window, set_until};
+use super::Window;
 use crate::ahead::window_end;
 use crate::batch::Batch;
 use crate::sheaf::Sheaf;
@@ -40,11 +38,11 @@ impl Window {
         ensures full { (IsErrOf result TurnFault.CountFull) ↔ ((all_done self.now.until (states_of self.now.groups) ≡ true) × (1000000000000000 < self.now.position + length (all_lines (states_of self.now.groups)))) }
         ensures too_many { IsErrOf result TurnFault.CountFull → (edge : State) → IsFrom edge self.now → HasTooMany (opening_at edge self.now) }
     {
-        if !all_done(&self.shares, self.until) {
+        if !self.roster.all_done(self.until) {
             return Err(TurnFault::NotDone);
         }
         let _ = self.partition.groups();
-        let count = told(&self.shares);
+        let count = self.roster.told();
         if self.position + count as u64 > MOST_EVENTS {
             return Err(TurnFault::CountFull);
         }
@@ -62,14 +60,16 @@ impl Window {
         ensures err { OnErr result (self.new ≡ self.old) }
     {
         let _ = self.partition.groups();
-        let gathered = sheaf.gather(&mut self.shares, self.position, count);
+        let gathered = self.roster.gather(sheaf, self.position, count);
         if gathered.is_err() {
             return Err(TurnFault::NoMemory);
         }
         self.position += count as u64;
-        hand_all(&mut self.shares, &self.partition, &self.links, self.alloc);
-        self.until = window_end(soonest(&self.shares), self.ahead, self.end);
-        set_until(&mut self.shares, self.until);
+        self.roster
+            .hand_all(&self.partition, &self.links, self.alloc);
+        self.roster.read_least();
+        self.until = window_end(self.roster.soonest(), self.ahead, self.end);
+        self.roster.set_until(self.until);
         Ok(())
     }
 

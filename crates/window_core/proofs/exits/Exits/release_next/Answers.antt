@@ -1,9 +1,9 @@
-use Rattle.std.proofs.Common.{◌≡◌, ◌<◌, ◌≤◌, ◌^◌, ◌++◌, ◌∷◌, [], List, length, set, true, false, refl, sym, ap, subst, ◌∙◌}
+use Rattle.std.proofs.Common.{◌≡◌, ◌≤◌, ◌^◌, ◌++◌, ◌∷◌, [], List, set, refl, sym, ap, subst, ◌∙◌}
 use Rattle.std.proofs.lemmas.List.{get_or_read}
 use Rattle.std.specs.Option.{option_to_list}
 use Rattle.std.specs.Vec.{vec_capacity}
 use Rattle.node_core.specs.WireState.{WireState, came_over}
-use Rattle.window_core.specs.Held.{no_wire, wire_at, is_idle, AreListed, IsReleased}
+use Rattle.window_core.specs.Held.{no_wire, is_idle, AreListed, IsReleased}
 use Rattle.window_core.proofs.Listed.{listed_as, listed_less, listed_without, last_known}
 use Rattle.window_core.proofs.exits.Exits.release_next.Goals as goal
 

@@ -163,7 +163,7 @@ returns-in-Ok-Some-clause-after c =
     let firing : IsFiring g c.args.end (record g { seats = c.pass_on.new.members; held = c.pass_on.new.exits; lines = ls }) =
     firing_as g c.args.end c.pass_on.new.members c.pass_on.new.exits (g.lines ++ line ∷ []) ls more
     (ends_passed (sending (has_run g is on c.args.end below c.in-Some.place first c.fire_into.new.self c.self.inside.out c.fire_into.new.out line has c.in-Ok-Some.ensures.others early c.in-Ok-Some.ensures.placed c.in-Ok-Some.ensures.taken fits) c.self.invariant.out_empty c.from.result index_is) c.pass_on.new.members c.pass_on.new.exits passed.0 passed.1 passed.2 passed.3) in
-    subst (λ (v : GroupValue). AfterFirings v (record g { seats = c.pass_on.new.members; held = c.pass_on.new.exits; lines = ls })) c.self.view_is firing.after
+    subst (λ (v : GroupValue). AfterFirings c.args.end v (record g { seats = c.pass_on.new.members; held = c.pass_on.new.exits; lines = ls })) c.self.view_is firing.after
 
 pub returns-in-Ok-Some-clause-on_run : goal.returns-in-Ok-Some-clause-on_run
 returns-in-Ok-Some-clause-on_run c =
@@ -233,7 +233,7 @@ returns-in-Ok-None-clause-after c =
     let none = none_left _ (sym c.in-Ok-None.field-0-is ∙ c.in-Ok-None.ensures.leaving) in
     let firing : IsFiring g c.args.end (record g { seats = c.fire_into.new.self; held = g.held; lines = ls }) =
     firing_as g c.args.end c.fire_into.new.self g.held (g.lines ++ line ∷ []) ls more (ends_quiet (has_run g is on c.args.end below c.in-Some.place first c.fire_into.new.self c.self.inside.out c.fire_into.new.out line has c.in-Ok-None.ensures.others early c.in-Ok-None.ensures.placed c.in-Ok-None.ensures.taken fits) none) in
-    subst (λ (v : GroupValue). AfterFirings v (record g { seats = c.fire_into.new.self; held = g.held; lines = ls })) c.self.view_is firing.after
+    subst (λ (v : GroupValue). AfterFirings c.args.end v (record g { seats = c.fire_into.new.self; held = g.held; lines = ls })) c.self.view_is firing.after
 
 pub returns-in-Ok-None-clause-on_run : goal.returns-in-Ok-None-clause-on_run
 returns-in-Ok-None-clause-on_run c =
@@ -262,4 +262,4 @@ returns-in-Err-clause-after c =
     let ls : List TraceLine = map shown (take c.self.inside.count (set c.make_room.new.lines.items c.self.inside.count c.fire_into.new.line)) in
     let same : ls ≡ g.lines = told_same c.self.inside.lines.items c.make_room.new.lines.items c.self.inside.count c.fire_into.new.line c.make_room.ensures.kept in
     let back : record g { seats = c.fire_into.new.self; lines = ls } ≡ g = (λ i. record g { seats = c.in-Err.ensures.same i; lines = same i }) in
-    subst (λ (v : GroupValue). AfterFirings v (record g { seats = c.fire_into.new.self; lines = ls })) c.self.view_is (subst (AfterFirings g) (sym back) (no_firing g))
+    subst (λ (v : GroupValue). AfterFirings c.args.end v (record g { seats = c.fire_into.new.self; lines = ls })) c.self.view_is (subst (AfterFirings c.args.end g) (sym back) (no_firing c.args.end g))

@@ -2,9 +2,9 @@ use Rattle.std.proofs.Common.{◌≤◌, ◌+◌, ◌-◌, length}
 use Rattle.window_core.specs.Group.{AfterFirings, IsOnRun}
 use Rattle.window_core.proofs.share.Share.run.Given as goal
 
--- some events were run, and the group is still on its run
+-- some events below the end were run, and the group is still on its run
 abbrev pub invariant-loop : goal.invariant-loop
-invariant-loop l = AfterFirings l.initial.self l.self × IsOnRun l.self × (l.end ≤ l.self.until)
+invariant-loop l = AfterFirings l.end l.initial.self l.self × IsOnRun l.self × (l.end ≤ l.self.until)
 
 -- how many events may still be run
 abbrev pub decreases-loop : goal.decreases-loop

@@ -1,9 +1,8 @@
-use Rattle.std.proofs.Common.{◌≡◌, ◌≤◌, ◌+◌, ℕ, List, length, map, sym, ap, subst, ◌∙◌, arith}
+use Rattle.std.proofs.Common.{◌≡◌, ◌+◌, length, map, sym, ap, subst, ◌∙◌, arith}
 use Rattle.std.proofs.lemmas.List.{with_items_is}
 use Rattle.std.specs.Vec.{with_items}
-use Rattle.node_core.specs.TraceLine.{TraceLine}
 use Rattle.window_core.specs.Merged.{AreApart, all_of, first_key, rests}
-use Rattle.window_core.specs.Sheaves.{SheafValue, CursorValue, AreCuts, IsCut, StandsIn, merged}
+use Rattle.window_core.specs.Sheaves.{SheafValue, CursorValue, AreCuts}
 use Rattle.window_core.proofs.Cuts.{stands_at_cut}
 use Rattle.window_core.proofs.sheaf.Sheaf.begin_at.Goals as goal
 

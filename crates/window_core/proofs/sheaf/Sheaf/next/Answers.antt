@@ -1,9 +1,9 @@
-use Rattle.std.proofs.Common.{◌≡◌, ◌+◌, ◌∷◌, ℕ, List, length, refl, sym, ap, subst, ◌∙◌, arith}
+use Rattle.std.proofs.Common.{◌≡◌, ◌+◌, ◌∷◌, ℕ, List, length, sym, ap, subst, ◌∙◌, arith}
 use Rattle.std.proofs.lemmas.List.{with_items_is}
 use Rattle.std.specs.Vec.{with_items}
 use Rattle.node_core.specs.TraceLine.{TraceLine}
 use Rattle.window_core.specs.Merged.{AreNext, line_at, all_of, rests}
-use Rattle.window_core.specs.Sheaves.{SheafValue, CursorValue, StandsIn, merged}
+use Rattle.window_core.specs.Sheaves.{SheafValue, CursorValue}
 use Rattle.window_core.specs.Windows.{in_order}
 use Rattle.window_core.proofs.Sheaves.{counted, one_behind}
 use Rattle.window_core.proofs.sheaf.Sheaf.next.Goals as goal

@@ -1,4 +1,4 @@
-use Rattle.std.proofs.Common.{◌≡◌, ◌≤◌, ◌<◌, ◌+◌, [], ℕ, zero, suc, List, length, set, get_or, replicate, refl, sym, ap, subst, ◌∙◌, ⊎_elim, arith}
+use Rattle.std.proofs.Common.{◌≡◌, ◌≤◌, ◌<◌, [], ℕ, zero, suc, List, length, set, get_or, replicate, refl, sym, ap, subst, ◌∙◌, ⊎_elim, arith}
 use Rattle.std.proofs.lemmas.Bool.{cases_lt}
 use Rattle.std.proofs.lemmas.List.{get_or_read, get_or-set_same, get_or-set_other, length-replicate, length-set}
 use Rattle.node_core.specs.TraceLine.{TraceLine}
@@ -13,6 +13,13 @@ zeros zero i = refl
 zeros (suc n) zero = refl
 zeros (suc n) (suc i) = zeros n i
 
+-- where no line is gone, all are left
+all_left : (lists : List (List TraceLine)) (nexts : List ℕ) → nexts ≡ replicate (length lists) 0 → length (all_of (rests lists nexts)) ≡ length (all_of lists)
+all_left lists nexts none_gone = ap (λ ns. length (all_of (rests lists ns))) none_gone ∙ ap (λ ls. length (all_of ls)) (rests_none lists)
+
+pub returns-then-moment-eq0-clause-count : goal.returns-then-moment-eq0-clause-count
+returns-then-moment-eq0-clause-count c = let same = all_left c.args.lists.now c.args.nexts.now c.requires.zeros in omega (arith, same)
+
 pub loop-number-init : goal.loop-number-init
 loop-number-init c =
     let lists = c.args.lists.now in
@@ -20,7 +27,7 @@ loop-number-init c =
       size = ap length c.requires.zeros ∙ length-replicate (length lists) 0;
       cuts = λ i under. absurd (omega (arith, under));
       whole = λ i upto. ap (λ ns. get_or ns i 0) c.requires.zeros ∙ zeros (length lists) i;
-      count = (let same = ap (λ ns. length (all_of (rests lists ns))) c.requires.zeros ∙ ap (λ ls. length (all_of ls)) (rests_none lists) in omega (arith, same));
+      count = (let same = all_left lists c.args.nexts.now c.requires.zeros in omega (arith, same));
     }
 
 pub overflow_add-at : goal.overflow_add-at

@@ -1,10 +1,8 @@
-use Rattle.std.proofs.Common.{◌≡◌, length, map, sym, ap, subst, ◌∙◌}
+use Rattle.std.proofs.Common.{length, sym, ap, subst, ◌∙◌}
 use Rattle.std.proofs.lemmas.List.{length-map}
-use Rattle.node_core.specs.TraceLine.{TraceLine}
 use Rattle.window_core.specs.Batches.{BatchValue}
 use Rattle.window_core.specs.Group.{GroupValue}
 use Rattle.window_core.specs.Merged.{all_of}
-use Rattle.window_core.specs.Partition.{groups_of}
 use Rattle.window_core.specs.Sheaves.{merged}
 use Rattle.window_core.specs.Window.{WindowValue, HasGoneOn}
 use Rattle.window_core.specs.WindowOf.{window_of}

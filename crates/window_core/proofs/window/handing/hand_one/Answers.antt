@@ -1,16 +1,18 @@
-use Rattle.std.proofs.Common.{◌≡◌, ◌≢◌, ◌<◌, ◌==◌, length, set, get_or, cond, false, sym, ap, subst, ◌∙◌, arith}
+use Rattle.std.proofs.Common.{◌≡◌, ◌<◌, ◌==◌, length, set, get_or, cond, false, sym, ap, subst, ◌∙◌, arith}
 use Rattle.std.proofs.lemmas.List.{get_or_read, get_or-set_same, get_or-set_other, length-set}
 use Rattle.ranking.specs.Keyed.{apply, entering}
 use Rattle.node_core.specs.WireState.{arrivals_on, came_over}
 use Rattle.net_machine.specs.Nodes.{parts_of}
 use Rattle.net_machine.specs.Wiring.{place_at}
-use Rattle.window_core.specs.Group.{GroupValue, group_to, came_in}
+use Rattle.window_core.specs.Group.{GroupValue, group_to, came_in, state_of}
 use Rattle.window_core.specs.Held.{wire_at, is_idle}
 use Rattle.window_core.specs.Partition.{group_in}
+use Rattle.window_core.specs.Rosters.{next_of}
 use Rattle.window_core.specs.Seats.{seated, taken}
 use Rattle.window_core.specs.Turning.{to_group, pending_in, held_over, handed, CanHand, WasHanded}
 use Rattle.window_core.specs.Window.{no_value, value_at}
 use Rattle.window_core.proofs.HandedOver.{parts_stay, pending_over, came_each}
+use Rattle.window_core.proofs.Rosters.{nexts_handed}
 use Rattle.window_core.proofs.window.handing.hand_one.Goals as goal
 
 pub returns-clause-some : goal.returns-clause-some
@@ -66,3 +68,13 @@ returns-clause-some c =
       busy = busy;
       was = subst (λ n. WasHanded shares new from n link) to_is was;
     }
+
+pub returns-clause-nexts : goal.returns-clause-nexts
+returns-clause-nexts c =
+    let shares = c.args.shares.now in
+    let from = c.args.from in
+    let a = c.release_next.new.self in
+    let b = c.deliver.new.self in
+    let sends : get_or shares from c.index-shares-from.result ≡ value_at shares from = sym c.index-shares-from.is ∙ get_or_read shares from c.index-shares-from.result c.requires.can.within c.index-shares-from.is no_value in
+    let same : next_of (state_of a) ≡ next_of (state_of (value_at shares from)) = ap (λ (g : GroupValue). next_of (state_of g)) c.release_next.ensures.rest ∙ ap (λ (g : GroupValue). next_of (state_of g)) sends in
+    (λ i. set (c.requires.nexts i) c.group-to.result (c.next_of.ensures i)) ∙ nexts_handed shares from c.group-to.result a b same

@@ -1,4 +1,4 @@
-use Rattle.std.proofs.Common.{◌≡◌, ◌<◌, ℕ, List, length, map, get_or, false, Option, refl, sym, ap, subst, ◌∙◌, arith, true≢false}
+use Rattle.std.proofs.Common.{◌≡◌, ◌<◌, ℕ, List, length, map, get_or, false, Option, refl, sym, ap, subst, ◌∙◌, arith}
 use Rattle.std.proofs.lemmas.List.{with_items_is, length-map, get_or_default}
 use Rattle.std.specs.Vec.{with_items}
 use Rattle.node_core.specs.Node.{NodeState}
@@ -11,6 +11,7 @@ use Rattle.window_core.specs.Group.{GroupValue}
 use Rattle.window_core.specs.Lookahead.{lookahead}
 use Rattle.window_core.specs.Opening.{IsFirstWindow}
 use Rattle.window_core.specs.Partition.{group_in, groups_of}
+use Rattle.window_core.specs.Rosters.{RosterValue}
 use Rattle.window_core.specs.Shares.{AreSharesOf, IsShareOf}
 use Rattle.window_core.specs.Window.{WindowValue, no_value, value_at, states_of, setting_in, IsSplit, IsFrom, IsWindow}
 use Rattle.window_core.specs.Windows.{soonest, sum_of, at_most, window_end}
@@ -74,7 +75,7 @@ invariant_of-result c =
     let V = with_items c.share_out.new.shares c.set_until.new.shares in
     let items : V.items ≡ map (bounded u) s0 = with_items_is c.share_out.new.shares c.set_until.new.shares (c.set_until.auto.shares ∙ ap length dm ∙ sym c.share_out.new.shares.ok.0) ∙ c.set_until.ensures ∙ ap (map (bounded u)) dm in
     let gs = map (bounded u) s0 in
-    let v : WindowValue = record { entries = entries; links = links; ahead = c.lookahead-ahead.result; end = end; until = u; position = position; groups = gs; out = false; taken = c.new.result } in
+    let v : WindowValue = record { entries = entries; links = links; ahead = c.lookahead-ahead.result; end = end; until = u; position = position; groups = gs; out = false; taken = c.new-2.result } in
     let size = c.requires.size in
     let count : length gs ≡ groups_of entries = length-map s0 (bounded u) ∙ c.share_out.ensures.count in
     let shared = subst (λ (ls : List LinkEnds). AreSharesOf entries ls nodes end position s0) c.deref-2.ensures.value c.share_out.ensures.each in
@@ -85,14 +86,12 @@ invariant_of-result c =
     let ahead_is : (parts : List LinkPart) → AreEnds parts links → c.lookahead-ahead.result ≡ lookahead (group_in entries) parts = λ parts are. c.lookahead-ahead.ensures parts (subst (AreEnds parts) (sym c.deref.ensures.value) are) in
     let until_is : u ≡ window_end (setting_in v) (states_of gs) = c.window_end-until.ensures ∙ ap (λ (o : Option ℕ). at_most (sum_of o c.lookahead-ahead.result) end) (c.soonest.ensures ∙ ap (λ (xs : List GroupValue). soonest (states_of xs)) c.deref-3.ensures.value ∙ ap soonest (sym (same_states u s0))) in
     let from : IsFrom (net_state nodes end) v = from_opened nodes v c.requires.parts size count shares leaves comes ahead_is until_is in
-    let view : record v { groups = V.items } ≡ v = λ i. record v { groups = items i } in
+    let view : record v { groups = c.new.result.groups; out = c.new.result.out } ≡ v = λ i. record v { groups = (ap (λ (r : RosterValue). r.groups) c.new.ensures ∙ items) i; out = (c.new.ensures i).out } in
     let capacity = c.share_out.ensures.capacity in
     record {
       window = subst IsWindow (sym view) (record { split = split; edge = net_state nodes end; from = from });
       nexts = c.requires.merge.0;
       ranks = c.requires.merge.1;
-      room_out = λ e. c.requires.out;
-      room_back = λ e. absurd (true≢false (sym e));
     }
 
 pub returns-clause-first : goal.returns-clause-first
@@ -108,7 +107,7 @@ returns-clause-first c =
     let V = with_items c.share_out.new.shares c.set_until.new.shares in
     let items : V.items ≡ map (bounded u) s0 = with_items_is c.share_out.new.shares c.set_until.new.shares (c.set_until.auto.shares ∙ ap length dm ∙ sym c.share_out.new.shares.ok.0) ∙ c.set_until.ensures ∙ ap (map (bounded u)) dm in
     let gs = map (bounded u) s0 in
-    let v : WindowValue = record { entries = entries; links = links; ahead = c.lookahead-ahead.result; end = end; until = u; position = position; groups = gs; out = false; taken = c.new.result } in
+    let v : WindowValue = record { entries = entries; links = links; ahead = c.lookahead-ahead.result; end = end; until = u; position = position; groups = gs; out = false; taken = c.new-2.result } in
     let size = c.requires.size in
     let count : length gs ≡ groups_of entries = length-map s0 (bounded u) ∙ c.share_out.ensures.count in
     let shared = subst (λ (ls : List LinkEnds). AreSharesOf entries ls nodes end position s0) c.deref-2.ensures.value c.share_out.ensures.each in
@@ -118,5 +117,5 @@ returns-clause-first c =
     let split : IsSplit v = split_opened nodes v c.requires.parts size count shares leaves comes in
     let ahead_is : (parts : List LinkPart) → AreEnds parts links → c.lookahead-ahead.result ≡ lookahead (group_in entries) parts = λ parts are. c.lookahead-ahead.ensures parts (subst (AreEnds parts) (sym c.deref.ensures.value) are) in
     let until_is : u ≡ window_end (setting_in v) (states_of gs) = c.window_end-until.ensures ∙ ap (λ (o : Option ℕ). at_most (sum_of o c.lookahead-ahead.result) end) (c.soonest.ensures ∙ ap (λ (xs : List GroupValue). soonest (states_of xs)) c.deref-3.ensures.value ∙ ap soonest (sym (same_states u s0))) in
-    let view : record v { groups = V.items } ≡ v = λ i. record v { groups = items i } in
+    let view : record v { groups = c.new.result.groups; out = c.new.result.out } ≡ v = λ i. record v { groups = (ap (λ (r : RosterValue). r.groups) c.new.ensures ∙ items) i; out = (c.new.ensures i).out } in
     subst (IsFirstWindow nodes links end) (sym view) (first_opened nodes v c.requires.parts size count shares leaves comes ahead_is until_is)

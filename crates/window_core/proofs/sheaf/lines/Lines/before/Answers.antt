@@ -1,10 +1,10 @@
-use Rattle.std.proofs.Common.{◌≡◌, ◌<◌, ◌≤◌, ◌+◌, ℕ, zero, suc, List, [], ◌∷◌, length, map, take, get_or, ltb, true, false, rules, refl, sym, ap, subst, ◌∙◌, arith}
+use Rattle.std.proofs.Common.{◌≡◌, ◌<◌, ◌≤◌, ℕ, zero, suc, List, [], ◌∷◌, length, map, take, get_or, ltb, true, false, rules, refl, sym, ap, subst, ◌∙◌, arith}
 use Rattle.std.proofs.lemmas.Bool.{ltb-true, ltb-false}
 use Rattle.std.proofs.lemmas.List.{length-map}
 use Rattle.std.proofs.lemmas.List.Sorted.{IsPartitionPoint-from_clause, IsPartitionedBy-ltb}
 use Rattle.std.specs.List.Sorted.{IsNonDecreasingBy, IsPartitionedBy, IsPartitionPoint}
 use Rattle.node_core.specs.declared.line.Line.{Line}
-use Rattle.node_core.specs.TraceLine.{TraceLine, blank, shown}
+use Rattle.node_core.specs.TraceLine.{shown}
 use Rattle.window_core.specs.Merged.{line_in}
 use Rattle.window_core.specs.Sheaves.{IsCut, IsRising}
 use Rattle.window_core.proofs.Cuts.{times_rise}

@@ -1,0 +1,17 @@
+use Rattle.std.proofs.Common.{◌≡◌, List, false, cond, leb, sym, ap, ◌∙◌, arith}
+use Rattle.window_core.specs.Group.{GroupValue}
+use Rattle.window_core.specs.Rosters.{RosterValue, least_of, nexts_of}
+use Rattle.window_core.specs.Window.{states_of}
+use Rattle.window_core.specs.Windows.{all_done}
+use Rattle.window_core.proofs.Rosters.{done_is}
+use Rattle.window_core.proofs.window.roster.Roster.all_done.Goals as goal
+
+pub returns : goal.returns
+returns c =
+    let w = c.self.inside in
+    let out : w.out ≡ false = ap (λ (x : RosterValue). x.out) c.self.view_is ∙ c.requires in
+    let in_is : w.shares.items ≡ c.args.self.now.groups = ap (λ b. cond b w.lent.value.items w.shares.items) (sym out) ∙ ap (λ (x : RosterValue). x.groups) c.self.view_is in
+    let until = c.args.until in
+    let few = c.ranges.until.fits in
+    let least : c.least.result ≡ least_of (nexts_of (states_of w.shares.items)) = c.least.ensures ∙ ap least_of (c.deref.ensures.value ∙ c.self.invariant.nexts out) in
+    ap (leb until) least ∙ sym (done_is until (states_of w.shares.items) (omega (arith, few))) ∙ ap (λ (gs : List GroupValue). all_done until (states_of gs)) in_is

@@ -1,0 +1,21 @@
+use Rattle.std.proofs.Common.{◌≡◌, ℕ, List, false, cond, IfSome, Option, sym, ap, subst, ◌∙◌}
+use Rattle.window_core.specs.Group.{GroupValue}
+use Rattle.window_core.specs.Rosters.{RosterValue, least_of, nexts_of}
+use Rattle.window_core.specs.Window.{states_of}
+use Rattle.window_core.specs.Windows.{soonest}
+use Rattle.window_core.proofs.Rosters.{soonest_is}
+use Rattle.window_core.proofs.window.roster.Roster.soonest.Goals as goal
+use Rattle.window_core.proofs.window.roster.Roster.soonest.Goals.{in-Some, in-None}
+
+pub returns-then-least-lt18446744073709551615 : goal.returns-then-least-lt18446744073709551615
+returns-then-least-lt18446744073709551615 c =
+    let w = c.self.inside in
+    let out : w.out ≡ false = ap (λ (x : RosterValue). x.out) c.self.view_is ∙ c.requires in
+    let in_is : w.shares.items ≡ c.args.self.now.groups = ap (λ b. cond b w.lent.value.items w.shares.items) (sym out) ∙ ap (λ (x : RosterValue). x.groups) c.self.view_is in
+    let known = c.self.invariant.least in
+    let nexts = c.self.invariant.nexts out in
+    let least : c.match-self.least ≡ least_of (nexts_of (states_of w.shares.items)) = elim c.match-self.branch [
+      | in-Some b ↦ b.least-is ∙ subst (λ (o : Option ℕ). IfSome o (λ n. n ≡ least_of w.nexts.items)) b.in-Some.is known ∙ ap least_of nexts
+      | in-None b ↦ b.least-is ∙ b.least-least.ensures ∙ ap least_of (b.deref.ensures.value ∙ nexts)
+    ] in
+    sym (soonest_is (states_of w.shares.items) c.match-self.least least c.if-least-lt18446744073709551615.true) ∙ ap (λ (gs : List GroupValue). soonest (states_of gs)) in_is

@@ -1,0 +1,22 @@
+-- The groups of a window, and what is kept of all of them.
+use Rattle.std.specs.Prelude.{ℕ, min, Bool, List, [], ◌∷◌, map as each, unwrap_or}
+use Rattle.window_core.specs.Group.{GroupValue}
+use Rattle.window_core.specs.Groups.{GroupState}
+use Rattle.window_core.specs.Windows.{first_time}
+
+-- the groups, by number, and whether they are out: then they are as they went
+pub record RosterValue : Type 0 where
+  pub groups : List GroupValue
+  pub out : Bool
+
+-- when a group's least event is; the last moment that there is where it has none
+abbrev pub next_of : GroupState → ℕ
+next_of g = unwrap_or (first_time g) 18446744073709551615
+
+abbrev pub nexts_of : List GroupState → List ℕ
+nexts_of groups = each next_of groups
+
+-- the least of moments; the last that there is where there is none
+abbrev pub least_of : List ℕ → ℕ
+least_of [] = 18446744073709551615
+least_of (next ∷ nexts) = min next (least_of nexts)
