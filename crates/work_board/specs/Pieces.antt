@@ -6,14 +6,14 @@ use Rattle.window_core.specs.Group.{GroupValue, state_of}
 use Rattle.window_core.specs.declared.group.GroupFault.{GroupFault}
 use Rattle.window_core.specs.declared.group.GroupFault.TheVariants.{NoMemory, CountFull}
 
--- the window's end, the group as the piece began, the group now, and why it stopped before the end
+-- where it ends, the group as the piece began, the group now, and why it stopped before the end
 pub record PieceState : Type 0 where
   pub end : ℕ
   pub began : GroupValue
   pub group : GroupValue
   pub fault : Option GroupFault
 
--- the piece q began as p, for the same window
+-- the piece q began as p, with the same end
 abbrev pub BeganAs : PieceState → PieceState → Type 0
 BeganAs p q = (q.end ≡ p.end) × (q.began ≡ p.began)
 

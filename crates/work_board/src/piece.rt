@@ -13,7 +13,7 @@ use window_core::{Group, GroupFault, run_group};
 pub struct Piece {
     /// The group as it is now.
     group: Group,
-    /// Where its window ends, in nanoseconds.
+    /// Where it ends, in nanoseconds: where its window does, or sooner.
     end: Time,
     /// The group as it was at first.
     began: Snapshot<Group>,
@@ -34,7 +34,7 @@ impl Model for Piece {
 
     ghost view = { λ p. record { end = p.end; began = p.began.value; group = p.group; fault = p.fault } };
 
-    ghost invariant = { λ p. (p.end ≤ p.began.value.until) × AfterFirings p.began.value p.group × IsTold (record { end = p.end; began = p.began.value; group = p.group; fault = p.fault }) };
+    ghost invariant = { λ p. (p.end ≤ p.began.value.until) × AfterFirings p.end p.began.value p.group × IsTold (record { end = p.end; began = p.began.value; group = p.group; fault = p.fault }) };
 }
 
 impl Piece {
@@ -56,7 +56,7 @@ impl Piece {
     pub fn run(&mut self)
         ensures end { self.new.end ≡ self.old.end }
         ensures began { self.new.began ≡ self.old.began }
-        ensures after { AfterFirings self.old.group self.new.group }
+        ensures after { AfterFirings self.old.end self.old.group self.new.group }
         ensures settled { IsSettled self.new }
         ensures told { IsTold self.new }
     {
@@ -77,15 +77,15 @@ impl Piece {
     pub fn fault(&self) -> Option<GroupFault>
         ensures fault { result ≡ self.now.fault }
         ensures told { IsTold self.now }
-        ensures after { AfterFirings self.now.began self.now.group }
+        ensures after { AfterFirings self.now.end self.now.began self.now.group }
     {
         self.fault
     }
 
-    /// The group, which is what the piece began as after some firings of its own.
+    /// The group, which is what the piece began as after some firings of its own below its end.
     pub fn into_group(self) -> Group
         ensures group { result ≡ self.group }
-        ensures after { AfterFirings self.began result }
+        ensures after { AfterFirings self.end self.began result }
     {
         let Piece {
             group,

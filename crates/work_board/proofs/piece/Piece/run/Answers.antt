@@ -5,6 +5,6 @@ use Rattle.work_board.proofs.piece.Piece.run.Goals as goal
 pub invariant_of-self : goal.invariant_of-self
 invariant_of-self c = (
   c.self.invariant.0,
-  after_both _ _ _ c.self.invariant.1 c.run_group.ensures.after,
+  after_both _ _ _ _ c.self.invariant.1 c.run_group.ensures.after,
   told c.run_group.result _ _ _ _ c.err-self-inside.ensures.value c.run_group.ensures.full c.run_group.ensures.memory,
 )
