@@ -22,6 +22,7 @@ const SHORT: usize = 256;
 const MANY: u64 = 100_000_000_000_000;
 
 /// Appends the line of the trace for the `n`-th event, with its LF, or nothing.
+#[inline(always)]
 pub fn line_text(n: u64, line: &Line, out: &mut Vec<u8>) -> Result<(), AllocError>
     ensures ok { OnOk result (out.new.items ≡ out.old.items ++ line_bytes n (shown line.now)) }
     ensures err { OnErr result (out.new.items ≡ out.old.items) }
