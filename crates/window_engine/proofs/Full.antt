@@ -1,5 +1,5 @@
 -- Pieces that are refused since there are as many events as there may be.
-use Rattle.std.proofs.Common.{◌≡◌, ℕ, suc, List, ◌∷◌, length, slice_get, Option, Some, None, Result, Ok, Err, IfErr, refl, ap, sym, subst, ◌∙◌}
+use Rattle.std.proofs.Common.{◌≡◌, ℕ, suc, List, ◌∷◌, slice_get, Option, Some, None, Result, Ok, Err, IfErr, refl, ap, sym, subst, ◌∙◌}
 use Rattle.std.specs.Option.{option_or}
 use Rattle.window_core.specs.declared.group.GroupFault.{GroupFault}
 use Rattle.window_core.specs.declared.group.GroupFault.TheVariants as group
@@ -27,12 +27,12 @@ among_first all rest more x y is kind among = among 0 y (ap (λ (l : List Slot).
 abbrev pub IsOfFull : Option GroupFault → List Slot → Type 0
 IsOfFull refusal all = refusal ≡ Some group.CountFull → SomeFull all
 
-full_or : (all : List Slot) (refusal : Option GroupFault) (q : PieceState) → IsOfFull refusal all → (j : ℕ) × (slice_get all j ≡ Some (Finished q)) → IsTold q → AfterFirings q.began q.group → IsOfFull (option_or refusal q.fault) all
+full_or : (all : List Slot) (refusal : Option GroupFault) (q : PieceState) → IsOfFull refusal all → (j : ℕ) × (slice_get all j ≡ Some (Finished q)) → IsTold q → AfterFirings q.end q.began q.group → IsOfFull (option_or refusal q.fault) all
 full_or all (Some f) q was at told after e = was e
 full_or all None q was at told after e = record { place = at.0; piece = q; at = at.1; full = record { fault = e; told = told; after = after } }
 
 -- one finished piece more
-pub full_more : (all rest more : List Slot) (x : Slot) (refusal : Option GroupFault) (q : PieceState) → rest ≡ x ∷ more → x ≡ Finished q → AreAmong rest all → IsOfFull refusal all → IsTold q → AfterFirings q.began q.group
+pub full_more : (all rest more : List Slot) (x : Slot) (refusal : Option GroupFault) (q : PieceState) → rest ≡ x ∷ more → x ≡ Finished q → AreAmong rest all → IsOfFull refusal all → IsTold q → AfterFirings q.end q.began q.group
     → IsOfFull (option_or refusal q.fault) all
 full_more all rest more x refusal q is kind among was told after = full_or all refusal q was (among_first all rest more x (Finished q) is kind among) told after
 

@@ -82,19 +82,23 @@ module _ (end : ℕ) (lent : List GroupValue) (laid got : List PieceState) (back
   at : (n : ℕ) → n < length back → slice_get got n ≡ Some (piece n)
   at n l = slice_get-get_or got n none (omega (arith, l, many))
 
-  -- each group that comes back is the one that was lent, after firings of its own
-  pub come_back : All (λ (p : PieceState). AfterFirings p.began p.group) got → (n : ℕ) → n < length back → AfterFirings (value_at lent n) (value_at back n)
+  -- each piece ends where it was laid to
+  ends_at : (n : ℕ) → n < length back → (piece n).end ≡ end
+  ends_at n l =
+      let began = (are.each n (piece n) (at n l)).0 in
+      began.2.0 ∙ ap (λ (p : PieceState). p.end) (laid_at end lent laid laid_is n began.0 began.1)
+
+  -- each group that comes back is the one that was lent, after firings of its own below the end
+  pub come_back : All (λ (p : PieceState). AfterFirings p.end p.began p.group) got → (n : ℕ) → n < length back → AfterFirings end (value_at lent n) (value_at back n)
   come_back after n l =
       let began = (are.each n (piece n) (at n l)).0 in
       let from : (piece n).began ≡ value_at lent n = began.2.1 ∙ ap (λ (p : PieceState). p.began) (laid_at end lent laid laid_is n began.0 began.1) in
-      let fired : AfterFirings (piece n).began (piece n).group = after n none (omega (arith, l, many)) in
-      subst (AfterFirings (value_at lent n)) (sym (group_is n)) (subst (λ (g : GroupValue). AfterFirings g (piece n).group) from fired)
+      let fired : AfterFirings end (piece n).began (piece n).group = subst (λ (e : ℕ). AfterFirings e (piece n).began (piece n).group) (ends_at n l) (after n none (omega (arith, l, many))) in
+      subst (AfterFirings end (value_at lent n)) (sym (group_is n)) (subst (λ (g : GroupValue). AfterFirings end g (piece n).group) from fired)
 
   -- and no group has an event left below the end
   pub all_are_done : all_done end (states_of back) ≡ true
   all_are_done = all_done_of end back (λ n l.
-      let f = are.each n (piece n) (at n l) in
-      let ends : (piece n).end ≡ end = f.0.2.0 ∙ ap (λ (p : PieceState). p.end) (laid_at end lent laid laid_is n f.0.0 f.0.1) in
       ap (λ (g : GroupValue). due (group_up_to end (state_of g))) (group_is n)
-      ∙ sym (ap (λ (e : ℕ). due (group_up_to e (state_of (piece n).group))) ends)
-      ∙ f.1)
+      ∙ sym (ap (λ (e : ℕ). due (group_up_to e (state_of (piece n).group))) (ends_at n l))
+      ∙ (are.each n (piece n) (at n l)).1)

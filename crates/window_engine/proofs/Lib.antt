@@ -10,3 +10,4 @@ pub mod Resting
 pub mod Writing
 pub mod Between
 pub mod TooMany
+pub mod Unwritten

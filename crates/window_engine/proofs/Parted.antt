@@ -1,6 +1,6 @@
 -- A text that is made in parts, and written part by part.
-use Rattle.std.proofs.Common.{◌≡◌, ◌≤◌, ◌<◌, ◌+◌, ◌⊎◌, ⊎_elim, ℕ, zero, suc, List, [], ◌∷◌, ◌++◌, All, length, take, drop, get_or, Option, refl, sym, ap, subst, ◌∙◌, arith, false, append_assoc, append-nil, length-append}
-use Rattle.std.proofs.lemmas.List.{take_more, take_all, take-append-drop, take-append-le, drop_more, drop-drop, drop_all, length-take, length-drop}
+use Rattle.std.proofs.Common.{◌≡◌, ◌≤◌, ◌<◌, ◌+◌, ◌⊎◌, ⊎_elim, ℕ, zero, suc, List, [], ◌∷◌, ◌++◌, All, length, set, take, drop, get_or, Option, refl, sym, ap, subst, ◌∙◌, arith, false, append_assoc, append-nil, length-append}
+use Rattle.std.proofs.lemmas.List.{take_more, take_more_set, take_all, take-append-drop, take-append-le, drop_more, drop-drop, drop_all, length-take, length-drop}
 use Rattle.std.specs.Io.KnownBytes.{Appends}
 use Rattle.window_core.specs.Sheaves.{SheafValue, merged}
 use Rattle.window_engine.specs.declared.text.Part.{Part}
@@ -20,6 +20,22 @@ text_of-more ps i d l =
     ap text_of (take_more ps i d l)
     ∙ text_of-append (take i ps) (get_or ps i d ∷ [])
     ∙ ap (λ (bytes : List ℕ). text_of (take i ps) ++ bytes) (append-nil (get_or ps i d).text.items)
+
+-- the parts so far have no text, nor has the one that is put next
+pub text_of-none : (ps : List Part) (i : ℕ) (p : Part) → i < length ps → text_of (take i ps) ≡ [] → p.text.items ≡ [] → text_of (take (i + 1) (set ps i p)) ≡ []
+text_of-none ps i p l none empty =
+    ap text_of (take_more_set ps i p l)
+    ∙ text_of-append (take i ps) (p ∷ [])
+    ∙ (λ j. none j ++ (empty j ++ []))
+
+nil_right : (xs ys : List ℕ) → xs ++ ys ≡ [] → ys ≡ []
+nil_right [] ys e = e
+nil_right (x ∷ xs) ys e = absurd (cc)
+
+-- the first part alone has a text
+pub text_of-first : (ps : List Part) (p : Part) → 0 < length ps → text_of ps ≡ [] → text_of (set ps 0 p) ≡ p.text.items
+text_of-first [] p some none = absurd (omega (arith, some))
+text_of-first (q ∷ ps) p some none = ap (λ (bytes : List ℕ). p.text.items ++ bytes) (nil_right q.text.items (text_of ps) none) ∙ append-nil p.text.items
 
 -- the parts so far, the next and the rest
 text_of-rest : (ps : List Part) (i : ℕ) (d : Part) → i < length ps → text_of ps ≡ text_of (take i ps) ++ ((get_or ps i d).text.items ++ text_of (drop (i + 1) ps))

@@ -1,10 +1,11 @@
 -- Where the workers' fault is that the count is full, the run has more events than there may be.
-use Rattle.std.proofs.Common.{◌≡◌, ◌≢◌, ◌≤◌, ◌<◌, ◌+◌, ◌-◌, ◌++◌, ℕ, List, length, map, true, Option, Some, None, IsSome, refl, sym, ap, subst, ◌∙◌, arith}
+use Rattle.std.proofs.Common.{◌≡◌, ◌≢◌, ◌≤◌, ◌<◌, ◌+◌, ◌-◌, ◌++◌, ℕ, List, length, map, true, Option, None, IsSome, refl, sym, ap, subst, ◌∙◌, arith, Some}
 use Rattle.std.proofs.lemmas.List.{length-map}
 use Rattle.std.proofs.lemmas.Option.{slice_get_within}
 use Rattle.window_core.specs.declared.group.GroupFault.{GroupFault}
 use Rattle.table_run.specs.State.{State, due, run}
 use Rattle.table_run.proofs.Runs.{run_add}
+use Rattle.node_core.specs.TraceLine.{TraceLine}
 use Rattle.net_machine.specs.Run.{Reached}
 use Rattle.window_core.specs.Full.{HasTooMany, opening_at}
 use Rattle.window_core.specs.Group.{GroupValue, AfterFirings, state_of}
@@ -14,7 +15,7 @@ use Rattle.window_core.specs.Windows.{all_done, all_lines}
 use Rattle.window_core.proofs.TooMany.{full_group_has_too_many, full_turn_has_too_many}
 use Rattle.work_board.specs.Pieces.{PieceState}
 use Rattle.window_engine.specs.declared.fault.EngineFault.{EngineFault}
-use Rattle.window_engine.specs.declared.fault.EngineFault.TheVariants.{NoMemory, CountFull, NoWorker, Sink, Failed}
+use Rattle.window_engine.specs.declared.fault.EngineFault.TheVariants.{CountFull, Failed}
 use Rattle.window_engine.specs.declared.course.WriteFault.{WriteFault}
 use Rattle.window_engine.specs.declared.course.WriteFault.TheVariants.{Workers, Sink as Failing}
 use Rattle.window_engine.specs.Courses.{Wrote, told_as}
@@ -46,7 +47,7 @@ pieces_full w end lent laid lent_is ends laid_is some =
       number = n;
       group = p.group;
       within = omega (arith, within, many);
-      after = subst (λ (g : GroupValue). AfterFirings g p.group) began some.full.after;
+      after = subst (λ (e : ℕ). AfterFirings e (value_at w.groups n) p.group) same_end (subst (λ (g : GroupValue). AfterFirings p.end g p.group) began some.full.after);
       due_there = subst (λ (e : ℕ). due (up_to e (state_of p.group)) ≢ None) same_end (some.full.told.due refused);
       full = some.full.told.full some.full.fault;
     }
@@ -64,14 +65,13 @@ turn_full v w until at is by full =
     at_edge v w is at by.position (full_turn_has_too_many is.edge w (by.from is.edge is.from) (omega (arith, fits, by.position)) full.0 full.1)
 
 -- what is so after some lines of the run is so before them
-pub earlier_full : (from to : Reached) (n : ℕ) (a b : Option (List ℕ)) → Wrote from to n a b → to.position ≤ 1000000000000000 → HasTooMany to → HasTooMany from
-earlier_full from to n a b w few many =
-    let at = w.position_is in
-    let count : 1000000000000000 - from.position ≡ length w.lines + (1000000000000000 - to.position) = omega (arith, at, few) in
+pub earlier_full : (from to : Reached) (lines : List TraceLine) → run from.state (length lines) ≡ Some (lines, to.state) → to.position ≡ from.position + length lines → to.position ≤ 1000000000000000 → HasTooMany to → HasTooMany from
+earlier_full from to lines runs at few many =
+    let count : 1000000000000000 - from.position ≡ length lines + (1000000000000000 - to.position) = omega (arith, at, few) in
     record {
-      lines = w.lines ++ many.lines;
+      lines = lines ++ many.lines;
       last = many.last;
-      is_run = ap (run from.state) count ∙ run_add from.state to.state many.last (length w.lines) (1000000000000000 - to.position) w.lines many.lines w.is_run many.is_run;
+      is_run = ap (run from.state) count ∙ run_add from.state to.state many.last (length lines) (1000000000000000 - to.position) lines many.lines runs many.is_run;
       one_due = many.one_due;
     }
 
@@ -85,5 +85,5 @@ unfolding told_by
 workers_full at fault full is = full (ap told_by is)
 
 pub told_full : (from to : Reached) (n written : ℕ) (a b : Option (List ℕ)) (fault : WriteFault) → Wrote from to n a b → to.position ≤ 1000000000000000 → (fault ≡ Workers CountFull → HasTooMany to) → told_as written fault ≡ CountFull → HasTooMany from
-told_full from to n written a b (Workers fault) w few full is = earlier_full from to n a b w few (full (ap (λ (f : EngineFault). Workers f) is))
+told_full from to n written a b (Workers fault) w few full is = earlier_full from to w.lines w.is_run w.position_is few (full (ap (λ (f : EngineFault). Workers f) is))
 told_full from to n written a b (Failing count) w few full is = let x : ⊥ = cc in absurd x

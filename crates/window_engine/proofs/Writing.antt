@@ -14,7 +14,7 @@ use Rattle.window_engine.specs.Text.{text_from}
 use Rattle.window_engine.specs.Engines.{GoesOn, Commits, Takes, sink_failures}
 use Rattle.window_engine.specs.declared.course.WriteFault.{WriteFault}
 use Rattle.window_engine.specs.declared.course.WriteFault.TheVariants.{Workers, Sink as Failing}
-use Rattle.window_engine.specs.Courses.{CanTell, Wrote, WroteFirst, Broke, told_as, fails_after}
+use Rattle.window_engine.specs.Courses.{CanTell, Wrote, WroteFirst, WroteTo, Broke, told_as, fails_after}
 use Rattle.window_engine.proofs.Bytes.{appends_nothing, appends_more, take_past}
 use Rattle.window_engine.proofs.Numbered.{text_both}
 
@@ -91,17 +91,23 @@ takes_all T NoWorker text a b is took = took
 takes_all T Failed text a b is took = took
 takes_all T (Sink written) text a b is took = absurd is
 
--- where the next window's workers failed
-pub stopped : {T : Type 0} (from to : Reached) (n : ℕ) (new : Reached) (a b c : Option (List ℕ)) (fault : EngineFault) → Wrote from to n a b → new.position ≡ to.position → Appends b c [] → IsOfWorkers fault
+-- where workers failed after the windows so far, and after those that were written since
+pub stopped : {T : Type 0} (from to : Reached) (n : ℕ) (new : Reached) (a b c : Option (List ℕ)) (fault : EngineFault) → Wrote from to n a b → WroteTo to new.position b c → IsOfWorkers fault
     → Commits {T = T} from (Err fault) new a c
-stopped {T} from to n new a b c fault w at kept is = record {
-  lines = w.lines;
-  state = to.state;
-  is_run = w.is_run;
-  position_is = at ∙ w.position_is;
-  state_is = tt;
-  takes = takes_all T fault _ a c is (subst (Appends a c) (append-nil _) (appends_more a b c _ [] w.takes kept));
-}
+stopped {T} from to n new a b c fault w x is =
+    let all = wrote_more from to x.new n x.count a b c w x.wrote in
+    record {
+      lines = all.lines;
+      state = x.new.state;
+      is_run = all.is_run;
+      position_is = x.position_is ∙ all.position_is;
+      state_is = tt;
+      takes = takes_all T fault _ a c is all.takes;
+    }
+
+-- where workers failed, and nothing was written since
+pub wrote_no_more : (net : Reached) (position : ℕ) (a : Option (List ℕ)) → position ≡ net.position → WroteTo net position a a
+wrote_no_more net position a at = record { new = net; count = 0; wrote = wrote_none net a; position_is = at }
 
 -- where the sink failed in the next window's text
 pub failed : {T : Type 0} (from to : Reached) (n count : ℕ) (new : Reached) (a b c : Option (List ℕ)) → Wrote from to n a b → WroteFirst to new.position count b c → Commits {T = T} from (Err (Sink (n + count))) new a c
@@ -123,7 +129,7 @@ failed from to n count new a b c w x =
 
 -- where the next window wasn't written
 pub ended : {T : Type 0} (from to : Reached) (n : ℕ) (new : Reached) (a b c : Option (List ℕ)) (fault : WriteFault) → Wrote from to n a b → Broke to new.position b c fault → Commits {T = T} from (Err (told_as n fault)) new a c
-ended {T} from to n new a b c (Workers fault) w broke = stopped {T = T} from to n new a b c fault w broke.0 broke.1 broke.2
+ended {T} from to n new a b c (Workers fault) w broke = stopped {T = T} from to n new a b c fault w broke.0 broke.1
 ended {T} from to n new a b c (Failing count) w broke = failed {T = T} from to n count new a b c w broke
 
 -- a failure is counted once
@@ -133,7 +139,7 @@ fails_told T U written n (Workers NoMemory) old new from at broke = refl
 fails_told T U written n (Workers CountFull) old new from at broke = refl
 fails_told T U written n (Workers NoWorker) old new from at broke = refl
 fails_told T U written n (Workers Failed) old new from at broke = refl
-fails_told T U written n (Workers (Sink count)) old new from at broke = absurd broke.2
+fails_told T U written n (Workers (Sink count)) old new from at broke = absurd broke.1
 fails_told T U written n (Failing count) old new from at broke = refl
 
 can_tell_of : (from : Reached) (at n : ℕ) (fault : WriteFault) (old new : Option (List ℕ)) → Broke from at old new fault → n < 2 ^ 127 → CanTell n fault

@@ -5,12 +5,14 @@ use Rattle.node_core.specs.TraceLine.{TraceLine}
 use Rattle.table_run.specs.State.{State, run}
 use Rattle.net_machine.specs.Run.{Reached}
 use Rattle.window_core.specs.Partition.{groups_of}
+use Rattle.window_core.specs.Sheaves.{merged}
 use Rattle.window_engine.specs.declared.course.Course.{Course}
 use Rattle.window_engine.specs.declared.course.WriteFault.{WriteFault}
 use Rattle.window_engine.specs.declared.course.WriteFault.TheVariants.{Workers, Sink}
 use Rattle.window_engine.specs.declared.fault.EngineFault.{EngineFault}
 use Rattle.window_engine.specs.declared.fault.EngineFault.TheVariants.{Sink as SinkFailed}
-use Rattle.window_engine.specs.Edges.{IsAtEdge}
+use Rattle.window_engine.specs.Edges.{IsAtEdge, reached_in}
+use Rattle.window_engine.specs.Engines.{GoesOn}
 use Rattle.window_engine.specs.Failures.{counted}
 use Rattle.window_engine.specs.Outcomes.{IsOfWorkers}
 use Rattle.window_engine.specs.Puts.{TakesFirst}
@@ -21,6 +23,15 @@ pub record AtRest (c : Course) : Type 0 where
   pub edge : IsAtEdge c.window
   pub committed : c.position ≡ c.window.position
   pub few : c.position ≤ 1000000000000000
+  pub end : c.end ≡ c.window.end
+  pub groups : groups_of c.window.entries ≤ 64
+
+-- the window is at its edge, and the sheaf has the lines that lead there from a net: the events up to that net are committed, and no others
+pub record IsBehind (net : Reached) (c : Course) : Type 0 where
+  pub edge : IsAtEdge c.window
+  pub gone : GoesOn net (merged c.sheaf) (reached_in c.window)
+  pub committed : c.position ≡ net.position
+  pub few : c.window.position ≤ 1000000000000000
   pub end : c.end ≡ c.window.end
   pub groups : groups_of c.window.entries ≤ 64
 
@@ -42,9 +53,16 @@ pub record WroteFirst (old : Reached) (position count : ℕ) (before after : Opt
   pub takes : TakesFirst count (text_from (old.position + 1) lines) before after
   pub few : count < 2 ^ 71
 
--- what a window that wasn't written leaves: where workers failed, nothing was committed or written
+-- lines were committed, up to a position, and the sink took all their text
+pub record WroteTo (old : Reached) (position : ℕ) (before after : Option (List ℕ)) : Type 0 where
+  pub new : Reached
+  pub count : ℕ
+  pub wrote : Wrote old new count before after
+  pub position_is : position ≡ new.position
+
+-- what a fault leaves: where workers failed, all lines that were committed were written
 abbrev pub Broke : Reached → ℕ → Option (List ℕ) → Option (List ℕ) → WriteFault → Type 0
-Broke old position before after (Workers fault) = (position ≡ old.position) × Appends before after [] × IsOfWorkers fault
+Broke old position before after (Workers fault) = WroteTo old position before after × IsOfWorkers fault
 Broke old position before after (Sink count) = WroteFirst old position count before after
 
 -- the sink's count of failures after a window

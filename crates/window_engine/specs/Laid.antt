@@ -24,7 +24,7 @@ pub record HasFullGroup (v : WindowValue) : Type 0 where
   pub number : ℕ
   pub group : GroupValue
   pub within : number < length v.groups
-  pub after : AfterFirings (value_at v.groups number) group
+  pub after : AfterFirings v.until (value_at v.groups number) group
   pub due_there : due (up_to v.until (state_of group)) ≢ None
   pub full : group.position + length group.lines ≡ 1000000000000000
 

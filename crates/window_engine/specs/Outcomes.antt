@@ -66,11 +66,11 @@ pub record StoppedBy (laid : List PieceState) (e : EngineFault) : Type 0 where
 abbrev pub IsPiecesFault : List PieceState → EngineFault → Type 0
 IsPiecesFault laid e = (e ≡ NoMemory) ⊎ ((e ≡ NoWorker) ⊎ StoppedBy laid e)
 
--- a piece was refused since the count is full: its group stands after firings of its own, with one more event due
+-- a piece was refused since the count is full: its group stands after firings of its own below the piece's end, with one more event due
 pub record IsFull (q : PieceState) : Type 0 where
   pub fault : q.fault ≡ Some group.CountFull
   pub told : IsTold q
-  pub after : AfterFirings q.began q.group
+  pub after : AfterFirings q.end q.began q.group
 
 -- so was one of those that came back
 pub record SomeFull (slots : List Slot) : Type 0 where

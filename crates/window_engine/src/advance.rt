@@ -1,9 +1,12 @@
 //! One window, run by workers.
-ghost use Rattle.std.specs.Prelude.{◌≡◌, ◌<◌, ◌≤◌, ℕ, All, List, length, map as each, min, true, false, IfOk, IfErr, OnOk};
+ghost use Rattle.std.specs.Prelude.{◌≡◌, ◌+◌, ◌<◌, ◌≤◌, ℕ, All, List, length, map as each, min, true, false, IfOk, IfErr, OnOk};
+ghost use Rattle.table_run.specs.State.{State};
 ghost use Rattle.window_core.specs.Full.{HasTooMany};
 ghost use Rattle.window_core.specs.Group.{GroupValue, AfterFirings};
 ghost use Rattle.window_core.specs.Partition.{groups_of};
 ghost use Rattle.window_core.specs.Sheaves.{merged};
+ghost use Rattle.window_core.specs.Window.{IsFrom, HasGoneOn, HasTurned, states_of};
+ghost use Rattle.window_core.specs.Windows.{all_done, all_lines};
 ghost use Rattle.work_board.specs.Pieces.{PieceState};
 ghost use Rattle.window_engine.specs.Edges.{IsAtEdge, StaysNet, edge_of, reached_in};
 ghost use Rattle.window_engine.specs.Engines.{GoesOn, NoneBelow};
@@ -35,7 +38,7 @@ fn pieces_of(alloc: Global, groups: Vec<Group>, end: Time) -> Result<Vec<Piece>,
 /// The group of each piece.
 fn groups_of(alloc: Global, pieces: Vec<Piece>) -> Result<Vec<Group>, AllocError>
     ensures groups { IfOk result (λ v. v.items ≡ each (λ (p : PieceState). p.group) pieces.items) }
-    ensures after { OnOk result (All (λ (p : PieceState). AfterFirings p.began p.group) pieces.items) }
+    ensures after { OnOk result (All (λ (p : PieceState). AfterFirings p.end p.began p.group) pieces.items) }
 {
     let mut groups = Vec::with_capacity(alloc, pieces.len())?;
     for piece in pieces {
@@ -92,7 +95,7 @@ fn run_apart<G: Gate, R: Threads + Wait + Sync>(
 
 /// Runs the groups up to the window's end, or a moment that is sooner: by workers, or where there
 /// is one alone on the calling thread. Each is then done. After a fault the groups may be out.
-fn run_groups<G: Gate, R: Threads + Wait + Sync>(
+pub(crate) fn run_groups<G: Gate, R: Threads + Wait + Sync>(
     rt: &R,
     alloc: Global,
     workers: usize,
@@ -149,7 +152,26 @@ pub(crate) fn advance<G: Gate, R: Threads + Wait + Sync>(
     }
 }
 
-/// The same, and the sheaf then has its lines, group by group. After a fault it may be empty.
+/// Turns a window whose groups are done. The sheaf then has its lines, group by group. After a
+/// fault it may be empty.
+pub(crate) fn turn_done(window: &mut Window, sheaf: &mut Sheaf) -> Result<(), EngineFault>
+    requires inside { window.old.out ≡ false }
+    requires done { all_done window.old.until (states_of window.old.groups) ≡ true }
+    ensures turned { OnOk result (HasTurned window.old (merged sheaf.new) window.new) }
+    ensures run { OnOk result ((edge : State) → IsFrom edge window.old → HasGoneOn edge (merged sheaf.new).lines window.new) }
+    ensures stays { StaysNet window.old window.new }
+    ensures no_sink { IfErr result IsOfWorkers }
+    ensures full { IfErr result (λ fault. fault ≡ EngineFault.CountFull → 1000000000000000 < window.old.position + length (all_lines (states_of window.old.groups))) }
+{
+    match window.turn_apart(sheaf) {
+        Ok(()) => Ok(()),
+        Err(TurnFault::NotDone) => unreachable!(),
+        Err(TurnFault::NoMemory) => Err(EngineFault::NoMemory),
+        Err(TurnFault::CountFull) => Err(EngineFault::CountFull),
+    }
+}
+
+/// As `advance`, and the sheaf then has the lines, group by group. After a fault it may be empty.
 pub(crate) fn advance_apart<G: Gate, R: Threads + Wait + Sync>(
     rt: &R,
     alloc: Global,
@@ -171,10 +193,6 @@ pub(crate) fn advance_apart<G: Gate, R: Threads + Wait + Sync>(
 {
     let _began = window.position();
     run_groups(rt, alloc, workers, gate, until, window)?;
-    match window.turn_apart(sheaf) {
-        Ok(()) => Ok(()),
-        Err(TurnFault::NotDone) => unreachable!(),
-        Err(TurnFault::NoMemory) => Err(EngineFault::NoMemory),
-        Err(TurnFault::CountFull) => Err(EngineFault::CountFull),
-    }
+    turn_done(window, sheaf)?;
+    Ok(())
 }

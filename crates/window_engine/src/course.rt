@@ -1,10 +1,15 @@
-//! The net on its way, with what is used again from window to window.
-ghost use Rattle.std.specs.Prelude.{◌≡◌, ◌<◌, ◌≤◌, ◌^◌, Some, None, IfOk, IfErr, IfSome, OnOk};
+//! The net on its way, with what is used again from window to window. One worker runs a window,
+//! makes its text and writes it before the next window; of more workers' see `behind.rt`.
+ghost use Rattle.std.specs.Prelude.{◌≡◌, ◌+◌, ◌<◌, ◌≤◌, ◌^◌, length, Some, None, IfOk, IfErr, IfSome, OnOk};
 ghost use Rattle.table_run.specs.State.{due};
+ghost use Rattle.net_machine.specs.Run.{Reached};
 ghost use Rattle.window_core.specs.Full.{HasTooMany};
-ghost use Rattle.window_engine.specs.Edges.{StaysNet, edge_of, reached_in};
-ghost use Rattle.window_engine.specs.Engines.{Commits, IsStop, next_time, sink_failures};
+ghost use Rattle.window_core.specs.Sheaves.{merged};
+ghost use Rattle.window_engine.specs.Edges.{IsAtEdge, StaysNet, edge_of, reached_in};
+ghost use Rattle.window_engine.specs.Engines.{Commits, GoesOn, IsStop, next_time, sink_failures};
 ghost use Rattle.window_engine.specs.Courses.{AtRest, CanTell, Wrote, Broke, fails_after, told_as};
+ghost use Rattle.window_engine.specs.Parts.{text_of};
+ghost use Rattle.window_engine.specs.Text.{text_from};
 
 use crate::advance::advance_apart;
 use crate::fault::{EngineFault, Stop};
@@ -13,7 +18,7 @@ use crate::sink::Sink;
 use crate::slice::{FIRST_SLICE, next_slice};
 use crate::text::{Part, make_text, put_text};
 use sim_time::Time;
-use std::alloc::Global;
+use std::alloc::{AllocError, Global};
 use std::sync::Wait;
 use std::thread::Threads;
 use window_core::{Sheaf, Window};
@@ -38,23 +43,14 @@ pub(crate) struct Course {
 /// Why a window was not run, or not written.
 #[derive(Clone, Copy, Debug, Drop)]
 pub(crate) enum WriteFault {
-    /// The workers' fault. No event of the window is committed.
+    /// The workers' fault. Of the window that they ran no event is committed.
     Workers(EngineFault),
-    /// The sink failed after so many bytes of the window's text.
+    /// The sink failed after so many bytes of a window's text.
     Sink(u128),
 }
 
-/// A window that was written.
-#[derive(Clone, Copy, Debug)]
-pub(crate) struct Written {
-    /// How many events it had.
-    pub events: usize,
-    /// How many bytes its text has.
-    pub bytes: u128,
-}
-
 /// The fault as the engine tells it, after so many bytes of earlier windows.
-fn told(fault: WriteFault, written: u128) -> EngineFault
+pub(crate) fn told(fault: WriteFault, written: u128) -> EngineFault
     requires { CanTell written fault }
     ensures { result ≡ told_as written fault }
 {
@@ -69,7 +65,8 @@ fn told(fault: WriteFault, written: u128) -> EngineFault
 impl Course {
     /// When the next event is, in nanoseconds, where one is left below the end.
     pub(crate) fn next(&self) -> Option<Time>
-        requires { AtRest self.now }
+        requires edge { IsAtEdge self.now.window }
+        requires end { self.now.end ≡ self.now.window.end }
         ensures none { result ≡ None → due (edge_of self.now.window) ≡ None }
         ensures next { IfSome result (λ time. next_time (edge_of self.now.window) ≡ Some time) }
         ensures some { IfSome result (λ time. time < self.now.end) }
@@ -79,8 +76,57 @@ impl Course {
         if time < self.end { Some(time) } else { None }
     }
 
+    /// When the next event is, where one is left below the end and a moment; else why windows end.
+    pub(crate) fn next_below(&self, until: Time) -> Result<Time, Stop>
+        requires edge { IsAtEdge self.now.window }
+        requires end { self.now.end ≡ self.now.window.end }
+        ensures stop { IfErr result (IsStop until (edge_of self.now.window)) }
+    {
+        let Some(next) = self.next() else {
+            return Err(Stop::End);
+        };
+        if next >= until {
+            return Err(Stop::Until);
+        }
+        Ok(next)
+    }
+
+    /// How long the next window is, in nanoseconds, where its first event is at a moment and it ends
+    /// by another at the latest.
+    pub(crate) fn span(&self, next: Time, bound: Time) -> Time {
+        self.window.end().min(bound).saturating_sub(next)
+    }
+
+    /// Commits the events of the sheaf's lines and writes their text, where it was made. All of it
+    /// is made before its first byte is put.
+    pub(crate) fn put_made<S: Sink>(
+        &mut self,
+        made: Result<(), AllocError>,
+        sink: &mut S,
+    ) -> Result<u128, WriteFault>
+        requires text { OnOk made (text_of self.old.text.items ≡ text_from self.old.sheaf.first (merged self.old.sheaf).lines) }
+        requires few { OnOk made (length self.old.text.items ≤ 64) }
+        requires fits { self.old.position + length (merged self.old.sheaf).lines < 2 ^ 63 }
+        ensures position { OnOk result (self.new.position ≡ self.old.position + length (merged self.old.sheaf).lines) }
+        ensures rest { self.new ≡ record self.old { position = self.new.position } }
+        ensures wrote { IfOk result (λ bytes. (from to : Reached) → GoesOn from (merged self.old.sheaf) to → Wrote from to bytes (S.contents sink.old) (S.contents sink.new)) }
+        ensures broke { IfErr result (λ fault. (from to : Reached) → GoesOn from (merged self.old.sheaf) to → self.old.position ≡ from.position → Broke from self.new.position (S.contents sink.old) (S.contents sink.new) fault) }
+        ensures not_full { IfErr result (λ fault. fault ≡ WriteFault.Workers EngineFault.CountFull → ⊥) }
+        ensures failures { S.failures sink.new ≡ fails_after result (S.failures sink.old) }
+    {
+        let position = self.position + self.sheaf.len() as u64;
+        let Ok(()) = made else {
+            return Err(WriteFault::Workers(EngineFault::NoMemory));
+        };
+        self.position = position;
+        match put_text(self.text.as_slice(), sink) {
+            Ok(bytes) => Ok(bytes),
+            Err(written) => Err(WriteFault::Sink(written)),
+        }
+    }
+
     /// Runs the next window by workers, up to a moment at the latest, commits its events and writes
-    /// their lines. All its text is made before its first byte is put.
+    /// their lines.
     fn write_window<G: Gate, S: Sink, R: Threads + Wait + Sync>(
         &mut self,
         rt: &R,
@@ -88,17 +134,18 @@ impl Course {
         gate: &G,
         until: Time,
         sink: &mut S,
-    ) -> Result<Written, WriteFault>
+    ) -> Result<u128, WriteFault>
         requires rest { AtRest self.old }
         requires workers { (0 < workers) × (workers ≤ 64) }
         ensures rest { OnOk result (AtRest self.new) }
-        ensures wrote { IfOk result (λ w. Wrote (reached_in self.old.window) (reached_in self.new.window) w.bytes (S.contents sink.old) (S.contents sink.new)) }
+        ensures wrote { IfOk result (λ bytes. Wrote (reached_in self.old.window) (reached_in self.new.window) bytes (S.contents sink.old) (S.contents sink.new)) }
         ensures broke { IfErr result (Broke (reached_in self.old.window) self.new.position (S.contents sink.old) (S.contents sink.new)) }
         ensures full { IfErr result (λ fault. fault ≡ WriteFault.Workers EngineFault.CountFull → HasTooMany (reached_in self.old.window)) }
         ensures failures { S.failures sink.new ≡ fails_after result (S.failures sink.old) }
         ensures stays { StaysNet self.old.window self.new.window }
         ensures end { self.new.end ≡ self.old.end }
     {
+        self.window.reclaim(&mut self.sheaf);
         match advance_apart(
             rt,
             self.alloc,
@@ -111,18 +158,46 @@ impl Course {
             Ok(()) => {}
             Err(fault) => return Err(WriteFault::Workers(fault)),
         }
-        let position = self.window.position();
-        let Ok(()) = make_text(rt, workers, &self.sheaf, &mut self.text) else {
-            return Err(WriteFault::Workers(EngineFault::NoMemory));
-        };
-        self.position = position;
-        match put_text(self.text.as_slice(), sink) {
-            Ok(bytes) => Ok(Written {
-                events: self.sheaf.len(),
-                bytes,
-            }),
-            Err(written) => Err(WriteFault::Sink(written)),
+        let _reached = self.window.position();
+        let made = make_text(rt, workers, &self.sheaf, &mut self.text);
+        self.put_made(made, sink)
+    }
+
+    /// Runs windows by workers, and writes the lines of each before the next one.
+    fn write_in_turn<G: Gate, S: Sink, R: Threads + Wait + Sync>(
+        &mut self,
+        rt: &R,
+        workers: usize,
+        gate: &G,
+        until: Time,
+        sink: &mut S,
+    ) -> Result<Stop, EngineFault>
+        requires rest { AtRest self.old }
+        requires workers { (0 < workers) × (workers ≤ 64) }
+        ensures rest { OnOk result (AtRest self.new) }
+        ensures commits { Commits (reached_in self.old.window) result (record { state = edge_of self.new.window; position = self.new.position }) (S.contents sink.old) (S.contents sink.new) }
+        ensures stop { IfOk result (IsStop until (edge_of self.new.window)) }
+        ensures full { IfErr result (λ fault. fault ≡ EngineFault.CountFull → HasTooMany (reached_in self.old.window)) }
+        ensures failures { S.failures sink.new ≡ sink_failures result (S.failures sink.old) }
+        ensures stays { StaysNet self.old.window self.new.window }
+        ensures end { self.new.end ≡ self.old.end }
+    {
+        let mut slice = FIRST_SLICE;
+        let mut written: u128 = 0;
+        for _ in rt.forever() {
+            let next = match self.next_below(until) {
+                Ok(next) => next,
+                Err(stop) => return Ok(stop),
+            };
+            let bound = until.min(next.saturating_add(slice));
+            let span = self.span(next, bound);
+            match self.write_window(rt, workers, gate, bound, sink) {
+                Ok(bytes) => written += bytes,
+                Err(fault) => return Err(told(fault, written)),
+            }
+            slice = next_slice(span, self.sheaf.len());
         }
+        unreachable!()
     }
 
     /// Runs windows by workers, and writes their lines, up to the run's end or until no event is
@@ -145,24 +220,10 @@ impl Course {
         ensures stays { StaysNet self.old.window self.new.window }
         ensures end { self.new.end ≡ self.old.end }
     {
-        let mut slice = FIRST_SLICE;
-        let mut written: u128 = 0;
-        for _ in rt.forever() {
-            let Some(next) = self.next() else {
-                return Ok(Stop::End);
-            };
-            if next >= until {
-                return Ok(Stop::Until);
-            }
-            let bound = until.min(next.saturating_add(slice));
-            match self.write_window(rt, workers, gate, bound, sink) {
-                Ok(window) => {
-                    written += window.bytes;
-                    slice = next_slice(slice, window.events);
-                }
-                Err(fault) => return Err(told(fault, written)),
-            }
+        if workers == 1 {
+            self.write_in_turn(rt, workers, gate, until, sink)
+        } else {
+            self.write_behind(rt, workers, gate, until, sink)
         }
-        unreachable!()
     }
 }

@@ -2,11 +2,13 @@
 #![tactic(auto)]
 
 mod advance;
+mod behind;
 mod course;
 mod engine;
 mod fault;
 mod gate;
 mod gather;
+mod meeting;
 mod pieces;
 mod put;
 mod sink;
@@ -19,6 +21,7 @@ mod text;
 pub use engine::Engine;
 pub use fault::{EngineFault, Stop};
 pub use gate::{Gate, OpenGate};
+pub use meeting::Meeting;
 pub use put::put_all;
 pub use sink::{OverWrite, Sink, SinkFail};
 pub use slice::{FIRST_SLICE, next_slice};

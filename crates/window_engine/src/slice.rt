@@ -1,23 +1,19 @@
 //! How much of the simulated time a window may span at most.
+ghost use Rattle.std.specs.Prelude.{◌≤◌};
 
 use sim_time::Time;
 
 /// The first slice, in nanoseconds.
 pub const FIRST_SLICE: Time = 1_000_000;
 
-/// With fewer events a window was short.
-const FEW: usize = 8_192;
+/// How many events a window is to have.
+const AIM: u64 = 20_480;
 
-/// With more events it was long.
-const MANY: usize = 32_768;
-
-/// The slice after a window of so many events: longer after a short one, shorter after a long one.
-pub fn next_slice(slice: Time, events: usize) -> Time {
-    if events < FEW {
-        slice.saturating_mul(2)
-    } else if events > MANY {
-        (slice / 4).max(1)
-    } else {
-        slice
-    }
+/// The slice after a window of so many nanoseconds and events: at their rate the next one has as
+/// many as it is to have; beyond some days it may be shorter. It is at most twice as long.
+pub fn next_slice(span: Time, events: usize) -> Time
+    ensures { 1 ≤ result }
+{
+    let fitting = span.saturating_mul(AIM) / (events as u64).max(1);
+    fitting.min(span.saturating_mul(2)).max(1)
 }

@@ -1,13 +1,12 @@
 ghost use Rattle.std.specs.Prelude.{◌≡◌, ◌<◌, ◌≤◌, length, IfOk};
 
-mod meeting;
 mod nets;
 
-use self::meeting::Meeting;
 use self::nets::{EQUAL_TIMES, ONE_SEGMENT, equal_times, one_flow, text_of, two_flows};
 use crate::engine::Engine;
 use crate::fault::{EngineFault, Stop};
 use crate::gate::{Gate, OpenGate};
+use crate::meeting::Meeting;
 use crate::sink::{OverWrite, Sink};
 use net_machine::Net;
 use scenario_image::Scenario;
@@ -175,7 +174,7 @@ fn two_workers_are_at_work_at_once(rt: HostRuntime) -> Result<(), Fail> {
     let mut sink = OverWrite::new(VecDeque::new(alloc));
     let stop = run_to(&rt, &mut engine, 2, &gate, u64::MAX, &mut sink);
     assert!(rt; stop == Ok(Stop::End));
-    assert!(rt; !gate.missed());
+    assert!(rt; gate.missed() == 0);
     Ok(())
 }
 
@@ -190,5 +189,43 @@ fn a_sink_that_fails_says_what_went_out(rt: HostRuntime) -> Result<(), Fail> {
     assert!(rt; engine.failed());
     let again = run_to(&rt, &mut engine, 2, &OpenGate, u64::MAX, &mut sink);
     assert!(rt; again == Err(EngineFault::Failed));
+    Ok(())
+}
+
+// Runs two flows by so many workers into a room of so many bytes, too few: they are the text's
+// first. The answer is how many events are committed.
+fn run_to_a_full_room<R: Threads + Wait + Abort + Sync>(
+    rt: &R,
+    alloc: Global,
+    scenario: &Scenario,
+    workers: usize,
+    text: &[u8],
+    size: usize,
+) -> Result<u64, Fail>
+    requires { (0 < workers) × (workers ≤ 64) }
+{
+    let mut engine = engine_of(rt, alloc, scenario, &[0, 0, 1, 1])?;
+    let mut room = vec![in alloc; 0u8; size]?;
+    let mut sink = OverWrite::new(room.as_mut_slice());
+    let fault = run_to(rt, &mut engine, workers, &OpenGate, u64::MAX, &mut sink);
+    let written = size as u128;
+    assert!(rt; fault == Err(EngineFault::Sink { written }));
+    assert_eq!(rt; text.get(..size), Some(room.as_slice()));
+    Ok(engine.position())
+}
+
+// The first room is full in the midst of the run, the second in the last window's text.
+#[test]
+fn a_full_room_has_the_first_bytes(rt: HostRuntime) -> Result<(), Fail> {
+    let alloc = rt.alloc();
+    let scenario = two_flows(alloc, 2_000)?;
+    let text = text_of(alloc, Net::new(alloc, &scenario)?)?;
+    let text = text.as_slice();
+    for size in [text.len() / 2, text.len().saturating_sub(1)] {
+        let one = run_to_a_full_room(&rt, alloc, &scenario, 1, text, size)?;
+        let two = run_to_a_full_room(&rt, alloc, &scenario, 2, text, size)?;
+        let three = run_to_a_full_room(&rt, alloc, &scenario, 3, text, size)?;
+        assert!(rt; two == one && three == one);
+    }
     Ok(())
 }

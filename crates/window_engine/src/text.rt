@@ -19,7 +19,7 @@ use std::thread::Threads;
 use trace_text::line_text;
 use window_core::{Cursor, Sheaf};
 
-/// Fewer lines are one part, for which no thread is started.
+/// For fewer lines no thread is started.
 const FEW: usize = 1_000;
 
 /// A part of a window's text.
@@ -92,6 +92,16 @@ impl Part {
         Ok(())
     }
 
+    /// Makes the text of all lines, by its own cursor. Its memory is used again.
+    fn make_all(&mut self, sheaf: &Sheaf) -> Result<(), AllocError>
+        requires fits { sheaf.now.first + length (merged sheaf.now).lines < 2 ^ 63 }
+        ensures { OnOk result (self.new.text.items ≡ text_from sheaf.now.first (merged sheaf.now).lines) }
+    {
+        self.text.clear();
+        sheaf.begin_at(&mut self.cursor, 0)?;
+        lines_text(sheaf, &mut self.cursor, sheaf.len(), &mut self.text)
+    }
+
     /// Makes the text of its lines. Its memory is used again.
     fn make(&mut self, sheaf: &Sheaf)
         requires ready { IsCutOut sheaf.now self.old }
@@ -124,18 +134,6 @@ fn fit(parts: &mut Vec<Part>, count: usize) -> Result<(), AllocError>
     Ok(())
 }
 
-/// When a part of so many is to begin, in nanoseconds. Few lines are all of the first.
-fn begins(sheaf: &Sheaf, part: usize, parts: usize) -> Time
-    requires { 0 < parts }
-    ensures { part ≡ 0 → result ≡ 0 }
-{
-    if part > 0 && sheaf.len() < FEW {
-        Time::MAX
-    } else {
-        sheaf.moment_at(part, parts)
-    }
-}
-
 /// Cuts the lines into parts, from the last part to the first: each goes up to where the next
 /// begins.
 fn cut(sheaf: &Sheaf, parts: &mut [Part]) -> Result<(), AllocError>
@@ -149,7 +147,7 @@ fn cut(sheaf: &Sheaf, parts: &mut [Part]) -> Result<(), AllocError>
     let mut number = count;
     while number > 0 {
         number -= 1;
-        let moment = begins(sheaf, number, count);
+        let moment = sheaf.moment_at(number, count);
         let part = &mut parts[number];
         part.begin(sheaf, moment, end)?;
         end = end.min(part.from);
@@ -188,7 +186,49 @@ fn any_refused(parts: &[Part]) -> bool
     false
 }
 
-/// Cuts the lines into the parts, and has threads make their text.
+/// Cuts the lines into the parts, and has so many threads make their text.
+fn make_apart<R: Threads + Sync>(
+    rt: &R,
+    threads: usize,
+    sheaf: &Sheaf,
+    parts: &mut [Part],
+) -> Result<(), AllocError>
+    requires threads { 0 < threads }
+    requires some { 0 < length parts.old }
+    requires fits { sheaf.now.first + length (merged sheaf.now).lines < 2 ^ 63 }
+    ensures count { length parts.new ≡ length parts.old }
+    ensures text { OnOk result (text_of parts.new ≡ text_from sheaf.now.first (merged sheaf.now).lines) }
+{
+    cut(sheaf, parts)?;
+    make_parts(rt, threads, sheaf, parts);
+    if any_refused(parts) {
+        return Err(AllocError);
+    }
+    Ok(())
+}
+
+/// Leaves the parts with no text.
+fn empty(parts: &mut [Part])
+    ensures count { length parts.new ≡ length parts.old }
+    ensures text { text_of parts.new ≡ [] }
+{
+    for part in parts.iter_mut() {
+        part.text.clear();
+    }
+}
+
+/// Makes the text of all lines on the calling thread, as that of the first part.
+fn make_whole(sheaf: &Sheaf, parts: &mut [Part]) -> Result<(), AllocError>
+    requires some { 0 < length parts.old }
+    requires fits { sheaf.now.first + length (merged sheaf.now).lines < 2 ^ 63 }
+    ensures count { length parts.new ≡ length parts.old }
+    ensures text { OnOk result (text_of parts.new ≡ text_from sheaf.now.first (merged sheaf.now).lines) }
+{
+    empty(parts);
+    parts[0].make_all(sheaf)
+}
+
+/// Makes the text of the lines: of few of them, or for one worker, on the calling thread.
 fn make_all<R: Threads + Sync>(
     rt: &R,
     workers: usize,
@@ -201,13 +241,11 @@ fn make_all<R: Threads + Sync>(
     ensures count { length parts.new ≡ length parts.old }
     ensures text { OnOk result (text_of parts.new ≡ text_from sheaf.now.first (merged sheaf.now).lines) }
 {
-    cut(sheaf, parts)?;
-    let threads = if sheaf.len() < FEW { 1 } else { workers };
-    make_parts(rt, threads, sheaf, parts);
-    if any_refused(parts) {
-        return Err(AllocError);
+    if workers == 1 || sheaf.len() < FEW {
+        make_whole(sheaf, parts)
+    } else {
+        make_apart(rt, workers, sheaf, parts)
     }
-    Ok(())
 }
 
 /// Makes the text of a window's lines, in as many parts as there are workers, and each by a thread

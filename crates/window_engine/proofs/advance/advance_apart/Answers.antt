@@ -1,28 +1,29 @@
 use Rattle.window_engine.proofs.Edge.{turned_edge, turned_stays, stays_both, went_on, left_none}
-use Rattle.std.proofs.Common.{ap, Err, ◌∙◌}
+use Rattle.std.proofs.lemmas.Result.{err_from_is_err_and}
 use Rattle.window_core.specs.Sheaves.{merged}
-use Rattle.window_core.specs.declared.window.turning.TurnFault.{TurnFault}
 use Rattle.window_engine.proofs.TooMany.{turn_full}
 use Rattle.window_engine.proofs.advance.advance_apart.Goals as goal
 
-pub returns-in-Ok-clause-edge : goal.returns-in-Ok-clause-edge
-returns-in-Ok-clause-edge g c = turned_edge c.run_groups.new.window c.turn_apart.new.self (merged c.turn_apart.new.sheaf) c.in_ok-run_groups.ensures.done.inside c.in-Ok.ensures.ok
+pub returns-clause-edge : goal.returns-clause-edge
+returns-clause-edge g c = turned_edge c.run_groups.new.window c.turn_done.new.window (merged c.turn_done.new.sheaf) c.in_ok-run_groups.ensures.done.inside c.in_ok-turn_done.ensures.turned
 
-pub returns-in-Ok-clause-gone : goal.returns-in-Ok-clause-gone
-returns-in-Ok-clause-gone g c =
-    went_on c.args.window.now c.run_groups.new.window c.turn_apart.new.self c.args.until (merged c.turn_apart.new.sheaf) c.requires.edge c.position-began.ensures.is_window c.in_ok-run_groups.ensures.done
-    c.in-Ok.ensures.ok c.in-Ok.ensures.run
+pub returns-clause-gone : goal.returns-clause-gone
+returns-clause-gone g c =
+    went_on c.args.window.now c.run_groups.new.window c.turn_done.new.window c.args.until (merged c.turn_done.new.sheaf) c.requires.edge c.position-began.ensures.is_window c.in_ok-run_groups.ensures.done
+    c.in_ok-turn_done.ensures.turned c.in_ok-turn_done.ensures.run
 
-pub returns-in-Ok-clause-none_left : goal.returns-in-Ok-clause-none_left
-returns-in-Ok-clause-none_left g c =
-    left_none c.args.window.now c.run_groups.new.window c.turn_apart.new.self c.args.until (merged c.turn_apart.new.sheaf) c.requires.edge c.position-began.ensures.is_window c.in_ok-run_groups.ensures.done
-    c.in-Ok.ensures.ok c.in-Ok.ensures.run
+pub returns-clause-none_left : goal.returns-clause-none_left
+returns-clause-none_left g c =
+    left_none c.args.window.now c.run_groups.new.window c.turn_done.new.window c.args.until (merged c.turn_done.new.sheaf) c.requires.edge c.position-began.ensures.is_window c.in_ok-run_groups.ensures.done
+    c.in_ok-turn_done.ensures.turned c.in_ok-turn_done.ensures.run
 
-pub returns-in-Ok-clause-stays : goal.returns-in-Ok-clause-stays
-returns-in-Ok-clause-stays g c =
-    stays_both c.args.window.now c.run_groups.new.window c.turn_apart.new.self c.in_ok-run_groups.ensures.stays (turned_stays c.run_groups.new.window c.turn_apart.new.self (merged c.turn_apart.new.sheaf) c.in-Ok.ensures.ok)
+pub returns-clause-stays : goal.returns-clause-stays
+returns-clause-stays g c =
+    stays_both c.args.window.now c.run_groups.new.window c.turn_done.new.window c.in_ok-run_groups.ensures.stays (turned_stays c.run_groups.new.window c.turn_done.new.window (merged c.turn_done.new.sheaf) c.in_ok-turn_done.ensures.turned)
 
-pub returns-in-Err-CountFull-clause-full : goal.returns-in-Err-CountFull-clause-full
-returns-in-Err-CountFull-clause-full g c is =
-    turn_full c.args.window.now c.run_groups.new.window c.args.until c.requires.edge c.position-began.ensures.is_window c.in_ok-run_groups.ensures.done
-    (c.turn_apart.ensures.full.0 (c.in-Err-CountFull.is ∙ ap (λ (f : TurnFault). Err f) c.in-Err-CountFull.field-0-is))
+pub returns-in_err-turn_done-clause-full : goal.returns-in_err-turn_done-clause-full
+returns-in_err-turn_done-clause-full g c =
+    let p = err_from_is_err_and c.from_residual-in_err-turn_done.result c.from_residual-in_err-turn_done.ensures.1 in
+    rw (p.1, p.2)
+    (λ is. turn_full c.args.window.now c.run_groups.new.window c.args.until c.requires.edge c.position-began.ensures.is_window c.in_ok-run_groups.ensures.done
+    (c.in_ok-run_groups.ensures.done.done, c.in_err-turn_done.ensures.full is))

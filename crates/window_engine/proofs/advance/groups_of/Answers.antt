@@ -11,8 +11,8 @@ loop-piece-preserved c =
     let rest = into_iter_items c.loop-piece.piece-iterator in
     let more = into_iter_items c.next.new.self in
     let is = c.in-Some.ensures.steps.0 in
-    let fired : AfterFirings c.in-Some.piece.began c.in-Some.piece.group = subst (AfterFirings c.in-Some.piece.began) c.into_group.ensures.group c.into_group.ensures.after in (
+    let fired : AfterFirings c.in-Some.piece.end c.in-Some.piece.began c.in-Some.piece.group = subst (AfterFirings c.in-Some.piece.end c.in-Some.piece.began) c.into_group.ensures.group c.into_group.ensures.after in (
       rw (c.push_reserved.ensures.items, c.into_group.ensures.group) (map_step (λ (p : PieceState). p.group) c.loop-piece.groups.items _ rest more c.in-Some.piece is was.0),
       omega (arith, ap length is, was.1, c.push_reserved.ensures.len, c.push_reserved.ensures.capacity),
-      λ all. was.2 (All-more (λ (p : PieceState). AfterFirings p.began p.group) rest more c.in-Some.piece is fired all),
+      λ all. was.2 (All-more (λ (p : PieceState). AfterFirings p.end p.began p.group) rest more c.in-Some.piece is fired all),
     )

@@ -10,9 +10,10 @@ use Rattle.window_engine.proofs.advance.run_apart.Goals as goal
 pub put_groups-requires-clause-fired : goal.put_groups-requires-clause-fired
 put_groups-requires-clause-fired g c =
     let lent_is = ap (λ (w : WindowValue). w.groups) c.take_groups.ensures.state ∙ sym c.take_groups.ensures.groups in
+    let ends : c.take_groups.new.self.until ≡ c.end-end.result = ap (λ (w : WindowValue). w.until) c.take_groups.ensures.state ∙ sym c.end-end.ensures in
     let fired = come_back c.end-end.result c.take_groups.result.items c.in_ok-pieces.pieces.items c.in_ok-done.done.items c.in_ok-groups_of.field-0.items
     c.in_ok-pieces.ensures c.in_ok-done.ensures.done c.in_ok-groups_of.ensures.groups c.in_ok-groups_of.ensures.after in
-    rw lent_is fired
+    rw (lent_is, ends) fired
 
 pub returns-clause-done : goal.returns-clause-done
 returns-clause-done g c =

@@ -1,5 +1,5 @@
 use Rattle.window_engine.proofs.Parted.{all_text}
-use Rattle.window_engine.proofs.text.make_all.Goals as goal
+use Rattle.window_engine.proofs.text.make_apart.Goals as goal
 
 pub returns-clause-text : goal.returns-clause-text
 returns-clause-text g c =

@@ -2,7 +2,7 @@
 use Rattle.std.proofs.Common.{◌≡◌}
 use Rattle.window_engine.specs.Edges.{StaysNet, reached_in}
 use Rattle.window_engine.specs.Courses.{AtRest, Wrote}
-use Rattle.window_engine.proofs.course.Course.write_windows.Given as goal
+use Rattle.window_engine.proofs.course.Course.write_in_turn.Given as goal
 
 abbrev pub invariant-loop : goal.invariant-loop
 invariant-loop g l =

@@ -1,0 +1,81 @@
+use Rattle.std.proofs.Common.{ap, subst, sym, ◌∙◌, ◌≡◌, ◌≤◌, ℕ, List, IfErr, OnOk}
+use Rattle.std.proofs.lemmas.Result.{err_from_is_err_and}
+use Rattle.window_core.specs.Full.{HasTooMany}
+use Rattle.window_core.specs.Partition.{groups_of}
+use Rattle.window_core.specs.Sheaves.{merged}
+use Rattle.window_core.specs.Window.{WindowValue}
+use Rattle.window_engine.specs.declared.course.Course.{Course}
+use Rattle.window_engine.specs.declared.fault.EngineFault.TheVariants.{CountFull}
+use Rattle.window_engine.specs.Edges.{StaysNet, reached_in}
+use Rattle.window_engine.specs.Laid.{IsDoneBy}
+use Rattle.window_engine.specs.Outcomes.{IsOfWorkers}
+use Rattle.window_engine.proofs.Edge.{stays_both, turned_edge, went_on}
+use Rattle.window_engine.proofs.TooMany.{turn_full, workers_full}
+use Rattle.window_engine.proofs.Unwritten.{all_committed, full_before, wrote_to_edge}
+use Rattle.window_engine.proofs.course.Course.write_and_run.Goals as goal
+
+pub returns-in_err-bytes-clause-broke : goal.returns-in_err-bytes-clause-broke
+returns-in_err-bytes-clause-broke g c =
+    let was = c.requires.behind in
+    let p = err_from_is_err_and c.from_residual.result c.from_residual.ensures.1 in
+    rw (p.1, p.2) (c.in_err-bytes.ensures.broke (reached_in c.args.before.now.value) (reached_in c.args.self.now.window) was.gone was.committed)
+
+pub returns-in-Err-clause-broke : goal.returns-in-Err-clause-broke
+returns-in-Err-clause-broke g c =
+    let contents = g.S.Sink.contents in
+    let was = c.requires.behind in
+    let net = reached_in c.args.before.now.value in (
+      wrote_to_edge net c.args.self.now was c.put_made.new.self.position c.in_ok-bytes.bytes (contents c.args.sink.now) (contents c.put_made.new.sink)
+          c.in_ok-bytes.ensures.position (c.in_ok-bytes.ensures.wrote net (reached_in c.args.self.now.window) was.gone),
+      subst (λ r. IfErr r IsOfWorkers) c.in-Err.is c.run_and_make-ran.ensures.no_sink,
+    )
+
+pub returns-in-Err-clause-full : goal.returns-in-Err-clause-full
+returns-in-Err-clause-full g c =
+    let was = c.requires.behind in
+    let net = reached_in c.args.before.now.value in
+    let full = subst (λ r. IfErr r (λ fault. fault ≡ CountFull → HasTooMany (reached_in c.args.self.now.window))) c.in-Err.is c.run_and_make-ran.ensures.full in
+    workers_full net c.in-Err.fault (λ is. full_before net c.args.self.now was (full is))
+
+pub returns-in-Err-turn_done-clause-broke : goal.returns-in-Err-turn_done-clause-broke
+returns-in-Err-turn_done-clause-broke g c =
+    let contents = g.S.Sink.contents in
+    let was = c.requires.behind in
+    let net = reached_in c.args.before.now.value in (
+      wrote_to_edge net c.args.self.now was c.put_made.new.self.position c.in_ok-bytes.bytes (contents c.args.sink.now) (contents c.put_made.new.sink)
+          c.in_ok-bytes.ensures.position (c.in_ok-bytes.ensures.wrote net (reached_in c.args.self.now.window) was.gone),
+      c.in-Err-turn_done.ensures.no_sink,
+    )
+
+pub returns-in-Err-turn_done-clause-full : goal.returns-in-Err-turn_done-clause-full
+returns-in-Err-turn_done-clause-full g c =
+    let was = c.requires.behind in
+    let v = c.args.self.now.window in
+    let w = c.put_made.new.self.window in
+    let ran = c.run_and_make-ran.new.window in
+    let same : w ≡ ran = ap (λ (x : Course). x.window) c.put_made.ensures.rest in
+    let done : IsDoneBy c.args.until v w = subst (IsDoneBy c.args.until v) (sym same) (subst (λ r. OnOk r (IsDoneBy c.args.until v ran)) c.in-Ok.is c.run_and_make-ran.ensures.done) in
+    let net = reached_in c.args.before.now.value in
+    workers_full net c.in-Err-turn_done.fault
+    (λ is. full_before net c.args.self.now was (turn_full v w c.args.until was.edge c.position-began.ensures.is_window done (done.done, c.in-Err-turn_done.ensures.full is)))
+
+pub returns-clause-behind : goal.returns-clause-behind
+returns-clause-behind g c =
+    let was = c.requires.behind in
+    let v = c.args.self.now.window in
+    let w = c.put_made.new.self.window in
+    let u = c.turn_done.new.window in
+    let ran = c.run_and_make-ran.new.window in
+    let lines = merged c.turn_done.new.sheaf in
+    let same : w ≡ ran = ap (λ (x : Course). x.window) c.put_made.ensures.rest in
+    let done : IsDoneBy c.args.until v w = subst (IsDoneBy c.args.until v) (sym same) (subst (λ r. OnOk r (IsDoneBy c.args.until v ran)) c.in-Ok.is c.run_and_make-ran.ensures.done) in
+    let stays = stays_both v w u (subst (StaysNet v) (sym same) c.run_and_make-ran.ensures.stays) c.turn_done.ensures.stays in
+    let turned = c.in-Ok-turn_done.ensures.turned in
+    record {
+      edge = turned_edge w u lines done.inside turned;
+      gone = went_on v w u c.args.until lines was.edge c.position-began.ensures.is_window done turned c.in-Ok-turn_done.ensures.run;
+      committed = all_committed (reached_in c.args.before.now.value) c.args.self.now was c.put_made.new.self.position c.in_ok-bytes.ensures.position;
+      few = c.position-turned.ensures.is_window.split.fits;
+      end = ap (λ (x : Course). x.end) c.put_made.ensures.rest ∙ was.end ∙ sym stays.end;
+      groups = subst (λ (l : List ℕ). groups_of l ≤ 64) (sym stays.entries) was.groups;
+    }
