@@ -1,7 +1,6 @@
 //! Sessions whose answers were worked out by hand from the tables, with several groups and workers.
 
 mod at_once;
-mod meeting;
 mod texts;
 
 use self::texts::{ONE_SEGMENT, TWO_FLOWS};

@@ -4,7 +4,6 @@ mod broken;
 mod debug;
 mod groups;
 mod images;
-mod meeting;
 mod networks;
 mod texts;
 pub(crate) mod traces;

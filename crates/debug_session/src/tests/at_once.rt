@@ -1,6 +1,5 @@
 //! Two workers are at the pieces of a move's windows at once.
 
-use super::meeting::Meeting;
 use super::texts::{ONE_SEGMENT, TWO_FLOWS};
 use crate::split;
 use debugger::Debugger;
@@ -10,6 +9,14 @@ use std::sync::Wait;
 use std::test::Fail;
 use std::thread::Threads;
 use window_core::Partition;
+use window_engine::Meeting;
+
+/// Pieces 0 and 1 were both entered three times at least, and nobody went on alone.
+fn expect_met<R: Abort>(rt: &R, gate: &Meeting) {
+    let (zero, one) = gate.entered();
+    assert!(rt; zero >= 3 && one >= 3);
+    assert_eq!(rt; gate.missed(), 0);
+}
 
 /// Moves to the end of a run of so many events, by `run` and, from the beginning again, by `until`.
 /// Each move has three windows at least.
@@ -17,13 +24,13 @@ fn expect_meetings<R: Abort + Threads + Wait + Sync>(rt: &R, debugger: &mut Debu
     let gate = Meeting::new();
     let moved = debugger.run(rt, &gate);
     assert!(rt; moved == Ok(events));
-    gate.expect_met(rt, 3);
+    expect_met(rt, &gate);
     let moved = debugger.back(events);
     assert!(rt; moved == Ok(0));
     let gate = Meeting::new();
     let moved = debugger.until(rt, &gate, u64::MAX);
     assert!(rt; moved == Ok(events));
-    gate.expect_met(rt, 3);
+    expect_met(rt, &gate);
 }
 
 /// The moves of a debugger with two workers and a group for each node.

@@ -11,8 +11,8 @@ use std::alloc::{AllocError, Global};
 use std::test::Fail;
 use window_engine::OverWrite;
 
-/// Two flows whose events come at the same moments.
-const EQUAL_TIMES: &str = "sim 2040001
+/// Two flows over a router, whose events come at the same moments.
+pub(super) const EQUAL_TIMES: &str = "sim 2040001
 node s sender
 node t sender
 node q router
@@ -35,7 +35,7 @@ route q t i
 ";
 
 /// The node decides, lines 1 to 4, and then the link that a packet came over, lines 5 and 6.
-const EQUAL_TIMES_TRACE: &str =
+pub(super) const EQUAL_TIMES_TRACE: &str =
     "1 0 0 0 0 start 0 una=0 nxt=1000 cwnd=4000 ssthresh=64000 phase=ss tx=0:0:0
 2 0 1 0 0 start 1 una=0 nxt=1000 cwnd=4000 ssthresh=64000 phase=ss tx=1:1:0
 3 1040000 0 0 3 free 0 una=0 nxt=1000 cwnd=4000 ssthresh=64000 phase=ss

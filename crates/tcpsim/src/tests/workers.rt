@@ -1,6 +1,6 @@
 //! What the command line says of workers and groups: who runs what changes no byte.
 
-use super::meeting::Meeting;
+use super::networks::{EQUAL_TIMES, EQUAL_TIMES_TRACE};
 use super::{FIRST, FIRST_TRACE, expect_words};
 use crate::session::{run_all, run_with};
 use crate::source::OverRead;
@@ -10,40 +10,7 @@ use std::process::Abort;
 use std::sync::Wait;
 use std::test::Fail;
 use std::thread::Threads;
-use window_engine::OverWrite;
-
-/// Two flows over a router, whose events come at the same moments.
-const TOGETHER: &str = "sim 2040001
-node s sender
-node t sender
-node q router
-node u receiver
-node v receiver
-link a s q 8000000 1000000 droptail 10
-link b t q 8000000 1000000 droptail 10
-link c q u 8000000 1000000 droptail 10
-link d u q 8000000 1000000 droptail 10
-link e q v 8000000 1000000 droptail 10
-link g v q 8000000 1000000 droptail 10
-link h q s 8000000 1000000 droptail 10
-link i q t 8000000 1000000 droptail 10
-flow x s u 1000 1 0 64000 0
-flow y t v 1000 1 0 64000 0
-route q u c
-route q v e
-route q s h
-route q t i
-";
-
-const TOGETHER_TRACE: &str =
-    "1 0 0 0 0 start 0 una=0 nxt=1000 cwnd=4000 ssthresh=64000 phase=ss tx=0:0:0
-2 0 1 0 0 start 1 una=0 nxt=1000 cwnd=4000 ssthresh=64000 phase=ss tx=1:1:0
-3 1040000 0 0 3 free 0 una=0 nxt=1000 cwnd=4000 ssthresh=64000 phase=ss
-4 1040000 1 0 3 free 1 una=0 nxt=1000 cwnd=4000 ssthresh=64000 phase=ss
-5 2040000 2 1 1 data 0 0 tx=2:0:0
-6 2040000 2 2 1 data 1 0 tx=4:1:0
-end 6
-";
+use window_engine::{Meeting, OverWrite};
 
 #[test]
 fn one_segment_goes_as_before_by_any_workers(rt: HostRuntime) -> Result<(), Fail> {
@@ -81,7 +48,7 @@ fn options_are_written_in_several_ways(rt: HostRuntime) -> Result<(), Fail> {
 
 #[test]
 fn equal_times_have_one_order_by_any_workers(rt: HostRuntime) -> Result<(), Fail> {
-    let (text, trace) = (TOGETHER.as_bytes(), TOGETHER_TRACE.as_bytes());
+    let (text, trace) = (EQUAL_TIMES.as_bytes(), EQUAL_TIMES_TRACE.as_bytes());
     for groups in ["one", "each", "0,1,0,1,0", "5,5,63,0,0"] {
         for workers in ["1", "2", "64"] {
             let words = ["tcpsim", "run", "--groups", groups, "--workers", workers];
@@ -214,14 +181,14 @@ fn two_workers_are_at_their_pieces_at_once(rt: HostRuntime) -> Result<(), Fail> 
     let mut out = Vec::new(rt.alloc());
     let outcome = run_with(
         &rt,
-        &mut OverRead::new(TOGETHER.as_bytes()),
+        &mut OverRead::new(EQUAL_TIMES.as_bytes()),
         &mut OverWrite::new(&mut out),
         ["tcpsim", "run", "--workers", "2", "--groups", "each"].as_slice(),
         &gate,
     );
     assert_eq!(rt; outcome.status, 0);
     assert!(rt; outcome.note.is_none());
-    assert_eq!(rt; out.as_slice(), TOGETHER_TRACE.as_bytes());
+    assert_eq!(rt; out.as_slice(), EQUAL_TIMES_TRACE.as_bytes());
     assert_eq!(rt; gate.missed(), 0);
     let (zero, one) = gate.entered();
     assert!(rt; zero >= 3 && one >= 3, "{zero} and {one}");
