@@ -59,11 +59,11 @@ def events_of(program, path):
 
 
 def windows(program, path, groups):
-    """How many windows a run has. In each n workers are n threads, and where its text is made in parts,
-    n - 1 more."""
+    """How many windows a run has. In each n workers are n threads, one more makes the text of the window
+    before, and where that is in parts n - 1 others help it."""
     two, three = (ran(program, path, ('--workers', str(n), *groups), ('strace', '-f', '-qq', '-e', 'trace=clone3'))
                   .count('clone3(') for n in (2, 3))
-    return 2 * two - three
+    return (2 * two - three) // 2
 
 
 def seconds(kinds, rounds, before):
