@@ -1,110 +1,167 @@
 -- A text that is made in parts, and written part by part.
-use Rattle.std.proofs.Common.{◌≡◌, ◌≤◌, ◌<◌, ◌+◌, ◌⊎◌, ⊎_elim, ℕ, zero, suc, List, [], ◌∷◌, ◌++◌, All, length, set, take, drop, get_or, Option, refl, sym, ap, subst, ◌∙◌, arith, false, append_assoc, append-nil, length-append}
-use Rattle.std.proofs.lemmas.List.{take_more, take_more_set, take_all, take-append-drop, take-append-le, drop_more, drop-drop, drop_all, length-take, length-drop}
+use Rattle.std.proofs.Common.{◌≡◌, ◌≤◌, ◌<◌, ◌+◌, ◌-◌, ℕ, zero, suc, List, [], ◌∷◌, ◌++◌, All, length, set, take, drop, get_or, Option, refl, sym, ap, subst, ◌∙◌, arith, append_assoc, append-nil, length-append}
+use Rattle.std.proofs.lemmas.List.{take_more, take_more_set, take_all, take-append-drop, take-append-le, drop_more, drop-append-le, drop_at, length-take, length-drop}
+use lib.Seq.{take-add}
+use Rattle.std.proofs.lemmas.List.Elements.{All-cons, All-nil, All-push, All-weaker}
 use Rattle.std.specs.Io.KnownBytes.{Appends}
 use Rattle.window_core.specs.Sheaves.{SheafValue, merged}
-use Rattle.window_engine.specs.declared.text.Part.{Part}
-use Rattle.window_engine.specs.Parts.{Covers, IsMade, text_of}
+use Rattle.window_engine.specs.declared.scribe.Part.{Part}
+use Rattle.window_engine.specs.declared.scribe.Scribe.{Scribe}
+use Rattle.window_engine.specs.declared.text.Place.{Place}
+use Rattle.window_engine.specs.Parts.{AreRight, HasText, IsIn, IsInside, IsPlaceAt, IsRight, bytes_at, bytes_in, text_at, text_of}
 use Rattle.window_engine.specs.Puts.{TakesFirst}
 use Rattle.window_engine.specs.Text.{text_from}
 use Rattle.window_engine.proofs.Bytes.{appends_more, take_past}
 use Rattle.window_engine.proofs.Numbered.{text_both}
 
-text_of-append : (ps qs : List Part) → text_of (ps ++ qs) ≡ text_of ps ++ text_of qs
-text_of-append [] qs = refl
-text_of-append (p ∷ ps) qs = ap (λ l. p.text.items ++ l) (text_of-append ps qs) ∙ sym (append_assoc p.text.items (text_of ps) (text_of qs))
+-- a part's bytes stay where text is appended
+bytes_kept : (text more : List ℕ) (part : Part) → IsIn text part → bytes_in (text ++ more) part ≡ bytes_in text part
+bytes_kept text more part is =
+    let start = is.start in
+    let end = is.end in
+    ap (take (part.end - part.start)) (drop-append-le part.start text more (omega (arith, start, end)))
+    ∙ take-append-le (part.end - part.start) (drop part.start text) more (omega (arith, start, end, length-drop part.start text))
 
--- the parts so far, and the next
-pub text_of-more : (ps : List Part) (i : ℕ) (d : Part) → i < length ps → text_of (take (i + 1) ps) ≡ text_of (take i ps) ++ (get_or ps i d).text.items
-text_of-more ps i d l =
-    ap text_of (take_more ps i d l)
-    ∙ text_of-append (take i ps) (get_or ps i d ∷ [])
-    ∙ ap (λ (bytes : List ℕ). text_of (take i ps) ++ bytes) (append-nil (get_or ps i d).text.items)
+has_kept : (s : SheafValue) (old more new : List ℕ) → new ≡ old ++ more → (part : Part) → HasText s old part → HasText s new part
+has_kept s old more new is part has =
+    let end = has.inside.end in
+    let long : length new ≡ length old + length more = ap length is ∙ length-append old more in
+    record {
+      inside = record { start = has.inside.start; end = omega (arith, end, long) };
+      within = has.within;
+      is = ap (λ (l : List ℕ). bytes_in l part) is ∙ bytes_kept old more part has.inside ∙ has.is;
+    }
 
--- the parts so far have no text, nor has the one that is put next
-pub text_of-none : (ps : List Part) (i : ℕ) (p : Part) → i < length ps → text_of (take i ps) ≡ [] → p.text.items ≡ [] → text_of (take (i + 1) (set ps i p)) ≡ []
-text_of-none ps i p l none empty =
-    ap text_of (take_more_set ps i p l)
-    ∙ text_of-append (take i ps) (p ∷ [])
-    ∙ (λ j. none j ++ (empty j ++ []))
+-- so do those of all parts
+pub right_kept : (s : SheafValue) (old more new : List ℕ) (parts : List Part) → new ≡ old ++ more → All (HasText s old) parts → All (HasText s new) parts
+right_kept s old more new parts is all = All-weaker (HasText s old) (HasText s new) (has_kept s old more new is) parts all
 
-nil_right : (xs ys : List ℕ) → xs ++ ys ≡ [] → ys ≡ []
-nil_right [] ys e = e
-nil_right (x ∷ xs) ys e = absurd (cc)
+-- what is appended is the last part's
+pub has_appended : (s : SheafValue) (old new : List ℕ) (part : Part) → part.start ≡ length old → part.end ≡ length new → part.from + part.count ≤ length (merged s).lines
+    → new ≡ old ++ text_from (s.first + part.from) (take part.count (drop part.from (merged s).lines)) → HasText s new part
+has_appended s old new part start end within is =
+    let more = text_from (s.first + part.from) (take part.count (drop part.from (merged s).lines)) in
+    let long : length new ≡ length old + length more = ap length is ∙ length-append old more in
+    let count : part.end - part.start ≡ length more = omega (arith, start, end, long) in
+    record {
+      inside = record { start = omega (arith, start, end, long); end = omega (arith, end) };
+      within = within;
+      is =
+          ap (λ n. take n (drop part.start new)) count
+          ∙ ap (λ n. take (length more) (drop n new)) start
+          ∙ ap (λ (l : List ℕ). take (length more) (drop (length old) l)) is
+          ∙ ap (take (length more)) (drop_at old more (length old) refl)
+          ∙ take_all (length more) more (omega arith);
+    }
 
--- the first part alone has a text
-pub text_of-first : (ps : List Part) (p : Part) → 0 < length ps → text_of ps ≡ [] → text_of (set ps 0 p) ≡ p.text.items
-text_of-first [] p some none = absurd (omega (arith, some))
-text_of-first (q ∷ ps) p some none = ap (λ (bytes : List ℕ). p.text.items ++ bytes) (nil_right q.text.items (text_of ps) none) ∙ append-nil p.text.items
+-- a thread that made no part
+right_none : (s : SheafValue) (scribe : Scribe) → scribe.parts.items ≡ [] → IsRight s scribe
+right_none s scribe none = subst (All (HasText s scribe.text.items)) (sym none) (All-nil (HasText s scribe.text.items))
 
--- the parts so far, the next and the rest
-text_of-rest : (ps : List Part) (i : ℕ) (d : Part) → i < length ps → text_of ps ≡ text_of (take i ps) ++ ((get_or ps i d).text.items ++ text_of (drop (i + 1) ps))
-text_of-rest ps i d l =
-    ap text_of (sym (take-append-drop i ps))
-    ∙ text_of-append (take i ps) (drop i ps)
-    ∙ ap (λ (qs : List Part). text_of (take i ps) ++ text_of qs) (drop_more ps i d l)
+-- one more made none
+pub rights_none : (s : SheafValue) (scribes : List Scribe) (i : ℕ) (scribe : Scribe) → i < length scribes → AreRight s (take i scribes) → scribe.parts.items ≡ [] → AreRight s (take (i + 1) (set scribes i scribe))
+rights_none s scribes i scribe l all none = subst (AreRight s) (sym (take_more_set scribes i scribe l)) (All-push (IsRight s) (take i scribes) scribe all (right_none s scribe none))
 
--- a part more was taken
-pub part_taken : (ps : List Part) (i : ℕ) (d : Part) (a b c : Option (List ℕ)) → i < length ps → Appends a b (text_of (take i ps)) → Appends b c (get_or ps i d).text.items → Appends a c (text_of (take (i + 1) ps))
-part_taken ps i d a b c l h k = subst (Appends a c) (sym (text_of-more ps i d l)) (appends_more a b c (text_of (take i ps)) (get_or ps i d).text.items h k)
+-- the text of a thread by its number
+pub text_at-is : (scribes : List Scribe) (i : ℕ) (d : Scribe) → i < length scribes → text_at scribes i ≡ (get_or scribes i d).text.items
+text_at-is [] i d l = absurd (omega (arith, l))
+text_at-is (s ∷ ss) zero d l = refl
+text_at-is (s ∷ ss) (suc i) d l = text_at-is ss i d (omega (arith, l))
 
--- the first bytes of a part were taken
-pub part_broken : (ps : List Part) (i done n : ℕ) (d : Part) (a b c : Option (List ℕ)) → i < length ps → done ≡ length (text_of (take i ps)) → Appends a b (text_of (take i ps)) → TakesFirst n (get_or ps i d).text.items b c
-    → TakesFirst (done + n) (text_of ps) a c
-part_broken ps i done n d a b c l count h k =
-    let before = text_of (take i ps) in
-    let part = (get_or ps i d).text.items in
-    let rest = text_of (drop (i + 1) ps) in
-    let all : text_of ps ≡ before ++ (part ++ rest) = text_of-rest ps i d l in
+-- a place of nothing
+abbrev pub none : Place
+none = record { scribe = 0; part = record { from = 0; count = 0; start = 0; end = 0 } }
+
+text_of-append : (ss : List Scribe) (ps qs : List Place) → text_of ss (ps ++ qs) ≡ text_of ss ps ++ text_of ss qs
+text_of-append ss [] qs = refl
+text_of-append ss (p ∷ ps) qs = ap (λ l. bytes_at ss p ++ l) (text_of-append ss ps qs) ∙ sym (append_assoc (bytes_at ss p) (text_of ss ps) (text_of ss qs))
+
+-- a place more
+pub text_of-push : (ss : List Scribe) (ps : List Place) (p : Place) → text_of ss (ps ++ p ∷ []) ≡ text_of ss ps ++ bytes_at ss p
+text_of-push ss ps p = text_of-append ss ps (p ∷ []) ∙ ap (λ (bytes : List ℕ). text_of ss ps ++ bytes) (append-nil (bytes_at ss p))
+
+-- the places so far, and the next
+pub text_of-more : (ss : List Scribe) (ps : List Place) (i : ℕ) (d : Place) → i < length ps → text_of ss (take (i + 1) ps) ≡ text_of ss (take i ps) ++ bytes_at ss (get_or ps i d)
+text_of-more ss ps i d l = ap (text_of ss) (take_more ps i d l) ∙ text_of-push ss (take i ps) (get_or ps i d)
+
+-- the places so far, the next and the rest
+text_of-rest : (ss : List Scribe) (ps : List Place) (i : ℕ) (d : Place) → i < length ps → text_of ss ps ≡ text_of ss (take i ps) ++ (bytes_at ss (get_or ps i d) ++ text_of ss (drop (i + 1) ps))
+text_of-rest ss ps i d l =
+    ap (text_of ss) (sym (take-append-drop i ps))
+    ∙ text_of-append ss (take i ps) (drop i ps)
+    ∙ ap (λ (qs : List Place). text_of ss (take i ps) ++ text_of ss qs) (drop_more ps i d l)
+
+-- the bytes of a place more were taken
+pub part_taken : (ss : List Scribe) (ps : List Place) (i : ℕ) (d : Place) (a b c : Option (List ℕ)) → i < length ps → Appends a b (text_of ss (take i ps)) → Appends b c (bytes_at ss (get_or ps i d))
+    → Appends a c (text_of ss (take (i + 1) ps))
+part_taken ss ps i d a b c l h k = subst (Appends a c) (sym (text_of-more ss ps i d l)) (appends_more a b c (text_of ss (take i ps)) (bytes_at ss (get_or ps i d)) h k)
+
+-- the first bytes of a place were taken
+pub part_broken : (ss : List Scribe) (ps : List Place) (i done n : ℕ) (d : Place) (a b c : Option (List ℕ)) → i < length ps → done ≡ length (text_of ss (take i ps)) → Appends a b (text_of ss (take i ps))
+    → TakesFirst n (bytes_at ss (get_or ps i d)) b c → TakesFirst (done + n) (text_of ss ps) a c
+part_broken ss ps i done n d a b c l count h k =
+    let before = text_of ss (take i ps) in
+    let part = bytes_at ss (get_or ps i d) in
+    let rest = text_of ss (drop (i + 1) ps) in
+    let all : text_of ss ps ≡ before ++ (part ++ rest) = text_of-rest ss ps i d l in
     let within = k.0 in
-    let first : take (done + n) (text_of ps) ≡ before ++ take n part =
-    ap (λ m. take (m + n) (text_of ps)) count ∙ ap (take (length before + n)) all ∙ take_past n before (part ++ rest) ∙ ap (λ (bytes : List ℕ). before ++ bytes) (take-append-le n part rest within)
+    let first : take (done + n) (text_of ss ps) ≡ before ++ take n part =
+    ap (λ m. take (m + n) (text_of ss ps)) count ∙ ap (take (length before + n)) all ∙ take_past n before (part ++ rest) ∙ ap (λ (bytes : List ℕ). before ++ bytes) (take-append-le n part rest within)
     in (
       omega (arith, within, count, ap length all, length-append before (part ++ rest), length-append part rest),
       subst (Appends a c) (sym first) (appends_more a b c before (take n part) h k.1),
     )
 
-covers_to : (ps : List Part) (from end : ℕ) → Covers from ps end → from ≤ end
-covers_to [] from end c = omega (arith, c)
-covers_to (p ∷ ps) from end c = let l = covers_to ps (from + p.count) end c.1 in omega (arith, l)
-
--- a part that is made, of parts that have all lines from an index on, has the text of the lines there
-part_text : (s : SheafValue) (from : ℕ) (old new : Part) → (old.count ≡ 0) ⊎ (old.from ≡ from) → IsMade s old new → new.refused ≡ false → new.text.items ≡ text_from (s.first + from) (take old.count (drop from (merged s).lines))
-part_text s from old new at made ok =
+-- the part of a thread's that begins with a line is at its place
+pub is_place : (s : SheafValue) (ss : List Scribe) (at i : ℕ) (d : Scribe) (part : Part) → i < length ss → HasText s (get_or ss i d).text.items part → part.from ≡ at → 0 < part.count
+    → IsPlaceAt s ss at (record { scribe = i; part = part })
+is_place s ss at i d part l has from some =
     let lines = (merged s).lines in
-    made.text ok
-    ∙ ap (λ n. text_from (s.first + n) (take new.count (drop n lines))) made.from
-    ∙ ap (λ n. text_from (s.first + old.from) (take n (drop old.from lines))) made.count
-    ∙ ⊎_elim
-    (λ (none : old.count ≡ 0). ap (λ n. text_from (s.first + old.from) (take n (drop old.from lines))) none ∙ sym (ap (λ n. text_from (s.first + from) (take n (drop from lines))) none))
-    (λ (is : old.from ≡ from). ap (λ n. text_from (s.first + n) (take old.count (drop n lines))) is)
-    at
+    let text = text_at-is ss i d l in
+    let within = has.within in
+    record {
+      inside = record { scribe = l; part = subst (λ (t : List ℕ). IsIn t part) (sym text) has.inside };
+      some = some;
+      within = omega (arith, within, from);
+      is =
+          ap (λ (t : List ℕ). bytes_in t part) text
+          ∙ has.is
+          ∙ ap (λ n. text_from (s.first + n) (take part.count (drop n lines))) from;
+    }
 
--- parts that have all lines from an index on, once they are made, have the text of those
-parts_text : (s : SheafValue) (olds news : List Part) (from : ℕ) → length news ≡ length olds → Covers from olds (length (merged s).lines)
-    → ((i : ℕ) (d : Part) → i < length olds → IsMade s (get_or olds i d) (get_or news i d)) → All (λ (p : Part). p.refused ≡ false) news
-    → text_of news ≡ text_from (s.first + from) (drop from (merged s).lines)
-parts_text s [] [] from many covers each made = ap (text_from (s.first + from)) (sym (drop_all from (merged s).lines (omega (arith, covers))))
-parts_text s [] (q ∷ qs) from many covers each made = absurd (omega (arith, many))
-parts_text s (p ∷ ps) [] from many covers each made = absurd (omega (arith, many))
-parts_text s (p ∷ ps) (q ∷ qs) from many covers each made =
+-- no line is before the first
+pub text_of_none : (s : SheafValue) → [] ≡ text_from s.first (take 0 (merged s).lines)
+text_of_none s = refl
+
+-- the text up to a line, and the part that begins there
+pub text_up_to : (s : SheafValue) (ss : List Scribe) (ps : List Place) (at : ℕ) (p : Place) → text_of ss ps ≡ text_from s.first (take at (merged s).lines) → IsPlaceAt s ss at p
+    → text_of ss (ps ++ p ∷ []) ≡ text_from s.first (take (at + p.part.count) (merged s).lines)
+text_up_to s ss ps at p so_far is =
     let lines = (merged s).lines in
-    let rest = drop from lines in
-    let mine : q.text.items ≡ text_from (s.first + from) (take p.count rest) = part_text s from p q covers.0 (each 0 p (omega arith)) (made 0 p (omega arith)) in
-    let to : from + p.count ≤ length lines = covers_to ps (from + p.count) (length lines) covers.1 in
-    let theirs = parts_text s ps qs (from + p.count) (omega (arith, many)) covers.1 (λ i d l. each (suc i) d (omega (arith, l))) (λ i d l. made (suc i) d (omega (arith, l))) in
-    let number : s.first + (from + p.count) ≡ s.first + from + length (take p.count rest) = omega (arith, to, length-take p.count rest, length-drop from lines) in
-    ap (λ (bytes : List ℕ). bytes ++ text_of qs) mine
-    ∙ ap (λ (bytes : List ℕ). text_from (s.first + from) (take p.count rest) ++ bytes)
-    (theirs ∙ ap (λ n. text_from n (drop (from + p.count) lines)) number
-    ∙ ap (text_from (s.first + from + length (take p.count rest))) (sym (drop-drop p.count from lines)))
-    ∙ sym (text_both (s.first + from) (take p.count rest) (drop p.count rest))
-    ∙ ap (text_from (s.first + from)) (take-append-drop p.count rest)
+    let n = p.part.count in
+    let within = is.within in
+    let many : length (take at lines) ≡ at = omega (arith, within, length-take at lines) in
+    let both : take (at + n) lines ≡ take at lines ++ take n (drop at lines) = take-add at n lines in
+    text_of-push ss ps p
+    ∙ (λ k. so_far k ++ is.is k)
+    ∙ ap (λ m. text_from s.first (take at lines) ++ text_from (s.first + m) (take n (drop at lines))) (sym many)
+    ∙ sym (text_both s.first (take at lines) (take n (drop at lines)))
+    ∙ ap (text_from s.first) (sym both)
 
--- parts that have all lines have the text of the sheaf
-pub all_text : (s : SheafValue) (olds news : List Part) → length news ≡ length olds → Covers 0 olds (length (merged s).lines)
-    → ((i : ℕ) (d : Part) → i < length olds → IsMade s (get_or olds i d) (get_or news i d)) → All (λ (p : Part). p.refused ≡ false) news
-    → text_of news ≡ text_from s.first (merged s).lines
-all_text s olds news many covers each made =
+-- the first thread made the text of all lines
+pub first_inside : (s : SheafValue) (ss : List Scribe) (scribe : Scribe) (part : Part) → 0 < length ss → HasText s scribe.text.items part → All (IsInside (set ss 0 scribe)) (record { scribe = 0; part = part } ∷ [])
+first_inside s [] scribe part some has = absurd (omega (arith, some))
+first_inside s (q ∷ qs) scribe part some has = All-cons (IsInside (scribe ∷ qs)) _ [] (record { scribe = omega arith; part = has.inside }) (All-nil (IsInside (scribe ∷ qs)))
+
+pub first_text : (s : SheafValue) (ss : List Scribe) (scribe : Scribe) (part : Part) → 0 < length ss → HasText s scribe.text.items part → part.from ≡ 0 → part.count ≡ length (merged s).lines
+    → text_of (set ss 0 scribe) (record { scribe = 0; part = part } ∷ []) ≡ text_from s.first (merged s).lines
+first_text s [] scribe part some has from count = absurd (omega (arith, some))
+first_text s (q ∷ qs) scribe part some has from count =
+    let lines = (merged s).lines in
     let zeroth : s.first + 0 ≡ s.first = omega arith in
-    parts_text s olds news 0 many covers each made ∙ ap (λ n. text_from n (merged s).lines) zeroth
+    append-nil (bytes_in scribe.text.items part)
+    ∙ has.is
+    ∙ ap (λ n. text_from (s.first + n) (take part.count (drop n lines))) from
+    ∙ ap (λ n. text_from n (take part.count lines)) zeroth
+    ∙ ap (λ n. text_from s.first (take n lines)) count
+    ∙ ap (text_from s.first) (take_all (length lines) lines (omega arith))

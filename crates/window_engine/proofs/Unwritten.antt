@@ -1,5 +1,5 @@
 -- Windows whose lines are written while the next one runs.
-use Rattle.std.proofs.Common.{◌≡◌, ◌≤◌, ◌+◌, ℕ, List, [], length, Option, Some, refl, ap, sym, ◌∙◌, arith}
+use Rattle.std.proofs.Common.{◌≡◌, ◌≤◌, ◌+◌, ℕ, List, [], length, Option, Some, ap, sym, ◌∙◌, arith}
 use Rattle.node_core.specs.TraceLine.{TraceLine}
 use Rattle.table_run.specs.State.{State, run}
 use Rattle.net_machine.specs.Run.{Reached}
@@ -28,7 +28,8 @@ module _ (net : Reached) (c : Course) (is : IsBehind net c) where
   pub few_before : net.position ≤ 1000000000000000
   few_before = let p = is.gone.position in let q = is.few in omega (arith, p, q)
 
-no_line : (s : SheafValue) (first : ℕ) → s ≡ record { first = first; lists = [] } → (merged s).lines ≡ []
+-- a sheaf of no list has no line
+pub no_line : (s : SheafValue) (first : ℕ) → s ≡ record { first = first; lists = [] } → (merged s).lines ≡ []
 no_line s first is = ap (λ (x : SheafValue). (merged x).lines) is ∙ nothing_in_order
 
 -- with a sheaf of no line a course at rest is behind by none

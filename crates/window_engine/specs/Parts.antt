@@ -1,31 +1,64 @@
--- The text of a window's lines, in parts.
-use Rattle.std.specs.Prelude.{◌≡◌, ◌≤◌, ◌+◌, ◌⊎◌, ℕ, List, [], ◌∷◌, ◌++◌, length, take, drop, false}
-use Rattle.window_core.specs.Sheaves.{SheafValue, StandsIn, merged}
-use Rattle.window_engine.specs.declared.text.Part.{Part}
+-- The text of a window's lines, in parts that threads made.
+use Rattle.std.specs.Prelude.{◌≡◌, ◌≤◌, ◌<◌, ◌+◌, ◌-◌, ℕ, zero, suc, All, List, [], ◌∷◌, ◌++◌, length, take, drop}
+use Rattle.window_core.specs.Sheaves.{SheafValue, merged}
+use Rattle.window_engine.specs.declared.scribe.Part.{Part}
+use Rattle.window_engine.specs.declared.scribe.Scribe.{Scribe}
+use Rattle.window_engine.specs.declared.text.Place.{Place}
+use Rattle.window_engine.specs.declared.text.Text.{Text}
 use Rattle.window_engine.specs.Text.{text_from}
 
--- the texts of the parts, one after another
-abbrev pub text_of : List Part → List ℕ
-text_of [] = []
-text_of (part ∷ parts) = part.text.items ++ text_of parts
+-- the bytes of a part, in the text that has it
+abbrev pub bytes_in : List ℕ → Part → List ℕ
+bytes_in text part = take (part.end - part.start) (drop part.start text)
 
--- the part's cursor stands before its lines, and there are so many
-pub record IsCutOut (s : SheafValue) (part : Part) : Type 0 where
-  pub stands : StandsIn s part.cursor
-  pub at : part.cursor.at ≡ part.from
+-- the bytes of the part are in the text
+pub record IsIn (text : List ℕ) (part : Part) : Type 0 where
+  pub start : part.start ≤ part.end
+  pub end : part.end ≤ length text
+
+-- the part has the text of its lines
+pub record HasText (s : SheafValue) (text : List ℕ) (part : Part) : Type 0 where
+  pub inside : IsIn text part
   pub within : part.from + part.count ≤ length (merged s).lines
+  pub is : bytes_in text part ≡ text_from (s.first + part.from) (take part.count (drop part.from (merged s).lines))
 
--- parts that have lines have all from an index on, one part after another
-abbrev pub Covers : ℕ → List Part → ℕ → Type 0
-Covers from [] end = from ≡ end
-Covers from (part ∷ parts) end = ((part.count ≡ 0) ⊎ (part.from ≡ from)) × Covers (from + part.count) parts end
+-- each of its parts has the text of its lines
+abbrev pub IsRight : SheafValue → Scribe → Type 0
+IsRight s scribe = All (HasText s scribe.text.items) scribe.parts.items
 
--- where no memory was refused, the part has the text of its lines
-abbrev pub HasText : SheafValue → Part → Type 0
-HasText s part = part.refused ≡ false → part.text.items ≡ text_from (s.first + part.from) (take part.count (drop part.from (merged s).lines))
+-- so has each thread's
+abbrev pub AreRight : SheafValue → List Scribe → Type 0
+AreRight s scribes = All (IsRight s) scribes
 
--- the part has its text, and the lines that it had
-pub record IsMade (s : SheafValue) (old new : Part) : Type 0 where
-  pub from : new.from ≡ old.from
-  pub count : new.count ≡ old.count
-  pub text : HasText s new
+-- the text of a thread by its number
+abbrev pub text_at : List Scribe → ℕ → List ℕ
+text_at [] i = []
+text_at (scribe ∷ scribes) zero = scribe.text.items
+text_at (scribe ∷ scribes) (suc i) = text_at scribes i
+
+-- the bytes at a place
+abbrev pub bytes_at : List Scribe → Place → List ℕ
+bytes_at scribes place = bytes_in (text_at scribes place.scribe) place.part
+
+-- the bytes of a place are there
+pub record IsInside (scribes : List Scribe) (place : Place) : Type 0 where
+  pub scribe : place.scribe < length scribes
+  pub part : IsIn (text_at scribes place.scribe) place.part
+
+-- the bytes at the places, one after another
+abbrev pub text_of : List Scribe → List Place → List ℕ
+text_of scribes [] = []
+text_of scribes (place ∷ places) = bytes_at scribes place ++ text_of scribes places
+
+-- at the place is the text of some lines from an index on
+pub record IsPlaceAt (s : SheafValue) (scribes : List Scribe) (at : ℕ) (place : Place) : Type 0 where
+  pub inside : IsInside scribes place
+  pub some : 0 < place.part.count
+  pub within : at + place.part.count ≤ length (merged s).lines
+  pub is : bytes_at scribes place ≡ text_from (s.first + at) (take place.part.count (drop at (merged s).lines))
+
+-- at the places, in their order, is the text of all lines
+pub record IsWhole (s : SheafValue) (text : Text) : Type 0 where
+  pub inside : All (IsInside text.scribes.items) text.order.items
+  pub few : length text.order.items ≤ 64
+  pub is : text_of text.scribes.items text.order.items ≡ text_from s.first (merged s).lines

@@ -1,5 +1,5 @@
 //! One window, run by workers.
-ghost use Rattle.std.specs.Prelude.{◌≡◌, ◌+◌, ◌<◌, ◌≤◌, ℕ, All, List, length, map as each, min, true, false, IfOk, IfErr, OnOk};
+ghost use Rattle.std.specs.Prelude.{◌≡◌, ◌+◌, ◌<◌, ◌≤◌, ◌^◌, ℕ, All, List, length, map as each, min, true, false, IfOk, IfErr, OnOk};
 ghost use Rattle.table_run.specs.State.{State};
 ghost use Rattle.window_core.specs.Full.{HasTooMany};
 ghost use Rattle.window_core.specs.Group.{GroupValue, AfterFirings};
@@ -11,11 +11,13 @@ ghost use Rattle.work_board.specs.Pieces.{PieceState};
 ghost use Rattle.window_engine.specs.Edges.{IsAtEdge, StaysNet, edge_of, reached_in};
 ghost use Rattle.window_engine.specs.Engines.{GoesOn, NoneBelow};
 ghost use Rattle.window_engine.specs.Outcomes.{IsOfWorkers};
+ghost use Rattle.window_engine.specs.Parts.{AreRight};
 ghost use Rattle.window_engine.specs.Laid.{laid_for, HasRun, HasFullGroup, IsDoneBy};
 
 use crate::fault::{EngineFault, group_fault};
 use crate::gate::Gate;
 use crate::pieces::run_pieces;
+use crate::scribe::Scribe;
 use sim_time::Time;
 use std::alloc::{AllocError, Global};
 use std::sync::Wait;
@@ -67,35 +69,73 @@ fn run_in_turn<G: Gate>(gate: &G, window: &mut Window) -> Result<(), EngineFault
     Ok(())
 }
 
-/// Takes the groups out, has workers run them up to the window's end, and puts them back. After a
-/// fault they are out.
+/// Takes the groups out, has workers run them up to the window's end and then make the text of a
+/// sheaf's lines, and puts them back. After a fault they are out.
 fn run_apart<G: Gate, R: Threads + Wait + Sync>(
     rt: &R,
     alloc: Global,
     workers: usize,
     gate: &G,
     window: &mut Window,
+    sheaf: &Sheaf,
+    scribes: &mut Vec<Scribe>,
 ) -> Result<(), EngineFault>
     requires inside { window.old.out ≡ false }
     requires least { 0 < length window.old.groups }
     requires few { length window.old.groups ≤ 64 }
     requires ends { All (λ (g : GroupValue). window.old.until ≤ g.until) window.old.groups }
     requires workers { (0 < workers) × (workers ≤ 64) }
+    requires right { AreRight sheaf.now scribes.old.items }
+    requires fits { sheaf.now.first + length (merged sheaf.now).lines < 2 ^ 63 }
     ensures done { OnOk result (HasRun window.old window.new) }
     ensures stays { StaysNet window.old window.new }
     ensures no_sink { IfErr result IsOfWorkers }
     ensures full { IfErr result (λ fault. fault ≡ EngineFault.CountFull → HasFullGroup window.old) }
+    ensures right { AreRight sheaf.now scribes.new.items }
 {
     let end = window.end();
     let pieces = pieces_of(alloc, window.take_groups(), end)?;
-    let done = run_pieces(rt, alloc, workers, gate, pieces)?;
+    let done = run_pieces(rt, alloc, workers, gate, pieces, sheaf, scribes)?;
     window.put_groups(groups_of(alloc, done)?);
     Ok(())
 }
 
-/// Runs the groups up to the window's end, or a moment that is sooner: by workers, or where there
-/// is one alone on the calling thread. Each is then done. After a fault the groups may be out.
+/// Runs the groups up to the window's end, or a moment that is sooner: by workers, which then make
+/// the text of a sheaf's lines, or where there is one alone on the calling thread, which makes none.
+/// Each is then done. After a fault the groups may be out.
 pub(crate) fn run_groups<G: Gate, R: Threads + Wait + Sync>(
+    rt: &R,
+    alloc: Global,
+    workers: usize,
+    gate: &G,
+    until: Time,
+    window: &mut Window,
+    sheaf: &Sheaf,
+    scribes: &mut Vec<Scribe>,
+) -> Result<(), EngineFault>
+    requires edge { IsAtEdge window.old }
+    requires few { groups_of window.old.entries ≤ 64 }
+    requires workers { (0 < workers) × (workers ≤ 64) }
+    requires right { AreRight sheaf.now scribes.old.items }
+    requires fits { sheaf.now.first + length (merged sheaf.now).lines < 2 ^ 63 }
+    ensures done { OnOk result (IsDoneBy until window.old window.new) }
+    ensures stays { StaysNet window.old window.new }
+    ensures no_sink { IfErr result IsOfWorkers }
+    ensures full { IfErr result (λ fault. fault ≡ EngineFault.CountFull → HasTooMany (reached_in window.old)) }
+    ensures right { AreRight sheaf.now scribes.new.items }
+{
+    let _began = window.position();
+    window.limit(until);
+    let _limited = window.position();
+    if workers == 1 {
+        run_in_turn(gate, window)
+    } else {
+        run_apart(rt, alloc, workers, gate, window, sheaf, scribes)
+    }
+}
+
+/// The same, with no text to make.
+fn run_groups_alone<G: Gate, R: Threads + Wait + Sync>(
     rt: &R,
     alloc: Global,
     workers: usize,
@@ -111,14 +151,9 @@ pub(crate) fn run_groups<G: Gate, R: Threads + Wait + Sync>(
     ensures no_sink { IfErr result IsOfWorkers }
     ensures full { IfErr result (λ fault. fault ≡ EngineFault.CountFull → HasTooMany (reached_in window.old)) }
 {
-    let _began = window.position();
-    window.limit(until);
-    let _limited = window.position();
-    if workers == 1 {
-        run_in_turn(gate, window)
-    } else {
-        run_apart(rt, alloc, workers, gate, window)
-    }
+    let none = Sheaf::new(alloc, 1);
+    let mut scribes = Vec::new(alloc);
+    run_groups(rt, alloc, workers, gate, until, window, &none, &mut scribes)
 }
 
 /// Runs the next window by workers, up to its end or a moment that is sooner. The batch then has
@@ -143,7 +178,7 @@ pub(crate) fn advance<G: Gate, R: Threads + Wait + Sync>(
     ensures full { IfErr result (λ fault. fault ≡ EngineFault.CountFull → HasTooMany (reached_in window.old)) }
 {
     let _began = window.position();
-    run_groups(rt, alloc, workers, gate, until, window)?;
+    run_groups_alone(rt, alloc, workers, gate, until, window)?;
     match window.turn_into(batch) {
         Ok(()) => Ok(()),
         Err(TurnFault::NotDone) => unreachable!(),
@@ -192,7 +227,7 @@ pub(crate) fn advance_apart<G: Gate, R: Threads + Wait + Sync>(
     ensures full { IfErr result (λ fault. fault ≡ EngineFault.CountFull → HasTooMany (reached_in window.old)) }
 {
     let _began = window.position();
-    run_groups(rt, alloc, workers, gate, until, window)?;
+    run_groups_alone(rt, alloc, workers, gate, until, window)?;
     turn_done(window, sheaf)?;
     Ok(())
 }

@@ -8,15 +8,14 @@ ghost use Rattle.window_core.specs.Sheaves.{merged};
 ghost use Rattle.window_engine.specs.Edges.{IsAtEdge, StaysNet, edge_of, reached_in};
 ghost use Rattle.window_engine.specs.Engines.{Commits, GoesOn, IsStop, next_time, sink_failures};
 ghost use Rattle.window_engine.specs.Courses.{AtRest, CanTell, Wrote, Broke, fails_after, told_as};
-ghost use Rattle.window_engine.specs.Parts.{text_of};
-ghost use Rattle.window_engine.specs.Text.{text_from};
+ghost use Rattle.window_engine.specs.Parts.{IsWhole};
 
 use crate::advance::advance_apart;
 use crate::fault::{EngineFault, Stop};
 use crate::gate::Gate;
 use crate::sink::Sink;
 use crate::slice::{FIRST_SLICE, next_slice};
-use crate::text::{Part, make_text, put_text};
+use crate::text::Text;
 use sim_time::Time;
 use std::alloc::{AllocError, Global};
 use std::sync::Wait;
@@ -34,8 +33,6 @@ pub(crate) struct Course {
     pub position: u64,
     /// A window's lines.
     pub sheaf: Sheaf,
-    /// A window's text, in parts.
-    pub text: Vec<Part>,
     /// Where memory is taken.
     pub alloc: Global,
 }
@@ -102,10 +99,10 @@ impl Course {
     pub(crate) fn put_made<S: Sink>(
         &mut self,
         made: Result<(), AllocError>,
+        text: &Text,
         sink: &mut S,
     ) -> Result<u128, WriteFault>
-        requires text { OnOk made (text_of self.old.text.items ≡ text_from self.old.sheaf.first (merged self.old.sheaf).lines) }
-        requires few { OnOk made (length self.old.text.items ≤ 64) }
+        requires text { OnOk made (IsWhole self.old.sheaf text.now) }
         requires fits { self.old.position + length (merged self.old.sheaf).lines < 2 ^ 63 }
         ensures position { OnOk result (self.new.position ≡ self.old.position + length (merged self.old.sheaf).lines) }
         ensures rest { self.new ≡ record self.old { position = self.new.position } }
@@ -119,7 +116,7 @@ impl Course {
             return Err(WriteFault::Workers(EngineFault::NoMemory));
         };
         self.position = position;
-        match put_text(self.text.as_slice(), sink) {
+        match text.put(sink) {
             Ok(bytes) => Ok(bytes),
             Err(written) => Err(WriteFault::Sink(written)),
         }
@@ -133,6 +130,7 @@ impl Course {
         workers: usize,
         gate: &G,
         until: Time,
+        text: &mut Text,
         sink: &mut S,
     ) -> Result<u128, WriteFault>
         requires rest { AtRest self.old }
@@ -159,8 +157,8 @@ impl Course {
             Err(fault) => return Err(WriteFault::Workers(fault)),
         }
         let _reached = self.window.position();
-        let made = make_text(rt, workers, &self.sheaf, &mut self.text);
-        self.put_made(made, sink)
+        let made = text.make_all(&self.sheaf);
+        self.put_made(made, text, sink)
     }
 
     /// Runs windows by workers, and writes the lines of each before the next one.
@@ -170,6 +168,7 @@ impl Course {
         workers: usize,
         gate: &G,
         until: Time,
+        text: &mut Text,
         sink: &mut S,
     ) -> Result<Stop, EngineFault>
         requires rest { AtRest self.old }
@@ -191,7 +190,7 @@ impl Course {
             };
             let bound = until.min(next.saturating_add(slice));
             let span = self.span(next, bound);
-            match self.write_window(rt, workers, gate, bound, sink) {
+            match self.write_window(rt, workers, gate, bound, text, sink) {
                 Ok(bytes) => written += bytes,
                 Err(fault) => return Err(told(fault, written)),
             }
@@ -220,10 +219,13 @@ impl Course {
         ensures stays { StaysNet self.old.window self.new.window }
         ensures end { self.new.end ≡ self.old.end }
     {
+        let Ok(mut text) = Text::new(self.alloc) else {
+            return Err(EngineFault::NoMemory);
+        };
         if workers == 1 {
-            self.write_in_turn(rt, workers, gate, until, sink)
+            self.write_in_turn(rt, workers, gate, until, &mut text, sink)
         } else {
-            self.write_behind(rt, workers, gate, until, sink)
+            self.write_behind(rt, workers, gate, until, &mut text, sink)
         }
     }
 }

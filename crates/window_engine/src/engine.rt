@@ -83,7 +83,6 @@ impl Engine {
                     end,
                     position,
                     sheaf: Sheaf::new(alloc, 0),
-                    text: Vec::new(alloc),
                     alloc,
                 },
                 failed: false,

@@ -11,6 +11,7 @@ mod gather;
 mod meeting;
 mod pieces;
 mod put;
+mod scribe;
 mod sink;
 mod slice;
 mod sweep;

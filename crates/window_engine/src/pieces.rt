@@ -1,39 +1,53 @@
 //! A window's pieces, run by workers.
-ghost use Rattle.std.specs.Prelude.{◌≡◌, ◌<◌, ◌≤◌, length, IfOk, IfErr};
+ghost use Rattle.std.specs.Prelude.{◌≡◌, ◌+◌, ◌<◌, ◌≤◌, ◌^◌, length, IfOk, IfErr};
+ghost use Rattle.window_core.specs.Sheaves.{merged};
 ghost use Rattle.window_engine.specs.Outcomes.{AllDone, IsPiecesFault, SomeLaidFull};
+ghost use Rattle.window_engine.specs.Parts.{AreRight};
 
 use crate::fault::EngineFault;
 use crate::gate::Gate;
 use crate::gather::gather;
-use crate::sweep::{SweepFault, sweep};
+use crate::scribe::{Parts, Scribe};
+use crate::sweep::{SweepFault, Tasks, sweep};
+use crate::text::parts_for;
 use std::alloc::Global;
 use std::sync::Wait;
 use std::thread::Threads;
+use window_core::Sheaf;
 use work_board::{Board, Piece};
 
-/// Runs the pieces by so many threads. Then each is done, in its place. A refusal gives them up.
+/// Runs the pieces by so many threads, which then make the text of a sheaf's lines. Then each piece
+/// is done, in its place. A refusal gives them up.
 pub(crate) fn run_pieces<G: Gate, R: Threads + Wait + Sync>(
     rt: &R,
     alloc: Global,
     workers: usize,
     gate: &G,
     pieces: Vec<Piece>,
+    sheaf: &Sheaf,
+    scribes: &mut Vec<Scribe>,
 ) -> Result<Vec<Piece>, EngineFault>
     requires least { 0 < length pieces.items }
     requires most { length pieces.items ≤ 64 }
     requires workers { (0 < workers) × (workers ≤ 64) }
+    requires right { AreRight sheaf.now scribes.old.items }
+    requires fits { sheaf.now.first + length (merged sheaf.now).lines < 2 ^ 63 }
     ensures done { IfOk result (λ v. AllDone pieces.items v.items) }
     ensures err { IfErr result (IsPiecesFault pieces.items) }
     ensures full { IfErr result (λ e. e ≡ EngineFault.CountFull → SomeLaidFull pieces.items) }
+    ensures right { AreRight sheaf.now scribes.new.items }
 {
     let Ok((board, seat)) = Board::lay(alloc, pieces) else {
         return Err(EngineFault::NoMemory);
     };
-    let seat = match sweep(rt, alloc, workers, gate, &board, seat) {
+    let parts = Parts::new(parts_for(sheaf.len(), workers));
+    let tasks = Tasks { board, parts };
+    let seat = match sweep(rt, alloc, workers, gate, &tasks, seat, sheaf, scribes) {
         Ok(seat) => seat,
         Err(SweepFault::NoMemory) => return Err(EngineFault::NoMemory),
         Err(SweepFault::NoWorker) => return Err(EngineFault::NoWorker),
     };
+    let Tasks { board, parts: _ } = tasks;
     let Ok(slots) = board.clear(seat) else {
         return Err(EngineFault::NoMemory);
     };

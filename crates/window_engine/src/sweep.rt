@@ -1,22 +1,45 @@
-//! Workers that go over all pieces of a board.
-ghost use Rattle.std.specs.Prelude.{◌≡◌, All, IfOk, IfSome};
+//! Workers that go over all pieces of a board, and then make text.
+ghost use Rattle.std.specs.Prelude.{◌≡◌, ◌+◌, ◌<◌, ◌^◌, All, IfOk, IfSome, length};
+ghost use Rattle.window_core.specs.Sheaves.{merged};
 ghost use Rattle.work_board.specs.Seats.{IsOf, HoldsNothing};
+ghost use Rattle.window_engine.specs.Parts.{AreRight, IsRight};
 ghost use Rattle.window_engine.specs.Sweeps.{IsSwept};
 
 use crate::gate::Gate;
+use crate::scribe::{Parts, Scribe};
 use std::alloc::Global;
+use std::mem::replace;
 use std::snapshot::Snapshot;
 use std::sync::Wait;
 use std::thread;
 use std::thread::{Promise, PromisedHandle, Threads};
+use window_core::Sheaf;
 use work_board::{Board, Seat};
 
-/// The seat comes back swept.
+/// What workers have to do.
 #[derive(Drop)]
-struct Sweeps(Snapshot<Board>);
+pub(crate) struct Tasks {
+    /// The pieces that they run first.
+    pub board: Board,
+    /// The parts of the text that they make then.
+    pub parts: Parts,
+}
 
-impl Promise<Seat> for Sweeps {
-    ghost kept_by = { λ p s. IsOf p.0.value s × IsSwept s };
+/// What a worker is sent with, and comes back with.
+#[derive(Drop)]
+struct Shift {
+    /// Its seat at the board.
+    seat: Seat,
+    /// The text that it made.
+    scribe: Scribe,
+}
+
+/// The seat comes back swept, and what the worker made is the text of the sheaf's lines.
+#[derive(Drop)]
+struct Sweeps(Snapshot<Board>, Snapshot<Sheaf>);
+
+impl Promise<Shift> for Sweeps {
+    ghost kept_by = { λ p s. IsOf p.0.value s.seat × IsSwept s.seat × IsRight p.1.value s.scribe };
 }
 
 /// Tries every piece in turn, and runs those that it claimed.
@@ -38,6 +61,22 @@ fn work<G: Gate>(board: &Board, seat: Seat, gate: &G) -> Seat
     seat
 }
 
+/// Goes over the board, and then makes text.
+fn serve<G: Gate>(tasks: &Tasks, gate: &G, sheaf: &Sheaf, shift: Shift) -> Shift
+    requires board { IsOf tasks.now.board shift.seat }
+    requires idle { HoldsNothing shift.seat }
+    requires right { IsRight sheaf.now shift.scribe }
+    requires fits { sheaf.now.first + length (merged sheaf.now).lines < 2 ^ 63 }
+    ensures board { IsOf tasks.now.board result.seat }
+    ensures swept { IsSwept result.seat }
+    ensures right { IsRight sheaf.now result.scribe }
+{
+    let seat = work(&tasks.board, shift.seat, gate);
+    let mut scribe = shift.scribe;
+    scribe.make_parts(sheaf, &tasks.parts);
+    Shift { seat, scribe }
+}
+
 /// Why no seat came back.
 #[derive(Clone, Copy, Debug)]
 pub(crate) enum SweepFault {
@@ -47,73 +86,121 @@ pub(crate) enum SweepFault {
     NoWorker,
 }
 
-/// Has so many threads go over the board, joins them all, and gives the seat of one.
+/// The threads that were started.
+type Handles = Vec<PromisedHandle<Shift, Sweeps>>;
+
+/// Has so many threads go over the board and then make the text of a sheaf's lines, joins them all,
+/// and gives the seat of one. The scribes are then what each made of the text.
 pub(crate) fn sweep<G: Gate, R: Threads + Wait + Sync>(
     rt: &R,
     alloc: Global,
     workers: usize,
     gate: &G,
-    board: &Board,
+    tasks: &Tasks,
     seat: Seat,
+    sheaf: &Sheaf,
+    scribes: &mut Vec<Scribe>,
 ) -> Result<Seat, SweepFault>
-    requires board { IsOf board.now seat }
+    requires board { IsOf tasks.now.board seat }
     requires idle { HoldsNothing seat }
-    ensures board { IfOk result (IsOf board.now) }
+    requires right { AreRight sheaf.now scribes.old.items }
+    requires fits { sheaf.now.first + length (merged sheaf.now).lines < 2 ^ 63 }
+    ensures board { IfOk result (IsOf tasks.now.board) }
     ensures swept { IfOk result IsSwept }
+    ensures right { AreRight sheaf.now scribes.new.items }
 {
-    thread::scope(
+    let lent = replace(scribes, Vec::new(alloc));
+    let (swept, back) = thread::scope(
         thread::scope_env(),
         rt,
-        move |scope| -> Result<Seat, SweepFault>
-            requires board { IsOf board.now seat }
+        move |scope| -> (Result<Seat, SweepFault>, Vec<Scribe>)
+            requires board { IsOf tasks.now.board seat }
             requires idle { HoldsNothing seat }
-            ensures board { IfOk result (IsOf board.entry.now) }
-            ensures swept { IfOk result IsSwept }
+            requires right { AreRight sheaf.now lent.items }
+            requires fits { sheaf.now.first + length (merged sheaf.now).lines < 2 ^ 63 }
+            ensures board { IfOk result.0 (IsOf tasks.entry.now.board) }
+            ensures swept { IfOk result.0 IsSwept }
+            ensures right { AreRight sheaf.entry.now result.1.items }
         {
+            let mut scribes = lent;
             let Ok(mut handles) = Vec::with_capacity(alloc, workers) else {
-                return Err(SweepFault::NoMemory);
+                return (Err(SweepFault::NoMemory), scribes);
             };
             let mut mine = seat;
             let mut all = true;
             for _ in 0..workers {
-                let (rest, theirs) = board.split(mine);
+                let (rest, seat) = tasks.board.split(mine);
                 mine = rest;
-                let promise = Sweeps(Snapshot::of(board));
+                let scribe = take_scribe(sheaf, alloc, &mut scribes);
+                let shift = Shift { seat, scribe };
+                let promise = Sweeps(Snapshot::of(&tasks.board), Snapshot::of(sheaf));
                 match scope.spawn_with(
                     promise,
-                    move || -> Seat
-                        requires board { IsOf board.now theirs }
-                        requires idle { HoldsNothing theirs }
-                        ensures board { IsOf board.entry.now result }
-                        ensures swept { IsSwept result }
-                    { work(board, theirs, gate) },
+                    move || -> Shift
+                        requires board { IsOf tasks.now.board shift.seat }
+                        requires idle { HoldsNothing shift.seat }
+                        requires right { IsRight sheaf.now shift.scribe }
+                        requires fits { sheaf.now.first + length (merged sheaf.now).lines < 2 ^ 63 }
+                        ensures board { IsOf tasks.entry.now.board result.seat }
+                        ensures swept { IsSwept result.seat }
+                        ensures right { IsRight sheaf.entry.now result.scribe }
+                    { serve(tasks, gate, sheaf, shift) },
                 ) {
                     Ok(handle) => handles.push_reserved(handle),
                     Err(_) => all = false,
                 }
             }
-            match join_all(rt, board, handles) {
-                Some(seat) if all => Ok(seat),
-                _ => Err(SweepFault::NoWorker),
+            match join_all(rt, &tasks.board, sheaf, handles, &mut scribes) {
+                Some(seat) if all => (Ok(seat), scribes),
+                _ => (Err(SweepFault::NoWorker), scribes),
             }
         },
-    )
+    );
+    *scribes = back;
+    swept
 }
 
-/// Joins them all, and gives the seat of one.
+/// A scribe for a worker; a new one where there is none left.
+fn take_scribe(sheaf: &Sheaf, alloc: Global, scribes: &mut Vec<Scribe>) -> Scribe
+    requires { AreRight sheaf.now scribes.old.items }
+    ensures one { IsRight sheaf.now result }
+    ensures rest { AreRight sheaf.now scribes.new.items }
+{
+    match scribes.pop() {
+        Some(scribe) => scribe,
+        None => Scribe::new(alloc),
+    }
+}
+
+/// Gives a scribe back. Where there is no memory for it, what it made is made again.
+fn give_scribe(sheaf: &Sheaf, scribes: &mut Vec<Scribe>, scribe: Scribe)
+    requires all { AreRight sheaf.now scribes.old.items }
+    requires one { IsRight sheaf.now scribe }
+    ensures { AreRight sheaf.now scribes.new.items }
+{
+    let _ = scribes.push(scribe);
+}
+
+/// Joins them all, and gives the seat of one, and what each made of the text.
 fn join_all<R: Threads>(
     rt: &R,
     board: &Board,
-    handles: Vec<PromisedHandle<Seat, Sweeps>>,
+    sheaf: &Sheaf,
+    handles: Handles,
+    scribes: &mut Vec<Scribe>,
 ) -> Option<Seat>
-    requires { All (λ h. h.promise.0.value ≡ board.now) handles.items }
+    requires handles { All (λ h. (h.promise.0.value ≡ board.now) × (h.promise.1.value ≡ sheaf.now)) handles.items }
+    requires right { AreRight sheaf.now scribes.old.items }
     ensures board { IfSome result (IsOf board.now) }
     ensures swept { IfSome result IsSwept }
+    ensures right { AreRight sheaf.now scribes.new.items }
 {
     let mut handles = handles;
     let mut swept = None;
     while let Some(handle) = handles.pop() {
-        swept = Some(handle.join(rt));
+        let shift = handle.join(rt);
+        swept = Some(shift.seat);
+        give_scribe(sheaf, scribes, shift.scribe);
     }
     swept
 }

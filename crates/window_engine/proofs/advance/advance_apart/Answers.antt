@@ -5,25 +5,25 @@ use Rattle.window_engine.proofs.TooMany.{turn_full}
 use Rattle.window_engine.proofs.advance.advance_apart.Goals as goal
 
 pub returns-clause-edge : goal.returns-clause-edge
-returns-clause-edge g c = turned_edge c.run_groups.new.window c.turn_done.new.window (merged c.turn_done.new.sheaf) c.in_ok-run_groups.ensures.done.inside c.in_ok-turn_done.ensures.turned
+returns-clause-edge g c = turned_edge c.run_groups_alone.new.window c.turn_done.new.window (merged c.turn_done.new.sheaf) c.in_ok-run_groups_alone.ensures.done.inside c.in_ok-turn_done.ensures.turned
 
 pub returns-clause-gone : goal.returns-clause-gone
 returns-clause-gone g c =
-    went_on c.args.window.now c.run_groups.new.window c.turn_done.new.window c.args.until (merged c.turn_done.new.sheaf) c.requires.edge c.position-began.ensures.is_window c.in_ok-run_groups.ensures.done
+    went_on c.args.window.now c.run_groups_alone.new.window c.turn_done.new.window c.args.until (merged c.turn_done.new.sheaf) c.requires.edge c.position-began.ensures.is_window c.in_ok-run_groups_alone.ensures.done
     c.in_ok-turn_done.ensures.turned c.in_ok-turn_done.ensures.run
 
 pub returns-clause-none_left : goal.returns-clause-none_left
 returns-clause-none_left g c =
-    left_none c.args.window.now c.run_groups.new.window c.turn_done.new.window c.args.until (merged c.turn_done.new.sheaf) c.requires.edge c.position-began.ensures.is_window c.in_ok-run_groups.ensures.done
+    left_none c.args.window.now c.run_groups_alone.new.window c.turn_done.new.window c.args.until (merged c.turn_done.new.sheaf) c.requires.edge c.position-began.ensures.is_window c.in_ok-run_groups_alone.ensures.done
     c.in_ok-turn_done.ensures.turned c.in_ok-turn_done.ensures.run
 
 pub returns-clause-stays : goal.returns-clause-stays
 returns-clause-stays g c =
-    stays_both c.args.window.now c.run_groups.new.window c.turn_done.new.window c.in_ok-run_groups.ensures.stays (turned_stays c.run_groups.new.window c.turn_done.new.window (merged c.turn_done.new.sheaf) c.in_ok-turn_done.ensures.turned)
+    stays_both c.args.window.now c.run_groups_alone.new.window c.turn_done.new.window c.in_ok-run_groups_alone.ensures.stays (turned_stays c.run_groups_alone.new.window c.turn_done.new.window (merged c.turn_done.new.sheaf) c.in_ok-turn_done.ensures.turned)
 
 pub returns-in_err-turn_done-clause-full : goal.returns-in_err-turn_done-clause-full
 returns-in_err-turn_done-clause-full g c =
     let p = err_from_is_err_and c.from_residual-in_err-turn_done.result c.from_residual-in_err-turn_done.ensures.1 in
     rw (p.1, p.2)
-    (λ is. turn_full c.args.window.now c.run_groups.new.window c.args.until c.requires.edge c.position-began.ensures.is_window c.in_ok-run_groups.ensures.done
-    (c.in_ok-run_groups.ensures.done.done, c.in_err-turn_done.ensures.full is))
+    (λ is. turn_full c.args.window.now c.run_groups_alone.new.window c.args.until c.requires.edge c.position-began.ensures.is_window c.in_ok-run_groups_alone.ensures.done
+    (c.in_ok-run_groups_alone.ensures.done.done, c.in_err-turn_done.ensures.full is))

@@ -1,4 +1,4 @@
-use Rattle.std.proofs.Common.{ap, IfErr, ◌≡◌}
+use Rattle.std.proofs.Common.{ap, ◌≡◌}
 use Rattle.std.proofs.lemmas.Result.{IfErr-weaker}
 use Rattle.window_core.specs.Full.{HasTooMany}
 use Rattle.window_core.specs.Window.{WindowValue}

@@ -1,4 +1,4 @@
-use Rattle.std.proofs.Common.{ap, ◌∙◌, arith, ◌≡◌, ◌≤◌, ℕ, length}
+use Rattle.std.proofs.Common.{ap, ◌∙◌, arith, ◌≤◌, ℕ, length}
 use Rattle.window_core.specs.Window.{WindowValue, states_of}
 use Rattle.window_core.specs.Windows.{all_done}
 use Rattle.window_engine.proofs.Laying.{all_done_of}

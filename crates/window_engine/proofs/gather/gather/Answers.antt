@@ -1,6 +1,6 @@
 use Rattle.std.proofs.Common.{arith, ap, length}
 use Rattle.std.specs.Vec.Iter.{into_iter_items}
-use Rattle.window_engine.proofs.Full.{among_rest, full_more, full_told}
+use Rattle.window_engine.proofs.Full.{among_rest, full_more}
 use Rattle.window_engine.proofs.Gathering.{next_finished, next_out, never}
 use Rattle.window_engine.proofs.gather.gather.Goals as goal
 

@@ -1,7 +1,6 @@
-use Rattle.std.proofs.Common.{ap, arith, subst, ◌∙◌, ◌≡◌, ◌+◌, OnOk}
+use Rattle.std.proofs.Common.{arith, subst, OnOk, ◌+◌}
 use Rattle.window_core.specs.Sheaves.{merged}
-use Rattle.window_engine.specs.Parts.{text_of}
-use Rattle.window_engine.specs.Text.{text_from}
+use Rattle.window_engine.specs.Parts.{IsWhole, text_of}
 use Rattle.window_engine.proofs.Writing.{broke_batch, wrote_no_more}
 use Rattle.window_engine.proofs.course.Course.put_made.Goals as goal
 
@@ -13,6 +12,6 @@ returns-in-Err-clause-broke g c from to gone at =
     let contents = g.S.Sink.contents in
     let now = c.args.self.now in
     let reached = gone.position in
-    let is = subst (λ r. OnOk r (text_of now.text.items ≡ text_from now.sheaf.first (merged now.sheaf).lines)) c.in-Ok.is c.requires.text in
-    broke_batch from to (now.position + c.len.result) c.in-Err.written (merged now.sheaf) (text_of c.as_slice.result.now) (contents c.args.sink.now) (contents c.put_text.new.sink) gone (omega (arith, at, reached, c.len.ensures))
-    (ap text_of c.as_slice.ensures.value ∙ is) c.in-Err.ensures.err c.in-Err.ensures.few_before
+    let whole = subst (λ r. OnOk r (IsWhole now.sheaf c.args.text.now)) c.in-Ok.is c.requires.text in
+    broke_batch from to (now.position + c.len.result) c.in-Err.written (merged now.sheaf) (text_of c.args.text.now.scribes.items c.args.text.now.order.items) (contents c.args.sink.now) (contents c.put.new.sink) gone (omega (arith, at, reached, c.len.ensures))
+    whole.is c.in-Err.ensures.err c.in-Err.ensures.few_before

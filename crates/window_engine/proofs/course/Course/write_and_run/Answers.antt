@@ -3,7 +3,6 @@ use Rattle.std.proofs.lemmas.Result.{err_from_is_err_and}
 use Rattle.window_core.specs.Full.{HasTooMany}
 use Rattle.window_core.specs.Partition.{groups_of}
 use Rattle.window_core.specs.Sheaves.{merged}
-use Rattle.window_core.specs.Window.{WindowValue}
 use Rattle.window_engine.specs.declared.course.Course.{Course}
 use Rattle.window_engine.specs.declared.fault.EngineFault.TheVariants.{CountFull}
 use Rattle.window_engine.specs.Edges.{StaysNet, reached_in}
@@ -27,14 +26,14 @@ returns-in-Err-clause-broke g c =
     let net = reached_in c.args.before.now.value in (
       wrote_to_edge net c.args.self.now was c.put_made.new.self.position c.in_ok-bytes.bytes (contents c.args.sink.now) (contents c.put_made.new.sink)
           c.in_ok-bytes.ensures.position (c.in_ok-bytes.ensures.wrote net (reached_in c.args.self.now.window) was.gone),
-      subst (λ r. IfErr r IsOfWorkers) c.in-Err.is c.run_and_make-ran.ensures.no_sink,
+      subst (λ r. IfErr r IsOfWorkers) c.in-Err.is c.run_groups-ran.ensures.no_sink,
     )
 
 pub returns-in-Err-clause-full : goal.returns-in-Err-clause-full
 returns-in-Err-clause-full g c =
     let was = c.requires.behind in
     let net = reached_in c.args.before.now.value in
-    let full = subst (λ r. IfErr r (λ fault. fault ≡ CountFull → HasTooMany (reached_in c.args.self.now.window))) c.in-Err.is c.run_and_make-ran.ensures.full in
+    let full = subst (λ r. IfErr r (λ fault. fault ≡ CountFull → HasTooMany (reached_in c.args.self.now.window))) c.in-Err.is c.run_groups-ran.ensures.full in
     workers_full net c.in-Err.fault (λ is. full_before net c.args.self.now was (full is))
 
 pub returns-in-Err-turn_done-clause-broke : goal.returns-in-Err-turn_done-clause-broke
@@ -52,9 +51,9 @@ returns-in-Err-turn_done-clause-full g c =
     let was = c.requires.behind in
     let v = c.args.self.now.window in
     let w = c.put_made.new.self.window in
-    let ran = c.run_and_make-ran.new.window in
+    let ran = c.run_groups-ran.new.window in
     let same : w ≡ ran = ap (λ (x : Course). x.window) c.put_made.ensures.rest in
-    let done : IsDoneBy c.args.until v w = subst (IsDoneBy c.args.until v) (sym same) (subst (λ r. OnOk r (IsDoneBy c.args.until v ran)) c.in-Ok.is c.run_and_make-ran.ensures.done) in
+    let done : IsDoneBy c.args.until v w = subst (IsDoneBy c.args.until v) (sym same) (subst (λ r. OnOk r (IsDoneBy c.args.until v ran)) c.in-Ok.is c.run_groups-ran.ensures.done) in
     let net = reached_in c.args.before.now.value in
     workers_full net c.in-Err-turn_done.fault
     (λ is. full_before net c.args.self.now was (turn_full v w c.args.until was.edge c.position-began.ensures.is_window done (done.done, c.in-Err-turn_done.ensures.full is)))
@@ -65,11 +64,11 @@ returns-clause-behind g c =
     let v = c.args.self.now.window in
     let w = c.put_made.new.self.window in
     let u = c.turn_done.new.window in
-    let ran = c.run_and_make-ran.new.window in
+    let ran = c.run_groups-ran.new.window in
     let lines = merged c.turn_done.new.sheaf in
     let same : w ≡ ran = ap (λ (x : Course). x.window) c.put_made.ensures.rest in
-    let done : IsDoneBy c.args.until v w = subst (IsDoneBy c.args.until v) (sym same) (subst (λ r. OnOk r (IsDoneBy c.args.until v ran)) c.in-Ok.is c.run_and_make-ran.ensures.done) in
-    let stays = stays_both v w u (subst (StaysNet v) (sym same) c.run_and_make-ran.ensures.stays) c.turn_done.ensures.stays in
+    let done : IsDoneBy c.args.until v w = subst (IsDoneBy c.args.until v) (sym same) (subst (λ r. OnOk r (IsDoneBy c.args.until v ran)) c.in-Ok.is c.run_groups-ran.ensures.done) in
+    let stays = stays_both v w u (subst (StaysNet v) (sym same) c.run_groups-ran.ensures.stays) c.turn_done.ensures.stays in
     let turned = c.in-Ok-turn_done.ensures.turned in
     record {
       edge = turned_edge w u lines done.inside turned;

@@ -1,7 +1,7 @@
-use Rattle.std.proofs.Common.{◌∙◌, refl, arith}
+use Rattle.std.proofs.Common.{◌∙◌, refl}
 use Rattle.window_engine.specs.Edges.{reached_in}
 use Rattle.window_engine.proofs.Edge.{stays_both}
-use Rattle.window_engine.proofs.Writing.{can_tell, committed, ended, still_fits, wrote_more, wrote_none}
+use Rattle.window_engine.proofs.Writing.{committed, ended, wrote_more, wrote_none}
 use Rattle.window_engine.proofs.TooMany.{told_full}
 use Rattle.window_engine.proofs.Unwritten.{behind_by_none, few_before}
 use Rattle.window_engine.proofs.course.Course.write_behind.Goals as goal

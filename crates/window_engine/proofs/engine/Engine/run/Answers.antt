@@ -1,4 +1,4 @@
-use Rattle.std.proofs.Common.{◌≡◌, ap, sym, subst, false, IfErr}
+use Rattle.std.proofs.Common.{◌≡◌, sym, subst, IfErr}
 use Rattle.net_machine.specs.Run.{Reached}
 use Rattle.window_core.specs.Full.{HasTooMany}
 use Rattle.window_engine.specs.Engines.{EngineValue}

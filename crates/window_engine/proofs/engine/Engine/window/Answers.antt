@@ -1,4 +1,4 @@
-use Rattle.std.proofs.Common.{◌∙◌, ap, sym, subst, ◌≡◌, false}
+use Rattle.std.proofs.Common.{sym, subst}
 use Rattle.window_engine.specs.Edges.{edge_of}
 use Rattle.window_engine.specs.Engines.{EngineValue, NoneBelow, window_end_by}
 use Rattle.window_core.specs.Full.{HasTooMany}

@@ -1,11 +1,11 @@
-use Rattle.std.proofs.Common.{◌≡◌, ◌+◌, ◌<◌, ◌++◌, ℕ, List, length, take, drop, ap, sym, ◌∙◌, arith}
+use Rattle.std.proofs.Common.{◌≡◌, ◌+◌, ◌<◌, ◌++◌, ℕ, List, length, take, drop, ap, sym, ◌∙◌, arith, append_assoc}
 use Rattle.node_core.specs.TraceLine.{TraceLine, shown}
 use Rattle.trace_text.specs.Line.{line_bytes}
 use Rattle.window_core.specs.Merged.{line_in}
 use Rattle.window_core.specs.Sheaves.{merged}
 use Rattle.window_engine.specs.Text.{text_from}
 use Rattle.window_engine.proofs.Numbered.{text_one_more}
-use Rattle.window_engine.proofs.text.lines_text.Goals as goal
+use Rattle.window_engine.proofs.scribe.append_lines.Goals as goal
 
 pub loop-preserved : goal.loop-preserved
 loop-preserved c =
@@ -14,6 +14,7 @@ loop-preserved c =
     let from = c.args.cursor.now.at in
     let i = c.loop.counter in
     let was = c.loop.invariant in
+    let before = c.args.text.now.items in
     let line = shown c.next.result.now in
     let number : c.first.result + c.at.result ≡ first + (from + i) = omega (arith, c.first.ensures, c.at.ensures, was.1) in
     let within : from + i < length lines = omega (arith, c.loop-test.true, c.requires.within) in
@@ -22,7 +23,9 @@ loop-preserved c =
       omega (arith, c.next.ensures.count, was.1),
       c.in_ok-line_text.ensures.ok
           ∙ ap (λ (l : List ℕ). l ++ line_bytes (c.first.result + c.at.result) line) was.2
-          ∙ ap (λ (n : ℕ). so_far ++ line_bytes n line) number
+          ∙ append_assoc before so_far (line_bytes (c.first.result + c.at.result) line)
+          ∙ ap (λ (l : List ℕ). before ++ l)
+          (ap (λ (n : ℕ). so_far ++ line_bytes n line) number
           ∙ ap (λ (x : TraceLine). so_far ++ line_bytes (first + (from + i)) x) (c.next.ensures.line ∙ ap (λ (n : ℕ). line_in lines n) was.1)
-          ∙ sym (text_one_more first from i lines within),
+          ∙ sym (text_one_more first from i lines within)),
     )

@@ -1,0 +1,214 @@
+//! What one thread makes of a window's text: the next part of the lines, again and again, until all
+//! parts are taken.
+ghost use Rattle.std.specs.Prelude.{◌≡◌, ◌+◌, ◌<◌, ◌≤◌, ◌^◌, ◌++◌, [], length, take, drop, IfOk, IfSome, OnOk};
+ghost use Rattle.window_core.specs.Sheaves.{StandsIn, merged};
+ghost use Rattle.window_engine.specs.Parts.{HasText, IsRight};
+ghost use Rattle.window_engine.specs.Text.{text_from};
+
+use std::alloc::{AllocError, Global};
+use std::sync::atomic::AtomicU64;
+use std::sync::atomic::Ordering::SeqCst;
+use trace_text::line_text;
+use window_core::{Cursor, Sheaf};
+
+/// The parts in which threads make a window's text. Each is taken by one thread.
+#[derive(Drop)]
+pub(crate) struct Parts {
+    /// How many parts there are.
+    count: usize,
+    /// How often one was asked for.
+    asked: AtomicU64,
+}
+
+impl Parts {
+    /// So many parts, of which none is taken.
+    pub(crate) fn new(count: usize) -> Parts {
+        Parts {
+            count,
+            asked: AtomicU64::new(0),
+        }
+    }
+
+    /// The number of a part that no thread has taken yet.
+    fn take(&self) -> Option<usize>
+        ensures { IfSome result (λ number. number < self.now.count) }
+    {
+        let number = self.asked.fetch_add(1, SeqCst) as usize;
+        if number < self.count {
+            Some(number)
+        } else {
+            None
+        }
+    }
+}
+
+/// Lines whose text a thread made, one after another.
+#[derive(Clone, Copy, Drop)]
+pub(crate) struct Part {
+    /// The index of the first line.
+    pub from: usize,
+    /// How many lines.
+    pub count: usize,
+    /// Where their text begins in the thread's text.
+    pub start: usize,
+    /// Where it ends.
+    pub end: usize,
+}
+
+/// What one thread made of a window's text.
+#[derive(Drop)]
+pub(crate) struct Scribe {
+    /// The text of its parts, one after another.
+    pub text: Vec<u8>,
+    /// Its parts.
+    pub parts: Vec<Part>,
+}
+
+/// Appends the text of the lines that a cursor comes to next, so many. Where memory is refused, some
+/// may have been appended.
+fn append_lines(
+    sheaf: &Sheaf,
+    cursor: &mut Cursor,
+    count: usize,
+    text: &mut Vec<u8>,
+) -> Result<(), AllocError>
+    requires stands { StandsIn sheaf.now cursor.old }
+    requires within { cursor.old.at + count ≤ length (merged sheaf.now).lines }
+    requires fits { sheaf.now.first + length (merged sheaf.now).lines < 2 ^ 63 }
+    ensures { OnOk result (text.new.items ≡ text.old.items ++ text_from (sheaf.now.first + cursor.old.at) (take count (drop cursor.old.at (merged sheaf.now).lines))) }
+{
+    for _ in 0..count {
+        let number = sheaf.first() + cursor.at() as u64;
+        line_text(number, sheaf.next(cursor), text)?;
+    }
+    Ok(())
+}
+
+/// The index behind the lines of a part, of so many parts. The cursor goes there.
+fn end_of(
+    sheaf: &Sheaf,
+    cursor: &mut Cursor,
+    number: usize,
+    parts: usize,
+) -> Result<usize, AllocError>
+    requires number { number < parts }
+    ensures { IfOk result (λ end. end ≤ length (merged sheaf.now).lines) }
+{
+    if number + 1 == parts {
+        return Ok(sheaf.len());
+    }
+    sheaf.begin_at(cursor, sheaf.moment_at(number + 1, parts))?;
+    Ok(cursor.at())
+}
+
+impl Scribe {
+    /// Nothing yet. No memory is taken.
+    pub(crate) fn new(alloc: Global) -> Scribe
+        ensures { result.parts.items ≡ [] }
+    {
+        Scribe {
+            text: Vec::new(alloc),
+            parts: Vec::new(alloc),
+        }
+    }
+
+    /// Forgets what it made. Its memory is used again.
+    pub(crate) fn clear(&mut self)
+        ensures text { self.new.text.items ≡ [] }
+        ensures parts { self.new.parts.items ≡ [] }
+    {
+        self.text.clear();
+        self.parts.clear();
+    }
+
+    /// Makes the text of so many lines from where a cursor stands, and of no others.
+    fn make_lines(
+        &mut self,
+        sheaf: &Sheaf,
+        cursor: &mut Cursor,
+        count: usize,
+    ) -> Result<Part, AllocError>
+        requires stands { StandsIn sheaf.now cursor.old }
+        requires within { cursor.old.at + count ≤ length (merged sheaf.now).lines }
+        requires fits { sheaf.now.first + length (merged sheaf.now).lines < 2 ^ 63 }
+        ensures part { IfOk result (HasText sheaf.now self.new.text.items) }
+        ensures from { IfOk result (λ part. part.from ≡ cursor.old.at) }
+        ensures count { IfOk result (λ part. part.count ≡ count) }
+        ensures kept { IsRight sheaf.now self.old → OnOk result (IsRight sheaf.now self.new) }
+    {
+        let from = cursor.at();
+        let start = self.text.len();
+        append_lines(sheaf, cursor, count, &mut self.text)?;
+        Ok(Part {
+            from,
+            count,
+            start,
+            end: self.text.len(),
+        })
+    }
+
+    /// Makes the text of all lines, and of nothing else. Its memory is used again.
+    pub(crate) fn make_all(
+        &mut self,
+        sheaf: &Sheaf,
+        cursor: &mut Cursor,
+    ) -> Result<Part, AllocError>
+        requires fits { sheaf.now.first + length (merged sheaf.now).lines < 2 ^ 63 }
+        ensures part { IfOk result (HasText sheaf.now self.new.text.items) }
+        ensures from { IfOk result (λ part. part.from ≡ 0) }
+        ensures count { IfOk result (λ part. part.count ≡ length (merged sheaf.now).lines) }
+    {
+        self.clear();
+        sheaf.begin_at(cursor, 0)?;
+        self.make_lines(sheaf, cursor, sheaf.len())
+    }
+
+    /// Makes the text of a part, of so many parts.
+    fn make_part(
+        &mut self,
+        sheaf: &Sheaf,
+        cursor: &mut Cursor,
+        number: usize,
+        parts: usize,
+    ) -> Result<(), AllocError>
+        requires number { number < parts }
+        requires fits { sheaf.now.first + length (merged sheaf.now).lines < 2 ^ 63 }
+        requires right { IsRight sheaf.now self.old }
+        ensures right { OnOk result (IsRight sheaf.now self.new) }
+    {
+        let end = end_of(sheaf, cursor, number, parts)?;
+        sheaf.begin_at(cursor, sheaf.moment_at(number, parts))?;
+        let count = end.saturating_sub(cursor.at());
+        let part = self.make_lines(sheaf, cursor, count)?;
+        self.parts.push(part)?;
+        Ok(())
+    }
+
+    /// Makes the text of parts until all are taken. Where memory is refused, some may be made.
+    fn make_next(&mut self, sheaf: &Sheaf, parts: &Parts) -> Result<(), AllocError>
+        requires fits { sheaf.now.first + length (merged sheaf.now).lines < 2 ^ 63 }
+        requires right { IsRight sheaf.now self.old }
+        ensures right { OnOk result (IsRight sheaf.now self.new) }
+    {
+        let mut cursor = Cursor::new(*self.text.allocator())?;
+        for _ in 0..parts.count {
+            let Some(number) = parts.take() else {
+                break;
+            };
+            self.make_part(sheaf, &mut cursor, number, parts.count)?;
+        }
+        Ok(())
+    }
+
+    /// Makes the text of parts that no other thread has taken, until all are taken. Where memory is
+    /// refused it has made none.
+    pub(crate) fn make_parts(&mut self, sheaf: &Sheaf, parts: &Parts)
+        requires fits { sheaf.now.first + length (merged sheaf.now).lines < 2 ^ 63 }
+        requires right { IsRight sheaf.now self.old }
+        ensures { IsRight sheaf.now self.new }
+    {
+        if self.make_next(sheaf, parts).is_err() {
+            self.clear();
+        }
+    }
+}
