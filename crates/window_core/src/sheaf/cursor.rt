@@ -39,17 +39,6 @@ impl Cursor {
         })
     }
 
-    /// A cursor in memory of its own that stands where this one does.
-    pub fn copy(&self) -> Result<Cursor, AllocError>
-        ensures { IfOk result (λ cursor. cursor ≡ self.now) }
-    {
-        Ok(Cursor {
-            at: self.at,
-            nexts: self.nexts.clone()?,
-            ranking: self.ranking.copy()?,
-        })
-    }
-
     /// How many lines are before it.
     pub fn at(&self) -> usize
         ensures { result ≡ self.now.at }

@@ -36,8 +36,7 @@ fn gives(rt: &impl Abort, sheaf: &Sheaf, cursor: &mut Cursor, batch: &Batch, fro
     assert_eq!(rt; cursor.at(), to);
 }
 
-// A cursor begins at a moment. A copy of it gives the lines from there on while it stays, and then
-// gives them itself; so does a copy that is taken between two lines.
+// A cursor begins at a moment, and gives the lines from there on.
 fn begins(
     rt: &impl Abort,
     sheaf: &Sheaf,
@@ -45,15 +44,15 @@ fn begins(
     batch: &Batch,
     moment: Time,
 ) -> Result<(), Fail> {
-    let (from, end) = (first_from(batch, moment), batch.len());
-    let between = from + (end - from) / 2;
     sheaf.begin_at(cursor, moment)?;
-    let mut copy = cursor.copy()?;
-    gives(rt, sheaf, &mut copy, batch, from, end);
-    gives(rt, sheaf, cursor, batch, from, between);
-    let mut copy = cursor.copy()?;
-    gives(rt, sheaf, cursor, batch, between, end);
-    gives(rt, sheaf, &mut copy, batch, between, end);
+    gives(
+        rt,
+        sheaf,
+        cursor,
+        batch,
+        first_from(batch, moment),
+        batch.len(),
+    );
     Ok(())
 }
 
