@@ -11,7 +11,7 @@ use crate::course::{Course, WriteFault, told};
 use crate::fault::{EngineFault, Stop};
 use crate::gate::Gate;
 use crate::sink::Sink;
-use crate::slice::{FIRST_SLICE, next_slice};
+use crate::slice::{FIRST_SLICE, slice_after};
 use crate::text::Text;
 use sim_time::Time;
 use std::snapshot::Snapshot;
@@ -131,7 +131,7 @@ impl Course {
                 Err(fault) => return Err(told(fault, written)),
             }
             before = now;
-            slice = next_slice(span, self.sheaf.len());
+            slice = slice_after(span, self.busy(next, span), self.sheaf.len());
         }
         unreachable!()
     }

@@ -14,13 +14,19 @@ use crate::advance::advance_apart;
 use crate::fault::{EngineFault, Stop};
 use crate::gate::Gate;
 use crate::sink::Sink;
-use crate::slice::{FIRST_SLICE, next_slice};
+use crate::slice::{FIRST_SLICE, slice_after};
 use crate::text::Text;
 use sim_time::Time;
 use std::alloc::{AllocError, Global};
 use std::sync::Wait;
 use std::thread::Threads;
 use window_core::{Sheaf, Window};
+
+/// Of fewer events it is not asked how they lie in their window.
+const MANY: usize = 4_096;
+
+/// All of so many parts of a window's events but the last are nearly all.
+const MOST: usize = 16;
 
 /// The net on its way, with what is used again from window to window.
 #[derive(Drop)]
@@ -92,6 +98,16 @@ impl Course {
     /// by another at the latest.
     pub(crate) fn span(&self, next: Time, bound: Time) -> Time {
         self.window.end().min(bound).saturating_sub(next)
+    }
+
+    /// In how much of a window's time nearly all its events were, in nanoseconds, where it began at a
+    /// moment and was so long: a burst may be over long before the window. Of few events it is all.
+    pub(crate) fn busy(&self, next: Time, span: Time) -> Time {
+        if self.sheaf.len() < MANY {
+            return span;
+        }
+        let past = self.sheaf.moment_at(MOST - 1, MOST);
+        past.saturating_sub(next).min(span)
     }
 
     /// Commits the events of the sheaf's lines and writes their text, where it was made. All of it
@@ -194,7 +210,7 @@ impl Course {
                 Ok(bytes) => written += bytes,
                 Err(fault) => return Err(told(fault, written)),
             }
-            slice = next_slice(span, self.sheaf.len());
+            slice = slice_after(span, self.busy(next, span), self.sheaf.len());
         }
         unreachable!()
     }
