@@ -110,6 +110,31 @@ def ring(flows, segments):
     return net.scenario(EVER)
 
 
+def busy(flows, crossing, segments, window):
+    """Four parts joined in a ring by cables of 10 ms, each with a bottleneck of 1 Gbit/s that is never idle
+    and loses nothing: its flows have more under way than it holds, and less than its queue takes. So many of
+    the flows of each part go over to the next. A dozen ends share a router."""
+    net = Net()
+    near, far = ([net.node(ROUTER) for _ in range(4)] for _ in range(2))
+    for part in range(4):
+        net.cable(near[part], far[part], GBIT, 200 * US, droptail(20_000))
+        net.cable(far[part], near[(part + 1) % 4], 10 * GBIT, 10 * MS, droptail(20_000))
+    leaves = []
+    for tops in near, far:
+        below = [[net.node(ROUTER) for _ in range(flows // 12)] for _ in tops]
+        for top, routers in zip(tops, below):
+            for leaf in routers:
+                net.cable(leaf, top, 10 * GBIT, 50 * US, droptail(20_000))
+        leaves.append(below)
+    for n in range(4 * flows):
+        part, number = n % 4, n // 4
+        to = part if number < flows - crossing else (part + 1) % 4
+        cable = GBIT, (20 + 13 * number) * US, droptail(1000)
+        net.flow(leaves[0][part][number // 12], leaves[1][to][number // 12], cable, cable, MSS, segments,
+                 number * 100 * US, window * MSS)
+    return net.scenario(EVER)
+
+
 def rate_jump(segments):
     """A flow over 1,000 bit/s, and one over 10^12 bit/s that starts 1,000 s later; each over a router."""
     net = Net()
@@ -149,16 +174,28 @@ SCENARIOS = {
     'chain': lambda: chain(16, 20_000),
     'islands': lambda: islands(12, 2, 20_000),
     'ring': lambda: ring(14, 10_000),
+    'busy_islands': lambda: busy(24, 4, 8_000, 40),
+    'busy_ring': lambda: busy(24, 24, 6_000, 100),
     'rate_jump': lambda: rate_jump(2_000_000),
     'largest': lambda: largest(100),
 }
 
 
 def four_groups(s):
-    """The groups of `islands` and `ring`, as the program's option has them: a router's is its part, an
-    end's that of the router that it is cabled to."""
-    of = {link.source: link.to for link in s.links}
-    return ','.join(str((node if kind == ROUTER else of[node]) % 4) for node, kind in enumerate(s.nodes))
+    """The groups of a scenario in four parts, as the program's option has them: nodes between which links
+    are shorter than 10 ms are in one."""
+    group = list(range(len(s.nodes)))
+
+    def first(node):
+        return node if group[node] == node else first(group[node])
+
+    for link in s.links:
+        if link.delay < 10 * MS:
+            one, other = sorted((first(link.source), first(link.to)))
+            group[other] = one
+    firsts = sorted({first(node) for node in range(len(s.nodes))})
+    assert len(firsts) == 4
+    return ','.join(str(firsts.index(first(node))) for node in range(len(s.nodes)))
 
 
 def started(s):

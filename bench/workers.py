@@ -6,8 +6,8 @@ bench/workers.py [--program PATH] [--rounds N] [--priority P]
 not depend on the machine's speed. Seconds are whole runs, their trace thrown away, each kind of run in
 turn in each round, so that what else the machine does disturbs them alike; the least of all rounds counts.
 On a machine with other work a real-time priority keeps the cores for them (as root). Windows are counted
-by the threads that are started with two workers and with three, with strace: one worker starts none. It
-wants valgrind, strace, taskset and GNU time.
+by the threads that are started with two workers, with strace: one worker starts none. It wants
+valgrind, strace, taskset and GNU time.
 """
 import argparse
 import os
@@ -19,7 +19,7 @@ from results import CALLGRIND, ENVIRONMENT, PROGRAM, instructions, number, proce
 from scenarios import SCENARIOS, chain, disassemble, four_groups, one_flow, started, tree
 
 HEAD = '## Workers and groups\n'
-SPED_UP = 'islands', 'ring'
+SPED_UP = 'busy_islands', 'busy_ring', 'islands', 'ring'
 # Shorter than in the table of events, since valgrind is slow.
 COUNTED = {'tree': lambda: tree(100, 200), 'chain': lambda: chain(16, 4_000)}
 ONE, EACH = 1.1, 1.6                    # at most so many times the instructions of a run without options
@@ -59,11 +59,8 @@ def events_of(program, path):
 
 
 def windows(program, path, groups):
-    """How many windows a run has. In each n workers are n threads, one more makes the text of the window
-    before, and where that is in parts n - 1 others help it."""
-    two, three = (ran(program, path, ('--workers', str(n), *groups), ('strace', '-f', '-qq', '-e', 'trace=clone3'))
-                  .count('clone3(') for n in (2, 3))
-    return (2 * two - three) // 2
+    """How many windows a run has: in each, two workers are two threads."""
+    return ran(program, path, ('--workers', '2', *groups), ('strace', '-f', '-qq', '-e', 'trace=clone3')).count('clone3(') // 2
 
 
 def seconds(kinds, rounds, before):
@@ -92,9 +89,11 @@ def megabytes(program, path, words):
 
 def memory(program):
     """The most resident memory of runs, by scenario and words."""
-    long, jump = path_of('ten million events', one_flow(2_500_000)), path_of('rate_jump', SCENARIOS['rate_jump']())
+    long = path_of('ten million events', one_flow(2_500_000))
+    jump, burst = (path_of(name, SCENARIOS[name]()) for name in ('rate_jump', 'under_way_100000'))
     cases = [('one flow, ten million events', long, ()), ('`rate_jump`', jump, ()),
-             ('`rate_jump`', jump, ('--workers', '4', '--groups', '0,1,0,1,0,1'))]
+             ('`rate_jump`', jump, ('--workers', '4', '--groups', '0,1,0,1,0,1')),
+             ('`under_way_100000`', burst, ('--workers', '4', '--groups', 'each'))]
     for name in SPED_UP:
         scenario = SCENARIOS[name]()
         path, groups = path_of(name, scenario), four_groups(scenario)
