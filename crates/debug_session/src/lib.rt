@@ -9,8 +9,6 @@ pub mod refusal;
 mod reply;
 pub mod said;
 pub mod session;
-#[cfg(test)]
-mod tests;
 
 pub use command::{Command, Limits};
 pub use grammar::{number_below, read_line};

@@ -10,6 +10,3 @@ pub use net::parts::{NetParts, Spare};
 pub use net::{Net, StepFault};
 pub use nodes::Nodes;
 pub use places::{LinkEnds, Place};
-
-#[cfg(test)]
-mod tests;

@@ -12,7 +12,7 @@ mod fire;
 pub mod line;
 pub mod link;
 mod node;
-mod opening;
+pub mod opening;
 pub mod outbox;
 mod passing;
 mod pending;
@@ -20,8 +20,6 @@ mod receiver_node;
 pub mod role;
 mod router_node;
 pub mod routes;
-#[cfg(test)]
-mod tests;
 pub mod wire;
 
 pub use alarm::Alarm;

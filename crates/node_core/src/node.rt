@@ -272,6 +272,3 @@ impl Node {
         })
     }
 }
-
-#[cfg(test)]
-mod tests;

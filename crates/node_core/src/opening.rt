@@ -74,11 +74,7 @@ pub(crate) fn opening_links(
 }
 
 /// The numbers of the links that leave a node, which rise.
-pub(crate) fn leaving_numbers(
-    alloc: Global,
-    links: &[LinkPart],
-    node: u16,
-) -> Result<Vec<u16>, AllocError>
+pub fn leaving_numbers(alloc: Global, links: &[LinkPart], node: u16) -> Result<Vec<u16>, AllocError>
     requires { length links.now ≤ 1024 }
     ensures { IfOk result (λ numbers. numbers.items ≡ numbers_of (leaving_links links.now node)) }
 {
@@ -174,7 +170,7 @@ fn flow_to(flows: &[FlowPart], node: u16) -> Option<(u16, FlowPart)>
 }
 
 /// What a node does. The numbers of its outgoing links are given.
-pub(crate) fn opening_role(
+pub fn opening_role(
     alloc: Global,
     parts: &ScenarioParts,
     leaving: &[u16],

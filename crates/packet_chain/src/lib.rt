@@ -8,8 +8,6 @@ pub(crate) mod loose;
 pub(crate) mod node;
 pub(crate) mod nodes;
 pub mod packet;
-#[cfg(test)]
-mod tests;
 
 pub use cell::PacketCell;
 pub use chain::PacketChain;

@@ -10,8 +10,6 @@ pub mod acts;
 pub mod guarantees;
 mod losses;
 pub mod port;
-#[cfg(test)]
-mod tests;
 
 pub use acts::{Act, Acts, DropReason};
 pub use guarantees::{

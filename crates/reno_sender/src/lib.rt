@@ -18,6 +18,3 @@ pub use fields::{SenderFields, Timing};
 pub use plan::Plan;
 pub use sender::Sender;
 pub use timer::after_sample;
-
-#[cfg(test)]
-mod tests;

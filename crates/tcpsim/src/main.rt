@@ -1,30 +1,10 @@
-//! The program: a scenario comes in on standard input, its trace, its image or its canonical text
-//! goes out on standard output.
+//! The program: a session with the process's own words, input and output.
 #![tactic(auto)]
 
-pub mod command_line;
-pub mod conversion;
-pub mod debug;
-pub mod fault;
-mod groups;
-mod input;
-pub mod outcome;
-mod output;
-mod run;
-pub mod scenario_input;
-pub mod session;
-pub mod sharing;
-pub mod source;
-pub mod subcommand;
-#[cfg(test)]
-mod tests;
-pub mod trace;
-mod workers;
-
-use crate::fault::SessionFault;
-use crate::outcome::Outcome;
-use crate::session::run_all;
-use crate::source::OverRead;
+use sessions::fault::SessionFault;
+use sessions::outcome::Outcome;
+use sessions::session::run_all;
+use sessions::source::OverRead;
 use std::env;
 use std::io::ErrorKind;
 use std::process::ExitCode;

@@ -10,8 +10,6 @@ mod end;
 mod event;
 mod groups;
 mod line;
-#[cfg(test)]
-mod tests;
 
 pub use dump::dump_text;
 pub use end::end_text;

@@ -14,8 +14,6 @@ mod passing;
 mod share;
 mod sharing;
 pub mod sheaf;
-#[cfg(test)]
-mod tests;
 pub mod window;
 
 pub use ahead::{lookahead, window_end};

@@ -15,8 +15,6 @@ mod scribe;
 mod sink;
 mod slice;
 mod sweep;
-#[cfg(test)]
-mod tests;
 mod text;
 
 pub use engine::Engine;

@@ -8,8 +8,6 @@ mod order;
 mod piece;
 mod seat;
 mod slot;
-#[cfg(test)]
-mod tests;
 mod view;
 
 pub use board::Board;

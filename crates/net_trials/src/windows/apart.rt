@@ -1,0 +1,174 @@
+//! A window's lines group by group: a merge of them from a moment on gives those of the same
+//! window's batch from the first line on that is at the moment or past it.
+ghost use Rattle.std.specs.Prelude.{◌≡◌, ◌≤◌, false, length};
+ghost use Rattle.window_core.specs.Sheaves.{StandsIn};
+
+use super::nets::{crossed, grouped, two_pairs};
+use super::schedules::is_same;
+use net_machine::Net;
+use sim_time::Time;
+use std::alloc::Global;
+use std::process::Abort;
+use std::test::Fail;
+use window_core::{Batch, Cursor, Sheaf, Window};
+
+// The index of the first line at a moment or past it; how many lines there are where there is none.
+fn first_from(batch: &Batch, moment: Time) -> usize
+    ensures { result ≤ length batch.now.lines }
+{
+    for index in 0..batch.len() {
+        if batch.line(index).key.time >= moment {
+            return index;
+        }
+    }
+    batch.len()
+}
+
+// A cursor gives the batch's lines from an index up to another, and stands there.
+fn gives(rt: &impl Abort, sheaf: &Sheaf, cursor: &mut Cursor, batch: &Batch, from: usize, to: usize)
+    requires { StandsIn sheaf.now cursor.old }
+    ensures { StandsIn sheaf.now cursor.new }
+{
+    for index in from..to {
+        assert!(rt; cursor.at() == index && index < sheaf.len() && index < batch.len());
+        is_same(rt, sheaf.next(cursor), batch.line(index));
+    }
+    assert_eq!(rt; cursor.at(), to);
+}
+
+// A cursor begins at a moment, and gives the lines from there on.
+fn begins(
+    rt: &impl Abort,
+    sheaf: &Sheaf,
+    cursor: &mut Cursor,
+    batch: &Batch,
+    moment: Time,
+) -> Result<(), Fail> {
+    sheaf.begin_at(cursor, moment)?;
+    gives(
+        rt,
+        sheaf,
+        cursor,
+        batch,
+        first_from(batch, moment),
+        batch.len(),
+    );
+    Ok(())
+}
+
+// The sheaf has the batch's lines: from the beginning, from each line's moment and past it, and
+// past all.
+fn has_lines(
+    rt: &impl Abort,
+    sheaf: &Sheaf,
+    cursor: &mut Cursor,
+    batch: &Batch,
+) -> Result<(), Fail> {
+    assert_eq!(rt; sheaf.first(), batch.first());
+    assert_eq!(rt; sheaf.len(), batch.len());
+    assert_eq!(rt; sheaf.is_empty(), batch.is_empty());
+    begins(rt, sheaf, cursor, batch, 0)?;
+    for index in 0..batch.len() {
+        let time = batch.line(index).key.time;
+        begins(rt, sheaf, cursor, batch, time)?;
+        begins(rt, sheaf, cursor, batch, time.saturating_add(1))?;
+    }
+    begins(rt, sheaf, cursor, batch, Time::MAX)
+}
+
+// Runs each group up to the window's end.
+fn runs_groups(rt: &impl Abort, window: &mut Window) -> Result<(), Fail>
+    requires { window.old.out ≡ false }
+    ensures { window.new.out ≡ false }
+{
+    for group in 0..window.groups() {
+        assert!(rt; group < window.groups());
+        window.run_group(group).ok().ok_or("a group that runs")?;
+    }
+    Ok(())
+}
+
+// Takes the next window of two: of one group by group, of the other as a batch. The answer is
+// whether there were lines.
+fn turns_both(
+    rt: &impl Abort,
+    apart: &mut Window,
+    whole: &mut Window,
+    sheaf: &mut Sheaf,
+    cursor: &mut Cursor,
+) -> Result<bool, Fail>
+    requires apart { apart.old.out ≡ false }
+    requires whole { whole.old.out ≡ false }
+    ensures apart { apart.new.out ≡ false }
+    ensures whole { whole.new.out ≡ false }
+{
+    runs_groups(rt, apart)?;
+    runs_groups(rt, whole)?;
+    apart.turn_apart(sheaf).ok().ok_or("a turn")?;
+    let batch = whole.turn().ok().ok_or("a turn")?;
+    has_lines(rt, sheaf, cursor, &batch)?;
+    assert_eq!(rt; apart.position(), whole.position());
+    assert_eq!(rt; apart.end(), whole.end());
+    assert_eq!(rt; apart.next(), whole.next());
+    Ok(!batch.is_empty())
+}
+
+// Takes all windows of two: of one group by group, of the other as batches. The answer is how many
+// had lines.
+fn windows_of_both(
+    rt: &impl Abort,
+    apart: &mut Window,
+    whole: &mut Window,
+    sheaf: &mut Sheaf,
+    cursor: &mut Cursor,
+) -> Result<u64, Fail>
+    requires apart { apart.old.out ≡ false }
+    requires whole { whole.old.out ≡ false }
+{
+    for count in 0..1_000u64 {
+        if !turns_both(rt, apart, whole, sheaf, cursor)? {
+            return Ok(count);
+        }
+    }
+    Err(Fail::from("more windows than that"))
+}
+
+// How many windows of a net, in these groups, had lines.
+fn windows_with_lines(
+    rt: &impl Abort,
+    alloc: Global,
+    net: Net,
+    entries: &[u8],
+) -> Result<u64, Fail> {
+    let copied = net.copy().expect(rt, "a copy");
+    let mut apart = grouped(rt, alloc, copied, entries);
+    let mut whole = grouped(rt, alloc, net, entries);
+    let mut sheaf = Sheaf::new(alloc, 0);
+    let mut cursor = Cursor::new(alloc).expect(rt, "a cursor");
+    windows_of_both(rt, &mut apart, &mut whole, &mut sheaf, &mut cursor)
+}
+
+#[test]
+fn cursors_give_the_lines_of_each_windows_batch(rt: HostRuntime) -> Result<(), Fail> {
+    let alloc = rt.alloc();
+    for entries in [[0, 1, 2, 3, 4], [0, 1, 0, 0, 0], [1, 0, 2, 0, 2], [0; 5]] {
+        let net = crossed(alloc, 3_000_000_000, 6)?;
+        let windows = windows_with_lines(&rt, alloc, net, &entries)?;
+        assert!(rt; windows > 0);
+    }
+    Ok(())
+}
+
+// Two groups with no link between them have one window, in which both have many lines of the same
+// moments.
+#[test]
+fn cursors_begin_amid_the_lines_of_two_groups(rt: HostRuntime) -> Result<(), Fail> {
+    let alloc = rt.alloc();
+    let net = two_pairs(alloc, 12)?;
+    let windows = windows_with_lines(&rt, alloc, net, &[0, 0, 1, 1])?;
+    assert_eq!(rt; windows, 1);
+    let net = two_pairs(alloc, 12)?;
+    let windows = windows_with_lines(&rt, alloc, net, &[0, 1, 1, 0])?;
+    assert!(rt; windows > 1);
+    Ok(())
+}

@@ -1,0 +1,32 @@
+use Rattle.std.proofs.Common.{◌≡◌, ◌∙◌, List, sym, subst, map}
+use Rattle.clap.specs.Matches.{found_of}
+use Rattle.clap.specs.Simple.{app_of, subcommand_of}
+use Rattle.clap.specs.Walk.{Row, Text, rows_of}
+use Rattle.sessions.specs.CommandLine.{program}
+use Rattle.sessions.specs.Given.{AreOfSubcommand}
+use Rattle.sessions.proofs.Naming.{parsed_faultless, parsed_rows, met_named, named_by, asked_for}
+use Rattle.sessions.proofs.Options.{same_some}
+use Rattle.sessions.proofs.command_line.read_words.Goals as goal
+
+pub task_of-requires : goal.task_of-requires
+task_of-requires g c =
+    let words = map g.S.AsStr.text c.args.words.now in
+    let app = app_of c.in_ok-commands.field-0 in
+    let faultless = parsed_faultless app words c.in_ok-commands.ensures c.in_ok-matches.ensures.kinds in
+    let met = met_named c.in_ok-matches.matches c.in-Some.word.now (rows_of (found_of c.in-Some.options.now)) (subcommand_of program words)
+    (parsed_rows app words c.in_ok-commands.ensures c.in_ok-matches.matches c.in_ok-matches.ensures.matches) c.in-Some.ensures.name c.in-Some.ensures.rows in
+    let named = named_by words faultless in
+    let same : named.0 ≡ (c.in-Some.word.now, rows_of (found_of c.in-Some.options.now)) = same_some _ _ (sym named.1 ∙ met) in
+    subst (λ (n : Text × List Row). AreOfSubcommand n.0 n.1) same named.2
+
+pub returns-clause-faults : goal.returns-clause-faults
+returns-clause-faults g c = parsed_faultless (app_of c.in_ok-commands.field-0) (map g.S.AsStr.text c.args.words.now) c.in_ok-commands.ensures c.in_ok-matches.ensures.kinds
+
+pub returns-clause-asked : goal.returns-clause-asked
+returns-clause-asked g c =
+    let words = map g.S.AsStr.text c.args.words.now in
+    let app = app_of c.in_ok-commands.field-0 in
+    let rows = rows_of (found_of c.in-Some.options.now) in
+    let met = met_named c.in_ok-matches.matches c.in-Some.word.now rows (subcommand_of program words)
+    (parsed_rows app words c.in_ok-commands.ensures c.in_ok-matches.matches c.in_ok-matches.ensures.matches) c.in-Some.ensures.name c.in-Some.ensures.rows in
+    asked_for words (c.in-Some.word.now, rows) c.task_of.result (parsed_faultless app words c.in_ok-commands.ensures c.in_ok-matches.ensures.kinds) met (c.task_of.ensures.word, c.task_of.ensures.sharing)

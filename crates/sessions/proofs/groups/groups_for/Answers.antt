@@ -1,0 +1,28 @@
+use Rattle.std.proofs.Common.{◌≡◌, ◌∙◌, length, sym, ap, subst, arith}
+use Rattle.scenario_image.specs.declared.parts.ScenarioParts.{ScenarioParts}
+use Rattle.sessions.specs.Groups.{MeansGroups}
+use Rattle.sessions.proofs.GroupTexts.{given}
+use Rattle.sessions.proofs.Options.{some_none}
+use Rattle.sessions.proofs.Shared.{one_group_each}
+use Rattle.sessions.proofs.groups.groups_for.Goals as goal
+
+pub partition_of-requires : goal.partition_of-requires
+partition_of-requires c =
+    let count : c.len-nodes.result ≡ length c.args.scenario.now.nodes = c.len-nodes.ensures ∙ ap (λ (p : ScenarioParts). length p.nodes) c.parts.ensures.value in
+    let range = c.parts.ensures.scenario.in_limits.counts.node_count in
+    let least = range.0 in
+    let most = range.1 in
+    (omega (arith, count, least), omega (arith, count, most))
+
+pub returns-in-Some-clause-nodes : goal.returns-in-Some-clause-nodes
+returns-in-Some-clause-nodes c =
+    let count : c.len-nodes.result ≡ length c.args.scenario.now.nodes = c.len-nodes.ensures ∙ ap (λ (p : ScenarioParts). length p.nodes) c.parts.ensures.value in
+    one_group_each c.groups.result.now c.len-nodes.result c.in-Some.partition (given (MeansGroups c.groups.result.now c.len-nodes.result) c.in_ok-partition.field-0 c.in-Some.partition c.in-Some.is c.in_ok-partition.ensures.means) ∙ count
+
+pub returns-in-None-clause-faults : goal.returns-in-None-clause-faults
+returns-in-None-clause-faults c =
+    λ has.
+    let count : c.len-nodes.result ≡ length c.args.scenario.now.nodes = c.len-nodes.ensures ∙ ap (λ (p : ScenarioParts). length p.nodes) c.parts.ensures.value in
+    let of_count : MeansGroups c.args.sharing.now.groups c.len-nodes.result has.0 = subst (λ n. MeansGroups c.args.sharing.now.groups n has.0) (sym count) has.1 in
+    let means : MeansGroups c.groups.result.now c.len-nodes.result has.0 = subst (λ text. MeansGroups text c.len-nodes.result has.0) (sym c.groups.ensures) of_count in
+    some_none has.0 (sym (c.in_ok-partition.ensures.only has.0 means) ∙ c.in-None.is)

@@ -1,0 +1,135 @@
+-- The command line: what is wrong with its words, by the rules of `clap`, and how they are answered.
+use Rattle.std.specs.Prelude.{◌≡◌, ◌≢◌, ◌⊎◌, ℕ, ◌∷◌, [], List, codes, true, Option, Some, IfSome, Ok, Err, option_and_then}
+use Rattle.std.specs.Option.{option_map}
+use Rattle.std.specs.Str.Parse.{digits_value, without_leading_plus}
+use Rattle.clap.specs.Simple.{App, Shape, new_rule, new_shape, with_subcommand, subcommand_of}
+use Rattle.clap.specs.Faults.{fault_of}
+use Rattle.clap.specs.Kinds.{Kinds, IsAmong}
+use Rattle.clap.specs.Walk.{Rule, first_of}
+use Rattle.clap.specs.declared.builder.value_parser.ValueParser.TheVariants.{Unsigned}
+use Rattle.clap.specs.Values.{kind_of}
+use Rattle.clap.specs.declared.error.kind.ErrorKind.{ErrorKind}
+use Rattle.clap.specs.declared.error.kind.ErrorKind.TheVariants.{DisplayHelp, DisplayVersion}
+use Rattle.sessions.specs.declared.fault.SessionFault.TheVariants.{CommandLine, WriteFailed, NoMemory}
+use Rattle.sessions.specs.declared.subcommand.Subcommand.TheVariants.{Asm, Dis, Run}
+use Rattle.sessions.specs.declared.subcommand.Task.{Task}
+use Rattle.sessions.specs.declared.subcommand.Task.TheVariants.{Scenario, Debug}
+use Rattle.sessions.specs.Ended.{Ended}
+use Rattle.sessions.specs.Sharing.{SharingValue}
+use Rattle.sessions.specs.Subcommand.{word_of, sharing_of}
+
+-- the program without its subcommands: it has a version and wants a subcommand
+abbrev pub top_program : App
+top_program = record { top = record (new_shape (codes "tcpsim")) { has_version = true; disable_help_subcommand = true; subcommand_required = true }; subs = [] }
+
+-- `--workers N`: a number from 1 to 64, and 1 where it is left out
+abbrev pub workers_rule : Rule
+workers_rule = record (new_rule (codes "workers")) { long = Some (codes "workers"); value_names = 1; defaults = codes "1" ∷ []; parser = Some (Unsigned 1 64) }
+
+-- `--groups G`: any text, and `one` where it is left out
+abbrev pub groups_rule : Rule
+groups_rule = record (new_rule (codes "groups")) { long = Some (codes "groups"); value_names = 1; defaults = codes "one" ∷ [] }
+
+-- a subcommand that takes both options
+abbrev pub sharing_shape : List ℕ → Shape
+sharing_shape name = record (new_shape name) { rules = workers_rule ∷ groups_rule ∷ [] }
+
+-- the program with its subcommands: two that take nothing, and two that are shared out
+abbrev pub program : App
+program = with_subcommand (with_subcommand (with_subcommand (with_subcommand top_program (new_shape (codes "asm"))) (new_shape (codes "dis"))) (sharing_shape (codes "run"))) (sharing_shape (codes "debug"))
+
+-- the kinds of fault that the words have, none where they ask for a subcommand
+abbrev pub word_faults : List (List ℕ) → Kinds
+word_faults words = fault_of program words
+
+-- the word by which the words name a subcommand
+abbrev pub named_word : List (List ℕ) → Option (List ℕ)
+named_word words = option_map (λ named. named.0) (subcommand_of program words)
+
+-- the text that the words give to an option of the subcommand that they name, or else its default
+abbrev pub option_text : List ℕ → List (List ℕ) → Option (List ℕ)
+option_text id words = option_and_then (λ named. first_of id named.1) (subcommand_of program words)
+
+-- the number that a text of decimal digits has, with a plus before them or none
+abbrev pub number_of : List ℕ → ℕ
+number_of text = digits_value 10 (without_leading_plus text)
+
+-- the words give the options of what is shared out
+pub record Give (words : List (List ℕ)) (sharing : SharingValue) : Type 0 where
+  pub workers : option_map number_of (option_text (codes "workers") words) ≡ Some sharing.workers
+  pub groups : option_text (codes "groups") words ≡ Some sharing.groups
+
+-- the words have no fault, name this subcommand, and give its options where it is shared out
+pub record AskFor (words : List (List ℕ)) (task : Task) : Type 0 where
+  pub faultless : word_faults words ≡ []
+  pub named : named_word words ≡ Some (word_of task)
+  pub given : IfSome (sharing_of task) (Give words)
+
+-- words without a fault ask for a subcommand, and for no other
+pub record AskForOne (words : List (List ℕ)) : Type 0 where
+  pub some : word_faults words ≡ [] → (task : Task) × AskFor words task
+  pub only : (one other : Task) → AskFor words one → AskFor words other → one ≡ other
+
+-- all words without a fault ask for one subcommand
+abbrev pub WordsAskForOne : Type 0
+WordsAskForOne = (words : List (List ℕ)) → AskForOne words
+
+-- one worker, and all nodes in one group
+abbrev pub alone : SharingValue
+alone = record { workers = 1; groups = codes "one" }
+
+-- three workers, and the groups of two nodes
+abbrev pub shared : SharingValue
+shared = record { workers = 3; groups = codes "0,1" }
+
+-- the words `tcpsim asm`, `tcpsim dis`, `tcpsim run` and `tcpsim debug` ask for their subcommands, and options may come in any order, behind `=` or as a word of their own
+pub record WordsOfSubcommands : Type 0 where
+  pub asm : AskFor (codes "tcpsim" ∷ codes "asm" ∷ []) (Scenario Asm)
+  pub dis : AskFor (codes "tcpsim" ∷ codes "dis" ∷ []) (Scenario Dis)
+  pub run : AskFor (codes "tcpsim" ∷ codes "run" ∷ []) (Scenario (Run alone))
+  pub run_shared : AskFor (codes "tcpsim" ∷ codes "run" ∷ codes "--workers" ∷ codes "3" ∷ codes "--groups=0,1" ∷ []) (Scenario (Run shared))
+  pub debug : AskFor (codes "tcpsim" ∷ codes "debug" ∷ []) (Debug alone)
+  pub debug_shared : AskFor (codes "tcpsim" ∷ codes "debug" ∷ codes "--groups" ∷ codes "0,1" ∷ codes "--workers=+3" ∷ []) (Debug shared)
+
+-- a text is to be shown, and nothing is wrong
+abbrev pub IsRequest : ErrorKind → Type 0
+IsRequest kind = (kind ≡ DisplayHelp) ⊎ (kind ≡ DisplayVersion)
+
+-- the words ask for the help or the version
+abbrev pub AskForText : List (List ℕ) → Type 0
+AskForText words = (kind : ErrorKind) × (word_faults words ≡ kind ∷ []) × IsRequest kind
+
+-- the words have a fault, and ask for nothing to be shown
+pub record AreMistaken (words : List (List ℕ)) : Type 0 where
+  pub faulty : word_faults words ≢ []
+  pub no_request : (kind : ErrorKind) → IsRequest kind → ¬ IsAmong kind (word_faults words)
+
+-- mistaken words are refused for a fault that they have, or memory was refused
+abbrev pub IsRefusal : List (List ℕ) → Ended → Type 0
+IsRefusal words (Err (CommandLine error)) = IsAmong (kind_of error) (word_faults words)
+IsRefusal words (Err NoMemory) = Unit {0}
+IsRefusal words _ = ⊥
+
+-- a text was to be shown, and that ended so with these bytes written: it was shown, or the writer failed over it, or memory was refused before its first byte
+abbrev pub IsAnswer : Ended → List ℕ → Type 0
+IsAnswer (Ok done) out = Unit {0}
+IsAnswer (Err WriteFailed) out = Unit {0}
+IsAnswer (Err NoMemory) out = out ≡ []
+IsAnswer _ out = ⊥
+
+-- `--help`, of the program and of each subcommand, and `--version` ask for a text
+pub record WordsOfText : Type 0 where
+  pub help : AskForText (codes "tcpsim" ∷ codes "--help" ∷ [])
+  pub asm_help : AskForText (codes "tcpsim" ∷ codes "asm" ∷ codes "--help" ∷ [])
+  pub dis_help : AskForText (codes "tcpsim" ∷ codes "dis" ∷ codes "--help" ∷ [])
+  pub run_help : AskForText (codes "tcpsim" ∷ codes "run" ∷ codes "--help" ∷ [])
+  pub debug_help : AskForText (codes "tcpsim" ∷ codes "debug" ∷ codes "--help" ∷ [])
+  pub version : AskForText (codes "tcpsim" ∷ codes "--version" ∷ [])
+
+-- mistaken are the program's name alone, a word behind `run`, workers below 1 or above 64, and an option of `asm`
+pub record WordsOfMistake : Type 0 where
+  pub nothing_else : AreMistaken (codes "tcpsim" ∷ [])
+  pub word_behind : AreMistaken (codes "tcpsim" ∷ codes "run" ∷ codes "twice" ∷ [])
+  pub no_worker : AreMistaken (codes "tcpsim" ∷ codes "run" ∷ codes "--workers" ∷ codes "0" ∷ [])
+  pub many_workers : AreMistaken (codes "tcpsim" ∷ codes "debug" ∷ codes "--workers" ∷ codes "65" ∷ [])
+  pub asm_is_not_shared : AreMistaken (codes "tcpsim" ∷ codes "asm" ∷ codes "--groups" ∷ codes "one" ∷ [])

@@ -1,0 +1,25 @@
+-- The options of a subcommand, as a parse of the words found them.
+use Rattle.std.specs.Prelude.{◌≡◌, ◌⊎◌, List, ℕ, codes, Some}
+use Rattle.std.specs.Option.{option_map}
+use Rattle.clap.specs.Values.{IsUnsignedIn}
+use Rattle.clap.specs.Walk.{Row, first_of, one_of}
+use Rattle.sessions.specs.CommandLine.{number_of}
+use Rattle.sessions.specs.Sharing.{SharingValue}
+
+-- the workers are a number from 1 to 64, and the groups are there
+pub record AreOptions (rows : List Row) : Type 0 where
+  pub workers : List ℕ
+  pub groups : List ℕ
+  pub are_workers : first_of (codes "workers") rows ≡ Some workers
+  pub are_read : one_of (codes "workers") rows ≡ Some workers
+  pub are_groups : first_of (codes "groups") rows ≡ Some groups
+  pub few : IsUnsignedIn 1 64 workers
+
+-- the options say so how a run is shared out
+pub record IsSharing (rows : List Row) (sharing : SharingValue) : Type 0 where
+  pub workers : option_map number_of (first_of (codes "workers") rows) ≡ Some sharing.workers
+  pub groups : first_of (codes "groups") rows ≡ Some sharing.groups
+
+-- the word is `asm` or `dis`, or `run` or `debug` with its options
+abbrev pub AreOfSubcommand : List ℕ → List Row → Type 0
+AreOfSubcommand word rows = (word ≡ codes "asm") ⊎ (word ≡ codes "dis") ⊎ ((word ≡ codes "run") × AreOptions rows) ⊎ ((word ≡ codes "debug") × AreOptions rows)

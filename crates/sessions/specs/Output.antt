@@ -1,0 +1,31 @@
+-- What a subcommand writes.
+use Rattle.std.specs.Prelude.{◌≡◌, ◌⊎◌, ℕ, List, [], Ok, Err}
+use Rattle.scenario_image.specs.Image.{image}
+use Rattle.scenario_image.specs.declared.parts.ScenarioParts.{ScenarioParts}
+use Rattle.scenario_asm.specs.CanonicalText.{canonical_text}
+use Rattle.table_run.specs.State.{opening}
+use Rattle.sessions.specs.declared.fault.SessionFault.TheVariants.{WriteFailed, NoMemory, Groups}
+use Rattle.sessions.specs.declared.subcommand.Subcommand.{Subcommand}
+use Rattle.sessions.specs.declared.subcommand.Subcommand.TheVariants.{Asm, Dis, Run}
+use Rattle.sessions.specs.Written.{IsBeginningOf}
+use Rattle.sessions.specs.Ended.{Ended, IsRunOutput}
+use Rattle.sessions.specs.Nodes.{HasGroups}
+
+-- what was written of bytes that go out together, by the end: all; nothing where memory was refused; a beginning where the writer failed
+abbrev pub IsAllOrNothing : List ℕ → Ended → List ℕ → Type 0
+IsAllOrNothing bytes (Ok done) out = out ≡ bytes
+IsAllOrNothing bytes (Err NoMemory) out = out ≡ []
+IsAllOrNothing bytes (Err WriteFailed) out = IsBeginningOf (λ all. all ≡ bytes) out
+IsAllOrNothing bytes _ out = ⊥
+
+-- what a run by groups that ended so has written of a scenario: nothing where the text names no groups for its nodes; else what a run has, whatever the groups are
+abbrev pub IsSharedOutput : List ℕ → ScenarioParts → Ended → List ℕ → Type 0
+IsSharedOutput groups parts (Err Groups) out = ¬ HasGroups groups parts × (out ≡ [])
+IsSharedOutput groups parts (Err NoMemory) out = (out ≡ []) ⊎ (HasGroups groups parts × IsRunOutput (opening parts) (Err NoMemory) out)
+IsSharedOutput groups parts ended out = HasGroups groups parts × IsRunOutput (opening parts) ended out
+
+-- what a subcommand that ended so has written of a scenario: the image, the canonical text, or the trace of its run
+abbrev pub IsOutput : Subcommand → ScenarioParts → Ended → List ℕ → Type 0
+IsOutput Asm parts ended out = IsAllOrNothing (image parts) ended out
+IsOutput Dis parts ended out = IsAllOrNothing (canonical_text parts) ended out
+IsOutput (Run sharing) parts ended out = IsSharedOutput sharing.groups parts ended out

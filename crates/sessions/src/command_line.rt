@@ -1,0 +1,183 @@
+//! The words of the command line.
+ghost use Rattle.std.specs.Prelude.{◌≡◌, false, map, IfOk, IfSome};
+ghost use Rattle.clap.specs.Simple.{app_of, shape_of, new_shape, with_subcommand};
+ghost use Rattle.clap.specs.declared.builder.command.Command.TheViews.{out-Command as fields_of};
+ghost use Rattle.clap.specs.Kinds.{FailsBy};
+ghost use Rattle.clap.specs.Matches.{found_of};
+ghost use Rattle.clap.specs.Walk.{rule_of, rows_of};
+ghost use Rattle.sessions.specs.CommandLine.{program, top_program, workers_rule, groups_rule, sharing_shape, word_faults, AskFor, WordsAskForOne, WordsOfSubcommands, WordsOfText, WordsOfMistake};
+ghost use Rattle.sessions.specs.Given.{AreOptions, AreOfSubcommand, IsSharing};
+ghost use Rattle.sessions.specs.Subcommand.{word_of, sharing_of as task_sharing};
+ghost use Rattle.sessions.specs.declared.subcommand.Task.{Task};
+
+use crate::sharing::Sharing;
+use crate::subcommand::{Subcommand, Task};
+use clap::{Arg, ArgMatches, Command, Error, value_parser};
+use std::alloc::{AllocError, Global};
+use std::convert::AsStr;
+
+/// The version of the program.
+const VERSION: &str = "0.1.0";
+
+/// The program's command without its subcommands.
+fn top_command<'a>(alloc: Global) -> Command<'a>
+    ensures { app_of result ≡ top_program }
+{
+    Command::new(alloc, "tcpsim")
+        .about("Simulate TCP flows through bottlenecks, packet by packet")
+        .version(VERSION)
+        .disable_help_subcommand(true)
+        .subcommand_required(true)
+}
+
+/// A subcommand that takes nothing.
+fn plain_subcommand<'a>(alloc: Global, name: &'a str, about: &'a str) -> Command<'a>
+    ensures shape { shape_of result ≡ new_shape name.entry.now }
+    ensures no_globals { (fields_of result).has_globals ≡ false }
+{
+    Command::new(alloc, name).about(about)
+}
+
+/// The option that says how many workers run the groups.
+fn workers_option<'a>(alloc: Global) -> Arg<'a>
+    ensures rule { rule_of result ≡ workers_rule }
+    ensures local { result.global ≡ false }
+{
+    Arg::new(alloc, "workers")
+        .long("workers")
+        .value_name("N")
+        .value_parser(value_parser!(usize).range(1..=64))
+        .default_value("1")
+        .help("How many workers run the groups, 1 to 64")
+}
+
+/// The option that says which group each node is in.
+fn groups_option<'a>(alloc: Global) -> Arg<'a>
+    ensures rule { rule_of result ≡ groups_rule }
+    ensures local { result.global ≡ false }
+{
+    Arg::new(alloc, "groups")
+        .long("groups")
+        .value_name("G")
+        .default_value("one")
+        .help("The group of each node: one, each, or numbers as in 0,0,1")
+}
+
+/// A subcommand that takes the options on how a run is shared out.
+fn sharing_subcommand<'a>(
+    alloc: Global,
+    name: &'a str,
+    about: &'a str,
+) -> Result<Command<'a>, AllocError>
+    ensures shape { IfOk result (λ command. shape_of command ≡ sharing_shape name.entry.now) }
+    ensures no_globals { IfOk result (λ command. (fields_of command).has_globals ≡ false) }
+{
+    plain_subcommand(alloc, name, about)
+        .arg(workers_option(alloc))?
+        .arg(groups_option(alloc))
+}
+
+/// A command with one more subcommand, which takes nothing.
+fn with_plain<'a>(
+    alloc: Global,
+    above: Command<'a>,
+    name: &'a str,
+    about: &'a str,
+) -> Result<Command<'a>, AllocError>
+    ensures { IfOk result (λ command. app_of command ≡ with_subcommand (app_of above.entry) (new_shape name.entry.now)) }
+{
+    above.subcommand(plain_subcommand(alloc, name, about))
+}
+
+/// A command with one more subcommand, which takes the options on how a run is shared out.
+fn with_sharing<'a>(
+    alloc: Global,
+    above: Command<'a>,
+    name: &'a str,
+    about: &'a str,
+) -> Result<Command<'a>, AllocError>
+    ensures { IfOk result (λ command. app_of command ≡ with_subcommand (app_of above.entry) (sharing_shape name.entry.now)) }
+{
+    let below = sharing_subcommand(alloc, name, about)?;
+    above.subcommand(below)
+}
+
+/// The commands of the program.
+fn commands<'a>(alloc: Global) -> Result<Command<'a>, AllocError>
+    ensures { IfOk result (λ command. app_of command ≡ program) }
+{
+    let asm = "Write the image of the scenario on standard input";
+    let with_asm = with_plain(alloc, top_command(alloc), "asm", asm)?;
+    let dis = "Write the canonical text of the scenario on standard input";
+    let with_dis = with_plain(alloc, with_asm, "dis", dis)?;
+    let run = "Run the scenario on standard input and print its trace";
+    let with_run = with_sharing(alloc, with_dis, "run", run)?;
+    let debug = "Answer the commands behind the scenario text on standard input";
+    with_sharing(alloc, with_run, "debug", debug)
+}
+
+/// How the options of a subcommand share a run out.
+fn sharing_of<'a>(options: &ArgMatches<'a>) -> Sharing<'a>
+    requires { AreOptions (rows_of (found_of options.now)) }
+    ensures { IsSharing (rows_of (found_of options.now)) result }
+{
+    let Some(workers) = options.get_one::<usize>("workers") else {
+        unreachable!()
+    };
+    let Some(groups) = options.get_str("groups") else {
+        unreachable!()
+    };
+    Sharing::new(workers, groups)
+}
+
+/// The task of a subcommand's word and options.
+fn task_of<'a>(word: &str, options: &ArgMatches<'a>) -> Task<'a>
+    requires { AreOfSubcommand word.now (rows_of (found_of options.now)) }
+    ensures word { word.now ≡ word_of result }
+    ensures sharing { IfSome (task_sharing result) (IsSharing (rows_of (found_of options.now))) }
+{
+    if word == "asm" {
+        Task::Scenario(Subcommand::Asm)
+    } else if word == "dis" {
+        Task::Scenario(Subcommand::Dis)
+    } else if word == "run" {
+        Task::Scenario(Subcommand::Run(sharing_of(options)))
+    } else {
+        Task::Debug(sharing_of(options))
+    }
+}
+
+/// Judges the words, the program's name first. They ask for a subcommand, or the error has what to
+/// print.
+pub(crate) fn read_words<'a, S: AsStr>(alloc: Global, words: &'a [S]) -> Result<Task<'a>, Error>
+    ensures faults { FailsBy (word_faults (map S.text words.now)) result }
+    ensures asked { IfOk result (AskFor (map S.text words.now)) }
+{
+    let matches = commands(alloc)?.try_get_matches_from(words)?;
+    match matches.subcommand() {
+        Some((word, options)) => Ok(task_of(word, options)),
+        None => unreachable!(),
+    }
+}
+
+/// Words without a fault ask for one subcommand.
+pub fn words_ask_for_one_subcommand()
+    ensures { WordsAskForOne }
+{}
+
+/// The words `tcpsim asm`, `tcpsim dis`, `tcpsim run` and `tcpsim debug` ask for their subcommands,
+/// the last two with options or without.
+pub fn subcommands_are_asked_for()
+    ensures { WordsOfSubcommands }
+{}
+
+/// `--help` and `--version` ask for a text.
+pub fn help_and_version_are_asked_for()
+    ensures { WordsOfText }
+{}
+
+/// The program's name alone is mistaken, a word behind `run`, a number of workers that is not from
+/// 1 to 64, and an option of `asm`.
+pub fn other_words_are_mistaken()
+    ensures { WordsOfMistake }
+{}

@@ -1,0 +1,57 @@
+//! The input that a session is given.
+ghost use Rattle.std.specs.Prelude.{◌≡◌, ◌<◌, ◌≤◌, ◌++◌, ℕ, List, length, take, IfOk, OnErr, IfErr};
+ghost use Rattle.std.specs.Io.KnownBytes.{Consumes, IsAtEnd};
+ghost use Rattle.sessions.specs.Session.{IsWithin};
+ghost use Rattle.sessions.specs.Streams.{IsInputOf};
+ghost use Rattle.sessions.specs.Ended.{IsReadFault, reads_after};
+
+use crate::fault::SessionFault;
+use crate::source::Source;
+use std::alloc::{AllocError, Global};
+
+/// The most bytes of an input.
+const MOST_BYTES: usize = 16_777_216;
+
+/// The most bytes that are asked for at once.
+const PIECE: usize = 65_536;
+
+/// All bytes of the input, if they are few enough.
+pub(crate) fn read_input<R: Source>(alloc: Global, reader: &mut R) -> Result<Vec<u8>, SessionFault>
+    ensures input { IfOk result (λ input. IsInputOf (R.remaining reader.old) input.items) }
+    ensures within { IfOk result (λ input. IsWithin input.items) }
+    ensures faults { IfErr result (λ fault. (input : List ℕ) × IsInputOf (R.remaining reader.old) input × IsReadFault input fault) }
+    ensures failures { R.failures reader.new ≡ reads_after result (R.failures reader.old) }
+{
+    let mut room = room_for_piece(alloc)?;
+    let mut input = Vec::new(alloc);
+    while input.len() <= MOST_BYTES {
+        if read_piece(reader, room.as_mut_slice(), &mut input)? == 0 {
+            return Ok(input);
+        }
+    }
+    Err(SessionFault::TooLong)
+}
+
+/// Room for a piece of the input.
+fn room_for_piece(alloc: Global) -> Result<Vec<u8>, AllocError>
+    ensures { IfOk result (λ room. 0 < length room.items) }
+{
+    vec![in alloc; 0; PIECE]
+}
+
+/// Adds the next piece of the input to what was read and answers its length, which is 0 at the end.
+fn read_piece<R: Source>(
+    reader: &mut R,
+    room: &mut [u8],
+    input: &mut Vec<u8>,
+) -> Result<usize, SessionFault>
+    requires { 0 < length room.old }
+    ensures piece { IfOk result (λ count. (piece : List ℕ) × (input.new.items ≡ input.old.items ++ piece) × (length piece ≡ count) × Consumes (R.remaining reader.old) (R.remaining reader.new) piece) }
+    ensures end { IfOk result (λ count. count ≡ 0 → IsAtEnd (R.remaining reader.new)) }
+    ensures faults { IfErr result (λ fault. (input : List ℕ) → IsReadFault input fault) }
+    ensures failures { R.failures reader.new ≡ reads_after result (R.failures reader.old) }
+{
+    let count = reader.get(room)?;
+    input.extend_from_slice(&room[..count])?;
+    Ok(count)
+}

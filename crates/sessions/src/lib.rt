@@ -1,0 +1,20 @@
+//! Whole sessions: a scenario comes in on a reader, its trace, its image, its canonical text or the
+//! answers of a debugging session go out on a writer.
+#![tactic(auto)]
+
+pub mod command_line;
+pub mod conversion;
+pub mod debug;
+pub mod fault;
+pub mod groups;
+mod input;
+pub mod outcome;
+mod output;
+mod run;
+pub mod scenario_input;
+pub mod session;
+pub mod sharing;
+pub mod source;
+pub mod subcommand;
+pub mod trace;
+mod workers;

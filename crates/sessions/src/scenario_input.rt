@@ -1,0 +1,37 @@
+//! From the bytes of an input, an image or a text, to its scenario.
+ghost use Rattle.sessions.specs.Input.{IsImageOf, IsImageFault, IsTextFault, HasScenario, HasFault, Reads};
+ghost use Rattle.scenario_asm.specs.Meaning.{MeansScenario};
+
+use crate::fault::SessionFault;
+use scenario_asm::assemble;
+use scenario_image::{Scenario, load};
+use std::alloc::Global;
+
+/// The scenario of an image.
+fn read_image(alloc: Global, bytes: &[u8]) -> Result<Scenario, SessionFault>
+    ensures { Reads (IsImageOf bytes.now) (IsImageFault bytes.now) result }
+{
+    let scenario = load(alloc, bytes)?;
+    // What has parts is a scenario.
+    let _parts = scenario.parts();
+    Ok(scenario)
+}
+
+/// The scenario that a text means.
+pub(crate) fn read_text(alloc: Global, text: &[u8]) -> Result<Scenario, SessionFault>
+    ensures { Reads (MeansScenario text.now) (IsTextFault text.now) result }
+{
+    let scenario = assemble(alloc, text)?;
+    Ok(scenario)
+}
+
+/// The scenario of an input: what begins with the bytes `TCB` is an image, and any other a text.
+pub fn read_scenario(alloc: Global, input: &[u8]) -> Result<Scenario, SessionFault>
+    ensures { Reads (HasScenario input.now) (HasFault input.now) result }
+{
+    if input.starts_with(b"TCB") {
+        read_image(alloc, input)
+    } else {
+        read_text(alloc, input)
+    }
+}

@@ -1,0 +1,177 @@
+//! A session: from the words and the input to the output, the status and the note.
+ghost use Rattle.std.specs.Prelude.{◌≡◌, ◌≢◌, [], map, Err};
+ghost use Rattle.clap.specs.Values.{kind_of};
+ghost use Rattle.clap.specs.declared.error.kind.ErrorKind.TheVariants.{OutOfMemory};
+ghost use Rattle.sessions.specs.declared.subcommand.Task.{Task};
+ghost use Rattle.sessions.specs.CommandLine.{word_faults, AskFor, AreMistaken, AskForText, IsRefusal, IsRequest, IsAnswer};
+ghost use Rattle.sessions.specs.Debug.{IsTaskOn};
+ghost use Rattle.sessions.specs.Ended.{writes_after};
+ghost use Rattle.sessions.specs.Output.{IsOutput};
+ghost use Rattle.sessions.specs.Session.{IsWithin, IsSession, IsSessionOn, Tells};
+ghost use Rattle.sessions.specs.Streams.{streams_of};
+ghost use Rattle.sessions.specs.Written.{Writes};
+
+use crate::command_line::read_words;
+use crate::conversion::{put_image, put_text};
+use crate::debug::run_debug;
+use crate::fault::SessionFault;
+use crate::input::read_input;
+use crate::outcome::Outcome;
+use crate::output::put_all;
+use crate::run::run_shared;
+use crate::scenario_input::read_scenario;
+use crate::source::Source;
+use crate::subcommand::{Subcommand, Task};
+use clap::error::ErrorKind;
+use scenario_image::Scenario;
+use std::alloc::Global;
+use std::convert::AsStr;
+use std::sync::Wait;
+use std::thread::Threads;
+use window_engine::{Gate, OpenGate, Sink};
+
+/// Writes what a subcommand makes of a scenario.
+fn put_output<W: Sink, G: Gate, H: Threads + Wait + Sync>(
+    rt: &H,
+    alloc: Global,
+    subcommand: Subcommand,
+    gate: &G,
+    scenario: &Scenario,
+    writer: &mut W,
+) -> Result<(), SessionFault>
+    ensures output { Writes (IsOutput subcommand.entry scenario.now result) (W.contents writer.old) (W.contents writer.new) }
+    ensures failures { W.failures writer.new ≡ writes_after result (W.failures writer.old) }
+{
+    match subcommand {
+        Subcommand::Asm => put_image(alloc, scenario, writer),
+        Subcommand::Dis => put_text(alloc, scenario, writer),
+        Subcommand::Run(sharing) => run_shared(rt, alloc, sharing, gate, scenario, writer),
+    }
+}
+
+/// Writes what a subcommand makes of an input, where the input has a scenario.
+fn answer_bytes<W: Sink, G: Gate, H: Threads + Wait + Sync>(
+    rt: &H,
+    alloc: Global,
+    subcommand: Subcommand,
+    gate: &G,
+    input: &[u8],
+    writer: &mut W,
+) -> Result<(), SessionFault>
+    requires { IsWithin input.now }
+    ensures session { IsSession subcommand.entry input.now result (W.contents writer.old) (W.contents writer.new) }
+    ensures failures { W.failures writer.new ≡ writes_after result (W.failures writer.old) }
+    ensures no_read { result ≢ Err SessionFault.ReadFailed }
+{
+    let scenario = read_scenario(alloc, input)?;
+    put_output(rt, alloc, subcommand, gate, &scenario, writer)
+}
+
+/// Writes what a subcommand makes of the input on the reader.
+fn answer_input<R: Source, W: Sink, G: Gate, H: Threads + Wait + Sync>(
+    rt: &H,
+    alloc: Global,
+    subcommand: Subcommand,
+    gate: &G,
+    reader: &mut R,
+    writer: &mut W,
+) -> Result<(), SessionFault>
+    ensures { let seen = streams_of R.failures W.failures W.contents in IsSessionOn subcommand.entry (R.remaining reader.old) result (seen reader.old writer.old) (seen reader.new writer.new) }
+{
+    let input = read_input(alloc, reader)?;
+    answer_bytes(rt, alloc, subcommand, gate, input.as_slice(), writer)
+}
+
+/// The session of a subcommand: writes what it makes of the input on the reader.
+pub fn run_session<R: Source, W: Sink, G: Gate, H: Threads + Wait + Sync>(
+    rt: &H,
+    alloc: Global,
+    subcommand: Subcommand,
+    gate: &G,
+    reader: &mut R,
+    writer: &mut W,
+) -> Outcome
+    ensures { let seen = streams_of R.failures W.failures W.contents in Tells result (λ ended. IsSessionOn subcommand.entry (R.remaining reader.old) ended (seen reader.old writer.old) (seen reader.new writer.new)) }
+{
+    Outcome::from(answer_input(rt, alloc, subcommand, gate, reader, writer))
+}
+
+/// The session of a task.
+pub fn run_task<R: Source, W: Sink, G: Gate, H: Threads + Wait + Sync>(
+    rt: &H,
+    alloc: Global,
+    task: Task,
+    gate: &G,
+    reader: &mut R,
+    writer: &mut W,
+) -> Outcome
+    ensures { let seen = streams_of R.failures W.failures W.contents in Tells result (λ ended. IsTaskOn task.entry (R.remaining reader.old) ended (seen reader.old writer.old) (seen reader.new writer.new)) }
+{
+    match task {
+        Task::Scenario(subcommand) => run_session(rt, alloc, subcommand, gate, reader, writer),
+        Task::Debug(sharing) => run_debug(rt, alloc, &sharing, gate, reader, writer),
+    }
+}
+
+/// Writes what the command line asks to be shown.
+fn show_text<W: Sink>(alloc: Global, error: clap::Error, writer: &mut W) -> Result<(), SessionFault>
+    ensures answer { Writes (IsAnswer result) (W.contents writer.old) (W.contents writer.new) }
+    ensures failures { W.failures writer.new ≡ writes_after result (W.failures writer.old) }
+{
+    let text = error.to_string(alloc)?;
+    put_all(writer, text.as_bytes())?;
+    Ok(())
+}
+
+/// Writes what the command line asks to be shown, or has the mistake in it.
+fn answer_words<W: Sink>(
+    alloc: Global,
+    error: clap::Error,
+    writer: &mut W,
+) -> Result<(), SessionFault>
+    ensures no_memory { kind_of error ≡ OutOfMemory → (result ≡ Err SessionFault.NoMemory) × (writer.new ≡ writer.old) }
+    ensures mistake { kind_of error ≢ OutOfMemory → ¬ IsRequest (kind_of error) → (result ≡ Err (SessionFault.CommandLine error)) × (writer.new ≡ writer.old) }
+    ensures answer { IsRequest (kind_of error) → Writes (IsAnswer result) (W.contents writer.old) (W.contents writer.new) }
+    ensures failures { IsRequest (kind_of error) → W.failures writer.new ≡ writes_after result (W.failures writer.old) }
+{
+    match error.kind() {
+        ErrorKind::DisplayHelp | ErrorKind::DisplayVersion => show_text(alloc, error, writer),
+        ErrorKind::OutOfMemory => Err(SessionFault::NoMemory),
+        _ => Err(SessionFault::CommandLine(error)),
+    }
+}
+
+/// A whole session. The words are the command line's, the program's name first; the gate is told
+/// of the workers.
+pub fn run_with<H: AllocGlobal + Threads + Wait + Sync, R: Source, W: Sink, S: AsStr, G: Gate>(
+    rt: &H,
+    reader: &mut R,
+    writer: &mut W,
+    words: &[S],
+    gate: &G,
+) -> Outcome
+    ensures asked { let seen = streams_of R.failures W.failures W.contents in (task : Task) → AskFor (map S.text words.now) task → Tells result (λ ended. IsTaskOn task (R.remaining reader.old) ended (seen reader.old writer.old) (seen reader.new writer.new)) }
+    ensures mistake { AreMistaken (map S.text words.now) → Tells result (IsRefusal (map S.text words.now)) × (writer.new ≡ writer.old) }
+    ensures request { AskForText (map S.text words.now) → Tells result (λ ended. Writes (IsAnswer ended) (W.contents writer.old) (W.contents writer.new) × (W.failures writer.new ≡ writes_after ended (W.failures writer.old))) }
+    ensures unread { word_faults (map S.text words.now) ≢ [] → reader.new ≡ reader.old }
+{
+    match read_words(rt.alloc(), words) {
+        Ok(task) => run_task(rt, rt.alloc(), task, gate, reader, writer),
+        Err(error) => Outcome::from(answer_words(rt.alloc(), error, writer)),
+    }
+}
+
+/// A whole session, with workers that nobody is told of.
+pub fn run_all<H: AllocGlobal + Threads + Wait + Sync, R: Source, W: Sink, S: AsStr>(
+    rt: &H,
+    reader: &mut R,
+    writer: &mut W,
+    words: &[S],
+) -> Outcome
+    ensures asked { let seen = streams_of R.failures W.failures W.contents in (task : Task) → AskFor (map S.text words.now) task → Tells result (λ ended. IsTaskOn task (R.remaining reader.old) ended (seen reader.old writer.old) (seen reader.new writer.new)) }
+    ensures mistake { AreMistaken (map S.text words.now) → Tells result (IsRefusal (map S.text words.now)) × (writer.new ≡ writer.old) }
+    ensures request { AskForText (map S.text words.now) → Tells result (λ ended. Writes (IsAnswer ended) (W.contents writer.old) (W.contents writer.new) × (W.failures writer.new ≡ writes_after ended (W.failures writer.old))) }
+    ensures unread { word_faults (map S.text words.now) ≢ [] → reader.new ≡ reader.old }
+{
+    run_with(rt, reader, writer, words, &OpenGate)
+}

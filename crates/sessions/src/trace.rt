@@ -1,0 +1,97 @@
+//! A scenario's run, written as its trace.
+ghost use Rattle.std.specs.Prelude.{◌≡◌, ◌≢◌, true, false, Err, [], IfErr, IsErrOf};
+ghost use Rattle.table_run.specs.State.{opening};
+ghost use Rattle.sessions.specs.Written.{Writes, WritesBefore, IsBeginningOf};
+ghost use Rattle.sessions.specs.Trace.{IsTraceOrStart};
+ghost use Rattle.sessions.specs.Ended.{IsRunOutput, writes_after};
+
+use crate::fault::SessionFault;
+use crate::output::{PAGE, put_full_page, put_page};
+use net_machine::Net;
+use node_core::{Acts, After, Event, Line};
+use scenario_image::Scenario;
+use sim_time::Key;
+use std::alloc::Global;
+use trace_text::{end_text, line_text};
+use window_engine::Sink;
+
+/// Runs a scenario to its end, and writes its trace. Memory that is refused and a run of too many
+/// events end it after whole lines.
+pub fn run_scenario<W: Sink>(
+    alloc: Global,
+    scenario: &Scenario,
+    writer: &mut W,
+) -> Result<(), SessionFault>
+    ensures output { Writes (IsRunOutput (opening scenario.now) result) (W.contents writer.old) (W.contents writer.new) }
+    ensures failures { W.failures writer.new ≡ writes_after result (W.failures writer.old) }
+{
+    let mut page = Vec::with_capacity(alloc, PAGE)?;
+    let mut net = Net::new(alloc, scenario)?;
+    let mut line = unused_line(alloc);
+    run_net(&mut net, &mut line, &mut page, writer)
+}
+
+/// A line to be lent to each step. What it shows before the first one is used nowhere.
+fn unused_line(alloc: Global) -> Line {
+    Line {
+        key: Key {
+            time: 0,
+            node: 0,
+            source: 0,
+            number: 0,
+        },
+        event: Event::Start(0),
+        after: After::AtRouter,
+        acts: Acts::new(alloc),
+    }
+}
+
+/// Runs a net to its end, and writes all that it made of the trace.
+fn run_net<W: Sink>(
+    net: &mut Net,
+    line: &mut Line,
+    page: &mut Vec<u8>,
+    writer: &mut W,
+) -> Result<(), SessionFault>
+    requires opening { net.old.position ≡ 0 }
+    requires empty { page.old.items ≡ [] }
+    ensures output { Writes (IsRunOutput net.old.state result) (W.contents writer.old) (W.contents writer.new) }
+    ensures failures { W.failures writer.new ≡ writes_after result (W.failures writer.old) }
+{
+    let ended = put_lines(net, line, page, writer);
+    let failed = writer_failed(&ended);
+    if failed {
+        return ended;
+    }
+    put_page(page, writer)?;
+    ended
+}
+
+/// Whether it was the writer that failed.
+fn writer_failed(ended: &Result<(), SessionFault>) -> bool
+    ensures failed { result ≡ true → ended.now ≡ Err SessionFault.WriteFailed }
+    ensures other { result ≡ false → ended.now ≢ Err SessionFault.WriteFailed }
+{
+    matches!(ended, Err(SessionFault::WriteFailed))
+}
+
+/// Runs a net to its end. What it made of the trace was written, or waits in the page.
+fn put_lines<W: Sink>(
+    net: &mut Net,
+    line: &mut Line,
+    page: &mut Vec<u8>,
+    writer: &mut W,
+) -> Result<(), SessionFault>
+    requires opening { net.old.position ≡ 0 }
+    requires empty { page.old.items ≡ [] }
+    ensures made { result ≢ Err SessionFault.WriteFailed → WritesBefore page.new.items (IsRunOutput net.old.state result) (W.contents writer.old) (W.contents writer.new) }
+    ensures failed { result ≡ Err SessionFault.WriteFailed → Writes (IsBeginningOf (IsTraceOrStart net.old.state)) (W.contents writer.old) (W.contents writer.new) }
+    ensures failures { W.failures writer.new ≡ writes_after result (W.failures writer.old) }
+{
+    while net.step_into(line)? {
+        line_text(net.position(), line, page)?;
+        put_full_page(page, writer)?;
+    }
+    end_text(net.position(), page)?;
+    Ok(())
+}

@@ -1,7 +1,0 @@
--- The words so far are the numbers of the groups so far.
-use Rattle.std.proofs.Common.{map, take}
-use Rattle.tcpsim.specs.Groups.{Names}
-use Rattle.tcpsim.proofs.groups.groups_named.Given as goal
-
-abbrev pub invariant-loop-word : goal.invariant-loop-word
-invariant-loop-word l = Names (take l.word-index (map (λ w. w.now) l.words)) l.groups.items

@@ -1,0 +1,197 @@
+//! Sessions on images. What they are refused for was worked out from the layout by hand.
+
+use crate::whole::{FIRST, FIRST_TRACE, expect_words};
+use std::alloc::{AllocError, Global};
+use std::process::Abort;
+use std::sync::Wait;
+use std::test::Fail;
+use std::thread::Threads;
+
+/// The image of the first text: the header, the nodes, two links and a flow.
+const FIRST_IMAGE: &str = "\
+54434231 000000003b9aca00 0002 0002 0001 00000000
+00 01
+0000 0001 00000000007a1200 00000000000f4240 00 000a 0000000000000000 0000000000000000 0000 00
+0001 0000 00000000007a1200 00000000000f4240 00 000a 0000000000000000 0000000000000000 0000 00
+0000 0001 03e8 00000001 0000000000000000 0000fa00 00000000
+";
+
+/// The first text with the names that every image's text has.
+const FIRST_AGAIN: &str = "\
+sim 1000000000
+node n0 sender
+node n1 receiver
+link l0 n0 n1 8000000 1000000 droptail 10
+link l1 n1 n0 8000000 1000000 droptail 10
+flow f0 n0 n1 1000 1 0 64000 0
+";
+
+/// What stands for the fault of an image without one.
+const RIGHT: &str = "right";
+
+/// Places in that image, the bytes put there, and the fault of the image with them.
+const CHANGED: &[(usize, &str, &str)] = &[
+    (0, "54434258", "L2"),
+    (0, "54434232", "L2"),
+    (4, "00038d7ea4c68000", RIGHT),
+    (4, "00038d7ea4c68001", "L3"),
+    (4, "0000000000000000", "L3"),
+    (12, "0001", "L3"),
+    (14, "ffff", "L1"),
+    (16, "0000", "L3"),
+    (18, "00000001", "L1"),
+    (18, "ffffffff", "L1"),
+    (22, "03", "L3"),
+    (22, "01", "L6"),
+    (22, "02", "L6"),
+    (24, "0000 0000", "L6"),
+    (24, "0001 0000", "L5"),
+    (66, "0001 0001", "L6"),
+    (28, "00000000000003e7", "L3"),
+    (28, "00000000000003e8", RIGHT),
+    (28, "000000e8d4a51000", RIGHT),
+    (28, "000000e8d4a51001", "L3"),
+    (36, "0000000000000000", "L3"),
+    (36, "0000000000000001", RIGHT),
+    (36, "00000002540be400", RIGHT),
+    (36, "00000002540be401", "L3"),
+    (44, "01", "L3"),
+    (44, "01 0001 0000000000000001 00000002540be400 ffff", RIGHT),
+    (44, "01 0001 0000000000000001 00000002540be401 ffff", "L3"),
+    (44, "02", "L3"),
+    (45, "0000", "L3"),
+    (45, "ffff", RIGHT),
+    (47, "0000000000000001", "L3"),
+    (55, "0000000000000001", "L3"),
+    (63, "0001", "L3"),
+    (65, "01", "L1"),
+    (108, "0001 0000", "L6"),
+    (108, "0001 0001", "L5"),
+    (112, "0000", "L3"),
+    (112, "2328", RIGHT),
+    (112, "2329", "L3"),
+    (114, "00000000", "L3"),
+    (114, "3b9aca00", RIGHT),
+    (114, "3b9aca01", "L3"),
+    (118, "000000003b9ac9ff", RIGHT),
+    (118, "000000003b9aca00", "L3"),
+    (126, "000003e7", "L3"),
+    (126, "000003e8", RIGHT),
+    (126, "40000000", RIGHT),
+    (126, "40000001", "L3"),
+    (130, "1dcd6500", RIGHT),
+    (130, "1dcd6501", "L3"),
+    // Bytes left over, by the numbers of the flow, behind them.
+    (130, "00000000 00", "L4"),
+    (
+        108,
+        "0001 0001 03e8 00000001 0000000000000000 0000fa00 00000000 00",
+        "L4",
+    ),
+    (
+        108,
+        "0000 0001 03e8 00000000 0000000000000000 0000fa00 00000000 00",
+        "L3",
+    ),
+];
+
+/// The value of a digit, if it is one.
+fn digit(byte: u8) -> Option<u8> {
+    match byte {
+        b'0'..=b'9' => Some(byte - b'0'),
+        b'a'..=b'f' => Some(byte - b'a' + 10),
+        _ => None,
+    }
+}
+
+/// Adds the bytes that pairs of digits spell.
+fn push_hex(bytes: &mut Vec<u8>, hex: &str) -> Result<(), AllocError> {
+    let mut high = None;
+    for low in hex.as_bytes().iter().filter_map(|byte| digit(*byte)) {
+        high = match high {
+            None => Some(low),
+            Some(first) => {
+                bytes.push(low.wrapping_add(16u8.wrapping_mul(first)))?;
+                None
+            }
+        };
+    }
+    Ok(())
+}
+
+/// The image with these bytes in place of those at this place.
+fn changed(alloc: Global, place: usize, hex: &str) -> Result<Vec<u8>, AllocError> {
+    let mut image = Vec::new(alloc);
+    push_hex(&mut image, FIRST_IMAGE)?;
+    let mut bytes = Vec::new(alloc);
+    bytes.extend_from_slice(image.as_slice().get(..place).unwrap_or(b""))?;
+    push_hex(&mut bytes, hex)?;
+    let kept = image.as_slice().get(bytes.len()..).unwrap_or(b"");
+    bytes.extend_from_slice(kept)?;
+    Ok(bytes)
+}
+
+#[test]
+fn a_scenario_goes_from_text_to_image_and_back(rt: HostRuntime) -> Result<(), Fail> {
+    let image = changed(rt.alloc(), 0, "")?;
+    let image = image.as_slice();
+    assert_eq!(rt; image.len(), 134);
+    for input in [FIRST.as_bytes(), FIRST_AGAIN.as_bytes(), image] {
+        expect_words(&rt, &["tcpsim", "asm"], input, 0, "", image)?;
+        expect_words(
+            &rt,
+            &["tcpsim", "dis"],
+            input,
+            0,
+            "",
+            FIRST_AGAIN.as_bytes(),
+        )?;
+        expect_words(
+            &rt,
+            &["tcpsim", "run"],
+            input,
+            0,
+            "",
+            FIRST_TRACE.as_bytes(),
+        )?;
+    }
+    Ok(())
+}
+
+/// Ends the test unless `asm` refuses the image for this fault, or gives it again.
+fn expect_image(
+    rt: &(impl Abort + AllocGlobal + Threads + Wait + Sync),
+    image: &[u8],
+    code: &str,
+) -> Result<(), Fail> {
+    let words = ["tcpsim", "asm"];
+    if code == RIGHT {
+        return expect_words(rt, &words, image, 0, "", image);
+    }
+    let note = format!(in rt.alloc(); "refused {code}\n")?;
+    expect_words(rt, &words, image, 1, note.as_str(), b"")
+}
+
+#[test]
+fn images_have_their_faults(rt: HostRuntime) -> Result<(), Fail> {
+    for (place, hex, code) in CHANGED {
+        let image = changed(rt.alloc(), *place, hex)?;
+        expect_image(&rt, image.as_slice(), code)?;
+    }
+    Ok(())
+}
+
+#[test]
+fn a_cut_image_has_too_few_bytes(rt: HostRuntime) -> Result<(), Fail> {
+    let image = changed(rt.alloc(), 0, "")?;
+    for size in 0..image.len() {
+        let cut = image.as_slice().get(..size).unwrap_or(b"");
+        let note = match size {
+            0 => "refused E10 line 0\n",
+            1 | 2 => "refused E2 line 1\n",
+            _ => "refused L1\n",
+        };
+        expect_words(&rt, &["tcpsim", "run"], cut, 1, note, b"")?;
+    }
+    Ok(())
+}
