@@ -1,62 +1,93 @@
 # `make run` builds the program and runs it on the first example; `make test` passes all tests, those
 # of the gate, those of the scripts that read traces, and those of the built program;
+# `make wrong-bodies` tries the wrong bodies that stand beside the gate, `make wrong-bodies NAME=aqm` those
+# of one crate;
 # `make bench` measures the built program and writes bench/RESULTS.md (python3 and valgrind);
 # `make pictures` draws the pictures of README.md and docs/TUTORIAL.md (python3 and matplotlib);
-# `make install PREFIX=DIR` puts the program, its man page and completions for bash, zsh and fish below
-# DIR, /usr/local if none is given, and `make uninstall PREFIX=DIR` takes them away.
-.PHONY: run test test-scripts bench pictures install uninstall
+# `make pages` writes the replay of every example and a list of them into pages/ (libjs-d3);
+# `make install PREFIX=DIR` puts the program, the scripts as tcpsim-NAME, their man pages, the documents with
+# the examples, and completions for bash, zsh and fish below DIR, /usr/local if none is given, and
+# `make uninstall PREFIX=DIR` takes them away.
+.PHONY: run test test-scripts wrong-bodies bench pictures pages install uninstall
 
 # A python3 that has matplotlib: the one that is found first, or Debian's own.
 PYTHON = $(shell for python in python3 /usr/bin/python3; do \
 	$$python -c 'import matplotlib' 2>/dev/null && { echo $$python; break; }; done)
 PROGRAM = crates/tcpsim/out/tcpsim
 PREFIX = /usr/local
-BASH_COMPLETION = share/bash-completion/completions/tcpsim
+# The crates of `make wrong-bodies`, all where none is named.
+NAME =
+DOCUMENTS = share/doc/tcpsim
+BASH_COMPLETIONS = share/bash-completion/completions
 ZSH_COMPLETION = share/zsh/site-functions/_tcpsim
-FISH_COMPLETION = share/fish/vendor_completions.d/tcpsim.fish
+FISH_COMPLETIONS = share/fish/vendor_completions.d
+# The scripts that are installed, and what they are made of.
+TOOLS = plot flows net sweep replay follow stalls
+LIBRARY = trace_reader.py finding.py units.py causes.py lives.py
+# The tests of the scripts that want matplotlib.
+DRAWING_TESTS = scripts/test_scripts.py scripts/test_plot.py
 
 test:
-	rt ci
+	@python3 scripts/build.py --toolchain
+	@python3 scripts/wrong_bodies.py --check
+	RT_JOBS=$$(nproc) rt ci
 	@$(MAKE) --no-print-directory test-scripts
 	scripts/try_shell.sh
 
 test-scripts:
-	@if [ -n '$(PYTHON)' ]; then '$(PYTHON)' scripts/test_scripts.py; else \
-	echo 'LEFT OUT, not passed: the tests of scripts/plot.py and scripts/flows.py (no python3 with matplotlib)'; fi
+	@for it in $(filter-out $(DRAWING_TESTS),$(wildcard scripts/test_*.py)); do \
+	echo "$$it"; '$(or $(PYTHON),python3)' "$$it" || exit 1; done
+	@if [ -n '$(PYTHON)' ]; then for it in $(DRAWING_TESTS); do \
+	echo "$$it"; '$(PYTHON)' "$$it" || exit 1; done; else \
+	echo 'LEFT OUT, not passed: $(DRAWING_TESTS) (no python3 with matplotlib)'; fi
+
+wrong-bodies:
+	@python3 scripts/wrong_bodies.py $(NAME)
 
 run:
-	@cd crates/tcpsim && rt run -- run < ../../examples/one_segment.txt
+	@python3 scripts/build.py
+	@$(PROGRAM) run < examples/one_segment.txt
 
 bench:
 	@python3 bench/measure.py
 
-# One picture for each scenario of the tutorial, from the trace stored beside it.
-PICTURED = one_segment delayed_acks_and_their_alarm slow_start_into_a_full_queue two_timeouts_in_a_row \
-	a_lost_retransmission sawtooth_of_congestion_avoidance bufferbloat a_slow_way_back fast_recovery \
-	bufferbloat_with_codel two_flows_share_fairly two_round_trips_do_not_share_fairly lock_out_at_equal_times \
-	four_flows_share_a_long_queue four_flows_share_codel parking_lot_of_three_routers acks_share_the_bottleneck
-# The README's: two of them beside each other.
-BESIDE = examples/bufferbloat.txt examples/bufferbloat.trace \
-	--beside examples/bufferbloat_with_codel.txt examples/bufferbloat_with_codel.trace --panels delay,utilization \
-	--title 'One flow through 1 Mbit/s: a queue of 1,000 packets, and the same with CoDel'
-
 pictures:
 	@[ -n '$(PYTHON)' ] || { echo 'no python3 with matplotlib: apt-get install python3-matplotlib'; exit 1; }
-	@mkdir -p docs/pictures
-	@for name in $(PICTURED); do '$(PYTHON)' scripts/plot.py examples/$$name.txt examples/$$name.trace \
-	-o docs/pictures/$$name.svg && echo docs/pictures/$$name.svg || exit 1; done
-	@'$(PYTHON)' scripts/plot.py $(BESIDE) -o docs/pictures/drop_tail_and_codel.svg
-	@echo docs/pictures/drop_tail_and_codel.svg
+	@'$(PYTHON)' scripts/pictures.py
+	@'$(PYTHON)' scripts/test_replay.py --pictures
 
+pages:
+	@python3 scripts/pages.py -o pages
+
+# Below DIR: bin/tcpsim and bin/tcpsim-NAME, what these are made of in lib/tcpsim, and share/.
 install:
 	@test -x $(PROGRAM) || { echo '$(PROGRAM) is not there: build it with `make run`'; exit 1; }
 	install -D -m 755 $(PROGRAM) '$(DESTDIR)$(PREFIX)/bin/tcpsim'
-	install -D -m 644 man/tcpsim.1 '$(DESTDIR)$(PREFIX)/share/man/man1/tcpsim.1'
-	install -D -m 644 completions/tcpsim.bash '$(DESTDIR)$(PREFIX)/$(BASH_COMPLETION)'
+	install -d '$(DESTDIR)$(PREFIX)/lib/tcpsim/drawing' '$(DESTDIR)$(PREFIX)/lib/tcpsim/replay_page' \
+	'$(DESTDIR)$(PREFIX)/share/man/man1' \
+	'$(DESTDIR)$(PREFIX)/$(BASH_COMPLETIONS)' '$(DESTDIR)$(PREFIX)/$(FISH_COMPLETIONS)'
+	install -m 644 $(LIBRARY:%=scripts/%) '$(DESTDIR)$(PREFIX)/lib/tcpsim'
+	install -m 644 scripts/drawing/*.py '$(DESTDIR)$(PREFIX)/lib/tcpsim/drawing'
+	install -m 644 scripts/replay_page/* '$(DESTDIR)$(PREFIX)/lib/tcpsim/replay_page'
+	install -m 755 $(TOOLS:%=scripts/%.py) '$(DESTDIR)$(PREFIX)/lib/tcpsim'
+	install -m 644 man/*.1 '$(DESTDIR)$(PREFIX)/share/man/man1'
+	@for it in README.md docs/*.md docs/pictures/* bench/*.md examples/* scripts/model/README.md \
+	$$(find editors -type f); do \
+	install -D -m 644 "$$it" '$(DESTDIR)$(PREFIX)/$(DOCUMENTS)/'"$$it" || exit 1; done
+	install -m 644 completions/tcpsim.bash '$(DESTDIR)$(PREFIX)/$(BASH_COMPLETIONS)/tcpsim'
 	install -D -m 644 completions/_tcpsim '$(DESTDIR)$(PREFIX)/$(ZSH_COMPLETION)'
-	install -D -m 644 completions/tcpsim.fish '$(DESTDIR)$(PREFIX)/$(FISH_COMPLETION)'
+	install -m 644 completions/tcpsim.fish '$(DESTDIR)$(PREFIX)/$(FISH_COMPLETIONS)/tcpsim.fish'
+	@for it in $(TOOLS); do \
+	ln -sfn "../lib/tcpsim/$$it.py" '$(DESTDIR)$(PREFIX)/bin/tcpsim-'"$$it" && \
+	ln -sfn tcpsim '$(DESTDIR)$(PREFIX)/$(BASH_COMPLETIONS)/tcpsim-'"$$it" && \
+	ln -sfn tcpsim.fish '$(DESTDIR)$(PREFIX)/$(FISH_COMPLETIONS)/tcpsim-'"$$it".fish || exit 1; done
 
 uninstall:
+	rm -rf '$(DESTDIR)$(PREFIX)/lib/tcpsim' '$(DESTDIR)$(PREFIX)/$(DOCUMENTS)'
 	rm -f '$(DESTDIR)$(PREFIX)/bin/tcpsim' '$(DESTDIR)$(PREFIX)/share/man/man1/tcpsim.1' \
-	'$(DESTDIR)$(PREFIX)/$(BASH_COMPLETION)' '$(DESTDIR)$(PREFIX)/$(ZSH_COMPLETION)' \
-	'$(DESTDIR)$(PREFIX)/$(FISH_COMPLETION)'
+	'$(DESTDIR)$(PREFIX)/$(BASH_COMPLETIONS)/tcpsim' '$(DESTDIR)$(PREFIX)/$(ZSH_COMPLETION)' \
+	'$(DESTDIR)$(PREFIX)/$(FISH_COMPLETIONS)/tcpsim.fish'
+	@for it in $(TOOLS); do rm -f '$(DESTDIR)$(PREFIX)/bin/tcpsim-'"$$it" \
+	'$(DESTDIR)$(PREFIX)/share/man/man1/tcpsim-'"$$it".1 \
+	'$(DESTDIR)$(PREFIX)/$(BASH_COMPLETIONS)/tcpsim-'"$$it" \
+	'$(DESTDIR)$(PREFIX)/$(FISH_COMPLETIONS)/tcpsim-'"$$it".fish; done

@@ -1,0 +1,247 @@
+#!/usr/bin/env python3
+"""Proves the program with all its libraries, and builds it.
+
+    scripts/build.py [--jobs N] [--toolchain]
+
+Each crate is proved once, by `rattle build`, the prover behind `rt`, as soon as those that it stands on
+are: two crates side by side, each with as many functions at once as there are processors; the one on
+which fewer crates stand gives way to the other. Of a library
+its statements are kept (crates/tcpsim/out/libs), so that what stands on it does not read its proofs;
+after a change the changed crate and those that stand on it are proved again. `rt ci` trusts nothing of
+it. With --toolchain it only says whether the toolchain is the one that is wanted.
+"""
+import argparse
+import contextlib
+import hashlib
+import os
+import re
+import shutil
+import signal
+import subprocess
+import sys
+import time
+
+TOP = os.path.dirname(os.path.dirname(os.path.abspath(__file__)))
+PROGRAM = "tcpsim"
+KEPT = f"{TOP}/crates/{PROGRAM}/out/libs"
+MADE = f"{TOP}/crates/{PROGRAM}/out/{PROGRAM}"
+PARTS = ("src", "specs", "proofs")
+# How many crates are proved side by side.
+CRATES_AT_ONCE = 2
+# What one of the prover's processes may take, in bytes.
+JOB_MEMORY = 2_500_000_000
+# How often it says how far it is where nothing else is said, in seconds.
+PAUSE = 30
+# Lines of the prover that say nothing of what is wrong.
+QUIET = re.compile(r"so far: |antt: |rattle: |note: |\s*$")
+
+
+class Refused(Exception):
+    """Why nothing can be built: one sentence."""
+
+
+def toolchain():
+    """The folder of the toolchain that README.md names, or a refusal that says which is wanted."""
+    with open(f"{TOP}/README.md", encoding="utf-8") as file:
+        wanted = re.search(r"`rt version` prints `([^`]+)`", file.read())[1]
+    if not shutil.which("rt"):
+        raise Refused(f"there is no command rt; the toolchain that is wanted is `{wanted}`")
+    found = subprocess.run(["rt", "version"], capture_output=True, text=True).stdout.strip()
+    if found != wanted:
+        raise Refused(f"the toolchain is `{found}`, and the one that is wanted is `{wanted}`")
+    page = subprocess.run(["rt", "doc"], capture_output=True, text=True).stdout.strip()
+    return os.path.dirname(page)
+
+
+def declared():
+    """The libraries that each crate of crates.txt stands on, by its name."""
+    found = {}
+    with open(f"{TOP}/crates.txt", encoding="utf-8") as file:
+        for line in file:
+            head, colon, below = line.partition("#")[0].partition(":")
+            if colon:
+                found[head.split()[0]] = below.split()
+    return found
+
+
+def below(name, libraries, found=()):
+    """The project's crates that a crate stands on, each behind those that it stands on itself."""
+    found = list(found)
+    for it in libraries[name]:
+        if it in libraries and it not in found:
+            found = [*below(it, libraries, found), it]
+    return found
+
+
+def jobs_at_once(asked):
+    """As many jobs as asked, else one a processor where memory holds them."""
+    if asked:
+        return asked
+    with open("/proc/meminfo", encoding="ascii") as file:
+        free = 1024 * int(re.search(r"MemAvailable:\s+(\d+)", file.read())[1])
+    return max(1, min(len(os.sched_getaffinity(0)), free // JOB_MEMORY))
+
+
+def sum_of(name, kit, sums, libraries):
+    """A sum of all that a crate's proof reads: the toolchain, its own files, and what it stands on."""
+    taken = hashlib.sha256(kit.encode())
+    for it in libraries[name]:
+        taken.update(f"{it} {sums.get(it, '')}\n".encode())
+    for part in PARTS:
+        for at, folders, files in os.walk(f"{TOP}/crates/{name}/{part}"):
+            folders.sort()
+            for file in sorted(files):
+                with open(f"{at}/{file}", "rb") as it:
+                    taken.update(f"{os.path.relpath(at, TOP)}/{file}".encode() + b"\0" + it.read() + b"\0")
+    return taken.hexdigest()
+
+
+def words_of(name, kit, jobs, libraries):
+    """The command that proves a crate and writes what is kept of it."""
+    is_program = name == PROGRAM
+    words = [f"{kit}/bin/rattle", "build", "--crate-name", name]
+    words.append(f"{TOP}/crates/{name}/src/{'main' if is_program else 'lib'}.rt")
+    for it in dict.fromkeys(["core", "std", *libraries[name]]):
+        place = KEPT if it in libraries else f"{kit}/rlibs"
+        words += ["--extern", f"{it}={place}/{it}.rlib"]
+    words += ["-L", f"dependency={kit}/rlibs", "-L", f"dependency={KEPT}"]
+    words += ["--antt-project", f"{kit}/rattle/logic/antt-project.json", "--logic-built", f"{kit}/logic_built"]
+    words += ["--links", f"{name}=", "--jobs", str(jobs)]
+    if is_program:
+        return [*words, "--toolchain", f"{kit}/toolchain", "--backend", "llvm", "-o", f"{KEPT}/{name}.o"]
+    return [*words, "--statements", "-o", f"{KEPT}/{name}.rlib"]
+
+
+class Crate:
+    """One crate: what it waits for, and its prover while that runs."""
+
+    def __init__(self, name, libraries, stamp):
+        self.name, self.stamp = name, stamp
+        self.waits = [it for it in libraries[name] if it in libraries]
+        self.above = sum(name in libraries[it] for it in libraries)
+        self.prover, self.begun = None, 0
+
+    def mark(self):
+        return f"{KEPT}/{self.name}.stamp"
+
+    def is_kept(self):
+        with contextlib.suppress(FileNotFoundError), open(self.mark(), encoding="utf-8") as file:
+            return file.read() == self.stamp
+        return False
+
+    def start(self, words, gives_way):
+        """Starts its prover, one that gives way to another at work."""
+        if gives_way:
+            words = ["nice", "-n", "10", *words]
+        with contextlib.suppress(FileNotFoundError):
+            os.remove(self.mark())
+        self.begun = time.time()
+        with open(f"{KEPT}/{self.name}.log", "w", encoding="utf-8") as log:
+            how = {"stdin": subprocess.DEVNULL, "stdout": log, "stderr": subprocess.STDOUT}
+            self.prover = subprocess.Popen(words, cwd=TOP, start_new_session=True, **how)
+
+    def keep(self):
+        with open(self.mark(), "w", encoding="utf-8") as file:
+            file.write(self.stamp)
+
+    def stop(self):
+        if self.prover and self.prover.poll() is None:
+            with contextlib.suppress(ProcessLookupError):
+                os.killpg(self.prover.pid, signal.SIGKILL)
+
+    def said(self):
+        """What its prover said of what is wrong."""
+        with open(f"{KEPT}/{self.name}.log", encoding="utf-8", errors="replace") as log:
+            return "".join(line for line in log if not QUIET.match(line))
+
+
+def prove(crates, count, words_for):
+    """Proves the crates that are not kept, each behind those that it stands on, and says how far it is;
+    answers the crate that was refused, or None."""
+    begun = told = time.time()
+    done = {it.name for it in crates if it.is_kept()}
+    left = [it for it in crates if it.name not in done]
+    running = []
+    while left or running:
+        ready = [it for it in left if all(name in done for name in it.waits)]
+        for it in ready[: CRATES_AT_ONCE - len(running)]:
+            left.remove(it)
+            it.start(words_for(it.name), any(other.above > it.above for other in [*left, *running]))
+            running.append(it)
+        for it in [it for it in running if it.prover.poll() is not None]:
+            running.remove(it)
+            if it.prover.returncode:
+                return it
+            it.keep()
+            done.add(it.name)
+            told = time.time()
+            took = f"{told - it.begun:.0f} s"
+            print(f"{(told - begun) / 60:5.1f} min: {it.name} is proved ({took}), {len(done)} of {count} crates", flush=True)
+        if time.time() - told >= PAUSE and running:
+            told = time.time()
+            names = " and ".join(f"{it.name} ({told - it.begun:.0f} s)" for it in running)
+            print(f"{(told - begun) / 60:5.1f} min: proving {names}", flush=True)
+        time.sleep(0.1)
+    return None
+
+
+def link(kit):
+    """Links the program; answers the status, and prints what the linker says where it fails."""
+    words = [f"{kit}/bin/rattle-link", "--target", "x86_64-unknown-linux-gnu", "--toolchain", f"{kit}/toolchain"]
+    words += ["-o", MADE, f"{KEPT}/{PROGRAM}.o", f"{kit}/c/libos_c.a", f"{kit}/c/liblibc_c.a"]
+    linked = subprocess.run(words, stdin=subprocess.DEVNULL, capture_output=True, text=True)
+    if linked.returncode:
+        print(linked.stdout + linked.stderr, end="")
+    return linked.returncode
+
+
+def build(asked):
+    """Proves and builds the program; answers the status to end with."""
+    kit, libraries = toolchain(), declared()
+    names, sums = [*below(PROGRAM, libraries), PROGRAM], {}
+    for name in names:
+        sums[name] = sum_of(name, kit, sums, libraries)
+    crates = [Crate(name, libraries, sums[name]) for name in names]
+    # First those on which most others stand.
+    crates.sort(key=lambda it: -it.above)
+    left = sum(not it.is_kept() for it in crates)
+    if not left and os.path.isfile(MADE):
+        return 0
+    os.makedirs(KEPT, exist_ok=True)
+    jobs = jobs_at_once(asked)
+    print(f"Proving {left} of {len(crates)} crates; what is proved is kept for the next time.", flush=True)
+
+    def stop(number, _):
+        for it in crates:
+            it.stop()
+        os._exit(128 + number)
+
+    for it in (signal.SIGINT, signal.SIGTERM, signal.SIGHUP):
+        signal.signal(it, stop)
+    refused = prove(crates, len(crates), lambda name: words_of(name, kit, jobs, libraries))
+    if refused:
+        for it in crates:
+            it.stop()
+        print(refused.said(), end="")
+        print(f"{refused.name} is not proved, and nothing was built")
+        return 1
+    return 1 if link(kit) else 0
+
+
+def main():
+    reader = argparse.ArgumentParser(description="Proves the program with all its libraries, and builds it.")
+    reader.add_argument("--jobs", type=int, default=0, help="functions at once in a crate (left out: one a processor)")
+    reader.add_argument("--toolchain", action="store_true", help="only say whether the toolchain is the one wanted")
+    words = reader.parse_args()
+    try:
+        if words.toolchain:
+            toolchain()
+            return 0
+        return build(words.jobs)
+    except Refused as why:
+        print(f"tcpsim cannot be built: {why}", file=sys.stderr)
+        return 1
+
+
+if __name__ == "__main__":
+    sys.exit(main())
