@@ -25,7 +25,7 @@ FIRST = os.path.join(TOP, 'examples', 'one_segment.txt')
 NAMES = 'chain', 'dumbbell_codel', 'tree', 'largest'
 LOAD_MS, SAVE_MS = 20, 10
 # Where the first is made part of the second, it is what that costs without the third.
-LOAD, BOTH, SAVE = 'tcpsim::scenario_input::read_scenario', 'tcpsim::session::answer_bytes', 'tcpsim::conversion::put_image'
+LOAD, BOTH, SAVE = 'sessions::scenario_input::read_scenario', 'sessions::session::answer_bytes', 'sessions::conversion::put_image'
 
 
 def cost(said, name):

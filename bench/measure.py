@@ -21,7 +21,6 @@ import workers
 from results import CALLGRIND, ENVIRONMENT, PROGRAM, RESULTS, TOP, instructions, number, processor, saved, table
 from scenarios import SCENARIOS, disassemble, started
 
-CRATE = os.path.join(TOP, 'crates', 'tcpsim')
 FEW, MANY = 20_000, 200_000
 # A link takes at most 64 losses: the 1,000th, 2,000th, .. 64,000th packet.
 LOSSES = ''.join(f'lose a {1000 * k}\n' for k in range(1, 65))
@@ -184,9 +183,8 @@ def report(start, runs, crowded, networks):
 
 
 def build():
-    print('building the program: rt run', flush=True)
-    with open(os.path.join(TOP, 'examples', 'one_segment.txt')) as scenario:
-        subprocess.run(['rt', 'run', '--', 'run'], cwd=CRATE, stdin=scenario, check=True, stdout=subprocess.DEVNULL)
+    print('building the program: scripts/build.py', flush=True)
+    subprocess.run([sys.executable, os.path.join(TOP, 'scripts', 'build.py')], check=True)
 
 
 def scenario_name(word):

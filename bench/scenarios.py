@@ -1,23 +1,47 @@
 #!/usr/bin/env python3
 """Writes the scenarios that are measured: bench/scenarios.py [--out DIR] [NAME ..]
 
-Without names all of them, to bench/work. Each is read again by the model of scripts/model before it
-is written, so that none is refused; what is printed is its size.
+Without names all of them, to bench/work. They are made by scripts/net.py. Each is read by the model of
+scripts/model before it is written, so that none is refused; what is printed is its size.
 """
 import argparse
 import os
 import sys
 
 TOP = os.path.dirname(os.path.dirname(os.path.abspath(__file__)))
-sys.path.insert(0, os.path.join(TOP, 'scripts', 'model'))
+sys.path[:0] = os.path.join(TOP, 'scripts'), os.path.join(TOP, 'scripts', 'model')
 
-from nets import Net, codel, droptail  # noqa: E402
-from scenario import RECEIVER, ROUTER, SENDER, Flow  # noqa: E402
+import net as nets  # noqa: E402
+from net import RECEIVER, ROUTER, SENDER  # noqa: E402
 from text import assemble, disassemble  # noqa: E402
+from units import Queue  # noqa: E402
 
 EVER = 10**15                           # ns: the flows end long before
 MBIT, GBIT, MS, US = 10**6, 10**9, 10**6, 10**3
 MSS = 1460
+
+
+def droptail(capacity):
+    return Queue('droptail', capacity)
+
+
+def codel(capacity, target, interval):
+    return Queue('codel', capacity, target, interval)
+
+
+class Net(nets.Net):
+    """A net whose nodes, links and flows are called by their numbers."""
+
+    def ends(self, at, to, up, down, *numbers):
+        """A flow with a sender on a cable to router `at` and a receiver on a cable to router `to`; `up` and
+        `down` are (rate, delay, queue) of the two cables."""
+        sender, receiver = self.node(SENDER), self.node(RECEIVER)
+        self.cable(sender, at, *up)
+        self.cable(receiver, to, *down)
+        self.flow(sender, receiver, *numbers)
+
+    def scenario(self, end, every_route=False):
+        return assemble(self.text(end, notes=False, every_route=every_route).encode())
 
 
 def two_ends(segments, forth, back, window, delack=0, mss=MSS):
@@ -26,7 +50,7 @@ def two_ends(segments, forth, back, window, delack=0, mss=MSS):
     sender, receiver = net.node(SENDER), net.node(RECEIVER)
     net.link(sender, receiver, *forth)
     net.link(receiver, sender, *back)
-    net.flows.append(Flow(sender, receiver, mss, segments, 0, window * mss, delack))
+    net.flow(sender, receiver, mss, segments, 0, window * mss, delack)
     return net.scenario(EVER)
 
 
@@ -50,7 +74,7 @@ def dumbbell(flows, segments, bottleneck):
     net.link(far, near, 50 * MBIT, 5 * MS, droptail(1000))
     for n in range(flows):
         cable = 100 * MBIT, (1 + 3 * n) * MS, droptail(1000)
-        net.flow(near, far, cable, (100 * MBIT, MS, droptail(1000)), MSS, segments, n * 7 * MS, 500 * MSS, n % 2 * 40 * MS)
+        net.ends(near, far, cable, (100 * MBIT, MS, droptail(1000)), MSS, segments, n * 7 * MS, 500 * MSS, n % 2 * 40 * MS)
     return net.scenario(EVER)
 
 
@@ -58,7 +82,7 @@ def tree(flows, segments):
     """On each side of one bottleneck a router, seven routers below it, and 15 ends at most at each."""
     net = Net()
     tops = [net.node(ROUTER), net.node(ROUTER)]
-    net.link(*tops, 100 * MBIT, 10 * MS, codel(1000, 5 * MS, 100 * MS, 1500))
+    net.link(*tops, 100 * MBIT, 10 * MS, codel(1000, 5 * MS, 100 * MS))
     net.link(*reversed(tops), 100 * MBIT, 10 * MS, droptail(1000))
     leaves = [[net.node(ROUTER) for _ in range(7)] for _ in tops]
     for top, below in zip(tops, leaves):
@@ -66,7 +90,7 @@ def tree(flows, segments):
             net.cable(leaf, top, GBIT, 500 * US, droptail(1000))
     for n in range(flows):
         cable = GBIT, (100 + 37 * n) * US, droptail(1000)
-        net.flow(leaves[0][n % 7], leaves[1][n // 15], cable, cable, MSS, segments, n * MS, 200 * MSS)
+        net.ends(leaves[0][n % 7], leaves[1][n // 15], cable, cable, MSS, segments, n * MS, 200 * MSS)
     return net.scenario(EVER)
 
 
@@ -76,8 +100,8 @@ def chain(routers, segments):
     row = [net.node(ROUTER) for _ in range(routers)]
     for a, b in zip(row, row[1:]):
         net.cable(a, b, 100 * MBIT, MS, droptail(50))
-    net.flow(row[0], row[-1], (100 * MBIT, MS, droptail(50)), (90 * MBIT, MS, droptail(50)), MSS, segments,
-             rwnd=400 * MSS)
+    net.ends(row[0], row[-1], (100 * MBIT, MS, droptail(50)), (90 * MBIT, MS, droptail(50)), MSS, segments, 0,
+             400 * MSS)
     return net.scenario(EVER)
 
 
@@ -92,7 +116,7 @@ def islands(flows, crossing, segments):
     for n in range(4 * flows):
         part, cable = n % 4, (GBIT, (50 + 37 * n) * US, droptail(1000))
         to = part if n < 4 * (flows - crossing) else (part + 1) % 4
-        net.flow(near[part], far[to], cable, cable, MSS, segments, n * 100 * US, 200 * MSS)
+        net.ends(near[part], far[to], cable, cable, MSS, segments, n * 100 * US, 200 * MSS)
     return net.scenario(EVER)
 
 
@@ -106,7 +130,7 @@ def ring(flows, segments):
             net.cable(leaf, gates[part], 10 * GBIT, 100 * US, droptail(2000))
     for n in range(4 * flows):
         part, cable = n % 4, (GBIT, (50 + 37 * n) * US, droptail(1000))
-        net.flow(senders[part], receivers[(part + 1) % 4], cable, cable, MSS, segments, n * 100 * US, 300 * MSS)
+        net.ends(senders[part], receivers[(part + 1) % 4], cable, cable, MSS, segments, n * 100 * US, 300 * MSS)
     return net.scenario(EVER)
 
 
@@ -130,7 +154,7 @@ def busy(flows, crossing, segments, window):
         part, number = n % 4, n // 4
         to = part if number < flows - crossing else (part + 1) % 4
         cable = GBIT, (20 + 13 * number) * US, droptail(1000)
-        net.flow(leaves[0][part][number // 12], leaves[1][to][number // 12], cable, cable, MSS, segments,
+        net.ends(leaves[0][part][number // 12], leaves[1][to][number // 12], cable, cable, MSS, segments,
                  number * 100 * US, window * MSS)
     return net.scenario(EVER)
 
@@ -142,7 +166,7 @@ def rate_jump(segments):
     net.cable(near, far, 10**12, 1000 * MS, droptail(65_535))
     for rate, window, start in ((1_000, 4, 0), (10**12, 735_439, 1_000_000 * MS)):
         cable = rate, MS, droptail(65_535)
-        net.flow(near, far, cable, cable, MSS, segments if start else 1_000, start, window * MSS)
+        net.ends(near, far, cable, cable, MSS, segments if start else 1_000, start, window * MSS)
     return net.scenario(EVER)
 
 
@@ -156,7 +180,7 @@ def largest(segments):
             net.cable(ring[n], ring[(n + far) % 128], GBIT, (100 + n) * US, droptail(65_535))
     for n in range(0, 128, 2):
         cable = 100 * MBIT, MS, droptail(65_535)
-        net.flow(ring[n], ring[(n + 31) % 128], cable, cable, MSS, segments, n * MS)
+        net.ends(ring[n], ring[(n + 31) % 128], cable, cable, MSS, segments, n * MS)
     for link in net.links:
         link.lose = [999_935 + 1000 * k for k in range(1, 65)]
     return net.scenario(EVER, every_route=True)
@@ -169,7 +193,7 @@ SCENARIOS = {
     'under_way_10000_delayed_acks': lambda: under_way(10_000, 200_000, 50 * MS),
     'under_way_100000': lambda: under_way(100_000, 400_000),
     'dumbbell_droptail': lambda: dumbbell(14, 10_000, droptail(200)),
-    'dumbbell_codel': lambda: dumbbell(14, 10_000, codel(1000, 5 * MS, 100 * MS, 1500)),
+    'dumbbell_codel': lambda: dumbbell(14, 10_000, codel(1000, 5 * MS, 100 * MS)),
     'tree': lambda: tree(100, 1_000),
     'chain': lambda: chain(16, 20_000),
     'islands': lambda: islands(12, 2, 20_000),

@@ -1,23 +1,35 @@
 #!/usr/bin/env python3
 """Figures of each flow and each link of a run, as a table or as CSV.
 
-Usage: scripts/flows.py SCENARIO [TRACE] [--csv] [--program PATH]
+Usage: scripts/flows.py SCENARIO [TRACE] [--csv | --series STEP] [--from T] [--to T] [--busy] [--program PATH]
 
-Without TRACE the built program is run. The span is from the first flow's start to the last line where
-every flow is complete, else to the scenario's end.
+SCENARIO is a text or an image, `-` is standard input. Without TRACE the program is run. The trace is
+read as it comes and is not kept. The span is from the first flow's start to the last line where every
+flow is complete, else to the scenario's end; --from and --to (seconds, or with ns, us, ms, s) choose a
+part of it, to which what happens at --to itself does not belong. --series writes as CSV each flow's mean
+window and goodput and each link's mean and greatest queue, a row for each STEP. --busy leaves out the
+links that carried and dropped nothing.
 """
 import argparse
 import csv
+import math
 import os
 import sys
-from collections import Counter
+import tempfile
+from array import array
+from collections import Counter, defaultdict
+from itertools import islice
 
-from trace_reader import ACK, PROGRAM, Unreadable, read_run
+import units
+from trace_reader import (ACK, BITS_NS, DATA, NEVER, FlowState, LinkState, Reader, Unreadable, opened_run)
 
 S = 10**9
+HELD = 1 << 19          # numbers that all samples together hold in memory
+PORTION = 1 << 16       # lines between two looks at how many are held
+ROWS = 10**6            # the most of a series
 
 
-# ---- figures
+# ---- figures of numbers
 
 def percentile(values, percent):
     """The least value that at least `percent` in a hundred of the values do not exceed (nearest rank);
@@ -32,74 +44,320 @@ def jain(shares):
     return sum(shares)**2 / (len(shares) * squares) if squares else None
 
 
-def span_of(run):
-    return run.begin(), max(run.end(), run.begin() + 1)
+class Sample:
+    """Numbers not below 0, of which percentiles are asked for. `recent` takes them; `spill` puts them into a
+    file, so that no run is too long for the memory."""
+
+    def __init__(self, file):
+        self.recent, self._file, self._parts = array('q'), file, []
+
+    def spill(self):
+        if self.recent:
+            self._parts.append((self._file.seek(0, os.SEEK_END), len(self.recent)))
+            self.recent.tofile(self._file)
+            del self.recent[:]
+
+    def clear(self):
+        self._parts = []
+        del self.recent[:]
+
+    def least(self):
+        return min((min(portion) for portion in self._portions() if portion), default=None)
+
+    def percentile(self, percent):
+        """As `percentile` above. Where the numbers stand in a file, those that fall into each of 65,536
+        cells are counted, and then again within the cell that has the rank, until a cell is one number."""
+        if not self._parts:
+            return percentile(self.recent, percent)
+        rank = max(0, -(-percent * sum(map(len, self._portions())) // 100) - 1)
+        low, high, width = 0, 1 + max(max(portion, default=0) for portion in self._portions()), 2
+        while width > 1:
+            width, counts = -(-(high - low) // 65_536), Counter()
+            for portion in self._portions():
+                counts.update([(n - low) // width for n in portion if low <= n < high])
+            for cell in sorted(counts):
+                if rank < counts[cell]:
+                    break
+                rank -= counts[cell]
+            low, high = low + cell * width, min(high, low + (cell + 1) * width)
+        return low
+
+    def _portions(self):
+        for at, count in self._parts:
+            self._file.seek(at)
+            portion = array('q')
+            portion.fromfile(self._file, count)
+            yield portion
+        yield self.recent
 
 
-def utilization(link, begin, end):
-    """The part of the span in which the link was sending."""
-    busy = sum(min(to, end) - max(start, begin) for start, to in zip(link.busy_from, link.busy_to)
-               if start < end)
-    return busy / (end - begin)
+# ---- what is counted while a trace is read
+
+class FlowFigures(FlowState):
+    """A flow's counts from the span's begin on."""
+
+    def __init__(self, flow, number):
+        super().__init__(flow, number)
+        self.begin()
+
+    def begin(self):
+        """Counts from here on."""
+        self.expected_before, self.high_before = self.expected, self.high
+        self.by_fast_retransmit = self.by_timeout = self.timeouts = 0
+        self.drops = Counter()          # of each reason, sort and link
+        del self.round_trips[:]
+
+    def on_again(self, _time, _number, by_dups):
+        if by_dups:
+            self.by_fast_retransmit += 1
+        else:
+            self.by_timeout += 1
+
+    def on_timeout(self, _time):
+        self.timeouts += 1
+
+    def on_drop(self, _time, link, reason, sort, _number):
+        self.drops[reason, sort, link] += 1
+
+    def delivered(self):
+        return self.expected - self.expected_before
+
+    def sent(self):
+        first = (self.high - self.high_before) // self.flow.mss
+        return first + self.by_fast_retransmit + self.by_timeout
+
+    def goodput(self, begin, end):
+        """Bits a second that came to the receiver in order, from the flow's start to its completion; None
+        where it was not under way in the span."""
+        since = max(begin, self.flow.start)
+        until = end if self.completed is None else min(end, self.completed)
+        return self.delivered() * BITS_NS / (until - since) if since < until else None
 
 
-def mean_queue(link, begin, end):
-    """Packets that wait, averaged over the span's time."""
-    total, length, since = 0, 0, begin
-    for time, now in zip(link.queue_times, link.queue):
-        total += length * (time - since)
-        length, since = now, time
-    return (total + length * max(0, end - since)) / (end - begin)
+class FlowSeries(FlowFigures):
+    """A flow's counts, and its window summed over the time."""
+
+    cwnd = area = 0     # the area up to a moment t is `area + cwnd * t`
+
+    def on_window(self, time, cwnd, _ssthresh, _flight):
+        now = int(cwnd) if self.completed is None else 0
+        self.area += (self.cwnd - now) * time
+        self.cwnd = now
 
 
-def goodput(flow, end):
-    """Bits a second that came to the receiver in order, from the flow's start to its completion."""
-    until = end if flow.completed is None else flow.completed
-    return flow.delivered() * 8 * S / max(1, until - flow.flow.start)
+class LinkFigures(LinkState):
+    """A link's counts from the span's begin on."""
+
+    def __init__(self, link, number, kind):
+        super().__init__(link, number, kind)
+        self.waits = array('q')
+        self.began, self.last = 0, None     # when it began the last packet, and which
+        self.begin(0)
+
+    def begin(self, time):
+        """Counts from this moment on."""
+        self.overhang = 0 if self.last is None else max(0, self.began + self.duration(self.last) - time)
+        self.count = defaultdict(int)       # packets sent of each stream
+        self.drops, self.greatest, self.before = 0, len(self.waiting), self.summed(time)
+        self.most = 0                       # of the rows before, `greatest` counts anew in each
+        self.last = None
+        del self.waits[:]
+
+    def duration(self, stream):
+        return -(-stream.size * BITS_NS // self.link.rate)
+
+    def summed(self, time):
+        """How many packets waited, summed over the time up to this moment."""
+        return self.waited + len(self.waiting) * time
+
+    def on_taken(self, time, stream, entered):
+        self.count[stream] += 1
+        self.waits.append(time - entered)
+        self.began, self.last = time, stream
+
+    def on_drop(self, *_):
+        self.drops += 1
+
+    def sent(self):
+        return sum(self.count.values())
+
+    def idle(self):
+        """Whether it has carried and dropped nothing."""
+        return not (self.count or self.overhang or self.drops)
+
+    def mean_queue(self, begin, end):
+        return (self.summed(end) - self.before) / (end - begin)
+
+    def greatest_queue(self):
+        return max(self.most, self.greatest)
+
+    def sending(self, end):
+        """Nanoseconds in which it was sending."""
+        past = 0 if self.last is None else max(0, self.began + self.duration(self.last) - end)
+        return self.overhang + sum(n * self.duration(stream) for stream, n in self.count.items()) - past
+
+    def bytes_of(self, number):
+        return sum(n * stream.size for stream, n in self.count.items() if stream.flow == number)
 
 
-def bottleneck(run, number, used):
-    """Of the links of a flow's data the one that is busiest; the first of those where equal."""
-    return max(run.scenario.ways[number][0], key=lambda link: used[link])
+class Figures(Reader):
+    """A trace's figures from `begin` (else the first flow's start) to `end`, read as they come. With a
+    `step`, the rows of a series."""
+
+    def __init__(self, scenario, lines, begin=None, end=None, step=None):
+        super().__init__(scenario, FlowFigures if step is None else FlowSeries, LinkFigures)
+        self._file, self.series = tempfile.TemporaryFile(), tempfile.TemporaryFile()
+        self.trips = [Sample(self._file) for _ in self.flows]
+        self.waits = [Sample(self._file) for _ in self.links]
+        for flow, sample in zip(self.flows, self.trips):
+            flow.round_trips = sample.recent
+        for link, sample in zip(self.links, self.waits):
+            link.waits = sample.recent
+        self.first = min(flow.start for flow in scenario.flows)
+        self.begin, self.end = self.first if begin is None else begin, end
+        self._stop, self._step, self.rows = NEVER if end is None else end, step, 0
+        self._due, self._started, self._row_begin = self.begin, False, self.begin
+        self._read_all(lines)
+
+    def _read_all(self, lines):
+        lines, before = iter(lines), -PORTION
+        while self.lines - before == PORTION:
+            before = self.lines
+            self.read(islice(lines, PORTION), self._due)
+            samples = self.trips + self.waits
+            if sum(len(sample.recent) for sample in samples) > HELD:
+                for sample in samples:
+                    sample.spill()
+        done = all(flow.completed is not None for flow in self.flows)
+        last = self.last if done or not self.whole else self.scenario.end
+        if not self._stopped():
+            self.end = min(self._stop, last)
+        if not self._started and self.begin < max(self.end, self.first + 1):
+            self._start()
+        if not self._started:
+            raise Unreadable(f'the run ends at {self.end / S:g} s: nothing of it is at or after {self.begin / S:g} s')
+        self.end = max(self.end, self.begin + 1)
+        if self._step is not None:
+            self.reached(self.end - 1)
+            self._row(self.end)
+
+    def _stopped(self):
+        return self._due is None
+
+    # Moments at which the span begins, a row ends, or the span ends.
+
+    def reached(self, time):
+        if self._step and (min(time, self._stop) - self._row_begin) // self._step + self.rows > ROWS:
+            raise Unreadable(f'the series has more than {ROWS:,} rows: take a longer step')
+        while self._due is not None and self._due <= time:
+            if not self._started:
+                self._start()
+            elif self._due == self._stop:
+                self._due = None
+                break
+            else:
+                self._row(self._due)
+            self._due = min(self._stop, NEVER if self._step is None else self._row_begin + self._step)
+        return self._due
+
+    def _start(self):
+        self._started = True
+        for flow in self.flows:
+            flow.begin()
+        for link in self.links:
+            link.begin(self.begin)
+        for sample in self.trips + self.waits:
+            sample.clear()
+        self._before = self._sums(self.begin)
+
+    # The rows of a series: in the file `series`, the two moments and then a number for each column.
+
+    def columns(self):
+        """The titles of a row's numbers, and the link of each, if it is a link's."""
+        return [('from s', None), ('to s', None)] + [
+            (f'{flow.flow.name} {what}', None) for flow in self.flows
+            for what in ('mean cwnd bytes', 'goodput bit/s')] + [
+            (f'{link.link.name} {what}', link) for link in self.links
+            for what in ('mean queue packets', 'greatest queue packets')]
+
+    def _sums(self, time):
+        if self._step is None:
+            return None
+        return [(flow.area + flow.cwnd * time, flow.expected) for flow in self.flows], [
+            link.summed(time) for link in self.links]
+
+    def _row(self, end):
+        begin = self._row_begin
+        if begin == end:
+            return
+        now, row = self._sums(end), array('d', (begin, end))
+        for flow, before, after in zip(self.flows, self._before[0], now[0]):
+            active = min(end, end if flow.completed is None else flow.completed) - max(begin, flow.flow.start)
+            row.append((after[0] - before[0]) / active if active > 0 else math.nan)
+            row.append((after[1] - before[1]) * BITS_NS / (end - begin))
+        for link, before, after in zip(self.links, self._before[1], now[1]):
+            row.append((after - before) / (end - begin))
+            row.append(link.greatest)
+            link.most, link.greatest = max(link.most, link.greatest), len(link.waiting)
+        row.tofile(self.series)
+        self.rows, self._row_begin, self._before = self.rows + 1, end, now
 
 
-def figures(run):
-    """All figures: (what, name, figure, unit, value), value None where there is none."""
-    begin, end = span_of(run)
-    names = [link.name for link in run.scenario.links]
-    used = [utilization(link, begin, end) for link in run.links]
-    rows = []
-    for number, flow in enumerate(run.flows):
-        name, link = flow.flow.name, bottleneck(run, number, used)
-        carried = run.links[link].bytes_of
-        trips = flow.round_trips
-        rows += [('flow', name, *figure) for figure in (
-            ('delivered', 'bytes', flow.delivered()),
-            ('goodput', 'bit/s', goodput(flow, end)),
-            ('bottleneck', 'link', names[link]),
-            ('share of the bottleneck', 'part', carried[number] / (sum(carried.values()) or 1)),
-            ('sent', 'segments', len(flow.sent) + len(flow.again)),
+def part(count, of):
+    """The part that a count is of a whole; None of none."""
+    return count / of if of else None
+
+
+def flow_figures(run, number, used):
+    """The figures of a flow: (figure, unit, value), value None where there is none."""
+    flow, trips = run.flows[number], run.trips[number]
+    busiest = max(run.scenario.ways[number][0], key=lambda link: used[link])    # the first where equal
+    link = run.links[busiest]
+    carried = sum(n * stream.size for stream, n in link.count.items())
+    lost = sum(n for (_, sort, _), n in flow.drops.items() if sort == DATA)
+    rows = [('delivered', 'bytes', flow.delivered()),
+            ('goodput', 'bit/s', flow.goodput(run.begin, run.end)),
+            ('bottleneck', 'link', link.link.name),
+            ('share of the bottleneck', 'part', link.bytes_of(number) / (carried or 1)),
+            ('sent', 'segments', flow.sent()),
+            ('loss', 'part', part(lost, flow.sent())),
+            ('timeouts', 'times', flow.timeouts),
             ('sent again by fast retransmit', 'segments', flow.by_fast_retransmit),
             ('sent again by timeout', 'segments', flow.by_timeout),
-            ('timeouts', 'times', len(flow.timeouts)),
-            ('least round trip', 'ns', min(trips, default=None)),
-            ('median round trip', 'ns', percentile(trips, 50)),
-            ('99th percentile of round trips', 'ns', percentile(trips, 99)),
-            ('completed', 'ns', flow.completed))]
-        lost = Counter((reason, 'ack' if sort == ACK else 'data', names[at])
-                       for _, at, reason, sort, _ in flow.drops)
-        rows += [('flow', name, f'{sort} dropped as {reason} at {at}', 'packets', count)
-                 for (reason, sort, at), count in sorted(lost.items())]
-    for link, part in zip(run.links, used):
-        rows += [('link', link.link.name, *figure) for figure in (
-            ('utilization', 'part', part),
-            ('greatest queue', 'packets', max(link.queue, default=0)),
-            ('mean queue', 'packets', mean_queue(link, begin, end)),
-            ('median delay in the queue', 'ns', percentile(link.waits, 50)),
-            ('99th percentile of delay in the queue', 'ns', percentile(link.waits, 99)),
-            ('dropped', 'packets', len(link.drops)))]
-    rows.append(('run', '', 'Jain\'s index of goodput', 'part', jain([goodput(f, end) for f in run.flows])))
-    rows.append(('run', '', 'span', 'ns', end - begin))
+            ('least round trip', 'ns', trips.least()),
+            ('median round trip', 'ns', trips.percentile(50)),
+            ('99th percentile of round trips', 'ns', trips.percentile(99)),
+            ('completed', 'ns', flow.completed)]
+    drops = sorted((reason, 'ack' if sort == ACK else 'data', run.links[at].link.name, n)
+                   for (reason, sort, at), n in flow.drops.items())
+    return rows + [(f'{sort} dropped as {reason} at {at}', 'packets', n) for reason, sort, at, n in drops]
+
+
+def link_figures(run, number, used):
+    """The figures of a link, as those of a flow. Its loss is of the packets that it has sent or dropped."""
+    link, waits = run.links[number], run.waits[number]
+    return [('utilization', 'part', used[number]),
+            ('greatest queue', 'packets', link.greatest_queue()),
+            ('mean queue', 'packets', link.mean_queue(run.begin, run.end)),
+            ('median delay in the queue', 'ns', waits.percentile(50)),
+            ('99th percentile of delay in the queue', 'ns', waits.percentile(99)),
+            ('sent', 'packets', link.sent()),
+            ('dropped', 'packets', link.drops),
+            ('loss', 'part', part(link.drops, link.sent() + link.drops))]
+
+
+def figures(run, only_busy=False):
+    """All figures: (what, name, figure, unit, value), value None where there is none."""
+    span = run.end - run.begin
+    used = [link.sending(run.end) / span for link in run.links]
+    rows = [('flow', flow.flow.name, *row) for flow in run.flows for row in flow_figures(run, flow.number, used)]
+    rows += [('link', link.link.name, *row) for link in run.links if not (only_busy and link.idle())
+             for row in link_figures(run, link.number, used)]
+    shares = [flow.goodput(run.begin, run.end) for flow in run.flows]
+    rows.append(('run', '', 'Jain\'s index of goodput', 'part', jain([n for n in shares if n is not None])))
+    if run.begin != run.first:
+        rows.append(('run', '', 'begin', 'ns', run.begin))
+    rows.append(('run', '', 'span', 'ns', span))
     return rows
 
 
@@ -108,13 +366,15 @@ def figures(run):
 COLUMNS = {
     'flow': (('delivered', 'bytes', '{:,}', 1), ('goodput', 'Mbit/s', '{:.3f}', 1e6),
              ('share of the bottleneck', 'share %', '{:.1f}', .01), ('bottleneck', 'of link', '{}', 0),
-             ('sent', 'sent', '{:,}', 1), ('sent again by fast retransmit', 'again: fast', '{:,}', 1),
-             ('sent again by timeout', 'timeout', '{:,}', 1), ('least round trip', 'RTT ms: least', '{:.3f}', 1e6),
-             ('median round trip', 'median', '{:.3f}', 1e6),
+             ('sent', 'sent', '{:,}', 1), ('loss', 'loss %', '{:.2f}', .01), ('timeouts', 'timeouts', '{:,}', 1),
+             ('sent again by fast retransmit', 'sent again: fast', '{:,}', 1),
+             ('sent again by timeout', 'after timeouts', '{:,}', 1),
+             ('least round trip', 'RTT ms: least', '{:.3f}', 1e6), ('median round trip', 'median', '{:.3f}', 1e6),
              ('99th percentile of round trips', '99th', '{:.3f}', 1e6), ('completed', 'completed s', '{:.6f}', 1e9)),
     'link': (('utilization', 'utilization %', '{:.1f}', .01), ('greatest queue', 'queue: greatest', '{:,}', 1),
              ('mean queue', 'mean', '{:.2f}', 1), ('median delay in the queue', 'delay ms: median', '{:.3f}', 1e6),
-             ('99th percentile of delay in the queue', '99th', '{:.3f}', 1e6), ('dropped', 'dropped', '{:,}', 1)),
+             ('99th percentile of delay in the queue', '99th', '{:.3f}', 1e6), ('dropped', 'dropped', '{:,}', 1),
+             ('loss', 'loss %', '{:.2f}', .01)),
 }
 
 
@@ -145,11 +405,9 @@ def table(rows):
     losses = [[name, figure, f'{value:,}'] for what, name, figure, _, value in rows
               if what == 'flow' and ' dropped as ' in figure]
     lines += (aligned([['flow', 'lost', 'packets']] + losses) + ['']) if losses else []
-    for what, _, figure, _, value in rows:
-        if what == 'run' and figure == 'span':
-            lines.append(f'span: {value / S:.6f} s')
-        elif what == 'run':
-            lines.append(f'{figure}: {shown("{:.4f}", 1, value)}')
+    for what, _, figure, unit, value in rows:
+        if what == 'run':
+            lines.append(f'{figure}: {value / S:.6f} s' if unit == 'ns' else f'{figure}: {shown("{:.4f}", 1, value)}')
     return lines
 
 
@@ -160,26 +418,88 @@ def write_csv(rows, file):
         out.writerow((*words, '' if value is None else f'{value:.6f}' if isinstance(value, float) else value))
 
 
-def main():
-    words = argparse.ArgumentParser(description='Figures of each flow and each link of a run.')
-    words.add_argument('scenario', metavar='SCENARIO')
-    words.add_argument('trace', metavar='TRACE', nargs='?', help='else the built program is run')
+def write_series(run, file, only_busy=False):
+    """A row for each step: the two moments, each flow's and each link's columns. What is not is empty."""
+    columns = run.columns()
+    kept = [at for at, (_, link) in enumerate(columns) if not (only_busy and link and link.idle())]
+    out = csv.writer(file, lineterminator='\n')
+    out.writerow([columns[at][0] for at in kept])
+    run.series.seek(0)
+    for _ in range(run.rows):
+        row = array('d')
+        row.fromfile(run.series, len(columns))
+        row[0], row[1] = row[0] / S, row[1] / S
+        out.writerow(['' if math.isnan(row[at]) else f'{row[at]:.9f}'.rstrip('0').rstrip('.') for at in kept])
+
+
+# ---- the command
+
+def moment(word):
+    """Nanoseconds, of seconds as 1.5 or of a time with its unit as 20ms."""
+    try:
+        value = units.time(word + 's' if word[-1:].isdigit() else word)
+    except units.Wrong as wrong:
+        raise argparse.ArgumentTypeError(str(wrong)) from wrong
+    if value > 10**15:
+        raise argparse.ArgumentTypeError(f'{word} is more than 1,000,000 s')
+    return value
+
+
+def words_of(given=None):
+    words = units.Words(prog=units.tool(), description='Figures of each flow and each link of a run.')
+    words.add_argument('scenario', metavar='SCENARIO', help='a text or an image; - is standard input')
+    words.add_argument('trace', metavar='TRACE', nargs='?', help='else the program is run')
     words.add_argument('--csv', action='store_true', help='one figure a row: what,name,figure,unit,value')
-    words.add_argument('--program', default=PROGRAM, help='the program that is run where no trace is given')
-    given = words.parse_args()
+    words.add_argument('--series', metavar='STEP', type=moment,
+                       help='CSV of windows, goodput and queues, a row for each STEP, as 1s')
+    words.add_argument('--from', dest='begin', metavar='T', type=moment,
+                       help='count from here on, in seconds or as 20ms; else from the first flow\'s start')
+    words.add_argument('--to', dest='end', metavar='T', type=moment, help='count up to here; else to the run\'s end')
+    words.add_argument('--busy', action='store_true', help='leave out links that carried and dropped nothing')
+    words.add_argument('--program', metavar='FILE', help='the program that is run where no trace is given')
+    given = words.parse_args(given)
+    if given.series == 0:
+        words.error('--series: a step of 0 has no rows')
+    if given.end is not None and given.end <= (given.begin or 0):
+        words.error('--to is not behind --from')
+    return given
+
+
+def run_of(given):
+    """The figures that the words ask for."""
+    with opened_run(given.scenario, given.trace, given.program) as (scenario, lines):
+        return Figures(scenario, lines, given.begin, given.end, given.series)
+
+
+def write(run, given, file):
+    if given.series is not None:
+        write_series(run, file, given.busy)
+    elif given.csv:
+        write_csv(figures(run, given.busy), file)
+    else:
+        print('\n'.join(table(figures(run, given.busy))), file=file)
+
+
+def write_no_more():
+    os.dup2(os.open(os.devnull, os.O_WRONLY), sys.stdout.fileno())
+
+
+def main():
+    given = words_of()
     try:
-        rows = figures(read_run(given.scenario, given.trace, given.program))
-    except Unreadable as wrong:
-        print(f'flows.py: {wrong}', file=sys.stderr)
-        return 1
-    try:
-        if given.csv:
-            write_csv(rows, sys.stdout)
-        else:
-            print('\n'.join(table(rows)))
+        write(run_of(given), given, sys.stdout)
         sys.stdout.flush()
     except BrokenPipeError:     # a reader that has seen enough, as `head`
-        os.dup2(os.open(os.devnull, os.O_WRONLY), sys.stdout.fileno())
+        write_no_more()
+    except Unreadable as wrong:
+        units.refuse(wrong, 1)
+    except OSError as wrong:
+        write_no_more()
+        units.refuse(f'{wrong.filename or "standard output"}: {wrong.strerror}', 1)
+    except MemoryError:
+        units.refuse('there is not enough memory for this run', 1)
+    except KeyboardInterrupt:
+        return 130
     return 0
 
 

@@ -9,7 +9,7 @@ top=$(cd "$(dirname "$0")/.." && pwd)
 # The crate, its test, and more requests than the test makes.
 refuse_each() {
   for n in $(seq 1 "$3"); do
-    if ! (cd "$top/crates/$1" && rt try --test --fail-alloc "$n" 2>&1) | grep -q "^test tests::$2 ... ok\$"; then
+    if ! (cd "$top/crates/$1" && rt try --test --fail-alloc "$n" 2>&1) | grep -q "^test $2 ... ok\$"; then
       echo "$1, request $n: $2 fails"
       exit 1
     fi
@@ -17,6 +17,6 @@ refuse_each() {
   echo "$1: $2 passes with each of $3 requests refused"
 }
 
-refuse_each packet_chain copies_four_cells 9
-refuse_each aqm copies_are_in_the_same_state 13
-refuse_each port copies_are_in_the_same_state 9
+refuse_each part_trials chains::copies_four_cells 9
+refuse_each aqm tests::copies_are_in_the_same_state 13
+refuse_each part_trials links::copies_are_in_the_same_state 9

@@ -80,15 +80,15 @@ def by_hand():
     return Run(Scenario(BY_HAND), TRACE.splitlines())
 
 
-def figures_of(run):
-    return {(name, figure): value for _, name, figure, _, value in flows.figures(run)}
+def rows_by_hand():
+    return flows.figures(flows.Figures(Scenario(BY_HAND), TRACE.splitlines()))
 
 
 class ByHand(unittest.TestCase):
     """The run above: what is read out of its trace, and its figures."""
 
     def test_figures(self):
-        figures = figures_of(by_hand())
+        figures = {(name, figure): value for _, name, figure, _, value in rows_by_hand()}
         busy = 7 * 1.04 / 12
         waited = 1.04 + 2.08 + 0.04 + 1.08 + 1.08      # packets times ms, of the five that waited
         for name, figure, value in (
@@ -125,8 +125,8 @@ class ByHand(unittest.TestCase):
         self.assertEqual([drop[:2] for drop in link.drops], [(0, 'full'), (4120000, 'full')])
 
     def test_the_table_has_them(self):
-        lines = flows.table(flows.figures(by_hand()))
-        self.assertEqual(lines[1].split(), 'f 7,000 4.667 100.0 a 9 1 0 3.080 4.120 5.160 -'.split())
+        lines = flows.table(rows_by_hand())
+        self.assertEqual(lines[1].split(), 'f 7,000 4.667 100.0 a 9 22.22 0 1 0 3.080 4.120 5.160 -'.split())
         self.assertIn('f     data dropped as full at a        2', lines)
 
     def test_a_trace_of_another_scenario_is_refused(self):

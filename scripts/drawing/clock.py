@@ -1,0 +1,116 @@
+"""The axis of time of a picture: its window, its unit, and the idle spans that it leaves out."""
+import numpy as np
+from matplotlib.ticker import FixedFormatter, FixedLocator, MaxNLocator
+
+from .style import STEPS
+
+S = 10**9
+IDLE, KEPT = .2, .25    # a gap is left out that is this part of the window, where what stays is at most that
+APART = .85             # ticks are this part of their mean distance apart, at least
+CUT_WIDTH = .09         # how wide a gap that is left out is drawn, as a part of what stays
+MARGIN = .1            # what stays of a gap at either side, as a part of what stays beside it
+
+
+def unit_of(width):
+    return (S, 's') if width >= S else (10**6, 'ms') if width >= 10**7 else (10**3, 'µs')
+
+
+def idle_spans(moments, begin, end, longer):
+    """The spans without any event that are longer than `longer`, where they are most of the time from begin
+    to end."""
+    moments = np.unique(np.asarray(moments, dtype=np.int64))
+    moments = moments[(moments >= begin) & (moments <= end)]
+    if len(moments) < 2:
+        return []
+    gaps = np.diff(moments)
+    long = np.flatnonzero(gaps >= max(longer, IDLE * (end - begin)))
+    kept = end - begin - int(gaps[long].sum())
+    if not len(long) or kept > KEPT * (end - begin):
+        return []
+    margin = max(1, int(kept * MARGIN))
+    return [(int(moments[at]) + margin, int(moments[at + 1]) - margin) for at in long]
+
+
+class Clock:
+    """Where a moment is drawn. Without cuts it is the time in its unit."""
+
+    def __init__(self, window, cuts=()):
+        self.window = window
+        self.cuts = [(max(a, window[0]), min(b, window[1])) for a, b in cuts
+                     if a < window[1] and b > window[0]]
+        self.kept = window[1] - window[0] - sum(end - begin for begin, end in self.cuts)
+        # where a span is left out, moments are long numbers of a small unit
+        self.scale, self.unit = unit_of(max(self.kept, 10**7) if self.cuts else self.kept)
+        knots, places, here = [window[0]], [window[0] / self.scale], window[0] / self.scale
+        for begin, end in [*self.cuts, (window[1], window[1])]:
+            here += (begin - knots[-1]) / self.scale
+            knots.append(begin)
+            places.append(here)
+            if end > begin:
+                here += CUT_WIDTH * self.kept / self.scale
+                knots.append(end)
+                places.append(here)
+        self._knots, self._places = np.array(knots, dtype=float), np.array(places)
+
+    def x(self, times):
+        """Where moments within the window are drawn."""
+        if not self.cuts:
+            return np.asarray(times, dtype=float) / self.scale
+        return np.interp(np.asarray(times, dtype=float), self._knots, self._places)
+
+    def edges(self, count):
+        """The moments at the edges of so many columns of the same width."""
+        if not self.cuts:
+            return np.linspace(self.window[0], self.window[1], count + 1)
+        places = np.linspace(self._places[0], self._places[-1], count + 1)
+        return np.interp(places, self._places, self._knots)
+
+    def set(self, axes, most=7):
+        """Limits and ticks of an axis; a span that is left out is hatched, with its length."""
+        axes.set_xlim(self._places[0], self._places[-1])
+        if not self.cuts:
+            axes.xaxis.set_major_locator(MaxNLocator(most, steps=STEPS))
+            return
+        ticks, labels = self._ticks(most + 1)
+        axes.xaxis.set_major_locator(FixedLocator(ticks))
+        axes.xaxis.set_major_formatter(FixedFormatter(labels))
+
+    def mark_cuts(self, axes):
+        for begin, end in self.cuts:
+            left, right = self.x((begin, end))
+            axes.axvspan(left, right, facecolor='#F4F4F4', edgecolor='#C8C8C8', hatch='////', lw=0, zorder=3)
+            axes.annotate(f'{length_text(end - begin)} without an event', ((left + right) / 2, .5),
+                          xycoords=('data', 'axes fraction'), rotation=90, ha='center', va='center',
+                          fontsize=6.5, color='#333333', zorder=4,
+                          bbox={'boxstyle': 'square,pad=.15', 'fc': '#F4F4F4', 'ec': 'none'})
+
+    def cut_boxes(self, axes):
+        """Where the spans that are left out are drawn: left, below, right, top in pixels."""
+        return [(*axes.transData.transform((left, 0))[:1], axes.bbox.y0,
+                 *axes.transData.transform((right, 0))[:1], axes.bbox.y1)
+                for left, right in (self.x(cut) for cut in self.cuts)]
+
+    def _ticks(self, most):
+        parts, begin = [], self.window[0]
+        for cut_begin, cut_end in [*self.cuts, (self.window[1], None)]:
+            parts.append((begin, cut_begin))
+            begin = cut_end
+        ticks, labels = [], []
+        for begin, end in parts:
+            count = max(1, round(most * (end - begin) / self.kept))
+            inner = MaxNLocator(count, steps=STEPS).tick_values(begin / self.scale, end / self.scale)
+            for value in inner:
+                place = float(self.x(value * self.scale))
+                near = ticks and place - ticks[-1] < APART / most * (self._places[-1] - self._places[0])
+                if begin <= value * self.scale <= end and not near:
+                    ticks.append(place)
+                    labels.append(f'{value:,.10g}')
+        return ticks, labels
+
+
+def length_text(ns):
+    """A length of time in three digits."""
+    for scale, unit in ((S, 's'), (10**6, 'ms'), (10**3, 'µs')):
+        if ns >= scale:
+            return f'{ns / scale:.3g} {unit}' if ns < 1000 * scale else f'{ns / scale:,.0f} {unit}'
+    return f'{ns} ns'

@@ -1,0 +1,41 @@
+"""Writes a picture. The same run gives the same SVG to the byte, with the same matplotlib."""
+import io
+import os
+import re
+
+import matplotlib.pyplot as plt
+
+from .drawn import drawn
+
+
+def save(figure, path):
+    """Writes the picture whole or not at all; an SVG says in its description what it shows."""
+    ending = os.path.splitext(path)[1]
+    plain = {'.svg': {'Date': None, 'Creator': None}, '.pdf': {'CreationDate': None}, '.png': {}}[ending]
+    plt.rcParams['svg.hashsalt'] = 'tcpsim'
+    content = io.BytesIO()
+    if ending == '.svg':
+        plain['Description'] = '\n'.join(drawn(figure))
+    figure.savefig(content, format=ending[1:], dpi=100, metadata=plain)
+    content = content.getvalue()
+    if ending == '.svg':
+        content = re.sub(r' d="[^"]*"', shorter, content.decode('utf-8')).encode('utf-8')
+    with open(path, 'wb') as file:
+        file.write(content)
+
+
+def shorter(found):
+    """A path of an SVG in fewer bytes: points to a hundredth, and a step as `H` or `V` where it is one."""
+    path = re.sub(r'\d+\.\d{3,}', lambda number: f'{float(number[0]):.2f}'.rstrip('0').rstrip('.'), found[0])
+    if re.search(r'[A-KN-Za-km-z]', path[3:]):
+        return path
+    words, here = [], (None, None)
+    for kind, *point in re.findall(r'([ML]) (\S+) ([^\s"]+)', path):
+        if kind == 'L' and point[0] == here[0]:
+            words.append('V' + point[1])
+        elif kind == 'L' and point[1] == here[1]:
+            words.append('H' + point[0])
+        else:
+            words.append(f'{kind}{point[0]} {point[1]}')
+        here = point
+    return f' d="{"".join(words)}"'

@@ -1,0 +1,64 @@
+"""Labels beside points, each at the place where it covers least."""
+import numpy as np
+
+STEP = 3                # pixels from one point of a curve to the next that a label can cover
+FAR = 10_000            # pixels beyond which nothing is looked at
+MARK = 4                # half the width of a mark, in pixels
+# Where a label can stand, in points from its mark: the first of the best is taken.
+PLACES = ((5, -11), (5, 5), (-5, -11), (-5, 5), (0, 9), (0, -16), (9, 14), (9, -22), (-9, 16), (-9, -24), (0, 19),
+          (0, -26), (16, 22), (-16, 24), (16, -32), (-16, -34))
+
+
+def place_labels(axes, labels, boxes=(), first=PLACES[0]):
+    """Moves `labels`, annotations of points, off each other, off the marks of all of them, off `boxes` (left, below,
+    right, top, in pixels) and off curves and dots as far as can be. `first` is the place that is preferred. The
+    figure has been laid out."""
+    renderer, places = axes.figure.canvas.get_renderer(), sorted(PLACES, key=lambda place: place != first)
+    marks = [tuple(axes.transData.transform(label.xy)) for label in labels]
+    taken = [(x - MARK, y - MARK, x + MARK, y + MARK) for x, y in marks] + list(boxes)
+    points = drawn_points(axes)
+
+    def put(label, place):
+        label.set_position(place)
+        label.set_horizontalalignment('left' if place[0] > 0 else 'right' if place[0] < 0 else 'center')
+        box = label.get_window_extent(renderer)
+        return box.x0, box.y0, box.x1, box.y1
+
+    def covers(box, mark):
+        left, below, right, top = box
+        strange = any(away(box, other) <= away(box, mark) for other in marks if other != mark)
+        over = sum(left < its[2] and its[0] < right and below < its[3] and its[1] < top for its in taken)
+        outside = left < axes.bbox.x0 or right > axes.bbox.x1 or below < axes.bbox.y0 or top > axes.bbox.y1
+        inside = (points[:, 0] > left) & (points[:, 0] < right) & (points[:, 1] > below) & (points[:, 1] < top)
+        return 1_000 * (over + outside) + 500 * strange + int(inside.sum())
+
+    for label, mark in zip(labels, marks):
+        taken.append(put(label, min(places, key=lambda place: covers(put(label, place), mark))))
+
+
+def away(box, mark):
+    """How far a point is from a box, squared."""
+    return sum(max(low - at, at - high, 0)**2 for low, high, at in zip(box[:2], box[2:], mark))
+
+
+def drawn_points(axes):
+    """Points of all curves, close to each other, and all dots, in pixels."""
+    found = [np.empty((0, 2))]
+    for line in axes.lines:
+        points = line.get_transform().transform(line.get_path().vertices)
+        found.append(points if line.get_linestyle() == 'None' else along(points))
+    for lines in axes.collections:
+        if hasattr(lines, 'get_segments'):
+            found += [along(lines.get_transform().transform(points)) for points in lines.get_segments()]
+    points = np.concatenate(found)
+    return points[np.isfinite(points).all(axis=1)]
+
+
+def along(points):
+    """Points on the way from each to the next."""
+    points = np.clip(points, -FAR, FAR)
+    if len(points) < 2:
+        return points
+    lengths = np.nan_to_num(np.hypot(*np.diff(points, axis=0).T))
+    ends = np.concatenate(([0], np.cumsum(np.maximum(1, np.ceil(lengths / STEP)))))
+    return np.column_stack([np.interp(np.arange(ends[-1] + 1), ends, column) for column in points.T])

@@ -1,0 +1,155 @@
+"""Panels of links: the queue, the delay of packets and its distribution, the utilization."""
+import numpy as np
+from matplotlib.lines import Line2D
+from matplotlib.ticker import FixedLocator, FuncFormatter, MaxNLocator, NullLocator
+
+from .points import BANDS, bins, busy_parts, dots, envelope, is_dense
+from .style import SIGNS, STEPS, delay_unit, key_above, series, sign_of
+
+
+def link_lines(links):
+    return [Line2D([], [], label=view.name, **series(view.number)) for view in links]
+
+
+# ---- the queue
+
+def queue_panel(picture, axes, links, width, named):
+    greatest, key = 1, link_lines(links) if named else []
+    dense = False
+    for view in links:
+        link = view.run
+        greatest = max([greatest, *picture.seen(link.queue_times, link.queue)])
+        if is_dense(link.queue_times, picture.window):
+            dense = True
+            draw_envelope(picture, axes, view)
+        else:
+            picture.curve(axes, view, [0, *link.queue_times], [0, *link.queue], 1, **series(view.number))
+    key += mark_drops(picture, axes, links)
+    axes.set_ylim(0, 1.12 * greatest + .5)
+    axes.yaxis.set_major_locator(MaxNLocator(6, integer=True, steps=STEPS))
+    axes.set_ylabel('packets')
+    key_above(axes, 'packets that wait in the queue', key, width,
+              right='mean, and from the least to the greatest' if dense else None)
+
+
+def draw_envelope(picture, axes, view):
+    """A queue that changes too often for a curve: a band from the least to the greatest, and the mean."""
+    begin, end = picture.until(view)
+    edges = [edge for edge in picture.clock.edges(BANDS) if edge <= end]
+    if len(edges) < 2:
+        return
+    least, greatest, mean = envelope([0, *view.run.queue_times], [0, *view.run.queue], edges)
+    x, color = picture.clock.x(edges), series(view.number)['color']
+    axes.stairs(greatest, x, baseline=least, fill=True, color=color, alpha=.3, lw=0)
+    axes.stairs(mean, x, baseline=None, color=color, lw=1.2)
+
+
+def mark_drops(picture, axes, links):
+    """A sign for each packet that was dropped in sight; answers the key's entries."""
+    seen = set()
+    for view in links:
+        drops = [(time, reason) for time, reason, *_ in view.run.drops if picture.sees(time)]
+        for reason, (marker, color, _) in SIGNS.items():
+            times = [time for time, why in drops if why == reason]
+            if times:
+                picture.points(axes, times, drop_heights(view.run, times, reason), 1, marker=marker, color=color,
+                               ms=6 if len(times) < 60 else 3, mew=1.3 if len(times) < 60 else .7, zorder=3.6)
+                seen.add(reason)
+    return [sign_of(reason) for reason in SIGNS if reason in seen]
+
+
+def drop_heights(link, times, reason):
+    """A drop for want of room is drawn at the capacity, another at the queue's length then."""
+    if reason == 'full':
+        return np.full(len(times), link.link.capacity)
+    at = np.searchsorted(np.asarray(link.queue_times), times, side='right') - 1
+    lengths = np.append(np.asarray(link.queue), 0)
+    return np.where(at < 0, 0, lengths[at])
+
+
+# ---- the delay
+
+def delays(picture, view):
+    """Of each packet that entered in sight and was sent: when it entered, and how long it waited."""
+    waits = np.asarray(view.run.waits, dtype=np.int64)
+    entered = np.asarray(view.run.wait_times, dtype=np.int64) - waits
+    seen = (entered >= picture.window[0]) & (entered <= picture.window[1])
+    return entered[seen], waits[seen]
+
+
+def delay_panel(picture, axes, links, width, named):
+    found = [delays(picture, view) for view in links]
+    greatest = max([0, *(int(waits.max()) for _, waits in found if len(waits))])
+    scale, unit = delay_unit(greatest)
+    greatest = greatest or scale
+    few = sum(len(waits) for _, waits in found) < 400
+    for view, (entered, waits) in zip(links, found):
+        times, values = dots(entered, waits, picture.window)
+        if len(times):
+            axes.plot(picture.clock.x(times), values / scale, marker='.', ms=4 if few else 2,
+                      rasterized=len(times) > 400, clip_on=False, **{**series(view.number), 'ls': 'none'})
+    for target in {view.run.link.target for view in links if view.run.link.queue == 'codel'}:
+        axes.axhline(target / scale, color='#000000', lw=.8, ls=':')
+        axes.annotate('target', (1, target / scale), xycoords=('axes fraction', 'data'),
+                      xytext=(2, 0), textcoords='offset points', va='center', fontsize=8)
+    if picture.log:
+        log_axis(axes.set_yscale, axes.yaxis, greatest / scale)
+        axes.set_ylim(-.1, 1.5 * greatest / scale)
+    else:
+        axes.set_ylim(-.04 * greatest / scale, 1.12 * greatest / scale)
+    axes.set_ylabel(unit)
+    key_above(axes, 'delay in the queue of each packet sent', link_lines(links) if named else [], width,
+              right='at the moment when it entered')
+
+
+def log_axis(set_scale, axis, greatest):
+    """A logarithmic axis that has 0 too, below 1."""
+    set_scale('symlog', linthresh=1, linscale=.4)
+    axis.set_major_locator(FixedLocator([0] + [10**n for n in range(7) if 10**n <= greatest]))
+    axis.set_minor_locator(NullLocator())
+    axis.set_major_formatter(FuncFormatter(lambda value, _: f'{value:,g}'))
+
+
+def delay_cdf_panel(picture, axes, links, width, _named):
+    """How many percent of the packets waited at most so long: an axis of its own, and no time."""
+    found = [np.sort(delays(picture, view)[1]) for view in links]
+    greatest = max([0, *(int(waits[-1]) for waits in found if len(waits))])
+    scale, unit = delay_unit(greatest)
+    greatest = greatest or scale
+    key = []
+    for view, waits in zip(links, found):
+        if not len(waits):
+            key.append(Line2D([], [], label=f'{view.name}: no packet', **series(view.number)))
+            continue
+        values, last = np.unique(waits, return_index=False, return_counts=True)
+        axes.step(np.concatenate(([0], values)) / scale, np.concatenate(([0], np.cumsum(last))) * 100 / len(waits),
+                  where='post', lw=1.4, **series(view.number))
+        middle, tail = (waits[-(-len(waits) * percent // 100) - 1] / scale for percent in (50, 99))
+        key.append(Line2D([], [], label=f'{view.name}: median {middle:,.4g}, 99th percentile {tail:,.4g} {unit}',
+                          **series(view.number)))
+    if picture.log:
+        log_axis(axes.set_xscale, axes.xaxis, greatest / scale)
+    axes.set_xlim(-.02 * greatest / scale if not picture.log else -.1, 1.03 * greatest / scale)
+    axes.set_ylim(0, 102)
+    axes.set_yticks((0, 25, 50, 75, 100))
+    axes.set_ylabel('% of packets')
+    axes.set_xlabel(f'at most this delay in the queue, {unit}', fontsize=9)
+    key_above(axes, 'distribution of the delay in the queue', key, width)
+
+
+# ---- the utilization
+
+def utilization_panel(picture, axes, links, width, named):
+    count = max(bins(view.run) for view in links)
+    edges = picture.clock.edges(count)
+    for view in links:
+        _, parts = busy_parts(view.run, picture.window, edges)
+        axes.stairs(100 * parts, picture.clock.x(edges), lw=1.2, baseline=None, **series(view.number))
+        if len(links) == 1:
+            axes.stairs(100 * parts, picture.clock.x(edges), fill=True, alpha=.2, **series(view.number))
+    bin_width = (edges[1] - edges[0]) / picture.clock.scale
+    axes.set_ylim(0, 105)
+    axes.set_yticks((0, 25, 50, 75, 100))
+    axes.set_ylabel('%')
+    key_above(axes, f'utilization, in steps of {bin_width:.3g} {picture.clock.unit}',
+              link_lines(links) if named else [], width)

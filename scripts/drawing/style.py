@@ -1,0 +1,97 @@
+"""Colours, signs, names of units, and the key above a panel."""
+import math
+
+from matplotlib.lines import Line2D
+from matplotlib.patches import Patch
+
+# Colours that colour-blind readers can tell apart (Okabe and Ito).
+BLUE, ORANGE, GREEN, RED, PURPLE, SKY = '#0072B2', '#E69F00', '#009E73', '#D55E00', '#CC79A7', '#56B4E9'
+GREY, IN_FLIGHT = '#777777', '#F3E6C4'
+SERIES = [BLUE, ORANGE, GREEN, PURPLE, SKY, RED, '#7F7F7F', '#000000']
+# One sign for one meaning, in every panel.
+SIGNS = {'full': ('x', RED, 'dropped: queue full'), 'codel': ('v', PURPLE, 'dropped by CoDel'),
+         'lost': ('+', '#000000', 'lost by the scenario\'s list')}
+AGAIN = {'marker': 'o', 'ms': 4.5, 'mfc': 'none', 'color': ORANGE, 'label': 'sent again'}
+TITLE = {'fontsize': 9, 'loc': 'left'}
+KEY = {'fontsize': 8, 'frameon': False, 'handlelength': 1.6, 'borderpad': 0, 'labelspacing': .25,
+       'columnspacing': 1.0, 'borderaxespad': .3, 'handletextpad': .5}
+LETTER, HANDLE, LINE = 4.7, 26, 9.4       # the key's sizes, in points
+STEPS = [1, 2, 2.5, 5, 10]                # between two ticks, in a power of ten
+
+
+def series(number):
+    return {'color': SERIES[number % len(SERIES)], 'ls': '-' if number < len(SERIES) else '--'}
+
+
+def sign_of(reason):
+    marker, color, text = SIGNS[reason]
+    return Line2D([], [], color=color, marker=marker, ls='none', label=text)
+
+
+def recovery_mark():
+    return Patch(color=SKY, alpha=.3, lw=0, label='recovery')
+
+
+def stall_mark(longer):
+    return Patch(color='#000000', alpha=.13, lw=0, label=f'no new acknowledgement for over {longer}')
+
+
+def timeout_mark():
+    return Line2D([], [], color=RED, lw=1, ls='--', label='timeout')
+
+
+def key_above(axes, title, handles, width, right=None):
+    """The title, and below it, above the panel, the key: it covers nothing. The width is in points."""
+    rows = 0
+    if handles:
+        columns = columns_that_fit([handle.get_label() for handle in handles], width)
+        rows = math.ceil(len(handles) / columns)
+        axes.legend(handles=handles, loc='lower left', bbox_to_anchor=(0, 1), ncol=columns, **KEY)
+    pad = 4 + LINE * rows + 3 * bool(rows)
+    axes.set_title(title, pad=pad, **TITLE)
+    if right:
+        axes.set_title(right, loc='right', fontsize=7.5, color='#555555', pad=pad)
+
+
+def columns_that_fit(labels, width):
+    """In how many columns a key of these labels is at most so wide: the first ones have one entry more."""
+    for columns in range(len(labels), 1, -1):
+        rows, longer = divmod(len(labels), columns)
+        ends = [(rows + 1) * n for n in range(1, longer + 1)]
+        ends += [(rows + 1) * longer + rows * n for n in range(1, columns - longer + 1)]
+        across = [labels[begin:end] for begin, end in zip([0, *ends], ends)]
+        if sum(HANDLE + LETTER * max(map(len, column)) for column in across) <= width:
+            return columns
+    return 1
+
+
+# ---- units
+
+def byte_unit(greatest):
+    return (10**6, 'MB') if greatest >= 2 * 10**6 else (10**3, 'kB') if greatest >= 2000 else (1, 'bytes')
+
+
+def bytes_text(count):
+    scale, unit = (10**9, 'GB') if count >= 10**9 else byte_unit(count)
+    return f'{count / scale:,.4g} {unit}'
+
+
+def delay_unit(greatest):
+    return (10**6, 'ms') if greatest >= 10**6 or greatest == 0 else (10**3, 'µs')
+
+
+def rate_text(rate):
+    for scale, unit in ((10**9, 'Gbit/s'), (10**6, 'Mbit/s'), (10**3, 'kbit/s')):
+        if rate >= scale:
+            return f'{rate / scale:g} {unit}'
+    return f'{rate} bit/s'
+
+
+def ms_text(ns):
+    return f'{ns / 10**6:g} ms'
+
+
+def link_text(link, name):
+    kind = {'droptail': 'drop-tail', 'codel': 'CoDel'}[link.queue]
+    more = f', target {ms_text(link.target)}, interval {ms_text(link.interval)}' if link.queue == 'codel' else ''
+    return f'{name}: {rate_text(link.rate)}, {ms_text(link.delay)}, {kind}, {link.capacity:,} packets{more}'
