@@ -1,0 +1,292 @@
+'use strict';
+// The run: the trace's lines, and the state after any number of events. A state is one row of numbers;
+// each event sets some of them. Every SNAPSHOT events the whole row is kept.
+
+const SNAPSHOT = 256, DATA = 0, ACK = 1, HEADER_BYTES = 40;
+const OFFERED = 0, ENTERED = 1, TAKEN = 2, SENT = 3, ARRIVED = 4, BUSY = 5, OF_LINK = 6;
+const UNA = 0, NXT = 1, HIGH = 2, CWND = 3, SSTHRESH = 4, RECOVERY = 5, DUPS = 6, NEXT = 7, OF_FLOW = 8;
+
+async function unpack(packed) {
+  const bytes = Uint8Array.from(atob(packed.trim()), c => c.charCodeAt(0));
+  const plain = new Blob([bytes]).stream().pipeThrough(new DecompressionStream('deflate'));
+  return (await new Response(plain).text()).split('\n');
+}
+
+// Packets that entered a link's queue, one entry each, in order, and which of them were sent and when.
+class Track {
+  constructor() {
+    this.flow = []; this.sort = []; this.number = []; this.entered = []; this.again = [];
+    this.sent = []; this.begun = []; this.arrives = [];
+    this.sentBefore = 0;      // the count of the first that `sent` has
+  }
+  enter(packet, time) {
+    this.flow.push(packet.flow); this.sort.push(packet.sort); this.number.push(packet.number);
+    this.entered.push(time); this.again.push(packet.again);
+    return this.flow.length;
+  }
+}
+
+class Record {
+  constructor(facts, lines) {
+    this.facts = facts; this.lines = lines;
+    this.first = facts.first; this.count = lines.length; this.last = this.first + this.count;
+    this.L = facts.links.length;
+    this.row = new Float64Array(this.L * OF_LINK + facts.flows.length * OF_FLOW);
+    this.tracks = facts.links.map(() => new Track());
+    this.times = new Float64Array(this.count + 1);
+    this.opAt = new Uint32Array(this.count + 1);
+    this.slots = []; this.values = [];
+    this.drops = [];          // {event, time, link, flow, sort, number, reason, again}
+    this.timeouts = [];       // event numbers
+    this.acknowledged = facts.flows.map(() => []);   // [event, time] where una rose
+    this.snapshots = [];
+    this.hops = new Map();
+    facts.ways.forEach((ways, flow) => ways.forEach((way, sort) => way.forEach(link =>
+      this.hops.set(this.hopKey(facts.links[link].from, flow, sort), link))));
+    this.endOf = facts.nodes.map(() => -1);
+    facts.flows.forEach((flow, f) => { this.endOf[flow.sender] = f; this.endOf[flow.receiver] = f; });
+    this.opening();
+    for (let k = 0; k < this.count; k++) this.read(k);
+    this.slots = Int32Array.from(this.slots); this.values = Float64Array.from(this.values);
+    this.findStalls();
+    this.findLongest();
+    this.at = this.first;
+    this.row = this.snapshots[0].slice();
+  }
+  hopKey(node, flow, sort) { return (node * 256 + flow) * 2 + sort; }
+  ofLink(link, what) { return link * OF_LINK + what; }
+  ofFlow(flow, what) { return this.L * OF_LINK + flow * OF_FLOW + what; }
+  set(slot, value) { this.row[slot] = value; this.slots.push(slot); this.values.push(value); }
+
+  // The state before the first line.
+  opening() {
+    const base = this.facts.base, row = this.row;
+    this.times[0] = base.time;
+    base.links.forEach((link, l) => {
+      const track = this.tracks[l];
+      for (const [flow, sort, number, begun, arrives, again, entered] of link.under_way) {
+        track.sent.push(track.enter({flow, sort, number, again}, entered) - 1);
+        track.begun.push(begun); track.arrives.push(arrives);
+      }
+      for (const [flow, sort, number, entered, again] of link.waiting)
+        track.enter({flow, sort, number, again}, entered);
+      track.sentBefore = link.arrived;
+      row[this.ofLink(l, OFFERED)] = link.offered;
+      row[this.ofLink(l, ENTERED)] = track.flow.length;
+      row[this.ofLink(l, TAKEN)] = link.under_way.length;
+      row[this.ofLink(l, SENT)] = link.sent;
+      row[this.ofLink(l, ARRIVED)] = link.arrived;
+      row[this.ofLink(l, BUSY)] = link.busy ? 1 : 0;
+    });
+    this.answers = [];        // of each flow's receiver: what it has above next, whether an answer waits
+    base.flows.forEach((flow, f) => {
+      [flow.una, flow.nxt, flow.high, flow.cwnd, flow.ssthresh, flow.recovering ? 1 : 0, flow.dups, flow.next]
+        .forEach((value, what) => { row[this.ofFlow(f, what)] = value; });
+      this.answers.push({above: new Set(flow.above), waits: flow.answer_waits});
+    });
+    this.snapshots.push(row.slice());
+  }
+
+  read(k) {
+    const words = this.lines[k].split(' '), time = +words[1], node = +words[2], kind = words[5];
+    const name = +words[6], facts = this.facts, event = this.first + k + 1;
+    this.opAt[k] = this.slots.length;
+    this.times[k + 1] = time;
+    this.now = {time, event};
+    if (kind === 'free') {
+      const state = {sender: 5, receiver: 1, router: 0}[facts.nodes[node].kind];
+      this.set(this.ofLink(name, BUSY), 0);
+      this.take(name, words, 7 + state);
+    } else {
+      const sort = kind === 'data' ? DATA : ACK;
+      let again = false;
+      if (kind === 'data' || kind === 'ack') again = this.arrive(+words[3] - 1);
+      if (facts.nodes[node].kind === 'router') {
+        this.offer(this.hops.get(this.hopKey(node, name, sort)), [+words[7]], name, sort, words, 8, again);
+      } else if (facts.nodes[node].kind === 'sender') this.sender(name, kind, words);
+      else this.receiver(name, kind, words);
+    }
+    this.opAt[k + 1] = this.slots.length;
+    if ((k + 1) % SNAPSHOT === 0) this.snapshots.push(this.row.slice());
+  }
+
+  // A packet is at its link's end; answers whether it was one sent again.
+  arrive(link) {
+    const slot = this.ofLink(link, ARRIVED), track = this.tracks[link];
+    const entry = track.sent[this.row[slot] - track.sentBefore];
+    this.set(slot, this.row[slot] + 1);
+    return track.again[entry];
+  }
+
+  sender(f, kind, words) {
+    const at = kind === 'ack' ? 8 : 7, flow = this.facts.flows[f], row = this.row;
+    const [una, nxt, cwnd, ssthresh] = [4, 4, 5, 9].map((cut, i) => +words[at + i].slice(cut));
+    const recovery = words[at + 4] === 'phase=fr' ? 1 : 0, of = what => row[this.ofFlow(f, what)];
+    const ack = kind === 'ack' ? +words[7] : 0;
+    let numbers = [], dups = of(DUPS);
+    if (kind === 'rto') { numbers = [una]; dups = 0; this.timeouts.push(this.now.event); }
+    else if (kind === 'ack' && ack <= of(UNA) && recovery && !of(RECOVERY)) { numbers = [una]; dups += 1; }
+    else {
+      for (let no = Math.max(of(NXT), ack); no < nxt; no += flow.mss) numbers.push(no);
+      if (kind === 'ack') dups = ack > of(UNA) ? 0 : ack === of(UNA) && of(UNA) < of(NXT) ? dups + 1 : dups;
+    }
+    if (una > of(UNA)) this.acknowledged[f].push([this.now.event, this.now.time]);
+    const high = of(HIGH);
+    const link = this.hops.get(this.hopKey(flow.sender, f, DATA));
+    this.offer(link, numbers, f, DATA, words, at + 5, null, high);
+    [[UNA, una], [NXT, nxt], [HIGH, Math.max(high, nxt)], [CWND, cwnd], [SSTHRESH, ssthresh],
+      [RECOVERY, recovery], [DUPS, dups]].forEach(([what, value]) => {
+      if (of(what) !== value) this.set(this.ofFlow(f, what), value);
+    });
+  }
+
+  receiver(f, kind, words) {
+    const at = kind === 'data' ? 8 : 7, flow = this.facts.flows[f], slot = this.ofFlow(f, NEXT);
+    const seq = kind === 'data' ? +words[7] : null, next = +words[at].slice(5), before = this.row[slot];
+    const answer = this.answers[f];
+    if (next !== before) this.set(slot, next);
+    if (seq === before && !answer.above.size && flow.delack && !answer.waits) { answer.waits = true; return; }
+    if (seq !== null && seq > before) answer.above.add(seq);
+    for (const number of answer.above) if (number < next) answer.above.delete(number);
+    answer.waits = false;
+    this.offer(this.hops.get(this.hopKey(flow.receiver, f, ACK)), [next], f, ACK, words, at + 1, false);
+  }
+
+  // `again` where it is known; a sender's segments are sent again below `high`.
+  offer(link, numbers, flow, sort, words, at, again, high) {
+    for (const number of numbers) {
+      const packet = {flow, sort, number, again: again === null ? number < high : again};
+      this.set(this.ofLink(link, OFFERED), this.row[this.ofLink(link, OFFERED)] + 1);
+      const act = words[at] || '';
+      if (act.startsWith('drop=') && !act.startsWith('drop=codel') &&
+          act.slice(9) === `:${flow}:${number}`) {
+        this.dropped(link, packet, act.slice(5, 9));
+        at += 1;
+      } else {
+        this.set(this.ofLink(link, ENTERED), this.tracks[link].enter(packet, this.now.time));
+        if (!this.row[this.ofLink(link, BUSY)]) at = this.take(link, words, at);
+      }
+    }
+  }
+
+  take(link, words, at) {
+    const track = this.tracks[link], taken = this.ofLink(link, TAKEN);
+    const packet = entry => ({flow: track.flow[entry], sort: track.sort[entry], number: track.number[entry],
+      again: track.again[entry]});
+    while (at < words.length && words[at].startsWith('drop=codel')) {
+      this.dropped(link, packet(this.row[taken]), 'codel');
+      this.set(taken, this.row[taken] + 1);
+      at += 1;
+    }
+    if (at >= words.length) return at;
+    const entry = this.row[taken];
+    const size = HEADER_BYTES + (track.sort[entry] === DATA ? this.facts.flows[track.flow[entry]].mss : 0);
+    const {rate, delay} = this.facts.links[link];
+    track.sent.push(entry);
+    track.begun.push(this.now.time);
+    track.arrives.push(this.now.time + Number((BigInt(size) * 8000000000n + BigInt(rate) - 1n) / BigInt(rate)) + delay);
+    this.set(taken, entry + 1);
+    this.set(this.ofLink(link, SENT), this.row[this.ofLink(link, SENT)] + 1);
+    this.set(this.ofLink(link, BUSY), 1);
+    return at + 1;
+  }
+
+  dropped(link, packet, reason) {
+    this.drops.push({event: this.now.event, time: this.now.time, link, reason, ...packet});
+  }
+
+  // The greatest length of each queue after any event.
+  findLongest() {
+    const row = this.snapshots[0].slice(), length = l => row[this.ofLink(l, ENTERED)] - row[this.ofLink(l, TAKEN)];
+    this.longest = this.tracks.map((_, l) => length(l));
+    const limit = this.L * OF_LINK;
+    for (let k = 0; k < this.count; k++) {
+      for (let op = this.opAt[k]; op < this.opAt[k + 1]; op++) row[this.slots[op]] = this.values[op];
+      for (let op = this.opAt[k]; op < this.opAt[k + 1]; op++)
+        if (this.slots[op] < limit && this.slots[op] % OF_LINK === ENTERED) {
+          const l = (this.slots[op] - ENTERED) / OF_LINK;
+          if (length(l) > this.longest[l]) this.longest[l] = length(l);
+        }
+    }
+  }
+
+  // Spans of a flow without a new acknowledgement that are longer than this.
+  findStalls(longer = 2e8) {
+    this.stalls = [];
+    const end = this.times[this.count];
+    this.facts.flows.forEach((flow, f) => {
+      const begin = Math.max(flow.start, this.times[0]);
+      let from = [this.eventsBefore(begin + 1), begin];
+      const whole = flow.mss * flow.segments;
+      const rises = this.acknowledged[f], done = this.row[this.ofFlow(f, UNA)] >= whole;
+      for (const rise of rises) {
+        if (rise[1] - from[1] > longer) this.stalls.push({flow: f, event: from[0], from: from[1], to: rise[1]});
+        from = rise;
+      }
+      if (!done && end - from[1] > longer) this.stalls.push({flow: f, event: from[0], from: from[1], to: end});
+    });
+    this.stalls.sort((a, b) => a.from - b.from || a.flow - b.flow);
+  }
+
+  // How many events, counted from the run's first, lie before a moment: where `until T` stops.
+  eventsBefore(time) {
+    let low = 0, high = this.count;
+    while (low < high) {
+      const middle = (low + high) >> 1;
+      if (this.times[middle + 1] < time) low = middle + 1; else high = middle;
+    }
+    return this.first + low;
+  }
+  timeOf(event) { return this.times[event - this.first]; }
+  line(event) { return this.lines[event - this.first - 1]; }
+
+  // Makes `row` the state after `event` events.
+  go(event) {
+    event = Math.min(this.last, Math.max(this.first, Math.round(event)));
+    const k = event - this.first, now = this.at - this.first;
+    if (event < this.at || k - now > SNAPSHOT) {
+      const snapshot = Math.floor(k / SNAPSHOT);
+      if (event < this.at || snapshot * SNAPSHOT > now) {
+        this.row.set(this.snapshots[snapshot]);
+        this.at = this.first + snapshot * SNAPSHOT;
+      }
+    }
+    for (let op = this.opAt[this.at - this.first]; op < this.opAt[k]; op++) this.row[this.slots[op]] = this.values[op];
+    this.at = event;
+  }
+
+  flow(f) {
+    const of = what => this.row[this.ofFlow(f, what)];
+    return {una: of(UNA), nxt: of(NXT), high: of(HIGH), cwnd: of(CWND), ssthresh: of(SSTHRESH),
+      recovery: of(RECOVERY), dups: of(DUPS), next: of(NEXT)};
+  }
+  link(l) {
+    const of = what => this.row[this.ofLink(l, what)], before = this.tracks[l].sentBefore;
+    return {offered: of(OFFERED), sent: of(SENT), head: of(TAKEN), tail: of(ENTERED), busy: of(BUSY),
+      length: of(ENTERED) - of(TAKEN), firstUnderWay: of(ARRIVED) - before, endUnderWay: of(SENT) - before};
+  }
+  packet(l, entry) {
+    const t = this.tracks[l];
+    return {flow: t.flow[entry], sort: t.sort[entry], number: t.number[entry], entered: t.entered[entry],
+      again: t.again[entry]};
+  }
+  // [time, value] where a number of the row changed, over the whole page.
+  curve(slot) {
+    const times = [this.times[0]], values = [this.snapshots[0][slot]];
+    for (let k = 0; k < this.count; k++)
+      for (let op = this.opAt[k]; op < this.opAt[k + 1]; op++)
+        if (this.slots[op] === slot) { times.push(this.times[k + 1]); values.push(this.values[op]); }
+    return {times, values};
+  }
+  queueCurve(l) {
+    const entered = this.ofLink(l, ENTERED), taken = this.ofLink(l, TAKEN);
+    let e = this.snapshots[0][entered], t = this.snapshots[0][taken], length = e - t;
+    const times = [this.times[0]], values = [length];
+    for (let k = 0; k < this.count; k++) {
+      for (let op = this.opAt[k]; op < this.opAt[k + 1]; op++)
+        if (this.slots[op] === entered) e = this.values[op]; else if (this.slots[op] === taken) t = this.values[op];
+      if (e - t !== length) { length = e - t; times.push(this.times[k + 1]); values.push(length); }
+    }
+    return {times, values};
+  }
+}
