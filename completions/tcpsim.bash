@@ -1,6 +1,10 @@
-# bash completion for tcpsim: the subcommands and their options.
+# bash completion for tcpsim and the tools beside it. What a function leaves open bash completes itself as the
+# name of a file (`complete -o default`), behind `<` and as a word.
 _tcpsim() {
   local word=${COMP_WORDS[COMP_CWORD]} before=${COMP_WORDS[COMP_CWORD - 1]}
+  COMPREPLY=()
+  case $before in '<' | '>' | '>>' | '>|' | '2>') return ;; esac
+  case $word in '<'* | '>'*) return ;; esac
   if [ "$COMP_CWORD" = 1 ]; then
     COMPREPLY=($(compgen -W 'asm dis run debug --help --version -h -V' -- "$word"))
     return
@@ -9,7 +13,7 @@ _tcpsim() {
   if [ "$before" = = ]; then before=${COMP_WORDS[COMP_CWORD - 2]}; fi
   if [ "$word" = = ]; then word=; fi
   case ${COMP_WORDS[1]} in
-    asm | dis) [ "$COMP_CWORD" != 2 ] || COMPREPLY=($(compgen -W '--help -h' -- "$word")) ;;
+    asm | dis) COMPREPLY=($(compgen -W '--help -h' -- "$word")) ;;
     run | debug) case $before in
       --workers) COMPREPLY=($(compgen -W '1 2 4 8 16 32 64' -- "$word")) ;;
       --groups) COMPREPLY=($(compgen -W 'one each' -- "$word")) ;;
@@ -17,5 +21,29 @@ _tcpsim() {
     esac ;;
   esac
 }
-# A scenario's file is given behind `<`, where bash completes names of files itself.
-complete -F _tcpsim tcpsim
+
+# The options that a command's help lists.
+_tcpsim_options() {
+  "$@" --help 2>/dev/null </dev/null | sed -n 's/^  \(-.*\)/\1/p' | sed 's/  .*//' | tr ', ' '\n\n' | grep '^-'
+}
+
+# Words of a tool: its options, and the shapes of tcpsim-net; all else is a file.
+_tcpsim_tool() {
+  local word=${COMP_WORDS[COMP_CWORD]} before=${COMP_WORDS[COMP_CWORD - 1]} tool=${COMP_WORDS[0]} shape=
+  tool=${tool/#\~\//$HOME/}
+  COMPREPLY=()
+  case $before in '<' | '>' | '>>' | '>|' | '2>') return ;; esac
+  case $word in '<'* | '>'*) return ;; esac
+  if [ "${tool##*/}" = tcpsim-net ]; then
+    if [ "$COMP_CWORD" = 1 ] && [ "${word#-}" = "$word" ]; then
+      COMPREPLY=($(compgen -W "$("$tool" --help 2>/dev/null </dev/null | sed -n 's/^    \([a-z][a-z-]*\)\( .*\)\{0,1\}$/\1/p')" -- "$word"))
+      return
+    fi
+    if [ "$COMP_CWORD" -gt 1 ]; then shape=${COMP_WORDS[1]}; fi
+  fi
+  case $word in -*) COMPREPLY=($(compgen -W "$(_tcpsim_options "$tool" ${shape:+"$shape"})" -- "$word")) ;; esac
+}
+
+complete -o default -F _tcpsim tcpsim
+complete -o default -F _tcpsim_tool tcpsim-flows tcpsim-plot tcpsim-net tcpsim-sweep tcpsim-follow tcpsim-stalls \
+  tcpsim-replay

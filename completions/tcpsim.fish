@@ -1,10 +1,28 @@
-# fish completion for tcpsim: the subcommands and their options.
-complete -c tcpsim -f
-complete -c tcpsim -n __fish_use_subcommand -a asm -d 'Write the image of the scenario on standard input'
-complete -c tcpsim -n __fish_use_subcommand -a dis -d 'Write the canonical text of the scenario on standard input'
-complete -c tcpsim -n __fish_use_subcommand -a run -d 'Run the scenario on standard input and print its trace'
-complete -c tcpsim -n __fish_use_subcommand -a debug -d 'Answer the commands behind the scenario text on standard input'
+# fish completion for tcpsim and the tools beside it. What is no option is the name of a file.
+complete -c tcpsim -n __fish_use_subcommand -f -a asm -d 'Write the image of the scenario on standard input'
+complete -c tcpsim -n __fish_use_subcommand -f -a dis -d 'Write the canonical text of the scenario on standard input'
+complete -c tcpsim -n __fish_use_subcommand -f -a run -d 'Run the scenario on standard input and print its trace'
+complete -c tcpsim -n __fish_use_subcommand -f -a debug -d 'Answer the commands behind the scenario text on standard input'
 complete -c tcpsim -s h -l help -d 'Print help'
 complete -c tcpsim -n __fish_use_subcommand -s V -l version -d 'Print version'
 complete -c tcpsim -n '__fish_seen_subcommand_from run debug' -l workers -x -a '1 2 4 8 16 32 64' -d 'Run the groups by so many workers, 1 to 64'
 complete -c tcpsim -n '__fish_seen_subcommand_from run debug' -l groups -x -a 'one each' -d 'Which group each node is in, or a number a node with commas between'
+
+# The options that a tool's help lists, behind the shape of tcpsim-net those of the shape.
+function __tcpsim_options
+    set -l words (commandline -opc)
+    set -l command $words[1]
+    if string match -q '*tcpsim-net' -- $command; and set -q words[2]
+        set -a command $words[2]
+    end
+    $command --help 2>/dev/null </dev/null | string match -r '^  -.*' | string trim | string replace -r '  .*' '' | string split ', ' | string replace -r ' .*' ''
+end
+
+function __tcpsim_shapes
+    tcpsim-net --help 2>/dev/null </dev/null | string replace -rf '^    ([a-z][a-z-]+)( .*)?$' '$1'
+end
+
+for tool in flows plot net sweep follow stalls replay
+    complete -c tcpsim-$tool -n 'string match -q -- "-*" (commandline -ct)' -f -a '(__tcpsim_options)'
+end
+complete -c tcpsim-net -n 'test (count (commandline -opc)) -eq 1' -f -a '(__tcpsim_shapes)'
