@@ -28,6 +28,7 @@ MODEL = os.path.join(TOP, 'scripts', 'model', 'tcpsim_model.py')
 PICTURES = os.path.join(TOP, 'docs', 'pictures')
 CHROMIUM = next((path for path in map(shutil.which, ('chromium', 'chromium-browser', 'google-chrome')) if path), None)
 HAS_D3 = os.path.exists(replay.D3)
+WITH_D3 = unittest.skipUnless(HAS_D3, 'no d3: apt-get install libjs-d3')
 IN_BROWSER = unittest.skipUnless(CHROMIUM and HAS_D3, 'no Chromium or no d3: apt-get install chromium libjs-d3')
 # A queue that overflows, a timeout, CoDel, three routers; of each the events that its pictures show.
 COMPARED = {'slow_start_into_a_full_queue': 20, 'two_timeouts_in_a_row': 27, 'four_flows_share_codel': 2467,
@@ -302,6 +303,7 @@ class Times(unittest.TestCase):
                 replay.read_time(word)
 
 
+@WITH_D3
 class Refusals(Folder):
     def refused(self, trace, *says, scenario=BY_HAND, words=()):
         given, lines, out = self.path('a.txt', scenario), self.path('a.trace', trace), self.path('a.html')
@@ -385,7 +387,7 @@ class Refusals(Folder):
             replay.MOST_EVENTS = most
 
 
-@unittest.skipUnless(HAS_D3, 'no d3: apt-get install libjs-d3')
+@WITH_D3
 class Pages(Folder):
     def test_size(self):
         for name in COMPARED:
