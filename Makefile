@@ -28,7 +28,7 @@ LIBRARY = trace_reader.py finding.py units.py causes.py lives.py
 DRAWING_TESTS = scripts/test_scripts.py scripts/test_plot.py
 
 test:
-	@python3 scripts/build.py --toolchain
+	@python3 scripts/build.py --ready
 	@python3 scripts/wrong_bodies.py --check
 	RT_JOBS=$$(nproc) rt ci
 	@$(MAKE) --no-print-directory test-scripts

@@ -1,14 +1,15 @@
 #!/usr/bin/env python3
 """Proves the program with all its libraries, and builds it.
 
-    scripts/build.py [--jobs N] [--toolchain]
+    scripts/build.py [--jobs N] [--ready]
 
 Each crate is proved once, by `rattle build`, the prover behind `rt`, as soon as those that it stands on
 are: two crates side by side, each with as many functions at once as there are processors; the one on
 which fewer crates stand gives way to the other. Of a library
 its statements are kept (crates/tcpsim/out/libs), so that what stands on it does not read its proofs;
 after a change the changed crate and those that stand on it are proved again. `rt ci` trusts nothing of
-it. With --toolchain it only says whether the toolchain is the one that is wanted.
+it. With --ready it only says whether the toolchain is the one that is wanted, and whether every file is
+in the layout that `rt fmt` gives, as `rt ci` asks.
 """
 import argparse
 import contextlib
@@ -51,6 +52,18 @@ def toolchain():
         raise Refused(f"the toolchain is `{found}`, and the one that is wanted is `{wanted}`")
     page = subprocess.run(["rt", "doc"], capture_output=True, text=True).stdout.strip()
     return os.path.dirname(page)
+
+
+def look_at_layout(kit):
+    """Says which files are in another layout than `rt fmt` gives; answers the status."""
+    files = []
+    for name in declared():
+        for part in PARTS:
+            for at, _, names in os.walk(f"{TOP}/crates/{name}/{part}"):
+                files += [os.path.relpath(f"{at}/{it}", TOP) for it in names if it.endswith((".rt", ".antt"))]
+    words = [f"{kit}/bin/rattle", "fmt", "--check", *sorted(files)]
+    looked = subprocess.run(words, cwd=TOP, stdin=subprocess.DEVNULL, stderr=subprocess.STDOUT)
+    return 1 if looked.returncode else 0
 
 
 def declared():
@@ -231,12 +244,11 @@ def build(asked):
 def main():
     reader = argparse.ArgumentParser(description="Proves the program with all its libraries, and builds it.")
     reader.add_argument("--jobs", type=int, default=0, help="functions at once in a crate (left out: one a processor)")
-    reader.add_argument("--toolchain", action="store_true", help="only say whether the toolchain is the one wanted")
+    reader.add_argument("--ready", action="store_true", help="only say whether the toolchain and the layout are right")
     words = reader.parse_args()
     try:
-        if words.toolchain:
-            toolchain()
-            return 0
+        if words.ready:
+            return look_at_layout(toolchain())
         return build(words.jobs)
     except Refused as why:
         print(f"tcpsim cannot be built: {why}", file=sys.stderr)
