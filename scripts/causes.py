@@ -91,7 +91,7 @@ def is_delayed(stall):
 def why_so_few(stall):
     """Why fewer than three duplicates came: segments behind the lost one, and what became of them."""
     until = stall.resent[0].offered if stall.resent else stall.end
-    behind = [packet for packet in stall.behind if packet.offered <= until]
+    behind = [packet for packet in stall.behind() if packet.offered <= until]
     lost = [packet for packet in behind if is_dropped(packet)]
     if len(behind) < 3:
         return f'too few were behind it ({counted(len(behind), "segment")})', []
@@ -112,9 +112,10 @@ def words_of_timers(stall):
 # ---- the causes, in the order in which they are asked
 
 def the_receive_window_was_full(stall):
-    """All through the span not all bytes were sent, and a segment more would have gone past the
-    receiver's window (nxt + mss > una + rwnd)."""
-    if not stall.full:
+    """Neither the segment at una nor an acknowledgement whose loss matters was lost, and all through the span
+    not all bytes were sent, and a segment more would have gone past the receiver's window
+    (nxt + mss > una + rwnd)."""
+    if not stall.full or not is_unharmed(stall):
         return None
     return Found(f'{stall.nxt - stall.una} of {stall.flow.flow.rwnd} bytes were on their way, and '
                  f'{stall.flow.total - stall.nxt} not yet sent', [])
@@ -125,7 +126,11 @@ def its_packets_waited_in_one_queue(stall):
     in its queue, save at most one that the link was sending, and at least one in the queue."""
     for port, (time, _, line) in stall.queued.items():
         if 2 * time > stall.length:
-            return Found(f'all its packets waited at link {port.link.name} for {seconds(time)} of it', [line])
+            words = f'all its packets waited at link {port.link.name} for {seconds(time)} of it'
+            if not is_lost(stall):
+                return Found(words, [line])
+            lost = stall.copies[-1]
+            return Found(f'{words}; segment {stall.una} was dropped ({lost.fate}) besides', [lost.ended_line, line])
     return None
 
 

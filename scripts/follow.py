@@ -313,7 +313,7 @@ def write_csv(walk, segment, file):
 
 def words_of():
     words = Words(description='The life of one segment and of its acknowledgements.')
-    words.add_argument('scenario', metavar='SCENARIO', help='a text')
+    words.add_argument('scenario', metavar='SCENARIO', help='a text; - is standard input')
     words.add_argument('trace', metavar='TRACE', nargs='?', help='else the program is run')
     words.add_argument('--flow', metavar='F', required=True, help='the flow, by its name or number')
     words.add_argument('--byte', metavar='B', type=as_type(count), required=True, help='a byte of the segment')

@@ -7,6 +7,7 @@ queue's order and limit, the time that a packet takes. `Walk` is a base class: f
 say in its hooks, and in the watch that they put on a packet, what they want to know. Nothing is kept but
 the packets in the net. All times are nanoseconds, all sizes bytes.
 """
+import os
 from collections import deque
 from contextlib import contextmanager
 
@@ -429,16 +430,20 @@ def reason(wrong):
 
 @contextmanager
 def opened(scenario_path, trace_path=None, program=None):
-    """A scenario's text and its trace's lines, of the file or of the program that runs it meanwhile."""
-    try:
-        with open(scenario_path, 'rb') as file:
-            is_image = file.read(len(IMAGE_BEGINS)) == IMAGE_BEGINS
-    except OSError as wrong:
-        raise Unreadable(f'{scenario_path}: {wrong.strerror}') from wrong
-    if is_image:
+    """A scenario's text and its trace's lines, of the file or of the program that runs it meanwhile. An image is
+    refused, as the debugger takes texts alone; a pipe, which can be read only once, is not looked at before."""
+    if os.path.isfile(scenario_path) and begins_as_image(scenario_path):
         raise Unreadable(f'{scenario_path} is an image: `tcpsim dis` writes its text')
     with opened_run(scenario_path, trace_path, program) as (scenario, lines):
         yield scenario, lines
+
+
+def begins_as_image(path):
+    try:
+        with open(path, 'rb') as file:
+            return file.read(len(IMAGE_BEGINS)) == IMAGE_BEGINS
+    except OSError as wrong:
+        raise Unreadable(f'{path}: {wrong.strerror}') from wrong
 
 
 def flow_named(scenario, word):

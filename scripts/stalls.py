@@ -134,9 +134,8 @@ class Stall:
     """A span of a flow without a new acknowledgement, as things are at its end.
 
     `copies` are the sendings of the segment at una up to the span's beginning, `resent` those after it;
-    `behind` are the segments above una that could make duplicates; `acks_dropped` are acknowledgements
-    of una or above; `ack` is the one that ended the span, or None; `waits_since` says since when an
-    answer waits that the run's end cut off; `queued` is that of `Watched`."""
+    `acks_dropped` are acknowledgements of una or above; `ack` is the one that ended the span, or None;
+    `waits_since` says since when an answer waits that the run's end cut off; `queued` is that of `Watched`."""
 
     def __init__(self, walk, flow, watched, ack):
         span = watched.span
@@ -144,14 +143,17 @@ class Stall:
         self.begin, self.begin_line, self.end, self.end_line = span.begin, span.line, walk.time, walk.line
         self.length, self.longer, self.ack = self.end - self.begin, walk.longer, ack
         self.waits_since = flow.waits_since if ack is None else None
-        sendings = watched.copies[span.una]
-        self.copies = [packet for packet in sendings if packet.line <= span.line]
-        self.resent = [packet for packet in sendings if packet.line > span.line]
-        self.behind = [packet for number, packets in watched.copies.items() if number > span.una
-                       for packet in packets if packet.asked in (None, span.una)]
+        self.copies = [packet for packet in watched.copies[span.una] if packet.line <= span.line]
+        self.resent = [packet for packet in watched.copies[span.una] if packet.line > span.line]
         self.acks_dropped = [packet for packet in watched.acks_dropped if packet.number >= span.una]
         self.timers, self.duplicates, self.queued = span.timers, span.duplicates, watched.queued
-        self.rto, self.doubled = flow.rto, flow.doubled
+        self.rto, self.doubled, self.sendings = flow.rto, flow.doubled, watched.copies
+
+    def behind(self):
+        """The segments above una that could make duplicates: the receiver asked for una when they came, or
+        they didn't come."""
+        return [packet for number, packets in self.sendings.items() if number > self.una
+                for packet in packets if packet.asked in (None, self.una)]
 
 
 class Stalls(Walk):
@@ -254,7 +256,7 @@ def write_causes(file):
 
 def words_of():
     words = Words(description='Each span of a flow without a new acknowledgement, and its cause.')
-    words.add_argument('scenario', metavar='SCENARIO', nargs='?', help='a text')
+    words.add_argument('scenario', metavar='SCENARIO', nargs='?', help='a text; - is standard input')
     words.add_argument('trace', metavar='TRACE', nargs='?', help='else the program is run')
     words.add_argument('--longer', metavar='TIME', type=as_type(time), default=LONGER,
                        help='spans longer than this (default 200ms)')

@@ -42,6 +42,12 @@ LINES = (
     ('tcpsim-flows scenario_', 'tcpsim-flows scenario_two.txt '),
     ('tcpsim-flows scenario_two.txt --ser', 'tcpsim-flows scenario_two.txt --series '),
     ('tcpsim-flows --program shelf/in', 'tcpsim-flows --program shelf/inner.txt '),
+    ('tcpsim-follow scenario_', 'tcpsim-follow scenario_two.txt '),
+    ('tcpsim-follow scenario_two.txt --by', 'tcpsim-follow scenario_two.txt --byte '),
+    ('tcpsim-follow scenario_two.txt shelf/in', 'tcpsim-follow scenario_two.txt shelf/inner.txt '),
+    ('tcpsim-stalls scenario_', 'tcpsim-stalls scenario_two.txt '),
+    ('tcpsim-stalls scenario_two.txt --lon', 'tcpsim-stalls scenario_two.txt --longer '),
+    ('tcpsim-stalls --ca', 'tcpsim-stalls --causes '),
     ('tcpsim-net dumb', 'tcpsim-net dumbbell '),
     ('tcpsim-net dumbbell --acc', 'tcpsim-net dumbbell --access'),
     ('tcpsim-net dumbbell --que', 'tcpsim-net dumbbell --queue '),
@@ -118,8 +124,10 @@ class Compgen(Folder):
             with self.subTest(tool):
                 self.assertIn('--help', options)
                 self.assertEqual(set(options) - set(self.compgen('_tcpsim_tool', f'tcpsim-{tool}', '--')), set())
-        self.assertTrue({'--series', '--from', '--to', '--busy', '--csv', '--program'} <=
-                        set(self.compgen('_tcpsim_tool', 'tcpsim-flows', 'a.txt', '--')))
+        for tool, options in (('flows', {'--series', '--from', '--to', '--busy', '--csv', '--program'}),
+                              ('follow', {'--flow', '--byte', '--csv', '--program', '--help'}),
+                              ('stalls', {'--longer', '--flow', '--csv', '--program', '--causes', '--help'})):
+            self.assertTrue(options <= set(self.compgen('_tcpsim_tool', f'tcpsim-{tool}', 'a.txt', '--')), tool)
 
     def test_shapes_of_net(self):
         self.assertTrue({'dumbbell', 'parking-lot', 'chain', 'tree'} <= set(self.compgen('_tcpsim_tool', 'tcpsim-net', '')))
@@ -210,7 +218,9 @@ class Fish(Folder):
         for line, answer in (('tcpsim d', ['debug', 'dis']), ('tcpsim run --', ['--groups', '--help', '--workers']),
                              ('tcpsim run --workers 3', ['32']), ('tcpsim run < scenario_', ['scenario_two.txt']),
                              ('tcpsim-flows scenario_', ['scenario_two.txt']), ('tcpsim-flows --ser', ['--series']),
-                             ('tcpsim-net dumb', ['dumbbell'])):
+                             ('tcpsim-follow scenario_', ['scenario_two.txt']), ('tcpsim-follow --by', ['--byte']),
+                             ('tcpsim-stalls scenario_', ['scenario_two.txt']), ('tcpsim-stalls --lon', ['--longer']),
+                             ('tcpsim-stalls --ca', ['--causes']), ('tcpsim-net dumb', ['dumbbell'])):
             with self.subTest(line):
                 told = self.run_shell('fish', '--no-config', '-c', f'source {COMPLETIONS}/tcpsim.fish; complete -C "{line}"')
                 self.assertEqual(sorted(word.split('\t')[0] for word in told), answer)

@@ -176,6 +176,8 @@ class Sums(unittest.TestCase):
 
     def check_flow(self, name, scenario, lines, flow):
         walk, ends, moments = followed(name, flow), Ends(scenario, lines, flow), moments_of(name)
+        beyond = max((reached for _, reached in ends.sent), default=0)
+        self.assertEqual(list(walk.segments), list(range(0, beyond, scenario.flows[flow].mss)), (name, flow))
         answers = sorted({packet.offered: packet.number for segment in walk.segments.values()
                           for packet in segment.acks}.items())
         numbers = [number for _, number in answers]
@@ -187,6 +189,7 @@ class Sums(unittest.TestCase):
             end = scenario.end if done is None else done
             self.assertEqual((segment.copies[0].offered, segment.done, whole), (begin, done, end - begin), where)
             self.assertEqual(sum(parts.values()), whole, where)
+            self.assertEqual(sum(time for _, time in reasons), parts['stood still'], where)
             copies = [moments.life(flow, DATA, number, packet.offered) for packet in segment.copies]
             above = up_to_one_that_came(acks[bisect_right(numbers, number):])
             expected, still = painted(begin, end, [states for states, _, _ in above + copies])
@@ -338,6 +341,13 @@ class Tables(Files):
         scenario = paths('two_timeouts_in_a_row')[0]
         for words in (('--flow', '0', '--byte', '4999'), ('--flow', 'f', '--byte', '4001')):
             self.assertEqual(self.told(scenario, *words, '--program', PROGRAM), TWO_TIMEOUTS)
+
+    def test_pipes(self):
+        """Both files can be pipes, which are read once, and the scenario standard input."""
+        script = '"$1" "$2" <(cat "$3") <(cat "$4") --flow f --byte 4000; "$1" "$2" - "$4" --flow f --byte 4000 < "$3"'
+        done = subprocess.run(['bash', '-c', script, 'bash', sys.executable, os.path.join(HERE, 'follow.py'), self.scenario,
+                               self.trace], capture_output=True, check=True, text=True)
+        self.assertEqual((done.stdout, done.stderr), (2 * TWO_TIMEOUTS, ''))
 
     def test_sent_again_by_the_third_duplicate(self):
         """14000 is dropped by CoDel in line 54; the acknowledgements of 15000 to 17000 are the duplicates."""

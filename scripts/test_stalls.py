@@ -17,7 +17,8 @@ import causes
 import finding
 import stalls
 import trace_reader
-from trace_reader import TOP, Scenario, Unreadable
+from test_follow import moments_of, run_of
+from trace_reader import ACK, DATA, TOP, Scenario, Unreadable
 
 HERE = os.path.dirname(os.path.abspath(__file__))
 EXAMPLES = os.path.join(TOP, 'examples')
@@ -58,7 +59,7 @@ def net(end=10**10, delay=5 * MS, segments=9, delack=0, lose=()):
     return NET.format(end=end, delay=delay, segments=segments, delack=delack) + ''.join(f'lose {it}\n' for it in lose)
 
 
-def run_of(text):
+def run_by_program(text):
     done = subprocess.run([PROGRAM, 'run'], input=text.encode(), capture_output=True, check=True)
     return done.stdout.decode().splitlines()
 
@@ -101,6 +102,75 @@ def spans(text, lines):
                     for flow, (time, number) in since.items() if una[flow] < totals[flow]]
 
 
+def duplicates(lines, flow, una, row):
+    """How many acknowledgements of una alone came in a span before its first timeout."""
+    count = 0
+    for words in map(str.split, lines):
+        if row.begin < int(words[1]) < row.end and words[6:7] == [str(flow)]:
+            if words[5] == 'rto':
+                break
+            count += words[5] == 'ack' and words[7] == str(una) and words[8] == f'una={una}'
+    return count
+
+
+def window_is_full(text, lines, name):
+    """Whether by each line of a flow's sender there is more to send and no room for it in the receiver's window."""
+    flows = re.findall(r'^flow (\w+) \w+ \w+ (\d+) (\d+) \d+ (\d+)', text, re.MULTILINE)
+    flow = next(number for number, words in enumerate(flows) if words[0] == name)
+    mss, segments, rwnd = map(int, flows[flow][1:])
+    words = re.compile(rf'\d+ \d+ \d+ \d+ \d+ (?:start|rto|ack) {flow} .*?una=(\d+) nxt=(\d+)')
+    states = [tuple(map(int, it.groups())) for it in map(words.match, lines) if it]
+    return all(una + rwnd - mss < nxt < mss * segments for una, nxt in states)
+
+
+# ---- another reading, by the moments of test_follow.py: what of a flow was where, and what became of each copy
+
+def stays(name, flow):
+    """Of each packet of a flow that entered a queue: (link, state, from, to)."""
+    moments, found = moments_of(name), []
+    for sort in (DATA, ACK):
+        way = moments.scenario.ways[flow][sort]
+        for (link, *packet, number), taken in list(moments.taken.items()):
+            if (link, *packet) == (way[0], sort, flow):
+                for at in taken:
+                    states = moments.life(flow, sort, number, at)[0]
+                    found += [(way[place // 3], *state) for place, state in enumerate(states)]
+    return found
+
+
+def longest_queue(found, begin, end):
+    """The link at which all packets of a flow were for the longest time of a span, one of them waiting, and that time."""
+    here = [(link, state, since, to) for link, state, since, to in found if since < min(to, end) and to > begin]
+    edges = sorted({begin, end, *(edge for *_, since, to in here for edge in (since, to) if begin < edge < end)})
+    times = {}
+    for since, to in zip(edges, edges[1:]):
+        now = [(link, state) for link, state, begins, ends in here if begins <= since and to <= ends]
+        links, states = {link for link, _ in now}, {state for _, state in now}
+        if len(links) == 1 and 'waited' in states and 'under way' not in states:
+            link, = links
+            times[link] = times.get(link, 0) + to - since
+    return max(times.items(), key=lambda entry: entry[1], default=(None, 0))
+
+
+def copies_of(name, flow, una):
+    """Each sending of a segment: when, and what became of it."""
+    run = run_of(name).flows[flow]
+    return [(time, moments_of(name).life(flow, DATA, una, time)[1])
+            for times, numbers in ((run.sent_times, run.sent), (run.again_times, run.again))
+            for time, number in zip(times, numbers) if number == una]
+
+
+def woken_by(lines, flow):
+    """What first made the sender send the lost segment again: 'fr' where a recovery began, 'rto', or None."""
+    before = lines[0].rpartition('phase=')[2][:2]
+    for line in lines[1:]:
+        it = re.match(rf'\d+ \d+ \d+ \d+ \d+ (rto|ack) {flow} .*phase=(..)', line)
+        if it and (it[1] == 'rto' or it[2] == 'fr' != before):
+            return 'rto' if it[1] == 'rto' else 'fr'
+        before = it[2] if it else before
+    return None
+
+
 class Examples(unittest.TestCase):
     """All examples, at several lengths."""
 
@@ -119,6 +189,80 @@ class Examples(unittest.TestCase):
                     self.assertEqual(sum(cause in partition for cause in held), 1, (name, row, held))
         self.assertGreater(judged, 4000)
         self.assertEqual(len(partition), len(causes.CAUSES) - 2)
+
+    def test_fewer_than_three_duplicates_came_where_the_timer_had_to_do(self):
+        """As their numbers are counted from the acknowledgements in the lines."""
+        seen = set()
+        for name in NAMES:
+            text, lines = example(name)
+            numbers = {flow: number for number, flow in enumerate(re.findall(r'^flow (\w+)', text, re.MULTILINE))}
+            for row in rows_of(text, lines):
+                if row.cause == 'a loss was left to the timer':
+                    una, came = map(int, re.match(r'segment (\d+) was .* and (\d) duplicates? came', row.found).groups())
+                    self.assertEqual(came, duplicates(lines, numbers[row.flow], una, row), (name, row))
+                    seen.add(came)
+        self.assertEqual(seen, {0, 1, 2})
+
+    def test_queues_are_those_of_another_reading(self):
+        """Its packets waited in one queue where they did, at that link and for that time."""
+        shown = 0
+        for name in NAMES:
+            text, lines = example(name)
+            links, flows, found = Scenario(text).links, [flow.name for flow in Scenario(text).flows], {}
+            for row in rows_of(text, lines):
+                if row.flow not in found:
+                    found[row.flow] = stays(name, flows.index(row.flow))
+                link, time = longest_queue(found[row.flow], row.begin, row.end)
+                if row.cause == 'its packets waited in one queue':
+                    told = f'all its packets waited at link {links[link].name} for {causes.seconds(time)} of it'
+                    self.assertEqual(row.found.partition(';')[0], told, (name, row))
+                    shown += 1
+                waited = 2 * time > row.length and row.cause != 'the receive window was full'
+                self.assertEqual(row.cause == 'its packets waited in one queue', waited, (name, row, time))
+        self.assertGreater(shown, 50)
+
+    def test_losses_are_those_of_another_reading(self):
+        """Of the stalls with another cause than the first two: whether the segment at una was lost, what sent it again,
+        and whether that was lost too."""
+        told = set()
+        for name in NAMES:
+            text, lines = example(name)
+            found = {span[:3]: span[3:] for span in spans(text, lines)}
+            flows = [flow.name for flow in Scenario(text).flows]
+            for row in rows_of(text, lines):
+                if row.cause in ('the receive window was full', 'its packets waited in one queue'):
+                    continue
+                first, last = found[row.flow, row.begin, row.end]
+                flow, una = flows.index(row.flow), int(re.search(r' una=(\d+) ', lines[first - 1])[1])
+                copies = copies_of(name, flow, una)
+                lost = all(fate in ('lost', 'full', 'codel') for time, fate in copies if time <= row.begin)
+                again = any(fate in ('lost', 'full', 'codel') for time, fate in copies if row.begin < time < row.end)
+                woken = woken_by(lines[first - 1:last - 1], flow)
+                if not lost:
+                    expected = {'the timer had doubled', 'an acknowledgement was lost', 'the way is longer',
+                                'a delayed acknowledgement was waited for'}
+                else:
+                    expected = {'a loss was left to the timer'} if woken != 'fr' else \
+                        {'a retransmission was lost'} if again else {'fast retransmit took a round trip'}
+                self.assertIn(row.cause, expected, (name, row, copies))
+                told.add(row.cause)
+        self.assertEqual(len(told), 7)
+
+    def test_full_windows_are_those_of_the_lines(self):
+        """In a span the window was full if it was by every line of the sender from its first to that before its last;
+        it is the cause but where that segment, or an acknowledgement, was lost."""
+        causes_of_full = set()
+        for name in NAMES:
+            text, lines = example(name)
+            found = {span[:3]: span[3:] for span in spans(text, lines)}
+            for row in rows_of(text, lines):
+                first, last = found[row.flow, row.begin, row.end]
+                full = window_is_full(text, lines[first - 1:last - 1], row.flow)
+                if full:
+                    causes_of_full.add(row.cause)
+                    self.assertEqual(row.cause == 'the receive window was full', ' was dropped (' not in row.found, (name, row))
+                self.assertTrue(full or row.cause != 'the receive window was full', (name, row))
+        self.assertEqual(causes_of_full, {'the receive window was full', 'fast retransmit took a round trip'})
 
     def test_each_cause_has_an_example(self):
         self.assertEqual(list(SHOWN), [causes.name_of(cause) for cause in causes.CAUSES])
@@ -159,7 +303,7 @@ class Examples(unittest.TestCase):
 
 class ByHand(unittest.TestCase):
     def check(self, text, longer, *expected):
-        rows = rows_of(text, run_of(text), longer)
+        rows = rows_of(text, run_by_program(text), longer)
         self.assertEqual([(row.begin, row.end, row.cause, row.found, row.positions) for row in rows], list(expected))
 
     def test_why_too_few_duplicates_came(self):
@@ -179,6 +323,33 @@ class ByHand(unittest.TestCase):
             0, 2_201_080_000, 'a loss was left to the timer',
             f'segment 0 was dropped (lost) and 0 duplicates came: those of the 3 segments behind it were still under way; '
             f'{late}', [1, 11, 21]))
+
+    def test_a_full_window_is_no_cause_of_a_loss(self):
+        """A window of one segment is full while a lost acknowledgement, line 3, is waited for until the timer ends.
+        One of four segments is full until the first acknowledgement, at 11.08 ms, line 14. Where segment 0
+        is lost it is full too, up to 24.24 ms: the third duplicate comes at 13.16 ms, line 13."""
+        text = net(segments=9).replace(' 64000 ', ' 4000 ')
+        self.check(text.replace('sim 10000000000', 'sim 11500000'), 5 * MS, (
+            0, 11_080_000, 'the receive window was full', '4000 of 4000 bytes were on their way, and 5000 not yet sent', [1, 14]))
+        self.check(text + 'lose a 1\n', 15 * MS, (
+            0, 24_240_000, 'fast retransmit took a round trip',
+            'segment 0 was dropped (lost); the third duplicate came after 13.16 ms, and 11.08 ms went by after it', [1, 13, 17]))
+        self.check(net(segments=2, lose=['b 1']).replace(' 64000 ', ' 1000 '), 200 * MS, (
+            0, 1_011_080_000, 'an acknowledgement was lost',
+            'acknowledgement 1000 was dropped (lost), and the timer ended after 1 s', [1, 3, 4, 8]))
+
+    def test_a_queue_that_makes_a_loss_last(self):
+        """Where all waited in one queue, a segment that was lost is told besides, with the line of its drop."""
+        found = 0
+        for name in ('two_flows_share_fairly', 'four_flows_share_a_long_queue'):
+            text, lines = example(name)
+            for row in rows_of(text, lines):
+                lost = re.search(r'; segment (\d+) was dropped \((\w+)\) besides$', row.found)
+                if lost:
+                    self.assertEqual(row.cause, 'its packets waited in one queue')
+                    self.assertTrue(any(re.search(rf' drop={lost[2]}:\d+:{lost[1]}$', lines[at - 1]) for at in row.positions), row)
+                    found += 1
+        self.assertEqual(found, 6)
 
     def test_spans_that_the_runs_end_cuts_off(self):
         """Of nine segments the ninth is at the receiver at 22.32 ms, and its answer waits for 400 ms. Where
@@ -204,7 +375,7 @@ class ByHand(unittest.TestCase):
     def test_a_loss_that_doubles_the_timer_until_it_is_measured(self):
         """After a round trip of a segment sent once the timer is 1 s again: the second loss costs 1 s."""
         lose = ['a 1', 'a 2', 'a 3', 'a 4', 'b 9']
-        rows = rows_of(net(segments=9, lose=lose), run_of(net(segments=9, lose=lose)))
+        rows = rows_of(net(segments=9, lose=lose), run_by_program(net(segments=9, lose=lose)))
         self.assertEqual([row.cause for row in rows], ['a loss was left to the timer', 'an acknowledgement was lost'])
         self.assertIn('after 1 s', rows[1].found)
 
@@ -250,6 +421,20 @@ f          1.023200000       3.034280000     2.011080000  the timer had doubled
         self.assertEqual(self.told(self.scenario, self.trace), self.TABLE)
         self.assertEqual(self.told(self.scenario, '--program', PROGRAM), self.TABLE)
 
+    def test_the_tutorials_lesson(self):
+        """The blocks of the lesson are what its commands print."""
+        with open(os.path.join(TOP, 'docs', 'TUTORIAL.md'), encoding='utf-8') as file:
+            lesson = re.search(r'^## \d+\. Why it stood still\n(.*?)^## ', file.read(), re.MULTILINE | re.DOTALL)[1]
+        blocks = re.findall(r'^```\n(.*?)^```$', lesson, re.MULTILINE | re.DOTALL)
+        follow = subprocess.run([sys.executable, os.path.join(HERE, 'follow.py'), self.scenario, self.trace, '--flow', 'f',
+                                 '--byte', '3000'], capture_output=True, check=True, text=True)
+        debug = subprocess.run([PROGRAM, 'debug'], input=self.text + '---\nstep 15\nstep 1\n', capture_output=True,
+                               check=True, text=True)
+        self.assertEqual(blocks[1::2], [self.TABLE, follow.stdout, debug.stdout])
+        self.assertEqual([re.findall(r'scripts/\w+\.py|--\w+ \w+|echo [^;]*|tcpsim debug', block) for block in blocks[::2]], [
+            ['scripts/stalls.py'], ['scripts/follow.py', '--flow f', '--byte 3000'],
+            ['echo ---', 'echo step 15', 'echo step 1', 'tcpsim debug']])
+
     def test_longer(self):
         lines = self.told(self.scenario, self.trace, '--longer', '1.5s').splitlines()
         self.assertEqual((len(lines), lines[-1]), (5, '1 stall longer than 1.5 s'))
@@ -270,6 +455,13 @@ f          1.023200000       3.034280000     2.011080000  the timer had doubled
             rows = list(csv.DictReader(io.StringIO(self.told(*paths, '--csv'))))
             self.assertEqual([(row['flow'], int(row['from']), int(row['to']), int(row['ns']), row['cause'], row['found'])
                               for row in rows], [row[:6] for row in rows_of(*example(name))])
+
+    def test_pipes(self):
+        """Both files can be pipes, which are read once, and the scenario standard input."""
+        script = '"$1" "$2" <(cat "$3") <(cat "$4"); "$1" "$2" - "$4" < "$3"'
+        done = subprocess.run(['bash', '-c', script, 'bash', sys.executable, os.path.join(HERE, 'stalls.py'), self.scenario,
+                               self.trace], capture_output=True, check=True, text=True)
+        self.assertEqual((done.stdout, done.stderr), (2 * self.TABLE, ''))
 
     def test_one_flow(self):
         paths = [os.path.join(EXAMPLES, 'two_flows_share_fairly' + end) for end in ('.txt', '.trace')]
