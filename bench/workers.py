@@ -5,9 +5,9 @@ bench/workers.py [--program PATH] [--rounds N] [--priority P]
 `bench/measure.py` writes the section too. Instructions are counted by valgrind, with one worker, and do
 not depend on the machine's speed. Seconds are whole runs, their trace thrown away, each kind of run in
 turn in each round, so that what else the machine does disturbs them alike; the least of all rounds counts.
-On a machine with other work a real-time priority keeps the cores for them (as root). Windows are counted
-by the threads that are started with two workers, with strace: one worker starts none. It wants
-valgrind, strace, taskset and GNU time.
+On a machine with other work a real-time priority keeps the cores for them (as root). With strace windows
+are counted by the writes of one worker, and the threads that four start. It wants valgrind, strace, taskset
+and GNU time.
 """
 import argparse
 import os
@@ -20,10 +20,15 @@ from scenarios import SCENARIOS, chain, disassemble, four_groups, one_flow, star
 
 HEAD = '## Workers and groups\n'
 SPED_UP = 'busy_islands', 'busy_ring', 'islands', 'ring'
+# With a group for each node their windows hold some tens of events at most.
+SMALL = 'one_flow', 'dumbbell_codel', 'tree', 'chain', 'islands', 'ring'
+CREWS = 1, 2, 4, 64
 # Shorter than in the table of events, since valgrind is slow.
 COUNTED = {'tree': lambda: tree(100, 200), 'chain': lambda: chain(16, 4_000)}
 ONE, EACH = 1.1, 1.6                    # at most so many times the instructions of a run without options
 LEAST, MOST = 2.5, 64                   # four workers to one; megabytes of memory
+SMALL_MOST = 3                          # small windows to a run without options
+CORES = os.cpu_count()
 Counted = namedtuple('Counted', 'name a_window plain one each')
 
 
@@ -59,8 +64,13 @@ def events_of(program, path):
 
 
 def windows(program, path, groups):
-    """How many windows a run has: in each, two workers are two threads."""
-    return ran(program, path, ('--workers', '2', *groups), ('strace', '-f', '-qq', '-e', 'trace=clone3')).count('clone3(') // 2
+    """How many windows of a run by one worker have lines: those of each are one write."""
+    return ran(program, path, groups, ('strace', '-qq', '-e', 'trace=write')).count('write(')
+
+
+def threads(program, path, groups):
+    """How many threads four workers start in a run."""
+    return ran(program, path, ('--workers', '4', *groups), ('strace', '-f', '-qq', '-e', 'trace=clone3')).count('clone3(')
 
 
 def seconds(kinds, rounds, before):
@@ -79,7 +89,18 @@ def sped_up(program, rounds, before):
         scenario = SCENARIOS[name]()
         path, groups = path_of(name, scenario), ('--groups', four_groups(scenario))
         kinds = [(program, path, (), '0')] + [(program, path, ('--workers', str(n), *groups), f'0-{n - 1}') for n in (1, 2, 4)]
-        yield name, events_of(program, path), windows(program, path, groups), seconds(kinds, rounds, before)
+        yield name, events_of(program, path), threads(program, path, groups), seconds(kinds, rounds, before)
+
+
+def small(program, rounds, before):
+    """Seconds of runs with a group for each node, by crew, and the processor seconds of the largest crew."""
+    for name in SMALL:
+        path = path_of(name, SCENARIOS[name]())
+        cores = f'0-{min(CORES, 4) - 1}'
+        kinds = [(program, path, (), '0')] + [(program, path, ('--workers', str(n), '--groups', 'each'), cores) for n in CREWS]
+        used = ran(program, path, ('--workers', str(CREWS[-1]), '--groups', 'each'), ('/usr/bin/time', '-f', '%U %S'))
+        yield (name, events_of(program, path), windows(program, path, ('--groups', 'each')),
+               threads(program, path, ('--groups', 'each')), seconds(kinds, rounds, before), sum(map(float, used.split())))
 
 
 def megabytes(program, path, words):
@@ -120,10 +141,17 @@ def section(program, rounds, before):
            + (', with real-time priority beside other work' if before else '') + f', the least of {rounds} rounds; the four '
            'groups are the four parts of each scenario (bench/scenarios.py), joined by links of 10 ms and more. Four workers '
            f'are to be {LEAST} times as fast as one.\n')
-    yield from table(('Scenario', 'Events', 'Events a window', '`run`', '1 worker', '2 workers', '4 workers', 'four to one', 'four to `run`'),
-                     [(f'`{name}`', f'{events:,}', f'{events / many:,.0f}', *(f'{s:.3f}' for s in took),
+    yield from table(('Scenario', 'Events', 'Threads of 4 workers', '`run`', '1 worker', '2 workers', '4 workers', 'four to one', 'four to `run`'),
+                     [(f'`{name}`', f'{events:,}', f'{many:,}', *(f'{s:.3f}' for s in took),
                        f'{took[1] / took[3]:.2f}', f'{took[0] / took[3]:.2f}')
                       for name, events, many, took in sped_up(program, rounds, before)])
+    yield (f'The same with a group for each node, so that windows are small: the calling thread runs all of those that would '
+           f'not pay for threads. No crew is to take more than {SMALL_MOST} times as long as `run`.\n')
+    yield from table(('Scenario', 'Events', 'Events a window', 'Threads of 4 workers', '`run`', *(f'{n} worker{"s" * (n > 1)}' for n in CREWS),
+                      'most to `run`', f'processor, {CREWS[-1]} workers'),
+                     [(f'`{name}`', f'{events:,}', f'{events / many:,.0f}', f'{started_:,}', *(f'{s:.3f}' for s in took),
+                       f'{max(took[1:]) / took[0]:.2f}', f'{used:.2f}')
+                      for name, events, many, started_, took, used in small(program, rounds, before)])
     yield f'The most resident memory of a run (GNU time), at most {MOST} MB:\n'
     yield from table(('Scenario', 'Run', 'MB'), [(name, shown(words), f'{most:.1f}') for name, _, words, most in memory(program)])
 

@@ -72,7 +72,7 @@ impl Course {
         };
         let until = next.saturating_add(self.slice);
         let batch = self.engine.window(rt, workers, gate, until)?;
-        self.slice = next_slice(self.slice, batch.len());
+        self.slice = next_slice(self.slice, &batch, workers);
         let _reached = self.engine.position();
         Ok(Some(batch))
     }

@@ -4,6 +4,7 @@ mod at_once;
 mod texts;
 
 use self::texts::{ONE_SEGMENT, TWO_FLOWS};
+use crate::hands::AllHands;
 use debug_session::{SessionFault, run_session, split};
 use scenario_asm::assemble;
 use std::io::Write;
@@ -12,7 +13,7 @@ use std::sync::Wait;
 use std::test::Fail;
 use std::thread::Threads;
 use window_core::Partition;
-use window_engine::{OpenGate, OverWrite};
+use window_engine::OverWrite;
 
 /// Who runs the windows of a session's moves: whether each node has a group of its own (else all
 /// are in one), and how many workers there are.
@@ -49,7 +50,7 @@ fn run<R: Abort + AllocGlobal + Threads + Wait + Sync, W: Write + Drop>(
     let mut sink = OverWrite::new(out);
     Ok(run_session(
         rt,
-        &OpenGate,
+        &AllHands,
         rt.alloc(),
         &scenario,
         partition,

@@ -3,6 +3,7 @@ ghost use Rattle.std.specs.Prelude.{◌≡◌, ◌<◌, ◌≤◌, length, IfOk}
 mod nets;
 
 use self::nets::{EQUAL_TIMES, ONE_SEGMENT, equal_times, one_flow, text_of, two_flows};
+use crate::hands::AllHands;
 use net_machine::Net;
 use scenario_image::Scenario;
 use std::alloc::Global;
@@ -67,7 +68,7 @@ fn expect_run<R: Threads + Wait + Abort + Sync>(
     let mut engine = engine_of(rt, alloc, scenario, groups)?;
     let mut room = vec![in alloc; 0u8; text.len().saturating_add(1)]?;
     let mut sink = OverWrite::new(room.as_mut_slice());
-    let stop = run_to(rt, &mut engine, workers, &OpenGate, u64::MAX, &mut sink);
+    let stop = run_to(rt, &mut engine, workers, &AllHands, u64::MAX, &mut sink);
     assert!(rt; stop == Ok(Stop::End));
     assert!(rt; !engine.failed());
     expect_text(rt, room.as_slice(), text);
@@ -124,7 +125,7 @@ fn text_that_threads_make_is_that_of_the_net(rt: HostRuntime) -> Result<(), Fail
 fn after_three<R: Threads + Wait + Abort + Sync>(rt: &R, alloc: Global) -> Result<Net, Fail> {
     let mut engine = engine_of(rt, alloc, &one_flow(alloc, 1)?, &[0, 1])?;
     let mut sink = OverWrite::new(VecDeque::new(alloc));
-    let stop = run_to(rt, &mut engine, 2, &OpenGate, 2_040_001, &mut sink);
+    let stop = run_to(rt, &mut engine, 2, &AllHands, 2_040_001, &mut sink);
     assert!(rt; stop == Ok(Stop::Until));
     assert!(rt; engine.position() == 3);
     assert!(rt; !engine.failed());
@@ -139,7 +140,7 @@ fn a_run_goes_on_from_the_net_at_its_edge(rt: HostRuntime) -> Result<(), Fail> {
     let partition = partition(&rt, alloc, &[0, 0], net.nodes().len())?;
     let mut rest = Engine::at(alloc, net, partition)?;
     let mut sink = OverWrite::new(VecDeque::new(alloc));
-    let stop = run_to(&rt, &mut rest, 1, &OpenGate, u64::MAX, &mut sink);
+    let stop = run_to(&rt, &mut rest, 1, &AllHands, u64::MAX, &mut sink);
     assert!(rt; stop == Ok(Stop::End));
     assert!(rt; rest.position() == 5);
     Ok(())
@@ -180,10 +181,10 @@ fn a_sink_that_fails_says_what_went_out(rt: HostRuntime) -> Result<(), Fail> {
     let mut engine = engine_of(&rt, alloc, &one_flow(alloc, 1)?, &[0, 1])?;
     let mut room = [0u8; 100];
     let mut sink = OverWrite::new(room.as_mut_slice());
-    let fault = run_to(&rt, &mut engine, 2, &OpenGate, u64::MAX, &mut sink);
+    let fault = run_to(&rt, &mut engine, 2, &AllHands, u64::MAX, &mut sink);
     assert!(rt; fault == Err(EngineFault::Sink { written: 100 }));
     assert!(rt; engine.failed());
-    let again = run_to(&rt, &mut engine, 2, &OpenGate, u64::MAX, &mut sink);
+    let again = run_to(&rt, &mut engine, 2, &AllHands, u64::MAX, &mut sink);
     assert!(rt; again == Err(EngineFault::Failed));
     Ok(())
 }

@@ -7,4 +7,6 @@ mod debugging;
 #[cfg(test)]
 mod engines;
 #[cfg(test)]
+mod hands;
+#[cfg(test)]
 mod whole;

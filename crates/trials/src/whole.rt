@@ -9,8 +9,9 @@ mod texts;
 pub(crate) mod traces;
 mod workers;
 
+use crate::hands::AllHands;
 use crate::whole::traces::{DELAY_ENDS, DELAYED, LOST_ONCE, QUEUE_OF_ONE, THREE_LOSSES};
-use sessions::session::run_all;
+use sessions::session::{run_all, run_with};
 use sessions::source::OverRead;
 use std::process::Abort;
 use std::sync::Wait;
@@ -46,7 +47,8 @@ fn expect_words(
 ) -> Result<(), Fail> {
     let mut out = Vec::new(rt.alloc());
     let mut input = OverRead::new(input);
-    let outcome = run_all(rt, &mut input, &mut OverWrite::new(&mut out), words);
+    let mut writer = OverWrite::new(&mut out);
+    let outcome = run_with(rt, &mut input, &mut writer, words, &AllHands);
     assert_eq!(rt; outcome.status, status);
     let shown = match &outcome.note {
         Some(note) => note.to_string(rt.alloc())?,

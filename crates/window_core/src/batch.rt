@@ -63,6 +63,11 @@ impl Batch {
         self.order.is_empty()
     }
 
+    /// How many lines there are beside those of the group that has most.
+    pub fn beside_most(&self) -> usize {
+        self.sheaf.beside_most()
+    }
+
     /// The number of the first line in the run, from 1 on; of the next to come where there is none.
     pub fn first(&self) -> u64
         ensures { result ≡ self.now.first }

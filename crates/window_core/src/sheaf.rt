@@ -79,6 +79,15 @@ impl Sheaf {
         self.first
     }
 
+    /// How many lines there are beside those of the group that has most.
+    pub fn beside_most(&self) -> usize {
+        let mut most = 0;
+        for list in &self.lists {
+            most = list.len().max(most);
+        }
+        self.count.saturating_sub(most)
+    }
+
     /// The line at a spot.
     pub(crate) fn line(&self, spot: Spot) -> &Line
         requires { IsSpot self.now.lists spot }

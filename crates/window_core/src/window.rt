@@ -151,6 +151,11 @@ impl Window {
         self.roster.len()
     }
 
+    /// How many groups have an event below a moment.
+    pub fn busy(&self, moment: Time) -> usize {
+        self.roster.busy(moment)
+    }
+
     /// Runs a group's events before the window's end, one after another in the order of their keys,
     /// while the groups are in. Where it stops before, the group stands after some whole events.
     #[inline]

@@ -10,8 +10,9 @@ use crate::advance::{run_groups, turn_done};
 use crate::course::{Course, WriteFault, told};
 use crate::fault::{EngineFault, Stop};
 use crate::gate::Gate;
+use crate::hands::hands;
 use crate::sink::Sink;
-use crate::slice::{FIRST_SLICE, slice_after};
+use crate::slice::{FIRST_SLICE, aim_after, slice_after};
 use crate::text::Text;
 use sim_time::Time;
 use std::snapshot::Snapshot;
@@ -125,13 +126,17 @@ impl Course {
             };
             let bound = until.min(next.saturating_add(slice));
             let span = self.span(next, bound);
+            let shared = self.sheaf.beside_most();
+            let hands = hands(&self.window, workers, gate.worth(), shared, bound);
             let now = Snapshot::of(&self.window);
-            match self.write_and_run(rt, workers, gate, bound, &before, text, sink) {
+            match self.write_and_run(rt, hands, gate, bound, &before, text, sink) {
                 Ok(bytes) => written += bytes,
                 Err(fault) => return Err(told(fault, written)),
             }
             before = now;
-            slice = slice_after(span, self.busy(next, span), self.sheaf.len());
+            let events = self.sheaf.len();
+            let aim = aim_after(events, self.sheaf.beside_most());
+            slice = slice_after(span, self.busy(next, span), events, aim);
         }
         unreachable!()
     }

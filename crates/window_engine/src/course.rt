@@ -14,7 +14,7 @@ use crate::advance::advance_apart;
 use crate::fault::{EngineFault, Stop};
 use crate::gate::Gate;
 use crate::sink::Sink;
-use crate::slice::{FIRST_SLICE, slice_after};
+use crate::slice::{FIRST_SLICE, NARROW, slice_after};
 use crate::text::Text;
 use sim_time::Time;
 use std::alloc::{AllocError, Global};
@@ -210,7 +210,7 @@ impl Course {
                 Ok(bytes) => written += bytes,
                 Err(fault) => return Err(told(fault, written)),
             }
-            slice = slice_after(span, self.busy(next, span), self.sheaf.len());
+            slice = slice_after(span, self.busy(next, span), self.sheaf.len(), NARROW);
         }
         unreachable!()
     }

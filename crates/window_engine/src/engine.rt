@@ -16,6 +16,7 @@ use crate::advance::advance;
 use crate::course::Course;
 use crate::fault::{EngineFault, Stop};
 use crate::gate::Gate;
+use crate::hands::hands;
 use crate::sink::Sink;
 use net_machine::Net;
 use scenario_image::Scenario;
@@ -33,6 +34,8 @@ pub struct Engine {
     course: Course,
     /// Whether a call had a fault.
     failed: bool,
+    /// How many events of the last window were beside those of its busiest group.
+    shared: usize,
 }
 
 impl Model for Engine {
@@ -86,6 +89,7 @@ impl Engine {
                     alloc,
                 },
                 failed: false,
+                shared: 0,
             }),
             Err(_) => Err(AllocError),
         }
@@ -151,10 +155,12 @@ impl Engine {
         }
         let _reached = self.course.window.position();
         let mut batch = Batch::new(self.course.alloc, 0);
+        let window = &self.course.window;
+        let hands = hands(window, workers, gate.worth(), self.shared, until);
         match advance(
             rt,
             self.course.alloc,
-            workers,
+            hands,
             gate,
             until,
             &mut self.course.window,
@@ -167,6 +173,7 @@ impl Engine {
             }
         }
         self.course.position = self.course.window.position();
+        self.shared = batch.beside_most();
         Ok(batch)
     }
 

@@ -7,7 +7,14 @@ pub trait Gate: Sync {
 
     /// The worker has finished the piece.
     fn leave(&self, piece: u64);
+
+    /// How many events a thread has to have to be worth its start: a window that has fewer beside
+    /// those of its busiest group is run by the calling thread. 0: each window is run by all workers.
+    fn worth(&self) -> usize;
 }
+
+/// A thread's start and end take about as long as so many events.
+pub const WORTH: usize = 1_000;
 
 /// Does nothing.
 #[derive(Clone, Copy)]
@@ -17,4 +24,8 @@ impl Gate for OpenGate {
     fn enter(&self, _piece: u64) {}
 
     fn leave(&self, _piece: u64) {}
+
+    fn worth(&self) -> usize {
+        WORTH
+    }
 }

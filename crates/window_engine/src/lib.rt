@@ -8,6 +8,7 @@ mod engine;
 mod fault;
 mod gate;
 mod gather;
+mod hands;
 mod meeting;
 mod pieces;
 mod put;
@@ -19,7 +20,7 @@ mod text;
 
 pub use engine::Engine;
 pub use fault::{EngineFault, Stop};
-pub use gate::{Gate, OpenGate};
+pub use gate::{Gate, OpenGate, WORTH};
 pub use meeting::Meeting;
 pub use put::put_all;
 pub use sink::{OverWrite, Sink, SinkFail};

@@ -61,4 +61,8 @@ impl Gate for Meeting {
     }
 
     fn leave(&self, _piece: u64) {}
+
+    fn worth(&self) -> usize {
+        0
+    }
 }

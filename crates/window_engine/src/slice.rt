@@ -2,29 +2,52 @@
 ghost use Rattle.std.specs.Prelude.{◌≤◌};
 
 use sim_time::Time;
+use window_core::Batch;
 
 /// The first slice, in nanoseconds.
 pub const FIRST_SLICE: Time = 1_000_000;
 
-/// How many events a window is to have.
-const AIM: u64 = 20_480;
+/// How many events a window is to have that one thread runs: their lines stay in the near cache.
+pub(crate) const NARROW: u64 = 1_024;
+
+/// How many events a window is to have that threads share.
+const WIDE: u64 = 20_480;
+
+/// Threads share a window where its busiest group leaves them at least one event of so many.
+const SHARE: usize = 8;
 
 /// The least part of a window's time, one of so many, in which its events are taken to be.
 const DENSEST: Time = 64;
 
-/// The slice after a window of so many nanoseconds and events: at their rate the next one has as
-/// many as it is to have; beyond some days it may be shorter. It is at most twice as long.
-pub fn next_slice(span: Time, events: usize) -> Time
-    ensures { 1 ≤ result }
-{
-    slice_after(span, span, events)
+/// How many events a window is to have, after one of so many, of which so many were beside those of
+/// its busiest group.
+pub(crate) fn aim_after(events: usize, shared: usize) -> u64 {
+    if shared < events / SHARE {
+        NARROW
+    } else {
+        WIDE
+    }
 }
 
-/// The same, where nearly all of the events were in so many of the nanoseconds.
-pub(crate) fn slice_after(span: Time, busy: Time, events: usize) -> Time
+/// The slice after a window of so many nanoseconds, run by so many workers: at the rate of its events
+/// the next one has as many as it is to have; beyond some days it may be shorter. It is at most twice
+/// as long.
+pub fn next_slice(span: Time, batch: &Batch, workers: usize) -> Time
+    ensures { 1 ≤ result }
+{
+    let aim = if workers == 1 {
+        NARROW
+    } else {
+        aim_after(batch.len(), batch.beside_most())
+    };
+    slice_after(span, span, batch.len(), aim)
+}
+
+/// The same for an aim, where nearly all of the events were in so many of the nanoseconds.
+pub(crate) fn slice_after(span: Time, busy: Time, events: usize, aim: u64) -> Time
     ensures { 1 ≤ result }
 {
     let busy = busy.max(span / DENSEST);
-    let fitting = busy.saturating_mul(AIM) / (events as u64).max(1);
+    let fitting = busy.saturating_mul(aim) / (events as u64).max(1);
     fitting.min(span.saturating_mul(2)).max(1)
 }

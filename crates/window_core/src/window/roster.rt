@@ -110,6 +110,15 @@ impl Roster {
         self.shares.len()
     }
 
+    /// How many groups have an event below a moment.
+    pub(super) fn busy(&self, moment: Time) -> usize {
+        let mut count: usize = 0;
+        for next in &self.nexts {
+            count = count.saturating_add(usize::from(*next < moment));
+        }
+        count
+    }
+
     /// The groups.
     pub(super) fn shares(&self) -> &[Share]
         requires { self.now.out ≡ false }

@@ -1,0 +1,30 @@
+//! How many threads run a window. Its events, their order and its lines are the same by any number.
+ghost use Rattle.std.specs.Prelude.{◌<◌, ◌≤◌};
+
+use sim_time::Time;
+use window_core::Window;
+
+/// How many threads are to run the next window, which ends by a moment at the latest, out of so many
+/// workers, where a thread is worth its start for so many events and the window before had so many
+/// beside those of its busiest group. One is the calling thread, which starts none. There are no more
+/// than groups that have an event in the window.
+pub(crate) fn hands(
+    window: &Window,
+    workers: usize,
+    worth: usize,
+    shared: usize,
+    until: Time,
+) -> usize
+    requires workers { (0 < workers) × (workers ≤ 64) }
+    ensures { (0 < result) × (result ≤ 64) }
+{
+    if worth == 0 {
+        return workers;
+    }
+    let paid = (shared / worth).saturating_add(1);
+    if paid == 1 {
+        return 1;
+    }
+    let busy = window.busy(window.end().min(until));
+    workers.min(paid).min(busy).max(1)
+}

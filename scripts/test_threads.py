@@ -1,0 +1,114 @@
+#!/usr/bin/env python3
+"""Tests of how many threads the program starts: scripts/test_threads.py, after `make run`. A library that
+is loaded before the program counts them. It wants a C compiler, `cc`; where there is none the tests are
+left out, which is said. The last line is `N passed, M failed`.
+"""
+import os
+import shutil
+import subprocess
+import sys
+import tempfile
+import unittest
+
+TOP = os.path.dirname(os.path.dirname(os.path.abspath(__file__)))
+PROGRAM = os.path.join(TOP, 'crates', 'tcpsim', 'out', 'tcpsim')
+NET = os.path.join(TOP, 'scripts', 'net.py')
+# Four parts with a bottleneck each, joined by cables of 40 ms: each part has thousands of events in a window.
+WIDE = ('islands', '--islands', '4', '--flows', '10', '--rate', '200M', '--between', '40ms', '--end', '2s')
+# One flow over links of 1 ms: a window holds a few events.
+SMALL = ('chain', '--hops', '3', '--flows', '1', '--rate', '10M', '--segments', '2000', '--end', '20s')
+
+
+class Threads(unittest.TestCase):
+    @classmethod
+    def setUpClass(cls):
+        cls.folder = tempfile.TemporaryDirectory()
+        cls.library = os.path.join(cls.folder.name, 'threads.so')
+        source = os.path.join(TOP, 'scripts', 'threads.c')
+        subprocess.run(['cc', '-O1', '-shared', '-fPIC', source, '-o', cls.library, '-ldl'], check=True)
+
+    @classmethod
+    def tearDownClass(cls):
+        cls.folder.cleanup()
+
+    def text_of(self, shape):
+        return subprocess.run([sys.executable, NET, *shape], check=True, capture_output=True, text=True).stdout
+
+    def counted(self, text, *words):
+        """What the program writes, and how many threads it started."""
+        counts = os.path.join(self.folder.name, 'counts')
+        with open(counts, 'wb'):
+            pass
+        env = {**os.environ, 'LD_PRELOAD': self.library, 'THREADS': counts}
+        done = subprocess.run([PROGRAM, *words], input=text, capture_output=True, text=True, env=env, check=True)
+        return done.stdout, os.path.getsize(counts)
+
+    def run_of(self, text, *words):
+        """How many threads a run starts; its trace is that of a run without options."""
+        plain, none = self.counted(text, 'run')
+        trace, threads = self.counted(text, 'run', *words)
+        self.assertEqual(none, 0)
+        self.assertTrue(trace == plain)
+        return threads
+
+    def test_the_library_counts(self):
+        """Where windows hold thousands of events, threads are started; without this no other row says anything."""
+        self.assertGreater(self.run_of(self.text_of(WIDE), '--groups', self.parts(), '--workers', '4'), 0)
+
+    def parts(self):
+        """The group of each node of the wide scenario: those that links of less than 40 ms join are in one."""
+        words = [line.split() for line in self.text_of(WIDE).splitlines()]
+        group = {it[1]: it[1] for it in words if it[:1] == ['node']}
+        for it in words:
+            if it[:1] == ['link'] and int(it[5]) < 40_000_000:
+                old, new = group[it[3]], group[it[2]]
+                group = {name: new if has == old else has for name, has in group.items()}
+        numbers = sorted(set(group.values()))
+        self.assertEqual(len(numbers), 4)
+        return ','.join(str(numbers.index(it)) for it in group.values())
+
+    def test_one_worker_or_one_group_starts_none(self):
+        text = self.text_of(WIDE)
+        self.assertEqual(self.run_of(text, '--groups', self.parts(), '--workers', '1'), 0)
+        self.assertEqual(self.run_of(text, '--groups', 'one', '--workers', '64'), 0)
+
+    def test_small_windows_start_none(self):
+        text = self.text_of(SMALL)
+        for workers in ('2', '4', '64'):
+            self.assertEqual(self.run_of(text, '--groups', 'each', '--workers', workers), 0)
+
+    def test_no_more_threads_than_groups(self):
+        """With 64 workers no window of four groups starts more than with four."""
+        text = self.text_of(WIDE)
+        four = self.run_of(text, '--groups', self.parts(), '--workers', '4')
+        self.assertEqual(self.run_of(text, '--groups', self.parts(), '--workers', '64'), four)
+
+    def test_the_debugger_goes_by_the_same_rule(self):
+        text = self.text_of(SMALL) + '---\nuntil 19000000000\n'
+        plain, none = self.counted(text, 'debug')
+        answers, threads = self.counted(text, 'debug', '--workers', '4', '--groups', 'each')
+        self.assertEqual((none, threads), (0, 0))
+        self.assertTrue(answers == plain)
+        text = self.text_of(WIDE) + '---\nuntil 19000000000\n'
+        plain, _ = self.counted(text, 'debug')
+        answers, threads = self.counted(text, 'debug', '--workers', '4', '--groups', self.parts())
+        self.assertGreater(threads, 0)
+        self.assertTrue(answers == plain)
+
+
+def main():
+    if not shutil.which('cc'):
+        print('LEFT OUT, not passed: the count of threads (no C compiler: apt-get install gcc)')
+        print('0 passed, 0 failed')
+        return 0
+    if not os.path.exists(PROGRAM):
+        print(f'test_threads.py: {os.path.relpath(PROGRAM)} is not there: build it with `make run`', file=sys.stderr)
+        return 1
+    result = unittest.main(argv=sys.argv, exit=False, verbosity=0).result
+    failed = len({getattr(test, 'test_case', test).id() for test, _ in result.failures + result.errors})
+    print(f'{result.testsRun - failed} passed, {failed} failed')
+    return 1 if failed else 0
+
+
+if __name__ == '__main__':
+    sys.exit(main())
