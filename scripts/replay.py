@@ -25,7 +25,7 @@ from trace_reader import ACK, BITS_NS, DATA, HEADER_BYTES, Scenario, Unreadable
 HERE = os.path.dirname(os.path.realpath(__file__))
 PARTS = os.path.join(HERE, 'replay_page')
 OWN_NAME = os.path.basename(sys.argv[0]) or 'replay.py'
-SCRIPTS = ('record.js', 'words.js', 'net.js', 'charts.js', 'page.js')
+SCRIPTS = ('record.js', 'words.js', 'layout.js', 'net.js', 'charts.js', 'page.js')
 D3 = '/usr/share/javascript/d3/d3.min.js'       # version 3, as Debian has it
 MOST_EVENTS = 200_000
 UNITS = {'s': 10**9, 'ms': 10**6, 'us': 10**3, 'ns': 1, '': 10**9}
@@ -81,6 +81,7 @@ class FlowNow:
         self.cwnd, self.ssthresh = self.first_window(flow.mss), flow.rwnd
         self.mss, self.size = flow.mss, flow.mss + HEADER_BYTES
         self.delack, self.start = flow.delack, flow.start
+        self.since = None               # when it started, or when una last rose
 
     @staticmethod
     def first_window(mss):
@@ -90,7 +91,8 @@ class FlowNow:
     def kept(self):
         return {'una': self.una, 'nxt': self.nxt, 'high': self.high, 'cwnd': self.cwnd,
                 'ssthresh': self.ssthresh, 'dups': self.dups, 'recovering': self.recovering,
-                'next': self.expected, 'above': sorted(self.above), 'answer_waits': self.answer_waits}
+                'next': self.expected, 'above': sorted(self.above), 'answer_waits': self.answer_waits,
+                'since': self.since}
 
 
 class Reader:
@@ -212,6 +214,8 @@ class Reader:
                 at = self._offer(link, (name, DATA, number), number < flow.high, words, at, time)
         if at != len(words):
             raise ValueError('an act that no packet explains')
+        if una > flow.una or kind == 'start':
+            flow.since = time
         flow.una, flow.nxt, flow.recovering, flow.words = una, nxt, recovering, state
         if nxt > flow.high:
             flow.high = nxt

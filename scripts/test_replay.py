@@ -9,8 +9,10 @@ scripts/model. Where there is no Chromium the tests in it are left out, and it s
 docs/pictures/replay_*.png.
 """
 import base64
+import csv
 import io
 import json
+import math
 import os
 import random
 import shutil
@@ -40,13 +42,49 @@ READ = '''(() => {
     event: document.documentElement.dataset.event, hash: location.hash,
     present: all('#lines li.present', e => e.textContent),
     packets: all('.packet', e => ({...e.dataset, transform: e.getAttribute('transform'), squares: e.querySelectorAll('rect').length,
-      rings: e.querySelectorAll('.ring').length})),
-    links: all('g.link', e => ({...e.dataset, line: ['x1', 'y1', 'x2', 'y2'].map(k => +e.querySelector('line').getAttribute(k))})),
+      rings: e.querySelectorAll('.ring').length, word: e.querySelector('text').textContent})),
+    links: all('g.link', e => ({...e.dataset})),
     queues: all('g.queue', e => ({...e.dataset, text: e.querySelector('.count').textContent,
-      boxes: [...e.querySelectorAll('.box[data-packet]')].filter(b => b.getAttribute('display') !== 'none').map(b => b.dataset.packet)})),
+      boxes: [...e.querySelectorAll('.box[data-packet]')].filter(b => b.getAttribute('display') !== 'none').map(b => b.dataset.packet),
+      words: [...e.querySelectorAll('.box[data-packet] text')].map(b => b.textContent)})),
     nodes: all('g.node', e => ({...e.dataset})),
-    drops: all('.drop', e => ({...e.dataset, text: e.querySelector('text').textContent})),
+    drops: all('.drop', e => ({...e.dataset, text: e.querySelector('.reason')?.textContent})),
     notice: document.getElementById('notice').textContent});
+})()'''
+# What lies over what: [what, left, top, right, bottom, the panel's edges] of every label and shape that is seen.
+SEEN = '''(() => {
+  const edges = e => { const b = e.getBoundingClientRect(); return [b.left, b.top, b.right, b.bottom]; };
+  const seen = e => {
+    const b = e.getBoundingClientRect();
+    return b.width > 0 && b.height > 0 && getComputedStyle(e).visibility !== 'hidden';
+  };
+  const of = (panel, css) => {
+    const around = edges(document.querySelector(panel));
+    return [...document.querySelectorAll(panel + ' ' + css)].filter(seen).map(e => {
+      const kind = e.getAttribute('class') || e.parentNode.getAttribute('class') || e.nodeName;
+      return {what: `${e.textContent.trim() || e.nodeName} (${kind})`, edges: edges(e), around,
+        node: e.closest('.node')?.dataset.node};
+    });
+  };
+  const words = e => ({what: e.id || e.nodeName, wide: [e.scrollWidth, e.clientWidth],
+    tall: [e.scrollHeight, e.clientHeight]});
+  return JSON.stringify({
+    labels: ['.rate', '.count', '.reason', '.node text'].flatMap(css => of('#net', css)),
+    shapes: ['.node rect', '.box', '.packet', '.drop > rect', '.drop > .disc'].flatMap(css => of('#net', css)),
+    charts: ['#windows', '#lengths'].map(panel => of(panel, 'text')),
+    ticks: ['#flows', '#links'].map(panel => of(panel, 'label')),
+    head: of('header', '> *'),
+    cut: [...document.querySelectorAll('#under, #key, #notice, h1, header, #lines, #lines li' +
+      (document.querySelector('#lines li.present')?.textContent.includes(' drop=') ? '' : ', #words'))].filter(seen).map(words)});
+})()'''
+# The events after which to look: see `test_no_label_lies_over_another`.
+MOMENTS = '''(() => {
+  const r = page.record, drops = d3.nest().key(d => d.event).entries(r.drops);
+  const most = d3.max(drops, d => d.values.length), {timeouts} = r;
+  const queues = r.facts.links.map((_, l) => r.queueCurve(l)), longest = d3.max(queues, q => d3.max(q.values));
+  const queue = queues.find(q => d3.max(q.values) === longest);
+  return JSON.stringify([most ? +drops.find(d => d.values.length === most).key : Math.ceil(r.count / 4),
+    r.eventsBefore(queue.times[queue.values.indexOf(longest)] + 1), timeouts.length ? timeouts[timeouts.length - 1] : r.last]);
 })()'''
 
 
@@ -240,6 +278,8 @@ class Parts(unittest.TestCase):
         self.assertEqual(link['under_way'], [[0, 0, 0, 0, 2040000, False, 0], [0, 0, 1000, 1040000, 3080000, False, 0]])
         flow = part.base['flows'][0]
         self.assertEqual((flow['una'], flow['nxt'], flow['cwnd'], flow['ssthresh'], flow['next']), (0, 4000, 4000, 64000, 0))
+        self.assertEqual([part_of(BY_HAND, TRACE, begin=moment).base['flows'][0]['since'] for moment in (0, 2040000)],
+                         [None, 0])
 
     def test_to_leaves_its_moment_out(self):
         self.assertEqual(len(part_of(BY_HAND, TRACE, end=2080000).lines), 3)
@@ -461,6 +501,41 @@ def positions_of(name, count):
     return ahead + back + jumps
 
 
+def point_at(way, part):
+    """The point at a part of a way that is given by its points."""
+    lengths = [math.dist(one, other) for one, other in zip(way, way[1:])]
+    rest = part * sum(lengths)
+    for one, other, length in zip(way, way[1:], lengths):
+        if rest <= length:
+            break
+        rest -= length
+    return tuple(a + (b - a) * min(1, rest / length) for a, b in zip(one, other))
+
+
+def overlap(one, other):
+    """How far two boxes lie over each other, in the direction in which it is less."""
+    return min(min(one[2], other[2]) - max(one[0], other[0]), min(one[3], other[3]) - max(one[1], other[1]))
+
+
+def collisions(seen, most=1):
+    """What a page shows that lies over something else, leaves its panel or is cut, by more than a pixel."""
+    found = []
+    labels = seen['labels']
+    groups = [labels, *seen['charts'], *seen['ticks'], seen['head']]
+    pairs = [(one, other) for group in groups for k, one in enumerate(group) for other in group[k + 1:]]
+    pairs += [(label, shape) for label in labels for shape in seen['shapes']
+              if 'node' not in label or label['node'] != shape.get('node')]
+    found += [f'{one["what"]} lies over {other["what"]}' for one, other in pairs
+              if overlap(one['edges'], other['edges']) > most]
+    for one in [*sum(groups, []), *seen['shapes']]:
+        box, panel = one['edges'], one['around']
+        if min(box[0] - panel[0], box[1] - panel[1], panel[2] - box[2], panel[3] - box[3]) < -most:
+            found.append(f'{one["what"]} leaves its panel')
+    found += [f'{one["what"]} is cut' for one in seen['cut'] for whole, room in (one['wide'], one['tall'])
+              if room and whole - room > most]
+    return found
+
+
 @IN_BROWSER
 class InBrowser(unittest.TestCase):
     @classmethod
@@ -495,7 +570,9 @@ class InBrowser(unittest.TestCase):
                 waiting = [] if told['queue'] == '-' else told['queue'].split(',')
                 queue, limit = queues[number], scenario.links[number].capacity
                 self.assertEqual((queue['length'], queue['limit'], queue['boxes'], queue['text']),
-                                 (str(len(waiting)), str(limit), waiting[:18], f'{len(waiting):,}/{limit:,}'), where)
+                                 (str(len(waiting)), str(limit), waiting[:int(queue['most'])], f'{len(waiting):,}/{limit:,}'), where)
+                self.assertGreaterEqual(int(queue['most']), 8, where)
+                self.assertEqual(queue['words'], [word.split(':')[0] for word in queue['boxes']], where)
                 self.assertEqual((links[number]['offered'], links[number]['sent']), (told['offered'], told['sent']), where)
             elif words[0] == 'node' and words[2] == 'sender':
                 node = nodes[int(words[1])]
@@ -507,8 +584,18 @@ class InBrowser(unittest.TestCase):
                 self.assertEqual((words[3], told['next']), (node['flow'], node['next']), where)
         drops = [word[5:] for word in (lines[position - 1].split(' ') if position else []) if word.startswith('drop=')]
         self.assertEqual(sorted(drops), sorted(f'{d["reason"]}:{d["flow"]}:{d["number"]}' for d in shown['drops']), where)
-        for drop in shown['drops']:
-            self.assertIn(drop['reason'], drop['text'], where)
+        self.compare_words_of_drops(shown['drops'], where)
+
+    def compare_words_of_drops(self, drops, where):
+        """The drops of one event at one link have their words once, at the last of them."""
+        groups = {}
+        for drop in drops:
+            groups.setdefault((drop['event'], drop['link']), []).append(drop)
+        for group in groups.values():
+            more = f' +{len(group) - 1}' if len(group) > 1 else ''
+            last = group[-1]
+            self.assertEqual([drop['text'] for drop in group if 'text' in drop],
+                             [f'\u2715 {last["reason"]} {last["flow"]}:{last["number"]}{more}'], where)
 
     def compare_packets(self, scenario, shown, dump, now, where):
         told = sorted((int(w[3]) - 1, int(w[4]), int(w[6]), w[5], int(w[7]), int(w[1]))
@@ -516,18 +603,19 @@ class InBrowser(unittest.TestCase):
         drawn = {(int(p['link']), int(p['count']), int(p['flow']), p['sort'], int(p['number']), int(p['arrives'])): p
                  for p in shown['packets']}
         self.assertEqual(told, sorted(drawn), where)
-        lines = {int(link['link']): link['line'] for link in shown['links']}
+        ways = {int(link['link']): [tuple(map(float, point.split(','))) for point in link['way'].split(' ')]
+                for link in shown['links']}
         for (link, _, flow, sort, _, arrives), packet in drawn.items():
             size = 40 + (scenario.flows[flow].mss if sort == 'data' else 0)
             took = -(-size * 8 * 10**9 // scenario.links[link].rate) + scenario.links[link].delay
             part = (now - (arrives - took)) / took
             self.assertAlmostEqual(float(packet['place']), part, places=5, msg=where)
-            x1, y1, x2, y2 = lines[link]
-            x, y = map(float, packet['transform'][len('translate('):-1].split(','))
-            self.assertAlmostEqual(x, x1 + (x2 - x1) * part, delta=.02, msg=where)
-            self.assertAlmostEqual(y, y1 + (y2 - y1) * part, delta=.02, msg=where)
+            at = tuple(map(float, packet['transform'][len('translate('):-1].split(',')))
+            for found, told in zip(at, point_at(ways[link], part)):
+                self.assertAlmostEqual(found, told, delta=.02, msg=where)
             self.assertEqual(packet['squares'], int(sort == 'data'), where)
             self.assertEqual(packet['rings'], int(packet['again']), where)
+            self.assertEqual(packet['word'], str(flow), where)
 
     def walk(self, name):
         scenario, _ = replay.read_scenario(example(name)[0])
@@ -562,6 +650,22 @@ class InBrowser(unittest.TestCase):
                 with self.subTest(f'{name}, {position}'):
                     self.browser.go(position)
                     self.compare(name, scenario, lines, position, self.browser.shown(), dump)
+
+    def test_no_label_lies_over_another(self):
+        """Every example's page at 1,280 by 720: where most was dropped at once, where most packets wait, at
+        the last timeout or at the end, and with the words of the first stall. (The words of a line with drops
+        may want scrolling.)"""
+        for name in sorted(file[:-6] for file in os.listdir(EXAMPLES) if file.endswith('.trace')):
+            self.browser.open(self.made(name))
+            for moment in json.loads(self.browser.value(MOMENTS)):
+                with self.subTest(f'{name}, event {moment}'):
+                    self.browser.go(moment)
+                    self.assertEqual(collisions(json.loads(self.browser.value(SEEN))), [])
+            self.browser.press('Home')
+            self.browser.press('s')
+            with self.subTest(f'{name}, stall'):
+                self.assertNotEqual(self.browser.shown()['notice'], '')
+                self.assertEqual(collisions(json.loads(self.browser.value(SEEN))), [])
 
     def test_columns(self):
         """By hand: senders first, then the routers p, q, u in a row; rb is behind q, ra and rc behind u."""
@@ -631,7 +735,50 @@ class InBrowser(unittest.TestCase):
         self.assertEqual(found[3], 26)
         self.assertEqual(found[4:8], [26, 27, 26, 10])
         self.assertEqual(found[8], 18)         # una rose in line 18 and not again before line 31
-        self.assertIn('no new acknowledgement', self.browser.shown()['notice'])
+        self.assertIn('no new acknowledgement for 3.003080 s', self.browser.shown()['notice'])
+
+    def visited(self, key):
+        """The moments, in nanoseconds, to which a key leads from the page's first event on."""
+        self.browser.press('Home')
+        found, last = [], None
+        while True:
+            self.browser.press(key)
+            event, time_ns = json.loads(self.browser.value(
+                'JSON.stringify([page.record.at, page.record.timeOf(page.record.at)])'))
+            if event == last:
+                return found
+            found.append(time_ns)
+            last = event
+
+    def test_stalls_are_those_of_stalls_py(self):
+        """`s` visits the moments from which stalls.py says that a flow stood still, in every example."""
+        for name in sorted(file[:-6] for file in os.listdir(EXAMPLES) if file.endswith('.trace')):
+            with self.subTest(name):
+                rows = self.rows_of_stalls(name)
+                self.browser.open(self.made(name))
+                told = json.loads(self.browser.value('JSON.stringify(page.record.stalls.map(s => '
+                                                     '[page.facts.flows[s.flow].name, s.from, s.to]))'))
+                self.assertEqual(sorted(told), sorted(rows))
+                # Where there is no stall `s` stays before the first event, at 0.
+                self.assertEqual(self.visited('s'), sorted(row[1] for row in rows) or [0])
+                self.assertIn('no stall after this event', self.browser.shown()['notice'])
+
+    def rows_of_stalls(self, name, *words):
+        done = subprocess.run([sys.executable, os.path.join(TOP, 'scripts', 'stalls.py'), *example(name), '--csv', *words],
+                              capture_output=True, text=True, check=True)
+        return [[row['flow'], int(row['from']), int(row['to'])] for row in csv.DictReader(io.StringIO(done.stdout))]
+
+    def test_stalls_of_a_part(self):
+        """Those that begin within the part, with the moments that they have in the whole run."""
+        name, begin, end = 'four_flows_share_codel', 2 * 10**9, 7 * 10**9
+        self.browser.open(self.made(name, '--from', '2s', '--to', '7s'))
+        told = json.loads(self.browser.value('JSON.stringify(page.record.stalls.map(s => '
+                                             '[page.facts.flows[s.flow].name, s.from, s.to]))'))
+        last = self.browser.value('page.record.times[page.record.count]')
+        rows = [[flow, since, min(to, last)] for flow, since, to in self.rows_of_stalls(name)
+                if begin <= since < end and min(to, last) - since > 2 * 10**8]
+        self.assertGreater(len(rows), 10)
+        self.assertEqual(sorted(told), sorted(rows))
 
     def test_clicks_say_words_and_commands(self):
         self.browser.open(self.made('two_timeouts_in_a_row'), '#event=27')
@@ -639,7 +786,8 @@ class InBrowser(unittest.TestCase):
         for script, says in (
                 ('document.querySelector("#lines li.present")', ('retransmission timer', 'RFC 6298 section 5', 'step 27')),
                 ('document.querySelector(".packet")', ('segment 4,000', 'was sent before', 'step 27')),
-                ('document.querySelector(".node.sender")', ('congestion window', 'step 27', 'until 3006200000'))):
+                ('document.querySelector(".node.sender")', ('congestion window', 'step 27', 'until 3006200000')),
+                ('document.querySelector(".queue .count")', ('0 of at most 10', 'of link a, drop-tail', 'step 27'))):
             self.browser.click(script)
             for word in says:
                 self.assertIn(word, self.browser.value(words))
@@ -651,6 +799,39 @@ class InBrowser(unittest.TestCase):
         self.browser.click('document.querySelector("#windows .catch")')
         # The middle of 3.0..s lies between the last event before the first timeout and that timeout's second.
         self.assertIn(int(self.browser.shown()['event']), (26,))
+
+    def test_both_charts_go_to_their_moment(self):
+        self.browser.open(self.made('two_flows_share_fairly'))
+        for chart in ('windows', 'lengths'):
+            self.browser.click(f'document.querySelector("#{chart} .catch")')
+            times = json.loads(self.browser.value('JSON.stringify([page.time, page.record.timeOf(page.record.at), '
+                                                  'page.record.timeOf(page.record.at + 1), ...page.windows.x.domain()])'))
+            middle = (times[3] + times[4]) / 2
+            self.assertAlmostEqual(times[0], middle, delta=(times[4] - times[3]) / 400)
+            self.assertLess(times[1], times[0])
+            self.assertLessEqual(times[0], times[2])
+            self.browser.press('Home')
+
+    def test_speed(self):
+        """A thousandth to ten times real time, or events a second; what is shown keeps the pace."""
+        self.browser.open(self.made('two_flows_share_fairly'))
+        self.browser.value('''window.set = (unit, value) => {
+            page.unit.value = unit; page.unit.dispatchEvent(new Event('change'));
+            page.speed.value = value; page.speed.dispatchEvent(new Event('input')); }''')
+        said = 'document.getElementById("pace").textContent'
+        for unit, value, says in (('time', 0, '0.001 \u00d7'), ('time', 300, '1 \u00d7'), ('time', 400, '10 \u00d7'),
+                                  ('events', 0, '1 a second'), ('events', 400, '10000 a second')):
+            self.browser.value(f'set("{unit}", {value})')
+            self.assertEqual(self.browser.value(said), says)
+        for unit, value, measure, pace in (('time', 100, 'page.time', 10**7), ('events', 150, 'page.record.at', 31.6)):
+            self.browser.value(f'set("{unit}", {value})')
+            at, asked = self.browser.value(measure), time.monotonic()
+            self.browser.press(' ')
+            time.sleep(1.5)
+            self.browser.press(' ')
+            passed, moved = time.monotonic() - asked, self.browser.value(measure) - at
+            self.assertLess(moved, 1.1 * pace * passed)
+            self.assertGreater(moved, 0.3 * pace * passed)
 
     def test_space_plays_and_pauses(self):
         self.browser.open(self.made('slow_start_into_a_full_queue'))

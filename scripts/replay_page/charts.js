@@ -30,7 +30,7 @@ class Chart {
     const begin = record.times[0], end = record.times[record.count];
     this.x = d3.scale.linear().domain([begin, Math.max(end, begin + 1)]).range([left, wide - right]);
     this.y = d3.scale.linear().range([tall - bottom, top]);
-    this.svg.append('text').attr('class', 'title').attr('x', left).attr('y', 10).text(`${title}, ${unit}`);
+    this.svg.append('text').attr('class', 'title').attr('x', left).attr('y', 10).text(unit ? `${title}, ${unit}` : title);
     const span = end - begin, [scale, name] = span >= 2e9 ? [1e9, 's'] : span >= 2e6 ? [1e6, 'ms'] : [1e3, 'µs'];
     const axis = d3.svg.axis().scale(this.x.copy().domain(this.x.domain().map(t => t / scale))).orient('bottom').ticks(8).tickFormat(t => `${t} ${name}`);
     this.svg.append('g').attr('class', 'axis').attr('transform', `translate(0,${tall - bottom})`).call(axis);
@@ -55,7 +55,7 @@ class Chart {
   show(series) {
     const greatest = d3.max(series.filter(s => !s.thin), s => d3.max(s.curve.values)) || 1;
     this.y.domain([0, greatest * 1.1]);
-    this.left.call(d3.svg.axis().scale(this.y).orient('left').ticks(4, 's'));
+    this.left.call(d3.svg.axis().scale(this.y).orient('left').tickValues(this.y.ticks(4).filter(Number.isInteger)).tickFormat(d3.format('s')));
     const line = d3.svg.line().x(p => this.x(p[0])).y(p => Math.max(CHART.top, this.y(p[1]))).interpolate('step-after');
     const end = this.record.times[this.record.count];
     this.curves.selectAll('*').remove();

@@ -1,130 +1,119 @@
 'use strict';
-// The net: nodes in columns by their distance from the senders, links side by side, queues as stacks at
-// their ports, packets on their way, drops that fall. What is drawn says its numbers in data- attributes.
+// The net: links as two lines side by side, queues as rows of boxes at their ports, packets on their way,
+// drops that fall. What is drawn says its numbers in data- attributes.
 
-const WIDE = 1264, BESIDE = 8;
-let TALL = 330;         // follows the shape of the window
-const MOST_BOXES = 18, MOST_ON_A_LINK = 240, MOST_FALLING = 12;
+const DECK = 4, MOST_IN_A_DECK = 5;    // how far apart drops of one event lie
+const MOST_BOXES = 30, MOST_ON_A_LINK = 240, MOST_FALLING = 12;
+const BOX = {wide: 10, tall: 12, step: 11};
+const OFF_THE_NODE = 11;                // a packet at an end of its link lies beside the node, not over it
+// From a track's middle: the queue of the link to the right, that of the link to the left, what was dropped.
+const UPPER_QUEUE = -31, LOWER_QUEUE = 19, DROPPED = 39, NAME = -36;
 // Colours that colour-blind people tell apart (Okabe and Ito); packets carry their flow's number too.
 const COLOURS = ['#0072B2', '#E69F00', '#009E73', '#CC79A7', '#56B4E9', '#7A5C00', '#6A3D9A', '#4D4D4D'];
-const RED = '#D00000';
+const LIGHT = [1, 3, 4];                // of these, those on which dark numbers are read better
 function colourOf(flow) { return COLOURS[flow % COLOURS.length]; }
+function inkOf(flow) { return LIGHT.includes(flow % COLOURS.length) ? '#000' : '#fff'; }
 function waitingWord(p) { return `${p.flow}:${p.sort === DATA ? 'd' : 'a'}:${p.number}@${p.entered}`; }
-
-// The column of each node: one more than that of the node before it on a flow's way of data. A link that
-// would lead back to an earlier node of such a way counts for nothing.
-function columnsOf(facts) {
-  const next = facts.nodes.map(() => new Set());
-  const reaches = (from, to) => from === to || [...next[from]].some(n => reaches(n, to));
-  for (const [way] of facts.ways)
-    for (const l of way) {
-      const {from, to} = facts.links[l];
-      if (!next[from].has(to) && !reaches(to, from)) next[from].add(to);
-    }
-  const column = facts.nodes.map(() => 0);
-  for (let round = 0; round < facts.nodes.length; round++) {
-    let moved = false;
-    next.forEach((after, node) => after.forEach(n => {
-      if (column[n] < column[node] + 1) { column[n] = column[node] + 1; moved = true; }
-    }));
-    if (!moved) break;
-  }
-  const used = new Set(facts.flows.flatMap(f => [f.sender, f.receiver]).concat(
-    facts.ways.flat(2).flatMap(l => [facts.links[l].from, facts.links[l].to])));
-  facts.nodes.forEach((node, n) => { if (!used.has(n)) column[n] = 1; });
-  return column;
-}
-
-// Places of the nodes: in a column they stand in the order of the mean height of their neighbours.
-function placesOf(facts) {
-  const column = columnsOf(facts), columns = [];
-  column.forEach((c, n) => (columns[c] = columns[c] || []).push(n));
-  const width = columns.length, height = facts.nodes.map(() => 0.5);
-  const spread = nodes => nodes.forEach((n, i) => { height[n] = nodes.length === 1 ? 0.5 : (i + 0.5) / nodes.length; });
-  const order = facts.nodes.map((_, n) => {
-    const flow = facts.flows.findIndex(f => f.sender === n || f.receiver === n);
-    return flow < 0 ? facts.flows.length / 2 - 0.5 : flow;
-  });
-  columns.forEach(nodes => { nodes.sort((a, b) => order[a] - order[b] || a - b); spread(nodes); });
-  const near = facts.nodes.map(() => []);
-  facts.links.forEach(l => { near[l.from].push(l.to); near[l.to].push(l.from); });
-  for (let round = 0; round < 4; round++)
-    columns.forEach(nodes => {
-      const mean = new Map(nodes.map(n => [n, near[n].reduce((sum, m) => sum + height[m], 0) / (near[n].length || 1)]));
-      nodes.sort((a, b) => mean.get(a) - mean.get(b) || order[a] - order[b] || a - b);
-      spread(nodes);
-    });
-  return facts.nodes.map((_, n) => ({
-    x: width === 1 ? WIDE / 2 : 90 + (WIDE - 180) * column[n] / (width - 1),
-    y: 20 + (TALL - 44) * height[n], column: column[n]}));
-}
 
 class Net {
   constructor(svg, record, show) {
     this.record = record; this.facts = record.facts; this.show = show;
     const box = svg.node().getBoundingClientRect();
-    TALL = Math.min(900, Math.max(300, WIDE * box.height / (box.width || WIDE)));
-    this.places = placesOf(this.facts);
-    this.svg = svg.attr('viewBox', `0 0 ${WIDE} ${TALL}`);
+    const layout = new Layout(this.facts, box.width || 1264, box.height || 340);
+    this.places = layout.places; this.tracks = layout.tracks; this.row = layout.row;
+    this.svg = svg.attr('viewBox', `0 0 ${layout.wide} ${layout.tall}`);
     this.world = this.svg.append('g').attr('class', 'world');
-    this.svg.call(d3.behavior.zoom().scaleExtent([0.5, 20]).on('zoom', () =>
+    this.svg.call(d3.behavior.zoom().scaleExtent([0.5, 40]).on('zoom', () =>
       this.world.attr('transform', `translate(${d3.event.translate}) scale(${d3.event.scale})`)))
       .on('dblclick.zoom', null);
-    this.lines = this.facts.links.map((link, l) => this.lineOf(link, l));
+    this.lines = [];
+    for (const track of this.tracks) for (const l of track.links) this.lines[l] = this.lineOf(track, l);
     this.everUsed = this.facts.links.map((_, l) => record.longest[l] > 0);
     this.drawLinks(); this.drawNodes();
-    this.svg.append('text').attr('class', 'key').attr('x', 4).attr('y', TALL - 6)
-      .text('square: segment; disc: acknowledgement; number: its flow; dashed ring: sent again; ✕ red: dropped, with its reason; n/m: packets that wait and their limit');
     this.moving = this.world.append('g').attr('class', 'moving').node();
     this.falling = this.world.append('g').attr('class', 'falling').node();
     this.fallen = new Map();      // drops that have an element
     this.drawn = new Map();       // packets under way that have an element
   }
 
-  // A link's line: its ends, its direction, and its outer side.
-  lineOf(link) {
-    const a = this.places[link.from], b = this.places[link.to];
-    const length = Math.hypot(b.x - a.x, b.y - a.y) || 1;
-    const along = {x: (b.x - a.x) / length, y: (b.y - a.y) / length}, out = {x: along.y, y: -along.x};
-    const half = n => this.facts.nodes[n].kind === 'router' ? 20 : 26;
-    const point = (place, back) => ({x: place.x + along.x * back + out.x * BESIDE, y: place.y + along.y * back + out.y * BESIDE});
-    return {from: point(a, half(link.from)), to: point(b, -half(link.to)), along, out, length};
+  // A link's line: the way of its packets, where its queue begins and where its boxes go, where its drops
+  // begin to fall and where they lie.
+  lineOf(track, l) {
+    const right = track.right === l, aside = right ? BESIDE : -BESIDE, [x, y] = track.inside ? [aside, 0] : [0, -aside];
+    const points = track.points.map(([px, py]) => [px + x, py + y]);
+    if (!right) points.reverse();
+    const begin = [...points[0]], end = [...points[points.length - 1]];
+    const off = (point, other) => {
+      const length = Math.hypot(other[0] - point[0], other[1] - point[1]) || 1;
+      const part = Math.min(OFF_THE_NODE, length / 3) / length;
+      return [point[0] + (other[0] - point[0]) * part, point[1] + (other[1] - point[1]) * part];
+    };
+    points[0] = off(points[0], points[1]);
+    points[points.length - 1] = off(points[points.length - 1], points[points.length - 2]);
+    const lengths = points.map(([px, py], k) => k ? Math.hypot(px - points[k - 1][0], py - points[k - 1][1]) : 0);
+    const level = right ? track.points[1] : track.points[track.points.length - 2];
+    const room = track.inside ? 110 : Math.abs(begin[0] - level[0]);
+    const limit = number(this.facts.links[l].limit), count = textWidth(`${limit}/${limit}`, 'bold 12px sans-serif');
+    const line = {whole: [begin, ...points, end], points, lengths, length: d3.sum(lengths), sign: track.inside || right ? 1 : -1,
+      most: Math.max(4, Math.min(MOST_BOXES, Math.floor((room - 20 - count) / BOX.step)))};
+    if (track.inside) {
+      const down = end[1] > begin[1];
+      const beside = track.points[0][0] + 20;
+      return Object.assign(line, {queue: [beside, begin[1] + (down ? 4 : -16)], falls: begin[1],
+        lies: [beside + 4, begin[1] + (down ? 24 : -24)]});
+    }
+    const middle = begin[1] - y;
+    return Object.assign(line, {queue: [begin[0] + 4 * line.sign, middle + (right ? UPPER_QUEUE : LOWER_QUEUE)],
+      falls: middle + (right ? UPPER_QUEUE : LOWER_QUEUE) + BOX.tall / 2, lies: [begin[0] + 12 * line.sign, middle + DROPPED]});
+  }
+
+  // The point at a part of a link's way.
+  pointAt(l, part) {
+    const {points, lengths, length} = this.lines[l];
+    let rest = part * length, k = 1;
+    while (k < points.length - 1 && rest > lengths[k]) rest -= lengths[k++];
+    const share = lengths[k] ? Math.min(1, rest / lengths[k]) : 0, [x, y] = points[k - 1], [u, v] = points[k];
+    return [x + (u - x) * share, y + (v - y) * share];
   }
 
   drawLinks() {
     const groups = this.world.selectAll('g.link').data(this.facts.links).enter().append('g').attr('class', 'link')
-      .attr('data-link', (_, l) => l);
-    groups.append('line').attr('x1', (_, l) => this.lines[l].from.x).attr('y1', (_, l) => this.lines[l].from.y)
-      .attr('x2', (_, l) => this.lines[l].to.x).attr('y2', (_, l) => this.lines[l].to.y);
-    const twin = l => this.facts.links.findIndex((other, m) => m !== l && other.from === this.facts.links[l].to &&
-      other.to === this.facts.links[l].from && other.rate === this.facts.links[l].rate && other.delay === this.facts.links[l].delay);
-    const named = groups.filter((_, l) => twin(l) < 0 || twin(l) > l);     // one label where both directions are alike
-    named.append('text').attr('class', 'rate').attr('transform', link => {
-      const l = this.facts.links.indexOf(link);
-      const {from, to, along, out} = this.lines[l], turn = Math.atan2(along.y, along.x) * 180 / Math.PI;
-      const upright = Math.abs(turn) > 90.01 ? turn + 180 : turn, ends = n => this.facts.nodes[n].kind !== 'router';
-      const part = ends(link.from) === ends(link.to) ? 0.55 : ends(link.from) ? 0.34 : 0.66;
-      return `translate(${from.x + (to.x - from.x) * part + out.x * 14},${from.y + (to.y - from.y) * part + out.y * 14}) rotate(${upright})`;
-    }).attr('dy', '.35em').text(link => {
-        const other = twin(this.facts.links.indexOf(link));
-        return `${link.name}${other < 0 ? '' : ', ' + this.facts.links[other].name}: ${rateText(link.rate)}, ${milliseconds(link.delay)}`;
-      });
+      .attr('data-link', (_, l) => l).attr('data-way', (_, l) => this.lines[l].points.map(point => point.join(',')).join(' '));
+    groups.append('polyline').attr('points', (_, l) => this.lines[l].whole.map(point => point.join(',')).join(' '));
     this.groups = groups[0];
+    for (const track of this.tracks) {
+      const [from, to] = track.points, group = d3.select(this.groups[track.links[0]]);
+      const [x, y] = track.inside ? [from[0] + 20, (from[1] + to[1]) / 2 + 4] : [(from[0] + to[0]) / 2, from[1] + NAME];
+      track.name.forEach((line, k) => group.append('text').attr('class', 'rate').attr('x', x)
+        .attr('y', y - (track.name.length - 1 - k) * MORE_NAME)
+        .attr('text-anchor', track.inside ? 'start' : 'middle').text(line));
+    }
     this.queues = this.facts.links.map((link, l) => this.drawQueue(this.groups[l], link, l));
   }
 
-  // A queue's stack stands on the outer side of its link's beginning.
+  // A queue's boxes stand beside its link's beginning, the head next to the node.
   drawQueue(group, link, l) {
-    const {from, along, out} = this.lines[l], turn = Math.atan2(along.y, along.x) * 180 / Math.PI;
+    const {queue: [x, y], sign, most} = this.lines[l];
     const queue = d3.select(group).append('g').attr('class', 'queue').attr('data-link', l)
-      .attr('data-limit', link.limit)
-      .attr('transform', `translate(${from.x + along.x * 16 + out.x * 5},${from.y + along.y * 16 + out.y * 5}) rotate(${turn})`);
-    const boxes = d3.range(MOST_BOXES).map(k => queue.append('rect').attr('class', 'box').attr('x', -7).attr('y', -5 * k - 4)
-      .attr('width', 14).attr('height', 4).attr('display', 'none').node());
+      .attr('data-limit', link.limit).attr('data-most', most).attr('transform', `translate(${x},${y})`);
     queue.append('title').text(`the queue of ${link.name}, at most ${link.limit} packets`);
-    const text = queue.append('text').attr('class', 'count').attr('transform', `rotate(${-turn})`).text('-').node();
+    const text = queue.append('text').attr('class', 'count').attr('y', BOX.tall - 1.8)
+      .attr('text-anchor', sign > 0 ? 'start' : 'end').text('-').node();
     queue.on('click', () => this.show({link: l}));
-    return {group: queue.node(), boxes, text, head: -1, tail: -1, turn, shown: -1};
+    return {group: queue.node(), boxes: [], text, head: -1, tail: -1, shown: -1};
+  }
+
+  // The k-th box of a link's queue, with the number of its packet's flow.
+  boxAt(l, k) {
+    const {boxes, group} = this.queues[l];
+    while (boxes.length <= k) {
+      const x = this.lines[l].sign > 0 ? BOX.step * boxes.length : -BOX.step * boxes.length - BOX.wide;
+      const box = d3.select(group).append('g').attr('class', 'box').attr('transform', `translate(${x},0)`);
+      box.append('rect').attr('width', BOX.wide).attr('height', BOX.tall);
+      box.append('text').attr('x', BOX.wide / 2).attr('y', BOX.tall - 3).text('');
+      boxes.push(box.node());
+    }
+    return boxes[k];
   }
 
   drawNodes() {
@@ -134,11 +123,11 @@ class Net {
       .attr('transform', (_, n) => `translate(${this.places[n].x},${this.places[n].y})`)
       .on('click', (_, n) => this.show({node: n}))
       .on('keydown', (_, n) => { if (d3.event.key === 'Enter') this.show({node: n}); });
-    groups.filter(node => node.kind === 'router').append('circle').attr('r', 19);
-    groups.filter(node => node.kind !== 'router').append('rect').attr('x', -26).attr('y', -15)
-      .attr('width', 52).attr('height', 30).attr('rx', 4);
-    groups.append('text').attr('dy', '-.1em').text(node => node.name);
-    groups.append('text').attr('class', 'kind').attr('dy', '1em').text(node => node.kind);
+    groups.append('rect').attr('x', (_, n) => -this.places[n].wide / 2).attr('width', (_, n) => this.places[n].wide)
+      .attr('y', (_, n) => this.places[n].top - this.places[n].y).attr('height', (_, n) => this.places[n].bottom - this.places[n].top)
+      .attr('rx', node => node.kind === 'router' ? 16 : 4);
+    groups.append('text').attr('class', 'name').attr('y', -1.5).text(node => node.name);
+    groups.append('text').attr('class', 'kind').attr('y', 12).text(node => node.kind);
     this.nodes = groups[0];
     this.nodes.forEach((node, n) => {
       const flow = this.record.endOf[n];
@@ -163,16 +152,22 @@ class Net {
     if (group.dataset.sent !== String(now.sent)) group.dataset.sent = now.sent;
     if (queue.head === now.head && queue.tail === now.tail) return;
     queue.head = now.head; queue.tail = now.tail;
-    const words = [], shown = Math.min(now.length, MOST_BOXES);
-    for (let k = 0; k < MOST_BOXES; k++) {
-      const box = queue.boxes[k];
+    const words = [], most = this.lines[l].most, shown = Math.min(now.length, most);
+    for (let k = 0; k < Math.max(shown, queue.boxes.length); k++) {
+      const box = this.boxAt(l, k);
       if (k < shown) {
-        const packet = this.record.packet(l, now.head + k);
-        const word = waitingWord(packet), look = `box ${packet.sort === DATA ? 'data' : 'ack'}${packet.again ? ' again' : ''}`;
-        if (box.getAttribute('fill') !== colourOf(packet.flow)) box.setAttribute('fill', colourOf(packet.flow));
+        const packet = this.record.packet(l, now.head + k), word = waitingWord(packet);
+        if (box.dataset.packet === word) { words.push(word); continue; }
+        const look = `box ${packet.sort === DATA ? 'data' : 'ack'}${packet.again ? ' again' : ''}`;
+        if (box.flow !== packet.flow) {
+          box.flow = packet.flow;
+          box.firstChild.setAttribute('fill', colourOf(packet.flow));
+          box.lastChild.textContent = packet.flow;
+          box.lastChild.style.fill = inkOf(packet.flow);
+        }
         if (box.getAttribute('class') !== look) box.setAttribute('class', look);
         if (box.hasAttribute('display')) box.removeAttribute('display');
-        box.setAttribute('data-packet', word);
+        box.dataset.packet = word;
         words.push(word);
       } else if (box.hasAttribute('data-packet')) { box.setAttribute('display', 'none'); box.removeAttribute('data-packet'); }
     }
@@ -181,14 +176,12 @@ class Net {
     queue.text.firstChild.data = `${number(now.length)}/${number(this.facts.links[l].limit)}`;
     if (shown === queue.shown) return;
     queue.shown = shown;
-    const up = -5 * shown - 5, turn = queue.turn * Math.PI / 180;
-    queue.text.setAttribute('x', -up * Math.sin(turn));
-    queue.text.setAttribute('y', up * Math.cos(turn) + (Math.cos(turn) < -0.1 ? 8 : 0));
+    queue.text.setAttribute('x', this.lines[l].sign * (BOX.step * shown + 4));
     queue.text.setAttribute('class', now.length ? 'count' : this.everUsed[l] ? 'count idle' : 'count idle never');
   }
 
   drawUnderWay(l, time) {
-    const now = this.record.link(l), track = this.record.tracks[l], {from, to} = this.lines[l];
+    const now = this.record.link(l), track = this.record.tracks[l];
     const many = now.endUnderWay - now.firstUnderWay, step = Math.ceil(many / MOST_ON_A_LINK) || 1;
     if (this.groups[l].dataset.underWay !== String(many)) this.groups[l].dataset.underWay = many;
     for (let k = now.firstUnderWay; k < now.endUnderWay; k += 1) {
@@ -198,7 +191,7 @@ class Net {
       if (!packet) { packet = this.newPacket(l, k); this.drawn.set(key, packet); }
       packet.seen = this.stamp;
       const part = Math.min(1, Math.max(0, (time - track.begun[k]) / (track.arrives[k] - track.begun[k])));
-      const x = from.x + (to.x - from.x) * part, y = from.y + (to.y - from.y) * part;
+      const [x, y] = this.pointAt(l, part);
       packet.element.setAttribute('transform', `translate(${x.toFixed(2)},${y.toFixed(2)})`);
       packet.element.setAttribute('data-place', part.toFixed(6));
     }
@@ -225,10 +218,12 @@ class Net {
     };
     const group = make('g', {class: `packet ${packet.sort === DATA ? 'data' : 'ack'}`}), fill = colourOf(packet.flow);
     make('title', {}, group).textContent = packetName(this.facts, packet) + (packet.again ? ', sent again' : '');
-    if (packet.again) make('circle', {r: 11, class: 'ring'}, group);
+    if (packet.again) make('circle', {r: 9.5, class: 'ring'}, group);
     if (packet.sort === DATA) make('rect', {x: -6.5, y: -6.5, width: 13, height: 13, fill}, group);
     else make('circle', {r: 5.5, fill, class: 'disc'}, group);
-    make('text', {dy: '.35em'}, group).textContent = packet.flow;
+    const text = make('text', {dy: '.35em'}, group);
+    text.textContent = packet.flow;
+    text.style.fill = inkOf(packet.flow);
     return group;
   }
 
@@ -250,22 +245,34 @@ class Net {
     const seen = new Map();
     for (; k >= 0 && (drops[k].event === at || (time - drops[k].time < fall && seen.size < MOST_FALLING)); k--) seen.set(k, drops[k]);
     for (const [key, element] of this.fallen) if (!seen.has(key)) { element.remove(); this.fallen.delete(key); }
+    if (!seen.size) return;
+    const alike = d3.nest().key(drop => `${drop.event} ${drop.link}`).map([...seen.values()], d3.map), newest = new Map();
     for (const key of [...seen.keys()].reverse()) {
-      const drop = seen.get(key), {from, along, out} = this.lines[drop.link];
-      const rank = last && last.link === drop.link && last.event === drop.event ? last.rank + 1 : 0;
-      last = {link: drop.link, event: drop.event, rank};
-      if (!this.fallen.has(key)) this.fallen.set(key, this.falling.appendChild(this.dropShape(drop, rank)));
-      const part = fall > 0 ? Math.min(1, (time - drop.time) / fall) : 0;
-      this.fallen.get(key).setAttribute('transform', `translate(${(from.x + along.x * (16 + 17 * rank) + out.x * 4).toFixed(1)},` +
-        `${Math.min(TALL - 6, from.y + 20 + part * 90).toFixed(1)})`);
+      const drop = seen.get(key), {falls, lies, sign} = this.lines[drop.link];
+      const group = alike.get(`${drop.event} ${drop.link}`);
+      const rank = group.length - 1 - group.indexOf(drop);
+      if (!this.fallen.has(key)) this.fallen.set(key, this.falling.appendChild(this.dropShape(drop, rank, group.length, sign)));
+      const part = fall > 0 ? Math.min(1, 2 * (time - drop.time) / fall) : 1;
+      const x = lies[0] + sign * DECK * Math.min(rank, MOST_IN_A_DECK), y = falls + (lies[1] - falls) * part;
+      this.fallen.get(key).setAttribute('transform', `translate(${x.toFixed(1)},${y.toFixed(1)})`);
+      newest.set(drop.link, drop.event);
+      this.fallen.get(key).lies = part === 1;
     }
+    // Only the newest of a link have their words, and where they lie, so that words do not cross others.
+    for (const [key, element] of this.fallen)
+      element.classList.toggle('silent', !element.lies || seen.get(key).event !== newest.get(seen.get(key).link));
   }
-  dropShape(drop, rank) {
-    const group = this.shape(drop), reason = group.querySelector('text');
+  // Drops of one event at one link lie as a deck; the last has the words of all.
+  dropShape(drop, rank, count, sign) {
+    const group = this.shape(drop);
     group.setAttribute('class', 'drop');
-    Object.assign(group.dataset, {link: drop.link, flow: drop.flow, number: drop.number, reason: drop.reason, event: drop.event});
-    reason.textContent = `✕ ${drop.reason} ${drop.flow}:${drop.number}`;
-    reason.setAttribute('x', 10); reason.setAttribute('y', 12 * rank);
+    group.querySelector('text').style.fill = '#fff';
+    Object.assign(group.dataset, {link: drop.link, flow: drop.flow, number: drop.number, reason: drop.reason,
+      event: drop.event, count});
+    if (rank === count - 1)
+      d3.select(group).append('text').attr('class', 'reason').attr('x', 13 * sign).attr('y', 4)
+        .attr('text-anchor', sign > 0 ? 'start' : 'end')
+        .text(`\u2715 ${drop.reason} ${drop.flow}:${drop.number}${count > 1 ? ` +${count - 1}` : ''}`);
     group.addEventListener('click', () => this.show({event: drop.event}));
     return group;
   }

@@ -1,13 +1,24 @@
 'use strict';
 // The page: the present moment, the keys, the address, and what is shown of it.
 
+// How many rows a line takes that is wrapped between its words.
+function rowsOf(line, letters) {
+  let rows = 1, room = letters;
+  for (const {length} of line.split(' ')) {
+    if (length > room && room < letters) { rows += 1; room = letters; }
+    for (; room < length; room += letters) rows += 1;
+    room -= length + 1;
+  }
+  return rows;
+}
+
 class Page {
   constructor(record) {
     Object.assign(this, {record, facts: record.facts, time: record.times[0], playing: false, picked: null, frames: 0});
     this.makeTicks();
     this.net = new Net(d3.select('#net'), record, what => this.pick(what));
-    this.windows = new Chart(d3.select('#windows'), record, 'cwnd (thick), ssthresh (thin)', 'bytes', time => this.goTo(time));
-    this.lengths = new Chart(d3.select('#lengths'), record, 'packets that wait', 'packets', time => this.goTo(time));
+    this.windows = new Chart(d3.select('#windows'), record, 'cwnd (thick), ssthresh (thin; along the top where it is higher)', 'bytes', time => this.goTo(time));
+    this.lengths = new Chart(d3.select('#lengths'), record, 'packets that wait', '', time => this.goTo(time));
     this.drawFlows(); this.drawLinks(); this.makeLines(); this.makeControls();
     this.fromAddress();
     window.addEventListener('hashchange', () => this.fromAddress());
@@ -64,7 +75,10 @@ class Page {
 
   makeLines() {
     this.list = document.getElementById('lines');
-    const measure = () => { this.fit = Math.min(41, Math.max(3, Math.floor((this.list.clientHeight - 4) / 16))); };
+    const measure = () => {
+      this.fit = Math.min(41, Math.max(3, Math.floor((this.list.clientHeight - 4) / 16)));
+      this.letters = Math.floor((this.list.clientWidth - 14) / textWidth('0', getComputedStyle(this.list).font));
+    };
     measure();
     window.addEventListener('resize', () => { measure(); this.windows.resize(); this.lengths.resize(); this.show(); });
     this.rows = d3.range(41).map(() => {
@@ -74,15 +88,25 @@ class Page {
       return this.list.appendChild(row);
     });
   }
+  // As many lines around the present one as there is room for, each whole.
   drawLines() {
-    const fit = this.fit, record = this.record;
-    const before = Math.floor(fit / 2);
-    let begin = Math.min(record.at - before, record.last - fit + 1);
-    begin = Math.max(begin, record.first + 1);
+    const record = this.record, rows = event => rowsOf(record.line(event), this.letters);
+    let begin = record.at, end = record.at - 1, room = this.fit;
+    const add = event => {
+      if (event <= record.first || event > record.last || rows(event) > room) return false;
+      room -= rows(event);
+      return true;
+    };
+    if (record.at > record.first) { end = record.at; room -= rows(record.at); } else begin = record.at + 1;
+    for (let more = true; more;) {
+      more = false;
+      if (add(begin - 1)) { begin -= 1; more = true; }
+      if (add(end + 1)) { end += 1; more = true; }
+    }
     this.rows.forEach((row, i) => {
-      const event = begin + i, shown = i < fit && event <= record.last;
+      const event = begin + i, shown = event <= end;
       if (row.hidden === shown) row.hidden = !shown;
-      if (!shown) { row.removeAttribute('data-event'); return; }
+      if (!shown) { row.removeAttribute('data-event'); row.className = ''; return; }
       const line = record.line(event);
       if (row.dataset.event !== String(event)) { row.textContent = line; row.dataset.event = event; }
       const look = (event === record.at ? 'present' : '') + (line.includes(' drop=') ? ' dropping' : '');
@@ -103,19 +127,31 @@ class Page {
     box.textContent = '';
     const rows = what.packet ? this.packetRows(what) : what.node !== undefined ? this.nodeRows(what.node) :
       what.link !== undefined ? this.linkRows(what.link) : this.lineRows(what.event);
+    const code = text => { const made = document.createElement('code'); made.textContent = text; return made; };
     const table = document.createElement('table');
     for (const [word, means, section] of rows) {
       const row = table.insertRow();
-      for (const text of [word, means, section]) row.insertCell().textContent = text;
+      if (section === undefined) {        // the words that a line begins with
+        const cell = row.insertCell();
+        cell.colSpan = 3; cell.className = 'first';
+        cell.append(code(word), ` ${means}`);
+        continue;
+      }
+      row.insertCell().textContent = word;
+      row.insertCell().textContent = means;
+      if (!section) { row.lastChild.colSpan = 2; continue; }
+      const cell = row.insertCell();
+      section.split(', ').forEach((one, k) => {
+        const name = document.createElement('span');
+        name.textContent = one;
+        cell.append(k ? ', ' : '', name);
+      });
     }
     const event = what.event !== undefined ? what.event : this.record.at;
     const commands = document.createElement('p');
-    commands.append('In tcpsim debug, from the start: ');
-    const code = text => { const made = document.createElement('code'); made.textContent = text; return made; };
-    commands.append(code(`step ${event}`), ' goes to just after this event');
     const moment = this.record.timeOf(Math.min(this.record.last, Math.max(this.record.first, event)));
-    commands.append('; ', code(`until ${moment}`), ' to just before the first of its moment.');
-    commands.style.margin = '2px 0';
+    commands.append('tcpsim debug: ', code(`step ${event}`), ' to just after it, ', code(`until ${moment}`),
+      ' to before its moment');
     box.append(commands, table);
     box.dataset.event = event;
   }
@@ -230,7 +266,8 @@ class Page {
     this.jump(way > 0 ? d3.min(events) : d3.max(events));
     if (what === 'stall') {
       const stalls = this.record.stalls.filter(stall => stall.event === this.record.at);
-      this.say(stalls.map(stall => `${this.facts.flows[stall.flow].name}: no new acknowledgement for ${seconds(stall.to - stall.from)}`).join('; '));
+      this.say(stalls.map(stall => `${this.facts.flows[stall.flow].name}: no new acknowledgement for ${seconds(stall.to - stall.from)}`).join('; ') +
+        ' (scripts/stalls.py says why)');
     }
   }
   say(words) { document.getElementById('notice').textContent = words; }

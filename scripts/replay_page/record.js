@@ -38,7 +38,8 @@ class Record {
     this.slots = []; this.values = [];
     this.drops = [];          // {event, time, link, flow, sort, number, reason, again}
     this.timeouts = [];       // event numbers
-    this.acknowledged = facts.flows.map(() => []);   // [event, time] where una rose
+    // [event, time] of each flow's start and of each rise of una; without an event where that is before the page.
+    this.moved = facts.base.flows.map(flow => flow.since === null ? [] : [[null, flow.since]]);
     this.snapshots = [];
     this.hops = new Map();
     facts.ways.forEach((ways, flow) => ways.forEach((way, sort) => way.forEach(link =>
@@ -130,7 +131,7 @@ class Record {
       for (let no = Math.max(of(NXT), ack); no < nxt; no += flow.mss) numbers.push(no);
       if (kind === 'ack') dups = ack > of(UNA) ? 0 : ack === of(UNA) && of(UNA) < of(NXT) ? dups + 1 : dups;
     }
-    if (una > of(UNA)) this.acknowledged[f].push([this.now.event, this.now.time]);
+    if (una > of(UNA) || kind === 'start') this.moved[f].push([this.now.event, this.now.time]);
     const high = of(HIGH);
     const link = this.hops.get(this.hopKey(flow.sender, f, DATA));
     this.offer(link, numbers, f, DATA, words, at + 5, null, high);
@@ -210,22 +211,19 @@ class Record {
     }
   }
 
-  // Spans of a flow without a new acknowledgement that are longer than this.
+  // Spans of a flow without a new acknowledgement that are longer than this, by the rule of stalls.py: from
+  // the flow's start or a new acknowledgement to the next one, or to the run's end while bytes are left.
   findStalls(longer = 2e8) {
     this.stalls = [];
-    const end = this.times[this.count];
+    const end = this.facts.whole ? this.facts.end : this.times[this.count];
     this.facts.flows.forEach((flow, f) => {
-      const begin = Math.max(flow.start, this.times[0]);
-      let from = [this.eventsBefore(begin + 1), begin];
-      const whole = flow.mss * flow.segments;
-      const rises = this.acknowledged[f], done = this.row[this.ofFlow(f, UNA)] >= whole;
-      for (const rise of rises) {
-        if (rise[1] - from[1] > longer) this.stalls.push({flow: f, event: from[0], from: from[1], to: rise[1]});
-        from = rise;
-      }
-      if (!done && end - from[1] > longer) this.stalls.push({flow: f, event: from[0], from: from[1], to: end});
+      const moved = this.moved[f], open = this.row[this.ofFlow(f, UNA)] < flow.mss * flow.segments;
+      moved.forEach(([event, from], k) => {
+        const to = k + 1 < moved.length ? moved[k + 1][1] : open ? end : from;
+        if (event !== null && to - from > longer) this.stalls.push({flow: f, event, from, to});
+      });
     });
-    this.stalls.sort((a, b) => a.from - b.from || a.flow - b.flow);
+    this.stalls.sort((a, b) => a.event - b.event);
   }
 
   // How many events, counted from the run's first, lie before a moment: where `until T` stops.

@@ -2,20 +2,20 @@
 // What a line, a packet and a node say, in words, and the debugger's commands that go there.
 
 const KINDS = {
-  start: ['the flow starts', 'initial window: RFC 5681 section 3.1'],
-  rto: ['the retransmission timer ends: the segment at una is sent again, cwnd is one segment, rto doubles',
+  start: ['it starts, with the initial window', 'RFC 5681 section 3.1'],
+  rto: ['the retransmission timer ends: cwnd is one segment, rto doubles',
     'RFC 6298 section 5, RFC 5681 section 3.1'],
   delack: ['the receiver\'s alarm for its waiting answer: the next byte is acknowledged', 'RFC 5681 section 4.2'],
-  free: ['a link becomes free and takes the next packet of its queue, if one waits', ''],
-  data: ['a segment is at its link\'s end', ''],
-  ack: ['an acknowledgement is at its link\'s end', ''],
+  free: ['it becomes free, and takes the next packet of its queue if one waits', ''],
+  data: ['a segment arrives', ''],
+  ack: ['an acknowledgement arrives', ''],
 };
 const PHASES = {ss: ['slow start: cwnd is below ssthresh', 'RFC 5681 section 3.1'],
-  ca: ['congestion avoidance: cwnd has reached ssthresh', 'RFC 5681 section 3.1'],
+  ca: ['congestion avoidance: cwnd reached ssthresh', 'RFC 5681 section 3.1'],
   fr: ['fast recovery: a segment was sent again after three duplicates', 'RFC 5681 section 3.2']};
-const REASONS = {lost: ['lost, as the scenario\'s `lose` says', ''],
-  full: ['full: the queue held its limit', ''],
-  codel: ['dropped by CoDel at the queue\'s head: packets waited too long for an interval', 'RFC 8289 section 5']};
+const REASONS = {lost: [', as the scenario\'s `lose` says', ''],
+  full: [': the queue held its limit', ''],
+  codel: [' by CoDel at the queue\'s head: packets waited too long for an interval', 'RFC 8289 section 5']};
 
 function seconds(ns, digits = 6) { return (ns / 1e9).toFixed(digits) + ' s'; }
 function milliseconds(ns) { return +(ns / 1e6).toPrecision(6) + ' ms'; }
@@ -45,21 +45,21 @@ function rowOf(ack, before) {
 // A line's words: [what stands there, what it means, its RFC section].
 function explainLine(facts, line, before) {
   const words = line.split(' '), [n, time, node, source, count, kind, name] = words, at = facts.nodes[node];
-  const out = [[n, `event ${number(+n)} of the run`, ''],
-    [time, `at ${seconds(+time, 9)}`, ''], [node, `at node ${at.name}, a ${at.kind}`, ''],
-    [`${source} ${count}`, +source ? `arrival over link ${facts.links[source - 1].name}, its packet ${number(+count)}` :
-      `alarm ${count} of the node: ${['start', 'rto', 'delack'][count] || 'port ' + (count - 3) + ' becomes free'}`, '']];
+  const from = +source ? `packet ${number(+count)} of link ${facts.links[source - 1].name}` :
+    ['its start', 'its timer', 'its alarm'][count] || `its port ${count - 3}`;
   const arrival = kind === 'data' || kind === 'ack';
-  const what = kind === 'free' ? `link ${facts.links[name].name}` : `flow ${facts.flows[name].name}`;
-  out.push([arrival ? `${kind} ${name} ${words[7]}` : `${kind} ${name}`, `${KINDS[kind][0]}; ${what}`, KINDS[kind][1]]);
-  if (kind === 'ack' && at.kind === 'sender') out.push([words[7], ...rowOf(+words[7], before)]);
+  const out = [[words.slice(0, 5).join(' '),
+    `event ${number(+n)} at ${seconds(+time, 9)}, ${at.kind} ${at.name}, from ${from}`]];
+  const does = kind === 'ack' && at.kind === 'sender' ? rowOf(+words[7], before) : KINDS[kind];
+  const whose = kind === 'free' ? `link ${facts.links[name].name}` : `flow ${facts.flows[name].name}`;
+  out.push([words.slice(5, arrival ? 8 : 7).join(' '), `${whose}: ${does[0]}`, does[1]]);
   for (const word of words.slice(arrival ? 8 : 7)) out.push(explainWord(facts, word));
   return out;
 }
 
 function explainWord(facts, word) {
   const [key, value] = word.split('=');
-  const plain = {una: ['the first byte that is not acknowledged', 'RFC 5681 section 2'],
+  const plain = {una: ['the first byte not acknowledged', 'RFC 5681 section 2'],
     nxt: ['the next byte to send', ''],
     cwnd: ['congestion window, bytes', 'RFC 5681 section 2'], ssthresh: ['slow start threshold, bytes', 'RFC 5681 section 3.1'],
     next: ['the next byte that the receiver waits for', 'RFC 5681 section 4.2']}[key];
@@ -68,6 +68,6 @@ function explainWord(facts, word) {
   const parts = value.split(':');
   if (key === 'tx') return [word, `link ${facts.links[parts[0]].name} begins to send number ${number(+parts[2])} of flow ` +
     facts.flows[parts[1]].name, ''];
-  return [word, `number ${number(+parts[2])} of flow ${facts.flows[parts[1]].name} is dropped, ${REASONS[parts[0]][0]}`,
+  return [word, `number ${number(+parts[2])} of flow ${facts.flows[parts[1]].name} is dropped${REASONS[parts[0]][0]}`,
     REASONS[parts[0]][1]];
 }

@@ -1,0 +1,256 @@
+'use strict';
+// Where everything of the net stands. Nodes stand in columns by their distance from the senders, links are
+// level where they can be: a node is as tall as its links need. A link with its way back is a track. From
+// above a track has its name, the queue of the link to the right, the two lines on which packets move, the
+// queue of the link to the left, and a line for what was dropped; no two tracks in a column share these.
+
+const ROW = 94, MORE_NAME = 14;         // the height of a track, and what a name in two lines adds
+const BESIDE = 7;                       // from a track's middle to each of its lines
+const LEAST_LENGTH = 250, MOST_NAME = 240, EDGE = 8, MOST_SCALE = 1.6;
+const END_TALL = 36, ROUTER_BEYOND = 24;
+
+function textWidth(text, font) {
+  const canvas = textWidth.canvas || (textWidth.canvas = document.createElement('canvas').getContext('2d'));
+  canvas.font = font;
+  return canvas.measureText(text).width;
+}
+
+// The column of each node: one more than that of the node before it on a flow's way of data, or behind it
+// on a way of acknowledgements. A link that would lead back to an earlier node counts for nothing.
+function columnsOf(facts) {
+  const next = facts.nodes.map(() => new Set());
+  const reaches = (from, to) => from === to || [...next[from]].some(n => reaches(n, to));
+  const add = (from, to) => { if (!next[from].has(to) && !reaches(to, from)) next[from].add(to); };
+  for (const [way] of facts.ways) for (const l of way) add(facts.links[l].from, facts.links[l].to);
+  for (const [, way] of facts.ways) for (const l of way) add(facts.links[l].to, facts.links[l].from);
+  const column = facts.nodes.map(() => 0);
+  for (let round = 0; round < facts.nodes.length; round++) {
+    let moved = false;
+    next.forEach((after, node) => after.forEach(n => {
+      if (column[n] < column[node] + 1) { column[n] = column[node] + 1; moved = true; }
+    }));
+    if (!moved) break;
+  }
+  const used = new Set(facts.flows.flatMap(f => [f.sender, f.receiver]).concat(
+    facts.ways.flat(2).flatMap(l => [facts.links[l].from, facts.links[l].to])));
+  facts.nodes.forEach((node, n) => { if (!used.has(n)) column[n] = 1; });
+  return column;
+}
+
+// Each link with the first one that leads back. `right` is the link that leads to a later column.
+function tracksOf(facts, column) {
+  const tracks = [], taken = new Set();
+  facts.links.forEach((link, l) => {
+    if (taken.has(l)) return;
+    const back = facts.links.findIndex((other, m) => m > l && !taken.has(m) && other.from === link.to && other.to === link.from);
+    if (back >= 0) taken.add(back);
+    const leads = column[link.from] < column[link.to] || column[link.from] === column[link.to] && link.from < link.to;
+    const [a, b] = leads ? [link.from, link.to] : [link.to, link.from];
+    tracks.push({a, b, links: back < 0 ? [l] : [l, back], right: leads ? l : back, left: leads ? back : l,
+      inside: column[a] === column[b]});
+  });
+  return tracks;
+}
+
+// A track's name: its links, their rates and delays, once where both directions are alike.
+function nameOf(facts, track) {
+  const [link, back] = track.links.map(l => facts.links[l]), of = l => `${rateText(l.rate)}, ${milliseconds(l.delay)}`;
+  if (!back) return [`${link.name}:`, of(link)];
+  if (link.rate === back.rate && link.delay === back.delay) return [`${link.name}, ${back.name}:`, of(link)];
+  return [`${link.name}: ${of(link)};`, `${back.name}: ${of(back)}`];
+}
+
+// Values in their order, at least `apart(k)` after the one before and within bounds, as near as can be to
+// those that are wished: neighbours that come too close share their mean.
+function spaced(wishes, apart, low, high) {
+  const offsets = [];
+  wishes.forEach((_, k) => offsets.push(k ? offsets[k - 1] + apart(k) : 0));
+  const pools = [];
+  wishes.forEach((wish, k) => {
+    let pool = {sum: wish - offsets[k], count: 1};
+    while (pools.length && pools[pools.length - 1].sum / pools[pools.length - 1].count > pool.sum / pool.count) {
+      const before = pools.pop();
+      pool = {sum: pool.sum + before.sum, count: pool.count + before.count};
+    }
+    pools.push(pool);
+  });
+  const most = high - offsets[offsets.length - 1];
+  return pools.flatMap(pool => Array(pool.count).fill(Math.min(most, Math.max(low, pool.sum / pool.count))))
+    .map((value, k) => value + offsets[k]);
+}
+
+class Layout {
+  constructor(facts, panelWide, panelTall) {
+    this.facts = facts;
+    this.column = columnsOf(facts);
+    this.tracks = tracksOf(facts, this.column);
+    this.count = Math.max(...this.column) + 1;
+    this.makeItems();
+    this.sort();
+    this.spread();
+    this.findPorts();
+    this.scale(panelWide, panelTall);
+    this.place();
+  }
+
+  // What stands in a column: its nodes, and the tracks that pass it. `height` is in tracks.
+  makeItems() {
+    const {facts, tracks, column} = this;
+    this.columns = Array.from({length: this.count}, () => []);
+    this.ofNode = facts.nodes.map((_, n) => {
+      const beside = side => tracks.filter(t => !t.inside && t[side] === n).length;
+      const item = {node: n, height: Math.max(1, beside('a'), beside('b')), near: [], y: 0};
+      this.columns[column[n]].push(item);
+      return item;
+    });
+    tracks.filter(t => !t.inside).forEach(t => {
+      let before = this.ofNode[t.a];
+      t.passes = [];
+      for (let c = column[t.a] + 1; c <= column[t.b]; c++) {
+        const item = c === column[t.b] ? this.ofNode[t.b] : {track: t, height: 1, near: [], y: 0};
+        if (c < column[t.b]) { this.columns[c].push(item); t.passes.push(item); }
+        before.near.push(item); item.near.push(before);
+        before = item;
+      }
+    });
+    const order = item => {
+      const ends = item.track ? [item.track.a, item.track.b] : [item.node];
+      const flows = ends.map(n => facts.flows.findIndex(f => f.sender === n || f.receiver === n)).filter(f => f >= 0);
+      return flows.length ? flows[0] : facts.flows.length / 2 - 0.5;
+    };
+    this.columns.forEach(items => items.forEach(item => { item.order = order(item); }));
+    this.rows = Math.max(...this.columns.map(items => items.reduce((sum, item) => sum + item.height, 0)));
+  }
+
+  stack(items) {
+    let y = (this.rows - items.reduce((sum, item) => sum + item.height, 0)) / 2;
+    for (const item of items) { item.y = y + item.height / 2; y += item.height; }
+  }
+
+  // In a column what is joined to higher neighbours comes first.
+  sort() {
+    this.columns.forEach(items => { items.sort((one, two) => one.order - two.order); this.stack(items); });
+    for (let round = 0; round < 6; round++)
+      this.columns.forEach(items => {
+        for (const item of items) item.mean = item.near.length ? d3.mean(item.near, other => other.y) : item.y;
+        items.sort((one, two) => one.mean - two.mean || one.order - two.order);
+        this.stack(items);
+      });
+  }
+
+  // Each item as near to the middle of its neighbours as the others in its column let it.
+  spread() {
+    const settle = items => {
+      if (!items.length) return;
+      const wishes = items.map(item => item.near.length ? d3.mean(item.near, other => other.y) : item.y);
+      spaced(wishes, k => (items[k - 1].height + items[k].height) / 2, items[0].height / 2,
+        this.rows - items[items.length - 1].height / 2).forEach((y, k) => { items[k].y = y; });
+    };
+    for (let round = 0; round < 12; round++) {
+      this.columns.forEach(settle);
+      [...this.columns].reverse().forEach(settle);
+    }
+  }
+
+  // The height at which each track meets its two nodes: level where both can have it so.
+  findPorts() {
+    const {tracks, ofNode} = this, sides = new Map();
+    const level = tracks.filter(t => !t.inside);
+    for (const t of level) for (const side of ['a', 'b']) {
+      const key = `${side}${t[side]}`;
+      if (!sides.has(key)) sides.set(key, []);
+      sides.get(key).push(t);
+    }
+    const next = (t, side) => side === 'a' ? t.passes[0] || ofNode[t.b] : t.passes[t.passes.length - 1] || ofNode[t.a];
+    for (const [key, ones] of sides) {
+      const side = key[0], item = ofNode[+key.slice(1)];
+      ones.sort((one, two) => next(one, side).y - next(two, side).y || one.links[0] - two.links[0]);
+      ones.forEach((t, k) => { t[side + 'Slot'] = item.y + k - (ones.length - 1) / 2; });
+    }
+    const alone = n => ofNode[n].near.length === 1;
+    for (const t of level) t.wish = alone(t.a) ? t.aSlot : alone(t.b) ? t.bSlot : (t.aSlot + t.bSlot) / 2;
+    for (const [key, ones] of sides)
+      spaced(ones.map(t => t.wish), () => 1, -1e9, 1e9).forEach((y, k) => { ones[k][key[0] + 'Y'] = y; });
+    this.columns.forEach(items => this.keepApart(items, sides));
+  }
+
+  // The span of a node over its ports, in tracks.
+  span(item, sides) {
+    if (item.track) return [item.y, item.y];
+    const ports = ['a', 'b'].flatMap(side => (sides.get(side + item.node) || []).map(t => t[side + 'Y']));
+    return ports.length ? [Math.min(...ports), Math.max(...ports)] : [item.y, item.y];
+  }
+
+  // A node that its ports would stretch into another, or into a track that passes, keeps to its own place.
+  keepApart(items, sides) {
+    for (let k = 0; k < items.length; k++) {
+      const [top, bottom] = this.span(items[k], sides);
+      const above = k ? this.span(items[k - 1], sides)[1] : -1e9;
+      const below = k + 1 < items.length ? this.span(items[k + 1], sides)[0] : 1e9;
+      if (items[k].node !== undefined && (top - above < 1 - 1e-6 || below - bottom < 1 - 1e-6))
+        for (const side of ['a', 'b'])
+          for (const t of sides.get(side + items[k].node) || []) t[side + 'Y'] = t[side + 'Slot'];
+    }
+  }
+
+  // As large as the panel lets it be.
+  scale(panelWide, panelTall) {
+    const {facts, tracks, column} = this, name = '12px sans-serif';
+    let lines = 1, length = LEAST_LENGTH;
+    for (const t of tracks) {
+      const words = nameOf(facts, t), whole = textWidth(words.join(' '), name);
+      t.name = whole <= MOST_NAME ? [words.join(' ')] : words;
+      lines = Math.max(lines, t.name.length);
+      length = Math.max(length, 16 + d3.max(t.name, line => textWidth(line, name)));
+    }
+    this.row = ROW + (lines - 1) * MORE_NAME;
+    this.nodeWide = facts.nodes.map(node =>
+      Math.max(node.kind === 'router' ? 46 : 58, 14 + textWidth(node.name, 'bold 15px sans-serif')));
+    this.columnWide = d3.range(this.count).map(c => d3.max(this.nodeWide.filter((_, n) => column[n] === c)) || 0);
+    const least = d3.sum(this.columnWide) + (this.count - 1) * length + 2 * EDGE;
+    const scale = Math.min(MOST_SCALE, panelTall / (this.rows * this.row), panelWide / least);
+    this.wide = panelWide / scale; this.tall = panelTall / scale;
+    this.gap = this.count > 1 ? (this.wide - 2 * EDGE - d3.sum(this.columnWide)) / (this.count - 1) : 0;
+  }
+
+  place() {
+    const {facts, column, row} = this, above = (this.tall - this.rows * row) / 2 + (row - ROW);
+    // A track's middle is a little below that of its row: there is more above it than below.
+    const down = y => above + y * row + 1;
+    let x = EDGE;
+    const middle = this.columnWide.map(wide => { const at = x + wide / 2; x += wide + this.gap; return at; });
+    const sides = (n, side) => this.tracks.filter(t => !t.inside && t[side] === n).map(t => down(t[side + 'Y']));
+    this.places = facts.nodes.map((node, n) => {
+      const ports = [...sides(n, 'a'), ...sides(n, 'b')], y = down(this.ofNode[n].y);
+      const beyond = node.kind === 'router' ? ROUTER_BEYOND : END_TALL / 2;
+      const top = Math.min(...ports.length ? ports : [y]) - beyond, bottom = Math.max(...ports.length ? ports : [y]) + beyond;
+      const at = this.count > 1 ? middle[column[n]] : this.wide / 2;
+      return {x: at, y: (top + bottom) / 2, top, bottom, wide: this.nodeWide[n], column: column[n]};
+    });
+    for (const t of this.tracks) this.placeTrack(t, down, middle);
+  }
+
+  // The points of a track's middle, from a to b.
+  placeTrack(t, down, middle) {
+    const a = this.places[t.a], b = this.places[t.b];
+    if (t.inside) {
+      const [upper, lower] = a.y < b.y ? [a, b] : [b, a];
+      t.points = [[upper.x, upper.bottom], [lower.x, lower.top]];
+      if (upper !== a) t.points.reverse();
+      return;
+    }
+    const begin = a.x + a.wide / 2, end = b.x - b.wide / 2;
+    const points = [[begin, down(t.aY)]], level = Math.abs(t.aY - t.bY) < 1e-6;
+    const clear = t.passes.every(item => Math.abs(item.y - t.aY) < 0.35);
+    if (!level || !clear)
+      t.passes.forEach((item, k) => {
+        const c = this.column[t.a] + 1 + k, half = this.columnWide[c] / 2 + 12;
+        points.push([middle[c] - half, down(item.y)], [middle[c] + half, down(item.y)]);
+      });
+    const last = points[points.length - 1];
+    if (Math.abs(last[1] - down(t.bY)) > 1e-3)
+      points.push([Math.max(last[0] + 10, end - 60), last[1]], [end - 14, down(t.bY)]);
+    points.push([end, down(t.bY)]);
+    t.points = points;
+  }
+}
