@@ -204,7 +204,8 @@ class WhatIsShown(Folder):
             file.write(f'#!/bin/sh\ntouch {began}\nexec sleep 60\n')
         os.chmod(program, 0o700)
         process = subprocess.Popen([sys.executable, os.path.join(HERE, 'plot.py'), self.hand[0], '--program', program, '-o',
-                                    os.path.join(self.folder.name, 'x.png')], stderr=subprocess.PIPE, start_new_session=True)
+                                    os.path.join(self.folder.name, 'x.png')], stderr=subprocess.PIPE, start_new_session=True,
+                                   preexec_fn=lambda: signal.signal(signal.SIGINT, signal.SIG_DFL))
         until = time.monotonic() + 30
         while not os.path.exists(began) and time.monotonic() < until:
             time.sleep(.05)

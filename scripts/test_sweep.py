@@ -356,7 +356,8 @@ class WrongWords(unittest.TestCase):
         for jobs in '12':
             process = subprocess.Popen([sys.executable, SWEEP, path('hand.txt', BY_HAND), '--set', 'a.queue=droptail:2,3,4',
                                         '-j', jobs, '-o', rows, '--program', program], stdout=subprocess.PIPE,
-                                       stderr=subprocess.PIPE, start_new_session=True)
+                                       stderr=subprocess.PIPE, start_new_session=True,
+                                       preexec_fn=lambda: signal.signal(signal.SIGINT, signal.SIG_DFL))
             process.stderr.readline()       # the progress of the first run
             time.sleep(.1)
             os.killpg(process.pid, signal.SIGINT)
