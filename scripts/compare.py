@@ -237,6 +237,8 @@ def images(pick, args):
         for at in range(len(data) if args.systematic else 0):
             for byte in {0, 1, 2, 3, 255, data[at] + 1 & 255, data[at] - 1 & 255, data[at] ^ 128}:
                 yield ('dis',), data[:at] + bytes((byte,)) + data[at + 1:]
+        yield from ((('dis',), other) for other in (spelling.other_numbers(data) if args.systematic else ()))
+    yield from ((('asm',), data) for data in (spelling.images_at_limits() if args.systematic else ()))
     for _ in range(args.count if args.random else 0):
         scenario = short_scenario(pick)
         data = image.save(scenario)

@@ -5,7 +5,7 @@
 #include <errno.h>
 #include <stdio.h>
 #include <stdlib.h>
-static long count, nth = -1;
+static _Atomic long count, nth = -1;
 static int refused(void) {
   if (nth < 0) { char *text = getenv("REFUSE"); nth = text ? atol(text) : 0; }
   return ++count == nth;

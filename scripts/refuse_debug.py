@@ -1,58 +1,159 @@
 #!/usr/bin/env python3
-"""Refuses each request for memory of a debugging session in turn, with the built program.
+"""Refuses requests for memory of debugging sessions, one in each run, with the built program.
 
-Each refusal has to end with status 4, the note 'no memory' and nothing written, or with status 0
-and the session in which at most one command answered 'refused M' and changed nothing. Run by hand
-after `make run`; it wants a C compiler, `cc`. Usage: scripts/refuse_debug.py [SESSION]
+Each run has to end with status 4, the note 'no memory' and nothing written, or with status 0 and the
+output of the session in which the commands that were answered 'refused M' are not done: that output is
+the model's of scripts/model. A run that takes longer than 10 seconds, ends by a signal or writes another
+byte is a failure. With one worker
+each request is refused once. With more the order of requests is not fixed, so each number up to twice
+the count of a whole run is tried once.
+
+Without a session it tries three of them, without options, by one worker and by two. It says how often
+each answer came, and runs as many at once as there are processors, or as JOBS says. It wants a C
+compiler, `cc`, and goes after `make run`. Usage: scripts/refuse_debug.py [SESSION [OPTION..]]
 """
-import os, subprocess, sys, tempfile
+import collections, concurrent.futures, os, subprocess, sys, tempfile
 top = os.path.dirname(os.path.dirname(os.path.abspath(__file__)))
+sys.path.insert(0, os.path.join(top, 'scripts', 'model'))
+import tcpsim_model  # noqa: E402
 program = os.path.join(top, 'crates/tcpsim/out/tcpsim')
-COMMANDS = 'break kind data\nrun\nrun\nback 1\nuntil 2040000\nbak 1\n'
+COMMANDS = b'break kind data\nrun\nrun\nback 1\nuntil 2040000\nbak 1\n'
+OPTIONS = ([], ['--groups', 'each', '--workers', '1'], ['--groups', 'each', '--workers', '2'])
+# The program ends by `_exit`, which runs no destructor: so requests are counted there.
+COUNT = '''#include "refuse.c"
+#include <sys/syscall.h>
+#include <unistd.h>
+void _exit(int status) {
+  tell();
+  syscall(SYS_exit_group, status);
+  __builtin_unreachable();
+}
+'''
+# A command that changes nothing and is answered with one line.
+NO_COMMAND, ITS_ANSWER, REFUSED = b'refuse\n', b'refused B1\n', b'refused M\n'
+# How the first line of an answer begins; the further lines of a dump begin otherwise.
+FIRST_WORDS = (b'at ', b'break ', b'clear', b'refused ')
 
 
-def session(text, commands, **env):
-    done = subprocess.run([program, 'debug'], input=text + b'---\n' + commands, capture_output=True,
-                          env=dict(os.environ, **env))
+class Failed(Exception):
+    """What a run did that it must not do."""
+
+
+def read(*path):
+    with open(os.path.join(top, *path), 'rb') as file:
+        return file.read()
+
+
+def run(text, commands, options, **more):
+    try:
+        done = subprocess.run([program, 'debug'] + options, input=text + b'---\n' + commands, capture_output=True,
+                              env=dict(os.environ, **more), timeout=10)
+    except subprocess.TimeoutExpired:
+        raise Failed('it takes longer than 10 seconds')
     return done.returncode, done.stdout, done.stderr
 
 
-def main():
-    if len(sys.argv) > 1:
-        text, commands = open(sys.argv[1], 'rb').read().split(b'---\n', 1)
-    else:
-        text = open(os.path.join(top, 'examples/one_segment.txt'), 'rb').read()
-        commands = COMMANDS.encode()
-    lines = commands.splitlines(keepends=True)
-    whole = session(text, commands)[1]
-    # The same with one command refused in its place.
-    allowed = {whole: 'whole'}
-    for at, line in enumerate(lines):
-        other = b''.join(lines[:at] + [b'refuse\n'] + lines[at + 1:])
-        before = session(text, b''.join(lines[:at]))[1]
-        after = session(text, other)[1][len(before):]
-        assert after.startswith(b'refused B1\n')
-        allowed[before + b'refused M\n' + after[len(b'refused B1\n'):]] = 'refused: ' + line.decode().strip()
-    counts = {}
-    unharmed = 0
-    with tempfile.TemporaryDirectory() as work:
-        source, library = os.path.join(top, 'scripts/refuse.c'), os.path.join(work, 'refuse.so')
-        subprocess.run(['cc', '-O1', '-shared', '-fPIC', source, '-o', library, '-ldl'], check=True)
-        request = 0
-        while unharmed < 30:
-            request += 1
-            status, out, note = session(text, commands, REFUSE=str(request), LD_PRELOAD=library)
-            if status == 4 and out == b'' and note == b'no memory\n':
-                what, unharmed = 'no memory', 0
-            elif status == 0 and out in allowed:
-                what = allowed[out]
-                unharmed = unharmed + 1 if what == 'whole' else 0
-            else:
-                print(f'FAILED at request {request}: status {status}, {note!r}\n{out.decode()}')
-                sys.exit(1)
-            counts[what] = counts.get(what, 0) + 1
+def answers_of(out):
+    """The answers, each with its lines."""
+    answers = []
+    for line in out.splitlines(keepends=True):
+        if line.startswith(FIRST_WORDS):
+            answers.append(line)
+        elif answers:
+            answers[-1] += line
+        else:
+            raise Failed('the first line begins no answer')
+    return answers
+
+
+class Session:
+    def __init__(self, text, commands, options):
+        self.text, self.options = text, options
+        self.commands = [line for line in commands.splitlines(keepends=True) if line.split()]
+        self.by_workers = '--workers' in options and options[options.index('--workers') + 1] != '1'
+        self.known = {}
+        self.whole = self.without(())
+
+    def without(self, refused):
+        """The output where these commands are not done, by their places."""
+        if refused not in self.known:
+            lines = [NO_COMMAND if at in refused else line for at, line in enumerate(self.commands)]
+            written = []
+            status, note = tcpsim_model.main(['debug'], self.text + b'---\n' + b''.join(lines), written.append)
+            answers = answers_of(b''.join(written))
+            if (status, note, len(answers)) != (0, '', len(lines)):
+                raise Failed(f'without commands {refused}: status {status}, {note!r}, {len(answers)} answers')
+            if any(answers[at] != ITS_ANSWER for at in refused):
+                raise Failed(f'{NO_COMMAND!r} has another answer than {ITS_ANSWER!r}')
+            self.known[refused] = b''.join(REFUSED if at in refused else it for at, it in enumerate(answers))
+        return self.known[refused]
+
+    def requests(self, library, work):
+        """How many requests a run makes in which none is refused."""
+        path = os.path.join(work, 'requests')
+        status, out, note = run(self.text, b''.join(self.commands), self.options, REQUESTS=path, LD_PRELOAD=library)
+        if (status, out, note) != (0, self.whole, b''):
+            raise Failed(f'with no request refused: status {status}, {note!r}, or another output')
+        return int(read(path))
+
+    def answer(self, request, library):
+        """What comes where a request is refused."""
+        status, out, note = run(self.text, b''.join(self.commands), self.options, REFUSE=str(request),
+                                LD_PRELOAD=library)
+        said = f'request {request}: status {status}, {note!r}\n{out.decode(errors="replace")}'
+        if (status, out, note) == (4, b'', b'no memory\n'):
+            return 'no memory'
+        if (status, note) != (0, b''):
+            raise Failed(said)
+        answers = answers_of(out)
+        refused = tuple(at for at, answer in enumerate(answers) if answer == REFUSED)
+        if len(answers) != len(self.commands) or out != self.without(refused):
+            raise Failed(said)
+        return 'refused: ' + ', '.join(self.commands[at].decode().strip() for at in refused) if refused else 'as always'
+
+
+def tried(name, session, refuse, count, work, pool):
+    """Refuses the requests of a session, and says how often each answer came."""
+    requests = session.requests(count, work)
+    last = 2 * requests if session.by_workers else requests
+    counts = collections.Counter(pool.map(lambda request: session.answer(request, refuse), range(1, last + 1)))
+    how = f'numbers tried: {last}' if session.by_workers else 'each refused'
+    print(f'{" ".join(["debug"] + session.options)} of {name}: {requests} requests, {how}')
     for what in sorted(counts):
-        print(f'{counts[what]:5} {what}')
+        print(f'{counts[what]:7} {what}', flush=True)
+    if set(counts) <= {'as always'}:
+        raise Failed('nothing was refused')
+
+
+def sessions():
+    if len(sys.argv) > 1:
+        yield sys.argv[1], *read(os.path.abspath(sys.argv[1])).split(b'---\n', 1), sys.argv[2:]
+        return
+    texts = [('one_segment', COMMANDS)]
+    for hunt in ('two_timeouts_in_a_row', 'codel_enters_drop_state'):
+        texts.append((hunt, read('examples', hunt + '.commands')))
+    for name, commands in texts:
+        for options in OPTIONS:
+            yield name, read('examples', name + '.txt'), commands, options
+
+
+def main():
+    jobs = int(os.environ.get('JOBS') or os.cpu_count())
+    with tempfile.TemporaryDirectory() as work, concurrent.futures.ThreadPoolExecutor(jobs) as pool:
+        source = os.path.join(work, 'count.c')
+        with open(source, 'w') as file:
+            file.write(COUNT)
+        refuse, count = os.path.join(work, 'refuse.so'), os.path.join(work, 'count.so')
+        for it, library in ((os.path.join(top, 'scripts/refuse.c'), refuse), (source, count)):
+            subprocess.run(['cc', '-O1', '-shared', '-fPIC', '-I', os.path.join(top, 'scripts'), it, '-o', library,
+                            '-ldl'], check=True)
+        for name, text, commands, options in sessions():
+            try:
+                tried(name, Session(text, commands, options), refuse, count, work, pool)
+            except Failed as why:
+                pool.shutdown(cancel_futures=True)
+                print(f'FAILED: {" ".join(["debug"] + options)} of {name}: {why}')
+                sys.exit(1)
 
 
 main()

@@ -1,71 +1,166 @@
 #!/usr/bin/env bash
-# Refuses each request for memory in turn, with the built program on a scenario (the first example,
-# or the file that is named), by the subcommand `run` or the one that is named: every refusal has to
-# end with status 4, the note 'no memory' and a beginning of the trace in whole lines; after `asm` and
-# `dis` with nothing written. scripts/try_shell.sh runs it over some scenarios; by hand it goes after
-# `make run`. With options behind the subcommand, as `--groups each --workers 1`, the lines of whole
-# windows have to be out: of the first example 0, 1, 2, 4 or 5 of them, never 3, as its third and
-# fourth event are in one window. It wants a C compiler, `cc`.
-# Usage: scripts/refuse_memory.sh [SCENARIO [SUBCOMMAND [OPTION..]]]
+# Refuses requests for memory of the built program, one in each run, and looks at how the run ends. It
+# has to end as always, or with status 4 and the note 'no memory'; then `run` wrote a beginning of its
+# trace in whole lines, and every other word nothing. Of the first example in two groups the lines are
+# those of whole windows: 0, 1, 2, 4 or 5 of them, never 3, as its third and fourth event are in one
+# window. With more than one worker the note may be 'no worker' too, since a thread that finds no
+# memory to start with is a worker that could not be started. A run that takes longer than 10 seconds,
+# ends by a signal or writes another byte is a failure. The whole trace is the one beside the scenario,
+# where there is one.
+# With one worker each request is refused once. With more the order of requests is not fixed, so each
+# number up to twice the count of a whole run is tried once.
+# With words behind the scenario it tries these, or `run` where there is none, and says how often each
+# answer came. Without a scenario it tries a table of runs, as many at once as there are processors, or
+# as JOBS says. It wants coreutils and a C compiler, `cc`; by hand it goes after `make run`.
+# Usage: scripts/refuse_memory.sh [SCENARIO [WORD..]]
 set -u
+LC_ALL=C
+export LC_ALL
 top=$(cd "$(dirname "$0")/.." && pwd)
 program=$top/crates/tcpsim/out/tcpsim
-input=${1:-$top/examples/one_segment.txt}
-subcommand=${2:-run}
-if [ $# -gt 2 ]; then options=("${@:3}"); else options=(); fi
-work=$(mktemp -d)
-whole=$work/whole
+first=$top/examples/one_segment.txt
+work=$(mktemp -d) || exit 2
 trap 'rm -rf "$work"' EXIT
-"$program" "$subcommand" "${options[@]}" < "$input" > "$whole" || exit 2
 
+# One library refuses, and the other counts: the program ends by `_exit`, which runs no destructor.
+cat > "$work/count.c" <<'C'
+#include "refuse.c"
+#include <sys/syscall.h>
+#include <unistd.h>
+void _exit(int status) {
+  tell();
+  syscall(SYS_exit_group, status);
+  __builtin_unreachable();
+}
+C
 cc -O1 -shared -fPIC "$top/scripts/refuse.c" -o "$work/refuse.so" -ldl || exit 2
+cc -O1 -shared -fPIC -I "$top/scripts" "$work/count.c" -o "$work/count.so" -ldl || exit 2
 
-refusals=0
-workerless=0
-unharmed=0
-for n in $(seq 1 10000); do
-  REFUSE=$n LD_PRELOAD=$work/refuse.so "$program" "$subcommand" "${options[@]}" < "$input" > "$work/out" 2> "$work/err"
-  status=$?
-  if [ "$status" = 0 ] && cmp -s "$work/out" "$whole"; then
-    unharmed=$((unharmed + 1))
-    # Ten whole runs one after another: no more requests are made.
-    if [ "$unharmed" = 10 ]; then
-      echo "$subcommand: $refusals refusals, each with status 4, its note and a right beginning"
-      [ "$workerless" = 0 ] || echo "in $workerless of them a worker could not be started"
-      exit 0
+# tried INPUT WORD..: refuses the requests of one run, in a folder of its own, and says what came.
+tried() {
+  local input=$1 here said many=0 parted=0 lines=0 before=''
+  local status note whole_status whole_note requests last n answer wrote count refusals=0
+  shift
+  here=$(mktemp -d -p "$work") || return 2
+  said=$*
+  for word in "$@"; do
+    case $before$word in
+      --workers1 | --workers=1) ;;
+      --workers[0-9]* | --workers=*) many=1 ;;
+      --groupsone | --groups=one) ;;
+      --groups?* ) parted=1 ;;
+    esac
+    before=''
+    case $word in --workers | --groups) before=$word ;; esac
+  done
+  REQUESTS=$here/requests LD_PRELOAD=$work/count.so "$program" "$@" < "$input" > "$here/whole" 2> "$here/note"
+  whole_status=$?
+  IFS= read -r -d '' whole_note < "$here/note"
+  requests=$(cat "$here/requests") || return 2
+  if [ "${1-}" = run ] && [ "$whole_status" = 0 ] && [ -e "${input%.txt}.trace" ] && [ "$said" != "run --help" ] &&
+    ! cmp -s "${input%.txt}.trace" "$here/whole"; then
+    echo "$said: with no request refused the output is another than ${input%.txt}.trace"
+    return 1
+  fi
+  last=$requests
+  [ "$many" = 0 ] || last=$((2 * requests))
+  lines=$(wc -l < "$here/whole")
+
+  # failed WHY: says at which request
+  failed() {
+    echo "$said: request $n: $1"
+    echo "status $status, $(wc -l < "$here/out") lines, note: $note"
+    return 1
+  }
+  declare -A answers=()
+  for ((n = 1; n <= last; n++)); do
+    timeout -k 1 10 env REFUSE="$n" LD_PRELOAD="$work/refuse.so" "$program" "$@" \
+      < "$input" > "$here/out" 2> "$here/err"
+    status=$?
+    IFS= read -r -d '' note < "$here/err"
+    if [ "$status" = "$whole_status" ] && [ "$note" = "$whole_note" ] && cmp -s "$here/out" "$here/whole"; then
+      answers[as always]=$((${answers[as always]:-0} + 1))
+      continue
     fi
-    continue
+    case $note in
+      'no memory
+') answer='no memory' ;;
+      'no worker
+') answer='no worker' ;;
+      *) failed 'another note'; return 1 ;;
+    esac
+    [ "$many" = 1 ] || [ "$answer" = 'no memory' ] || { failed 'one worker starts no thread'; return 1; }
+    [ "$status" = 4 ] || { failed 'another status'; return 1; }
+    wrote='nothing'
+    if [ -s "$here/out" ]; then
+      [ "${1-}" = run ] || { failed 'a part was written'; return 1; }
+      head -c "$(stat -c %s "$here/out")" "$here/whole" | cmp -s - "$here/out" ||
+        { failed 'the output is no beginning of the whole one'; return 1; }
+      [ -z "$(tail -c 1 "$here/out")" ] || { failed 'the output ends inside a line'; return 1; }
+      count=$(wc -l < "$here/out")
+      [ "$count" -lt "$lines" ] || { failed 'all was written, and the status is 4'; return 1; }
+      [ "$parted$count" != 13 ] || [ ! "$input" -ef "$first" ] ||
+        { failed 'the output ends inside a window'; return 1; }
+      wrote='whole lines'
+      [ "$lines" -gt 10 ] || wrote="lines: $count"
+    fi
+    answers[$answer, $wrote]=$((${answers[$answer, $wrote]:-0} + 1))
+    refusals=$((refusals + 1))
+  done
+  n=$last
+  [ "$refusals" -gt 0 ] || { failed 'nothing was refused'; return 1; }
+  if [ "$many" = 1 ]; then
+    echo "$said: $requests requests, numbers tried: $last"
+  else
+    echo "$said: $requests requests, each refused"
   fi
-  unharmed=0
-  size=$(stat -c %s "$work/out")
-  note=$(cat "$work/err")
-  # A thread that finds no memory to start with is a worker that could not be started.
-  if [ ${#options[@]} != 0 ] && [ "$note" = 'no worker' ]; then
-    workerless=$((workerless + 1))
-    note='no memory'
-  fi
-  if [ "$status" != 4 ] || [ "$note" != 'no memory' ]; then
-    echo "request $n: status $status, note: $(cat "$work/err")"
-    exit 1
-  fi
-  if ! head -c "$size" "$whole" | cmp -s - "$work/out"; then
-    echo "request $n: the output is no beginning of the whole one"
-    exit 1
-  fi
-  if [ "$subcommand" != run ] && [ "$size" != 0 ]; then
-    echo "request $n: a part was written"
-    exit 1
-  fi
-  if [ "$size" != 0 ] && [ -n "$(tail -c 1 "$work/out")" ]; then
-    echo "request $n: the output ends inside a line"
-    exit 1
-  fi
-  if [ ${#options[@]} != 0 ] && [ "$input" -ef "$top/examples/one_segment.txt" ] &&
-    [ "$(wc -l < "$work/out")" = 3 ]; then
-    echo "request $n: the output ends inside a window"
-    exit 1
-  fi
-  refusals=$((refusals + 1))
+  for answer in "${!answers[@]}"; do
+    printf '%7d %s\n' "${answers[$answer]}" "$answer"
+  done | sort -k 2
+  rm -rf "$here"
+}
+
+if [ $# -gt 0 ]; then
+  input=$1
+  shift
+  [ $# -gt 0 ] || set -- run
+  tried "$input" "$@"
+  exit
+fi
+
+# The image of the first example, with its trace beside it.
+"$program" asm < "$first" > "$work/image" || exit 2
+cp "${first%.txt}.trace" "$work/image.trace" || exit 2
+: > "$work/nothing"
+
+jobs=${JOBS:-$(nproc)}
+rows=0
+# row INPUT WORD..: one of the table, in the background
+row() {
+  while [ "$(jobs -rp | wc -l)" -ge "$jobs" ]; do wait -n; done
+  rows=$((rows + 1))
+  { tried "$@" > "$work/row.$rows" 2>&1 && : > "$work/passed.$rows"; } &
+}
+row "$top/scripts/model/data/two_pairs_in_four_groups.txt" run --groups 0,1,2,3,3 --workers 2
+for workers in 1 2 4; do
+  row "$first" run --groups each --workers "$workers"
 done
-echo "no end after 10000 requests"
-exit 1
+for input in "$first" "$work/image"; do
+  for words in asm dis run; do
+    row "$input" $words
+  done
+done
+for words in '' --help --version 'run --help' 'debug --help' verify '--fast run' 'run run' 'asm --workers 2' \
+  'dis --fast' 'run --workers' 'run --workers 65' 'debug --workers=x' 'run --groups 0,64' 'debug --groups ones'; do
+  row "$first" $words
+done
+for words in 'run --workers 2 --groups each' 'run --groups=0,1 --workers=1' 'debug --workers 2 --groups each'; do
+  row "$work/nothing" $words
+done
+wait
+for number in $(seq 1 "$rows"); do
+  cat "$work/row.$number"
+done
+for number in $(seq 1 "$rows"); do
+  [ -e "$work/passed.$number" ] || exit 1
+done

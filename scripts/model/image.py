@@ -48,6 +48,22 @@ def split(data):
     return header, kinds, cables, read.many(FLOW, flows), read.many(ROUTE, routes), len(data) - read.at
 
 
+def places(data):
+    """Where each number of an image stands, the counts too, and how many bytes it has."""
+    at = HEADER.size
+    yield from ((4, 8), (12, 2), (14, 2), (16, 2), (18, 4))
+    nodes, links, flows, routes = HEADER.unpack_from(data)[2:]
+    records = [(1,)] * nodes
+    for _ in range(links):
+        records.append((2, 2, 8, 8, 1, 2, 8, 8, 2, 1))
+        place = at + sum(map(sum, records))
+        records.append((4,) * data[place - 1])
+    for sizes in records + [(2, 2, 2, 4, 8, 4, 4)] * flows + [(2, 2, 2)] * routes:
+        for size in sizes:
+            yield at, size
+            at += size
+
+
 def strictly_rises(numbers):
     return all(a < b for a, b in zip(numbers, numbers[1:]))
 

@@ -1,5 +1,9 @@
 """Texts for comparing: the spellings of a scenario, texts that are nearly right, and mutations."""
-from scenario import RANGES
+import itertools
+
+import image
+from scenario import (MOST_FLOWS, MOST_LINKS, MOST_LOSSES, MOST_NODES, MOST_ROUTER_LINKS, MOST_ROUTES, RANGES, ROUTER,
+                      Flow, Link, Scenario)
 from text import disassemble, lines_of, words_of
 
 # The words of each statement after the first: what is asked in each place.
@@ -281,6 +285,50 @@ def great():
     yield b'a ' * (most // 2)
     yield SMALL + b' ' * (most - len(SMALL))
     yield b'sim ' + b'9' * (most - 4)
+    yield b'sim 0' + b'9' * (most - 5)
+    yield b'sim' + b' 1' * 1_000_000
+    yield b'a' * most
+    yield b' ' * most
+    yield b'#' * most
+    yield b'\r' * most
+
+
+def other_numbers(data):
+    """An image with each of its numbers in turn at the ends of every range and of its bytes, at the most records
+    of a sort, one past each, and beside what it was."""
+    ends = {value for least, greatest in RANGES.values() for value in (least - 1, least, greatest, greatest + 1)}
+    for most in (MOST_NODES, MOST_LINKS, MOST_FLOWS, MOST_LOSSES, MOST_ROUTER_LINKS, MOST_ROUTES):
+        ends |= {most, most + 1}
+    for at, size in image.places(data):
+        was = int.from_bytes(data[at:at + size], 'big')
+        for value in sorted({*ends, was - 1, was + 1, 256**size // 2, 256**size - 1} - {was}):
+            if 0 <= value < 256**size:
+                yield data[:at] + value.to_bytes(size, 'big') + data[at + size:]
+
+
+def images_at_limits():
+    """Nodes, links, flows, a router's links, routes and a link's losses: as many as may be, and one more."""
+    def link(source, to, lose=()):
+        return Link(source, to, 1000, 1, False, 1, lose=list(lose))
+    links, flows = [link(0, 1), link(1, 0)], [Flow(0, 1, 1, 1, 0, 1, 0)]
+
+    def saved(nodes=(0, 1), links=links, flows=flows, routes=()):
+        return image.save(Scenario(5, list(nodes), list(links), list(flows), list(routes)))
+    for count in (1, 2, MOST_NODES, MOST_NODES + 1):
+        yield saved([0, 1, *[ROUTER] * (count - 2)][:count])
+    for count in (0, 1, MOST_LINKS, MOST_LINKS + 1):
+        yield saved(links=(links * count)[:count])
+    for count in (0, 1, MOST_FLOWS, MOST_FLOWS + 1):
+        yield saved(flows=flows * count)
+    for count in (0, 1, MOST_ROUTER_LINKS, MOST_ROUTER_LINKS + 1):
+        yield saved((0, 1, ROUTER), links + [link(2, 0)] * count)
+    every = [(router, end, 0) for router, end in itertools.product(range(MOST_NODES), range(MOST_NODES))]
+    for routes in (every, [*every, (255, 255, 0)], [*every, (256, 0, 0)], every[:2][::-1], every[:1] * 2):
+        yield saved([ROUTER] * MOST_NODES, routes=routes)
+    least, greatest = RANGES['lose']
+    for lose in ((least - 1,), (least,), (greatest,), (greatest + 1,), (2, 2), (2, 1), (least, greatest),
+                 *(range(1, count + 1) for count in (MOST_LOSSES, MOST_LOSSES + 1, 255))):
+        yield saved(links=(link(0, 1, lose), link(1, 0)))
 
 
 def mutated(text, pick):
