@@ -1,6 +1,8 @@
 //! A whole session: a scenario's run, walked through by commands.
 ghost use Rattle.std.specs.Prelude.{◌≡◌, ◌<◌, ◌≤◌, length, OnOk, OnErr};
 ghost use Rattle.scenario_asm.specs.Lines.{lines_of};
+ghost use Rattle.table_run.specs.State.{opening};
+ghost use Rattle.debugger.specs.Debugging.{opened};
 ghost use Rattle.window_engine.specs.Failures.{failures_after};
 ghost use Rattle.debug_session.specs.Taking.{Takes, IsBeginningOf};
 ghost use Rattle.debug_session.specs.Answers.{standing};
@@ -56,6 +58,27 @@ pub fn run_commands<R: Threads + Wait + Sync, G: Gate, S: Sink>(
     Ok(())
 }
 
+/// Answers all commands of a session, one a line, by a debugger at the opening state.
+fn answer_all<R: Threads + Wait + Sync, G: Gate, S: Sink>(
+    rt: &R,
+    gate: &G,
+    scenario: &Scenario,
+    commands: &[u8],
+    debugger: &mut Debugger,
+    said: &mut Said,
+    out: &mut S,
+) -> Result<(), SessionFault>
+    requires { debugger.old ≡ opened (opening scenario.now) }
+    ensures output { Takes (sessions.IsEnding scenario.now (lines_of commands.now) result) (S.contents out.old) (S.contents out.new) }
+    ensures failures { S.failures out.new ≡ sessions.failures_of result (S.failures out.old) }
+{
+    let limits = Limits::of(scenario);
+    match run_commands(rt, gate, debugger, limits, commands, said, out) {
+        Ok(()) => Ok(()),
+        Err(_) => Err(SessionFault::OutputFailed),
+    }
+}
+
 /// A whole session over a scenario: its commands are answered, one a line, from the opening state
 /// on. A command that is refused for want of memory or workers doesn't end it.
 pub fn run_session<R: Threads + Wait + Sync, G: Gate, S: Sink>(
@@ -76,10 +99,9 @@ pub fn run_session<R: Threads + Wait + Sync, G: Gate, S: Sink>(
     let Ok(mut debugger) = Debugger::new(alloc, scenario, partition, workers) else {
         return Err(SessionFault::NoMemory);
     };
-    let limits = Limits::of(scenario);
     let mut said = Said::new(alloc);
-    match run_commands(rt, gate, &mut debugger, limits, commands, &mut said, out) {
-        Ok(()) => Ok(()),
-        Err(_) => Err(SessionFault::OutputFailed),
-    }
+    let ended = answer_all(rt, gate, scenario, commands, &mut debugger, &mut said, out);
+    drop(debugger);
+    drop(said);
+    ended
 }
