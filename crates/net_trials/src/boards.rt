@@ -22,9 +22,9 @@ const TURNS: u64 = 10_000_000;
 #[test]
 fn reads_a_finish_back(rt: HostRuntime) -> Result<(), Fail> {
     let alloc = rt.alloc();
-    let pieces = pieces(alloc, groups(&rt, alloc, 2)?)?;
+    let pieces = pieces(&rt, alloc, groups(&rt, alloc, 2));
     assert_eq!(rt; pieces.len(), 3);
-    let (board, mut seat) = Board::lay(alloc, pieces)?;
+    let (board, mut seat) = Board::lay(alloc, pieces).ok().expect(&rt, "a board");
     assert_eq!(rt; board.pieces(), 3);
     let won = board.try_claim(&mut seat, 0);
     assert!(rt; won);
@@ -38,7 +38,7 @@ fn reads_a_finish_back(rt: HostRuntime) -> Result<(), Fail> {
     // It is held as the board ends.
     let held = board.try_claim(&mut other, 2);
     assert!(rt; held && board.held(&mut other, 2).fault().is_none());
-    let slots = board.clear(seat)?;
+    let slots = board.clear(seat).ok().expect(&rt, "slots");
     let (first, second, third) = (slots.get(0), slots.get(1), slots.get(2));
     assert!(rt; matches!(first, Some(Slot::Finished(_))));
     assert!(rt; matches!(second, Some(Slot::Waiting(_))));
@@ -48,7 +48,7 @@ fn reads_a_finish_back(rt: HostRuntime) -> Result<(), Fail> {
 
 #[test]
 fn runs_to_the_end_of_its_window(rt: HostRuntime) -> Result<(), Fail> {
-    let (group, end) = whole(&rt, rt.alloc())?;
+    let (group, end) = whole(&rt, rt.alloc());
     let mut piece = Piece::new(group, end);
     assert!(rt; !piece.is_done());
     piece.run();
@@ -61,10 +61,10 @@ fn runs_to_the_end_of_its_window(rt: HostRuntime) -> Result<(), Fail> {
 #[test]
 fn all_wait_at_first(rt: HostRuntime) -> Result<(), Fail> {
     let alloc = rt.alloc();
-    let pieces = pieces(alloc, groups(&rt, alloc, 1)?)?;
+    let pieces = pieces(&rt, alloc, groups(&rt, alloc, 1));
     assert!(rt; pieces.len() == 2);
-    let (board, seat) = Board::lay(alloc, pieces)?;
-    for slot in board.clear(seat)? {
+    let (board, seat) = Board::lay(alloc, pieces).ok().expect(&rt, "a board");
+    for slot in board.clear(seat).ok().expect(&rt, "slots") {
         assert!(rt; matches!(slot, Slot::Waiting(_)));
     }
     Ok(())
@@ -135,17 +135,19 @@ fn all_work<R: Threads + Wait + Sync>(
 #[test]
 fn each_piece_is_run_once(rt: HostRuntime) -> Result<(), Fail> {
     let alloc = rt.alloc();
-    let mut groups = groups(&rt, alloc, 63)?;
+    let mut groups = groups(&rt, alloc, 63);
     for _round in 0..ROUNDS {
-        let pieces = pieces(alloc, groups)?;
+        let pieces = pieces(&rt, alloc, groups);
         assert!(rt; pieces.len() == 64);
-        let (board, seat) = Board::lay(alloc, pieces)?;
-        let (seat, won) = all_work(&rt, alloc, &board, seat)?;
+        let (board, seat) = Board::lay(alloc, pieces).ok().expect(&rt, "a board");
+        let (seat, won) = all_work(&rt, alloc, &board, seat)
+            .ok()
+            .expect(&rt, "threads");
         assert_eq!(rt; won, 64);
         groups = Vec::new(alloc);
-        for slot in board.clear(seat)? {
+        for slot in board.clear(seat).ok().expect(&rt, "slots") {
             if let Slot::Finished(piece) = slot {
-                groups.push(piece.into_group())?;
+                groups.push(piece.into_group()).ok().expect(&rt, "room");
             }
         }
         assert_eq!(rt; groups.len(), 64);
@@ -253,9 +255,9 @@ fn both<R: Threads + Sync, G: Signals>(
 #[test]
 fn a_held_piece_holds_nobody_up(rt: HostRuntime) -> Result<(), Fail> {
     let alloc = rt.alloc();
-    let pieces = pieces(alloc, groups(&rt, alloc, 1)?)?;
+    let pieces = pieces(&rt, alloc, groups(&rt, alloc, 1));
     assert!(rt; pieces.len() == 2);
-    let (board, seat) = Board::lay(alloc, pieces)?;
+    let (board, seat) = Board::lay(alloc, pieces).ok().expect(&rt, "a board");
     let (seat, one) = board.split(seat);
     let (seat, two) = board.split(seat);
     let signals = Raised {
@@ -264,7 +266,7 @@ fn a_held_piece_holds_nobody_up(rt: HostRuntime) -> Result<(), Fail> {
     };
     let (waited, went) = both(&rt, &board, one, two, &signals);
     assert!(rt; waited && went);
-    for slot in board.clear(seat)? {
+    for slot in board.clear(seat).ok().expect(&rt, "slots") {
         assert!(rt; matches!(slot, Slot::Finished(_)));
     }
     Ok(())

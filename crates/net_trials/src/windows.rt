@@ -1,6 +1,6 @@
 mod acting;
 mod apart;
-mod nets;
+pub(crate) mod nets;
 mod schedules;
 
 use std::test::Fail;

@@ -2,7 +2,7 @@
 //! 1,040,000 ns on its way to a link and a millisecond on it, an acknowledgement 40,000 ns.
 ghost use Rattle.std.specs.Prelude.{◌≡◌, false};
 
-use super::nets::{crossed, opened, pair};
+use super::nets::{crossed, grouped, opened, pair};
 use std::process::Abort;
 use std::test::Fail;
 use window_core::{Action, Batch, Partition, Window};
@@ -34,21 +34,15 @@ fn is_taken(rt: &impl Abort, batch: &Batch, keys: &[KeyParts], before: usize, co
 }
 
 // Does the actions, and compares what comes of each.
-fn follows(
-    rt: &impl Abort,
-    window: &mut Window,
-    keys: &[KeyParts],
-    rows: &[Row],
-) -> Result<(), Fail>
+fn follows(rt: &impl Abort, window: &mut Window, keys: &[KeyParts], rows: &[Row])
     requires { window.old.out ≡ false }
 {
     for (action, possible, end, before, count) in rows {
-        let done = window.act(*action).ok().ok_or("act")?;
+        let done = window.act(*action).ok().expect(rt, "an action");
         assert_eq!(rt; done, *possible);
         assert_eq!(rt; window.end(), *end);
         is_taken(rt, window.taken(), keys, *before, *count);
     }
-    Ok(())
 }
 
 // The start, the segment's way there, and the acknowledgement's way back.
@@ -72,7 +66,7 @@ const CROSSED: [KeyParts; 6] = [
 
 #[test]
 fn two_groups_of_one_node_take_turns(rt: HostRuntime) -> Result<(), Fail> {
-    let mut window = opened(&rt, rt.alloc(), pair(rt.alloc())?, Partition::each(2));
+    let mut window = opened(&rt, rt.alloc(), pair(&rt, rt.alloc()), Partition::each(2));
     assert_eq!(rt; window.lookahead(), Some(1_000_000));
     assert_eq!(rt; window.end(), 1_000_000);
     is_taken(&rt, window.taken(), &PAIR, 0, 0);
@@ -93,12 +87,14 @@ fn two_groups_of_one_node_take_turns(rt: HostRuntime) -> Result<(), Fail> {
         (Action::Turn, true, 1_000_000_000, 4, 1),
         (Action::Turn, true, 1_000_000_000, 5, 0),
     ];
-    follows(&rt, &mut window, &PAIR, &rows)
+    follows(&rt, &mut window, &PAIR, &rows);
+    drop(window);
+    Ok(())
 }
 
 #[test]
 fn one_group_has_one_window(rt: HostRuntime) -> Result<(), Fail> {
-    let mut window = opened(&rt, rt.alloc(), pair(rt.alloc())?, Partition::one(2));
+    let mut window = opened(&rt, rt.alloc(), pair(&rt, rt.alloc()), Partition::one(2));
     assert_eq!(rt; window.lookahead(), None);
     let fire = (Action::Fire(0), true, 1_000_000_000, 0, 0);
     let rows = [
@@ -110,12 +106,14 @@ fn one_group_has_one_window(rt: HostRuntime) -> Result<(), Fail> {
         (Action::Fire(0), false, 1_000_000_000, 0, 0),
         (Action::Turn, true, 1_000_000_000, 0, 5),
     ];
-    follows(&rt, &mut window, &PAIR, &rows)
+    follows(&rt, &mut window, &PAIR, &rows);
+    drop(window);
+    Ok(())
 }
 
 #[test]
 fn lines_are_in_the_order_of_keys_whoever_fired_first(rt: HostRuntime) -> Result<(), Fail> {
-    let net = crossed(rt.alloc(), 2_040_001, 1)?;
+    let net = crossed(&rt, rt.alloc(), 2_040_001, 1);
     let mut window = opened(&rt, rt.alloc(), net, Partition::each(5));
     let rows = [
         (Action::Fire(1), true, 1_000_000, 0, 0),
@@ -123,15 +121,16 @@ fn lines_are_in_the_order_of_keys_whoever_fired_first(rt: HostRuntime) -> Result
         (Action::Fire(4), false, 1_000_000, 0, 0),
         (Action::Turn, true, 2_040_000, 0, 2),
     ];
-    follows(&rt, &mut window, &CROSSED, &rows)
+    follows(&rt, &mut window, &CROSSED, &rows);
+    drop(window);
+    Ok(())
 }
 
 #[test]
 fn links_between_two_groups_bound_the_window(rt: HostRuntime) -> Result<(), Fail> {
     let alloc = rt.alloc();
-    let net = crossed(alloc, 2_040_001, 1)?;
-    let partition = Partition::new(vec![in alloc; 0, 1, 0, 0, 0]?).ok_or("two groups")?;
-    let mut window = opened(&rt, alloc, net, partition);
+    let net = crossed(&rt, alloc, 2_040_001, 1);
+    let mut window = grouped(&rt, alloc, net, &[0, 1, 0, 0, 0]);
     assert_eq!(rt; window.lookahead(), Some(1_000_000));
     let rows = [
         (Action::Fire(0), true, 1_000_000, 0, 0),
@@ -145,5 +144,7 @@ fn links_between_two_groups_bound_the_window(rt: HostRuntime) -> Result<(), Fail
         (Action::Fire(0), false, 2_040_001, 2, 2),
         (Action::Turn, true, 2_040_001, 4, 2),
     ];
-    follows(&rt, &mut window, &CROSSED, &rows)
+    follows(&rt, &mut window, &CROSSED, &rows);
+    drop(window);
+    Ok(())
 }

@@ -37,14 +37,8 @@ fn gives(rt: &impl Abort, sheaf: &Sheaf, cursor: &mut Cursor, batch: &Batch, fro
 }
 
 // A cursor begins at a moment, and gives the lines from there on.
-fn begins(
-    rt: &impl Abort,
-    sheaf: &Sheaf,
-    cursor: &mut Cursor,
-    batch: &Batch,
-    moment: Time,
-) -> Result<(), Fail> {
-    sheaf.begin_at(cursor, moment)?;
+fn begins(rt: &impl Abort, sheaf: &Sheaf, cursor: &mut Cursor, batch: &Batch, moment: Time) {
+    sheaf.begin_at(cursor, moment).expect(rt, "a beginning");
     gives(
         rt,
         sheaf,
@@ -53,39 +47,32 @@ fn begins(
         first_from(batch, moment),
         batch.len(),
     );
-    Ok(())
 }
 
 // The sheaf has the batch's lines: from the beginning, from each line's moment and past it, and
 // past all.
-fn has_lines(
-    rt: &impl Abort,
-    sheaf: &Sheaf,
-    cursor: &mut Cursor,
-    batch: &Batch,
-) -> Result<(), Fail> {
+fn has_lines(rt: &impl Abort, sheaf: &Sheaf, cursor: &mut Cursor, batch: &Batch) {
     assert_eq!(rt; sheaf.first(), batch.first());
     assert_eq!(rt; sheaf.len(), batch.len());
     assert_eq!(rt; sheaf.is_empty(), batch.is_empty());
-    begins(rt, sheaf, cursor, batch, 0)?;
+    begins(rt, sheaf, cursor, batch, 0);
     for index in 0..batch.len() {
         let time = batch.line(index).key.time;
-        begins(rt, sheaf, cursor, batch, time)?;
-        begins(rt, sheaf, cursor, batch, time.saturating_add(1))?;
+        begins(rt, sheaf, cursor, batch, time);
+        begins(rt, sheaf, cursor, batch, time.saturating_add(1));
     }
-    begins(rt, sheaf, cursor, batch, Time::MAX)
+    begins(rt, sheaf, cursor, batch, Time::MAX);
 }
 
 // Runs each group up to the window's end.
-fn runs_groups(rt: &impl Abort, window: &mut Window) -> Result<(), Fail>
+fn runs_groups(rt: &impl Abort, window: &mut Window)
     requires { window.old.out ≡ false }
     ensures { window.new.out ≡ false }
 {
     for group in 0..window.groups() {
         assert!(rt; group < window.groups());
-        window.run_group(group).ok().ok_or("a group that runs")?;
+        window.run_group(group).ok().expect(rt, "a group that runs");
     }
-    Ok(())
 }
 
 // Takes the next window of two: of one group by group, of the other as a batch. The answer is
@@ -96,21 +83,23 @@ fn turns_both(
     whole: &mut Window,
     sheaf: &mut Sheaf,
     cursor: &mut Cursor,
-) -> Result<bool, Fail>
+) -> bool
     requires apart { apart.old.out ≡ false }
     requires whole { whole.old.out ≡ false }
     ensures apart { apart.new.out ≡ false }
     ensures whole { whole.new.out ≡ false }
 {
-    runs_groups(rt, apart)?;
-    runs_groups(rt, whole)?;
-    apart.turn_apart(sheaf).ok().ok_or("a turn")?;
-    let batch = whole.turn().ok().ok_or("a turn")?;
-    has_lines(rt, sheaf, cursor, &batch)?;
+    runs_groups(rt, apart);
+    runs_groups(rt, whole);
+    apart.turn_apart(sheaf).ok().expect(rt, "a turn");
+    let batch = whole.turn().ok().expect(rt, "a turn");
+    has_lines(rt, sheaf, cursor, &batch);
+    let told = !batch.is_empty();
+    drop(batch);
     assert_eq!(rt; apart.position(), whole.position());
     assert_eq!(rt; apart.end(), whole.end());
     assert_eq!(rt; apart.next(), whole.next());
-    Ok(!batch.is_empty())
+    told
 }
 
 // Takes all windows of two: of one group by group, of the other as batches. The answer is how many
@@ -121,39 +110,40 @@ fn windows_of_both(
     whole: &mut Window,
     sheaf: &mut Sheaf,
     cursor: &mut Cursor,
-) -> Result<u64, Fail>
+) -> u64
     requires apart { apart.old.out ≡ false }
     requires whole { whole.old.out ≡ false }
 {
     for count in 0..1_000u64 {
-        if !turns_both(rt, apart, whole, sheaf, cursor)? {
-            return Ok(count);
+        if !turns_both(rt, apart, whole, sheaf, cursor) {
+            return count;
         }
     }
-    Err(Fail::from("more windows than that"))
+    assert!(rt; false, "at most a thousand windows");
+    0
 }
 
 // How many windows of a net, in these groups, had lines.
-fn windows_with_lines(
-    rt: &impl Abort,
-    alloc: Global,
-    net: Net,
-    entries: &[u8],
-) -> Result<u64, Fail> {
+fn windows_with_lines(rt: &impl Abort, alloc: Global, net: Net, entries: &[u8]) -> u64 {
     let copied = net.copy().expect(rt, "a copy");
     let mut apart = grouped(rt, alloc, copied, entries);
     let mut whole = grouped(rt, alloc, net, entries);
     let mut sheaf = Sheaf::new(alloc, 0);
     let mut cursor = Cursor::new(alloc).expect(rt, "a cursor");
-    windows_of_both(rt, &mut apart, &mut whole, &mut sheaf, &mut cursor)
+    let count = windows_of_both(rt, &mut apart, &mut whole, &mut sheaf, &mut cursor);
+    drop(apart);
+    drop(whole);
+    drop(sheaf);
+    drop(cursor);
+    count
 }
 
 #[test]
 fn cursors_give_the_lines_of_each_windows_batch(rt: HostRuntime) -> Result<(), Fail> {
     let alloc = rt.alloc();
     for entries in [[0, 1, 2, 3, 4], [0, 1, 0, 0, 0], [1, 0, 2, 0, 2], [0; 5]] {
-        let net = crossed(alloc, 3_000_000_000, 6)?;
-        let windows = windows_with_lines(&rt, alloc, net, &entries)?;
+        let net = crossed(&rt, alloc, 3_000_000_000, 6);
+        let windows = windows_with_lines(&rt, alloc, net, &entries);
         assert!(rt; windows > 0);
     }
     Ok(())
@@ -164,11 +154,11 @@ fn cursors_give_the_lines_of_each_windows_batch(rt: HostRuntime) -> Result<(), F
 #[test]
 fn cursors_begin_amid_the_lines_of_two_groups(rt: HostRuntime) -> Result<(), Fail> {
     let alloc = rt.alloc();
-    let net = two_pairs(alloc, 12)?;
-    let windows = windows_with_lines(&rt, alloc, net, &[0, 0, 1, 1])?;
+    let net = two_pairs(&rt, alloc, 12);
+    let windows = windows_with_lines(&rt, alloc, net, &[0, 0, 1, 1]);
     assert_eq!(rt; windows, 1);
-    let net = two_pairs(alloc, 12)?;
-    let windows = windows_with_lines(&rt, alloc, net, &[0, 1, 1, 0])?;
+    let net = two_pairs(&rt, alloc, 12);
+    let windows = windows_with_lines(&rt, alloc, net, &[0, 1, 1, 0]);
     assert!(rt; windows > 1);
     Ok(())
 }

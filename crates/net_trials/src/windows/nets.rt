@@ -9,29 +9,30 @@ use scenario_image::{
 };
 use std::alloc::Global;
 use std::process::Abort;
-use std::test::Fail;
 use window_core::{Partition, Window};
 
 // Links of 8 Mbit/s and a millisecond, each with room for 10 packets. Those of node 0 lose their
 // third.
-fn links(alloc: Global, ends: &[(u16, u16)]) -> Result<Vec<LinkPart>, Fail> {
+fn links(rt: &impl Abort, alloc: Global, ends: &[(u16, u16)]) -> Vec<LinkPart> {
     let mut links = Vec::new(alloc);
     for (from, to) in ends {
         let mut lose = Vec::new(alloc);
         if *from == 0 {
-            lose.push(3)?;
+            lose.push(3).expect(rt, "room");
         }
-        links.push(LinkPart {
-            from: *from,
-            to: *to,
-            rate: 8_000_000,
-            delay: 1_000_000,
-            queue: QueueKind::DropTail,
-            capacity: 10,
-            lose: Records::new(lose),
-        })?;
+        links
+            .push(LinkPart {
+                from: *from,
+                to: *to,
+                rate: 8_000_000,
+                delay: 1_000_000,
+                queue: QueueKind::DropTail,
+                capacity: 10,
+                lose: Records::new(lose),
+            })
+            .expect(rt, "room");
     }
-    Ok(links)
+    links
 }
 
 // So many segments from time 0 on, each acknowledged at once.
@@ -55,25 +56,26 @@ fn route(router: u16, destination: u16, link: u16) -> RoutePart {
     }
 }
 
-fn net_of(alloc: Global, parts: ScenarioParts) -> Result<Net, Fail> {
-    let scenario = Scenario::of_parts(parts).ok().ok_or("scenario")?;
-    Ok(Net::new(alloc, &scenario)?)
+fn net_of(rt: &impl Abort, alloc: Global, parts: ScenarioParts) -> Net {
+    let scenario = Scenario::of_parts(parts).ok().expect(rt, "a scenario");
+    Net::new(alloc, &scenario).expect(rt, "a net")
 }
 
 /// A sender gives a receiver one segment, over a link each way.
-pub fn pair(alloc: Global) -> Result<Net, Fail> {
+pub fn pair(rt: &impl Abort, alloc: Global) -> Net {
+    let nodes = [NodeKind::Sender, NodeKind::Receiver];
     let parts = ScenarioParts {
         end: 1_000_000_000,
-        nodes: Records::new(vec![in alloc; NodeKind::Sender, NodeKind::Receiver]?),
-        links: Records::new(links(alloc, &[(0, 1), (1, 0)])?),
-        flows: Records::new(vec![in alloc; flow(0, 1, 1)]?),
+        nodes: Records::new(Vec::from_slice(alloc, &nodes).expect(rt, "nodes")),
+        links: Records::new(links(rt, alloc, &[(0, 1), (1, 0)])),
+        flows: Records::new(Vec::from_slice(alloc, &[flow(0, 1, 1)]).expect(rt, "flows")),
         routes: Records::new(Vec::new(alloc)),
     };
-    net_of(alloc, parts)
+    net_of(rt, alloc, parts)
 }
 
 /// Twice a sender that gives a receiver so many segments, with no link between the two.
-pub fn two_pairs(alloc: Global, segments: u32) -> Result<Net, Fail> {
+pub fn two_pairs(rt: &impl Abort, alloc: Global, segments: u32) -> Net {
     let nodes = [
         NodeKind::Sender,
         NodeKind::Receiver,
@@ -83,16 +85,16 @@ pub fn two_pairs(alloc: Global, segments: u32) -> Result<Net, Fail> {
     let flows = [flow(0, 1, segments), flow(2, 3, segments)];
     let parts = ScenarioParts {
         end: 3_000_000_000,
-        nodes: Records::new(Vec::from_slice(alloc, &nodes)?),
-        links: Records::new(links(alloc, &[(0, 1), (1, 0), (2, 3), (3, 2)])?),
-        flows: Records::new(Vec::from_slice(alloc, &flows)?),
+        nodes: Records::new(Vec::from_slice(alloc, &nodes).expect(rt, "nodes")),
+        links: Records::new(links(rt, alloc, &[(0, 1), (1, 0), (2, 3), (3, 2)])),
+        flows: Records::new(Vec::from_slice(alloc, &flows).expect(rt, "flows")),
         routes: Records::new(Vec::new(alloc)),
     };
-    net_of(alloc, parts)
+    net_of(rt, alloc, parts)
 }
 
 /// Two flows of so many segments over one router: from node 0 to 3, and from 1 to 4.
-pub fn crossed(alloc: Global, end: u64, segments: u32) -> Result<Net, Fail> {
+pub fn crossed(rt: &impl Abort, alloc: Global, end: u64, segments: u32) -> Net {
     let nodes = [
         NodeKind::Sender,
         NodeKind::Sender,
@@ -119,12 +121,12 @@ pub fn crossed(alloc: Global, end: u64, segments: u32) -> Result<Net, Fail> {
     ];
     let parts = ScenarioParts {
         end,
-        nodes: Records::new(Vec::from_slice(alloc, &nodes)?),
-        links: Records::new(links(alloc, &ends)?),
-        flows: Records::new(Vec::from_slice(alloc, &flows)?),
-        routes: Records::new(Vec::from_slice(alloc, &routes)?),
+        nodes: Records::new(Vec::from_slice(alloc, &nodes).expect(rt, "nodes")),
+        links: Records::new(links(rt, alloc, &ends)),
+        flows: Records::new(Vec::from_slice(alloc, &flows).expect(rt, "flows")),
+        routes: Records::new(Vec::from_slice(alloc, &routes).expect(rt, "routes")),
     };
-    net_of(alloc, parts)
+    net_of(rt, alloc, parts)
 }
 
 /// The first window.
@@ -140,7 +142,8 @@ pub fn opened(rt: &impl Abort, alloc: Global, net: Net, partition: Partition) ->
 
 /// The first window of a net whose nodes are in these groups.
 pub fn grouped(rt: &impl Abort, alloc: Global, net: Net, entries: &[u8]) -> Window
-    ensures { result.out ≡ false }
+    ensures inside { result.out ≡ false }
+    ensures unfired { none_fired (states_of result.groups) ≡ true }
 {
     let entries = Vec::from_slice(alloc, entries).expect(rt, "entries");
     let partition = Partition::new(entries).expect(rt, "a partition");

@@ -36,56 +36,62 @@ pub fn is_same(rt: &impl Abort, line: &Line, other: &Line) {
     assert!(rt; line.acts.as_slice() == other.acts.as_slice());
 }
 
-// The lines are those that the net tells next.
-fn steps_as(rt: &impl Abort, net: &mut Net, batch: &Batch) -> Result<(), Fail> {
-    assert_eq!(rt; batch.first(), net.position().saturating_add(1));
-    for index in 0..batch.len() {
-        let line = net.step().ok().ok_or("step")?.ok_or("an event is due")?;
-        is_same(rt, batch.line(index), &line);
-    }
-    Ok(())
+// The next event's line, where one is due.
+fn stepped(rt: &impl Abort, net: &mut Net) -> Option<Line> {
+    net.step().ok().expect(rt, "a step")
 }
 
-// Both nets go on alike to the end.
-fn go_on_alike(rt: &impl Abort, one: &mut Net, other: &mut Net) -> Result<(), Fail> {
+// The lines are those that the net tells next.
+fn steps_as(rt: &impl Abort, net: &mut Net, batch: &Batch) {
+    assert_eq!(rt; batch.first(), net.position().saturating_add(1));
+    for index in 0..batch.len() {
+        let line = stepped(rt, net).expect(rt, "an event that is due");
+        is_same(rt, batch.line(index), &line);
+        drop(line);
+    }
+}
+
+// Both nets go on alike to the end, which comes before so many events.
+fn go_on_alike(rt: &impl Abort, one: &mut Net, other: &mut Net) {
     assert_eq!(rt; one.position(), other.position());
     for _event in 0..1_000 {
-        match (
-            one.step().ok().ok_or("step")?,
-            other.step().ok().ok_or("step")?,
-        ) {
-            (Some(line), Some(same)) => is_same(rt, &line, &same),
-            (None, None) => return Ok(()),
-            _ => return Err(Fail::from("one net has more events")),
+        match (stepped(rt, one), stepped(rt, other)) {
+            (Some(line), Some(same)) => {
+                is_same(rt, &line, &same);
+                drop((line, same));
+            }
+            (None, None) => return,
+            (line, same) => {
+                drop((line, same));
+                break;
+            }
         }
     }
-    Err(Fail::from("more events than that"))
+    assert!(rt; false, "both end alike");
 }
 
 // Takes a turn where it is possible: its lines are the net's next, and the net is then the
 // window's. Then the next window is bounded.
-fn turns(rt: &impl Abort, window: &mut Window, net: &mut Net, bound: u64) -> Result<(), Fail>
+fn turns(rt: &impl Abort, window: &mut Window, net: &mut Net, bound: u64)
     requires { window.old.out ≡ false }
     ensures { window.new.out ≡ false }
 {
-    if window.act(Action::Turn).ok().ok_or("turn")? {
-        steps_as(rt, net, window.taken())?;
-        go_on_alike(rt, &mut window.edge()?, &mut net.copy()?)?;
-        if let Some(next) = window.next() {
-            window.limit(next.saturating_add(bound));
-        }
+    if !window.act(Action::Turn).ok().expect(rt, "a turn") {
+        return;
     }
-    Ok(())
+    steps_as(rt, net, window.taken());
+    let mut edge = window.edge().expect(rt, "the edge");
+    let mut copy = net.copy().expect(rt, "a copy");
+    go_on_alike(rt, &mut edge, &mut copy);
+    drop(edge);
+    drop(copy);
+    if let Some(next) = window.next() {
+        window.limit(next.saturating_add(bound));
+    }
 }
 
 // Draws actions, more than there are events: the window's lines are the net's.
-fn acts_as_drawn(
-    rt: &impl Abort,
-    window: &mut Window,
-    net: &mut Net,
-    groups: usize,
-    seed: u64,
-) -> Result<(), Fail>
+fn acts_as_drawn(rt: &impl Abort, window: &mut Window, net: &mut Net, groups: usize, seed: u64)
     requires window { window.old.out ≡ false }
     requires few { groups ≤ 64 }
 {
@@ -93,33 +99,31 @@ fn acts_as_drawn(
     for _action in 0..3_000 {
         let drawn = draws.below(groups as u64 + 1) as usize;
         if drawn < groups {
-            window.act(Action::Fire(drawn)).ok().ok_or("fire")?;
+            let _ = window.act(Action::Fire(drawn)).ok().expect(rt, "an action");
         } else {
             let bound = draws.below(1_500_000);
-            turns(rt, window, net, bound)?;
+            turns(rt, window, net, bound);
         }
     }
-    Ok(())
 }
 
-// Whether no event of the net is left.
-fn is_over(net: &mut Net) -> Result<bool, Fail> {
-    Ok(net.step().ok().ok_or("step")?.is_none())
-}
-
-// A window that acts as drawn tells what the net does, up to the end.
+// A window that acts as drawn tells what the net does, up to the end. Whether no event is left.
 fn runs_as_stepped(
     rt: &impl Abort,
     alloc: Global,
-    mut net: Net,
+    net: Net,
     partition: Partition,
     seed: u64,
-) -> Result<bool, Fail> {
+) -> bool {
     let groups = partition.groups();
+    let mut net = net;
     let copied = net.copy().expect(rt, "a copy");
     let mut window = opened(rt, alloc, copied, partition);
-    acts_as_drawn(rt, &mut window, &mut net, groups, seed)?;
-    is_over(&mut net)
+    acts_as_drawn(rt, &mut window, &mut net, groups, seed);
+    drop(window);
+    let left = stepped(rt, &mut net);
+    drop(net);
+    left.is_none()
 }
 
 #[test]
@@ -134,9 +138,11 @@ fn any_order_of_actions_tells_what_stepping_does(rt: HostRuntime) -> Result<(), 
     ];
     for (number, entries) in tables.iter().enumerate() {
         for seed in 1..4 {
-            let partition = Partition::new(Vec::from_slice(alloc, entries)?).ok_or("a partition")?;
-            let net = crossed(alloc, 3_000_000_000, 6)?;
-            assert!(rt; runs_as_stepped(&rt, alloc, net, partition, seed * 100 + number as u64)?);
+            let entries = Vec::from_slice(alloc, entries).expect(&rt, "entries");
+            let partition = Partition::new(entries).expect(&rt, "a partition");
+            let net = crossed(&rt, alloc, 3_000_000_000, 6);
+            let over = runs_as_stepped(&rt, alloc, net, partition, seed * 100 + number as u64);
+            assert!(rt; over);
         }
     }
     Ok(())

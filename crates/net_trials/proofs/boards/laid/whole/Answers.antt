@@ -19,7 +19,7 @@ last_until until end groups lent before g is ends split =
 
 pub returns : goal.returns
 returns g c =
-    let v = c.in_ok-window.window in
-    last_until (min v.until 500000000) c.end-end.result v.groups c.take_groups.result.items c.pop.new.self.items c.in_ok-group.group
-    (c.take_groups.ensures.groups ∙ ap (λ (w : WindowValue). w.groups) c.limit.ensures.state) (c.end-end.ensures ∙ ap (λ (w : WindowValue). w.until) c.limit.ensures.state)
-    (c.pop.ensures.items ∙ ap (λ o. c.pop.new.self.items ++ option_to_list o) c.in_ok-group.ensures.ok_part)
+    let v = c.grouped-window.result in
+    last_until (min v.until 500000000) c.end-end.result v.groups c.take_groups-groups.result.items c.pop.new.self.items c.expect-group.result
+    (c.take_groups-groups.ensures.groups ∙ ap (λ (w : WindowValue). w.groups) c.limit.ensures.state) (c.end-end.ensures ∙ ap (λ (w : WindowValue). w.until) c.limit.ensures.state)
+    (c.pop.ensures.items ∙ ap (λ o. c.pop.new.self.items ++ option_to_list o) c.expect-group.ensures)
