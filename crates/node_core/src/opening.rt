@@ -19,7 +19,7 @@ use aqm::{Codel, DropTail, Queue};
 use port::Port;
 use reno_receiver::Receiver;
 use reno_sender::Sender;
-use scenario_image::{FlowPart, LinkPart, NodeKind, QueueKind, RoutePart, ScenarioParts};
+use scenario_image::{FlowPart, LinkPart, NodeKind, QueueKind, ScenarioParts, route_link};
 use sim_time::{Rate, Time};
 use std::alloc::{AllocError, Global};
 
@@ -101,21 +101,13 @@ fn coming_numbers(alloc: Global, links: &[LinkPart], node: u16) -> Result<Vec<u1
     Ok(numbers)
 }
 
-// The number of the link of a router's route for a destination, if there is one.
-fn route_link(routes: &[RoutePart], router: u16, destination: u16) -> Option<u16>
-    ensures { result ≡ link_of_route routes.now router destination }
-{
-    let route = routes.iter().find(|route| route.router == router
-        && route.destination == destination)?;
-    Some(route.link)
-}
-
 // Which of a node's links, whose numbers are given, goes to a destination by the node's route.
-fn opening_exit(routes: &[RoutePart], leaving: &[u16], node: u16, destination: u16) -> Option<u16>
-    requires { length leaving.now ≤ 1024 }
-    ensures { result ≡ option_and_then (λ number. position (λ n. n == number) leaving.now) (link_of_route routes.now node destination) }
+fn opening_exit(parts: &ScenarioParts, leaving: &[u16], node: u16, destination: u16) -> Option<u16>
+    requires limits { IsInLimits parts.now }
+    requires few { length leaving.now ≤ 1024 }
+    ensures { result ≡ option_and_then (λ number. position (λ n. n == number) leaving.now) (link_of_route parts.now.routes node destination) }
 {
-    let number = route_link(routes, node, destination)?;
+    let number = route_link(parts, node, destination)?;
     let index = leaving.iter().position(|leaves| *leaves == number)?;
     Some(index as u16)
 }
@@ -127,16 +119,16 @@ fn opening_exits(
     leaving: &[u16],
     node: u16,
 ) -> Result<RouteTable, AllocError>
+    requires limits { IsInLimits parts.now }
     requires few { length leaving.now ≤ 1024 }
     requires leaving { leaving.now ≡ numbers_of (leaving_links parts.now.links node) }
     ensures { IfOk result (λ table. table ≡ map (exits_of parts.now node) parts.now.flows) }
 {
-    let routes = parts.routes.as_slice();
     let mut exits = Vec::new(alloc);
     for flow in parts.flows.as_slice() {
         exits.push(FlowExits {
-            for_data: opening_exit(routes, leaving, node, flow.receiver),
-            for_acks: opening_exit(routes, leaving, node, flow.sender),
+            for_data: opening_exit(parts, leaving, node, flow.receiver),
+            for_acks: opening_exit(parts, leaving, node, flow.sender),
         })?;
     }
     Ok(RouteTable::new(exits))

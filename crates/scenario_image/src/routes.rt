@@ -13,8 +13,9 @@ fn route_key(router: u16, destination: u16) -> u32
     u32::from(router) * 65_536 + u32::from(destination)
 }
 
-/// The number of the link of a router's route for a destination, if there is one.
-pub(crate) fn route_link(parts: &ScenarioParts, router: u16, destination: u16) -> Option<u16>
+/// The number of the link of a router's route for a destination, if there is one; found by halves,
+/// as routes rise by router and destination.
+pub fn route_link(parts: &ScenarioParts, router: u16, destination: u16) -> Option<u16>
     requires { IsInLimits parts.now }
     ensures { result ≡ link_of_route parts.now.routes router destination }
 {

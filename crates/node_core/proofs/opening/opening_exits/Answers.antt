@@ -1,7 +1,6 @@
 use Rattle.std.proofs.Common.{◌≡◌, ℕ, List, ◌∷◌, [], ◌++◌, get_or, map, take, sym, ap, ◌∙◌, Option}
 use Rattle.std.proofs.lemmas.List.{map_more}
 use Rattle.scenario_image.specs.declared.parts.FlowPart.{FlowPart}
-use Rattle.scenario_image.specs.declared.parts.RoutePart.{RoutePart}
 use Rattle.std.specs.Prelude.{◌==◌}
 use Rattle.std.specs.List.{position}
 use Rattle.std.specs.Option.{option_and_then}
@@ -16,10 +15,8 @@ no_flow = record { sender = 0; receiver = 0; mss = 0; segments = 0; start = 0; r
 
 -- the exit of an end of a flow, by the router's routes
 exit : (c : goal.In_ok-push) (destination : ℕ) (found : Option ℕ)
-    → found ≡ option_and_then (λ number. position (λ n. n == number) c.args.leaving.now) (route_link c.as_slice-routes.result.now c.args.node destination) → found ≡ exit_to c.args.parts.now c.args.node destination
-exit c destination found is =
-    is ∙ ap (λ (routes : List RoutePart). option_and_then (λ number. position (λ n. n == number) c.args.leaving.now) (route_link routes c.args.node destination)) c.as_slice-routes.ensures.value
-    ∙ exit_is c.args.parts.now c.args.node destination c.args.leaving.now c.requires.leaving
+    → found ≡ option_and_then (λ number. position (λ n. n == number) c.args.leaving.now) (route_link c.args.parts.now.routes c.args.node destination) → found ≡ exit_to c.args.parts.now c.args.node destination
+exit c destination found is = is ∙ exit_is c.args.parts.now c.args.node destination c.args.leaving.now c.requires.leaving
 
 same_exits : {d d' a a' : Option ℕ} → d ≡ d' → a ≡ a' → ◌≡◌ {A = FlowExits} (record { for_data = d; for_acks = a }) (record { for_data = d'; for_acks = a' })
 same_exits e f i = record { for_data = e i; for_acks = f i }
