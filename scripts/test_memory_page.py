@@ -16,7 +16,7 @@ PAGE = os.path.join(TOP, 'docs', 'MEMORY.md')
 # Crates that have tests alone, and the program, which has no call but `main`.
 WITHOUT_CALLS = {'part_trials', 'net_trials', 'trials', 'tcpsim'}
 # What the last column says in the place of clauses.
-READS, GIVEN, ONE_CLAUSE, NO_CLAUSE = 'reads', 'given', 'its clause', 'no clause'
+READS, GIVEN, ONE_CLAUSE = 'reads', 'given', 'its clause'
 # Types that are numbers or the like: who gives one keeps it.
 PLAIN = re.compile(r'(u8|u16|u32|u64|u128|usize|bool|Global|Time|Key|Break|Packet|Action|Limits|Subcommand)$')
 
@@ -211,7 +211,7 @@ class Page(unittest.TestCase):
                     clauses = re.findall(r'`(\w+)`', said)
                     self.assertLessEqual(set(clauses), set(call.clauses) - {''})
                     words = re.sub(r'`\w+`|[, ]+', ' ', said).strip()
-                    self.assertIn(words, (('',) if clauses else (READS, GIVEN, ONE_CLAUSE, NO_CLAUSE)))
+                    self.assertIn(words, (('',) if clauses else (READS, GIVEN, ONE_CLAUSE)))
                     if words == ONE_CLAUSE:
                         self.assertEqual(call.clauses, [''])
 

@@ -1,5 +1,5 @@
 //! The answer to a command.
-ghost use Rattle.std.specs.Prelude.{◌≡◌, ◌≤◌, ◌+◌, ◌++◌, [], OnOk, length, drop, decimal};
+ghost use Rattle.std.specs.Prelude.{◌≡◌, ◌≤◌, ◌+◌, ◌++◌, [], OnOk, OnErr, length, drop, decimal};
 ghost use Rattle.trace_text.specs.Dump.{dump_bytes};
 ghost use Rattle.debug_session.specs.Answers.{refusal_line, break_line, clear_line};
 
@@ -133,9 +133,10 @@ impl Said {
         self.is_short = true;
     }
 
-    /// Answers the dump of the state that is shown. Where memory is refused, the answer is any.
+    /// Answers the dump of the state that is shown. Where memory is refused, the answer is empty.
     pub fn say_state(&mut self, debugger: &Debugger) -> Result<(), AllocError>
-        ensures { OnOk result (self.new ≡ dump_bytes debugger.now.shown) }
+        ensures ok { OnOk result (self.new ≡ dump_bytes debugger.now.shown) }
+        ensures err { OnErr result (self.new ≡ []) }
     {
         self.dump.clear();
         self.is_short = false;

@@ -10,6 +10,7 @@ use Rattle.ranking.specs.Keyed.{least}
 use Rattle.table_run.specs.State.{State, below, due, effect_of, stepped, line_of, step, run}
 use Rattle.node_core.specs.TraceLine.{TraceLine}
 use Rattle.window_core.specs.Groups.{GroupState, no_group, group_at, up_to, fire_on, fire_or_stay, fire_at, fires}
+use Rattle.window_core.specs.Windows.{AreBelow}
 use Rattle.window_core.proofs.Premises.{FairStep}
 use Rattle.window_core.proofs.Due.{IsFirst, IsLate, due_is, is_due, none_due, late_none}
 use Rattle.window_core.proofs.Matches.{Matches, none_there, due_there}
@@ -66,6 +67,7 @@ module _ (group : ℕ → ℕ) (maker : Key → ℕ) (ahead : Option ℕ) (until
     pub is_run : run s n ≡ Some (more, state)
     pub matches : Matches group maker ahead until state (before ++ more) groups
     pub late : IsLate (get state.pending) until
+    pub early : AreBelow until more
 
   by_due : (hs : List ℕ) (s : State) (lines : List TraceLine) (groups : List GroupState) → Matches group maker ahead until s lines groups → ((k : Key) (v : Event) → IsFirst (get s.pending) until k v → Comes s lines (fires group until hs groups)) → Comes s lines (fires group until hs groups)
   by_due hs s lines groups m more =
@@ -80,6 +82,7 @@ module _ (group : ℕ → ℕ) (maker : Key → ℕ) (ahead : Option ℕ) (until
               is_run = refl;
               matches = subst (Matches group maker ahead until s (lines ++ [])) (sym same) (rw append-nil m);
               late = late;
+              early = tt;
             }
         | Some x ↦ λ some. more x.0 x.1 (due_is until s.pending x.0 x.1 some)
       ] refl
@@ -111,6 +114,7 @@ module _ (group : ℕ → ℕ) (maker : Key → ℕ) (ahead : Option ℕ) (until
         is_run = run_cons s next r.state line r.n r.more step_is r.is_run;
         matches = subst (Matches group maker ahead until r.state (lines ++ line ∷ r.more)) (sym b.2) (subst (λ ls. Matches group maker ahead until r.state ls (fires group until b.0 (fire_at group until g groups))) (push lines line r.more) r.matches);
         late = r.late;
+        early = (is.below, r.early);
       })
     where
       push : (a : List TraceLine) (l : TraceLine) (c : List TraceLine) → (a ++ l ∷ []) ++ c ≡ a ++ l ∷ c

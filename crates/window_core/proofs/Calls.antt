@@ -10,7 +10,7 @@ use Rattle.table_run.specs.State.{State, no_part, part_at, due, effect_of, stepp
 use Rattle.node_core.specs.TraceLine.{TraceLine}
 use Rattle.ranking.proofs.Maps.{same_some}
 use Rattle.window_core.specs.Groups.{GroupState, no_group, group_at, up_to, fire_on, fire_at, fires}
-use Rattle.window_core.specs.Windows.{Setting, WindowState, in_order, all_lines, delivered, all_done, is_empty, none_fired, opened}
+use Rattle.window_core.specs.Windows.{Setting, WindowState, AreBelow, in_order, all_lines, delivered, all_done, is_empty, none_fired, opened}
 use Rattle.window_core.specs.Standing.{Stands}
 use Rattle.window_core.specs.Calls.{IsOpenFrom, IsTurned, HaveFired}
 use Rattle.window_core.proofs.Premises.{FairStep}
@@ -105,7 +105,7 @@ module _ (x : Setting) (edge : State) where
       pub below_end : w.until ≤ edge.end
       below_end = let b = m.within in omega (arith, b, ends)
 
-      pub turn_gives : all_done w.until w.groups ≡ true → IsTurned x edge (in_order (all_lines w.groups)) (opened x (delivered x.group w.groups))
+      pub turn_gives : all_done w.until w.groups ≡ true → IsTurned x edge w.until (in_order (all_lines w.groups)) (opened x (delivered x.group w.groups))
       turn_gives all =
           let until = w.until in
           let done : (h : ℕ) → Done x.group until (group_at (fires x.group until m.firings m.start) h) = λ h. subst (λ (g : List GroupState). Done x.group until (group_at g h)) m.groups_are (done_at until w.groups all h) in
@@ -118,6 +118,7 @@ module _ (x : Setting) (edge : State) where
           record {
             state = r.state;
             is_run = subst (λ ls. run edge (length ls) ≡ Some (ls, r.state)) (sym lines) exact;
+            early = subst (AreBelow until) (sym lines) r.early;
             stands = stands;
             is_open = record { start = delivered x.group w.groups; stands = stands; firings = []; groups_are = refl; within = end_le x (delivered x.group w.groups); soon = end_soon x.group r.state (delivered x.group w.groups) stands x };
           }

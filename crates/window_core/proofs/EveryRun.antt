@@ -53,7 +53,7 @@ module _ (p : ScenarioParts) (group : ℕ → ℕ) (m : ℕ) (before : List Trac
   ends : edge.end ≡ p.end
   ends = same_end p m before edge r.comes
 
-  pub turn_of : all_done w.until w.groups ≡ true → IsTurned (setting_of group p) edge (in_order (all_lines w.groups)) (opened (setting_of group p) (delivered group w.groups))
+  pub turn_of : all_done w.until w.groups ≡ true → IsTurned (setting_of group p) edge w.until (in_order (all_lines w.groups)) (opened (setting_of group p) (delivered group w.groups))
   turn_of all = turn_gives (setting_of group p) edge w r.is_open maker ends (every_run_is_fair p m before edge r.is_scenario r.comes group) all
 
   -- the run catches up with each group

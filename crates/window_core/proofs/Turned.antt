@@ -14,7 +14,7 @@ use Rattle.window_core.specs.Merged.{all_of}
 use Rattle.window_core.specs.Partition.{group_in}
 use Rattle.window_core.specs.Turning.{from_group, to_group, HasHanded}
 use Rattle.window_core.specs.Window.{WindowValue, value_at, states_of, machine_of, setting_in, IsSplit, IsFrom, IsWindow, IsPart, HasGoneOn, HasTurned}
-use Rattle.window_core.specs.Windows.{Setting, all_done, all_lines, all_held, delivered, delivered_to, in_order, opened, setting_of, window_end}
+use Rattle.window_core.specs.Windows.{Setting, AreBelow, all_done, all_lines, all_held, delivered, delivered_to, in_order, opened, setting_of, window_end}
 use Rattle.window_core.proofs.EveryRun.{turn_of}
 use Rattle.window_core.proofs.Readings.{lines_of_groups}
 use Rattle.window_core.proofs.TurnReady.{cleared}
@@ -33,6 +33,12 @@ same_delivered : (group : ℕ → ℕ) (n : ℕ) (groups : List GroupValue) → 
 same_delivered group n groups =
     ap (λ (hs : List Events). map (delivered_to group (Rattle.ranking.specs.Gathered.gathered hs)) (enumerate_from 0 (states_of (map (cleared n) groups)))) (helds_same n groups)
     ∙ given_from group (all_held (states_of groups)) n 0 groups
+
+-- each line of a turn is before the end of its window
+pub lines_early : (v : WindowValue) → IsWindow v → all_done v.until (states_of v.groups) ≡ true → (lines : List TraceLine) → lines ≡ in_order (all_of (map (λ (g : GroupValue). g.lines) v.groups)) → AreBelow v.until lines
+lines_early v is done lines lines_are =
+    let t = turn_of is.from.scenario (group_in v.entries) v.position is.from.before is.edge (machine_of v) is.from.in_run done in
+    subst (AreBelow v.until) (sym (lines_are ∙ ap in_order (sym (lines_of_groups v.groups)))) t.early
 
 module _ (v : WindowValue) (is : IsWindow v) (done : all_done v.until (states_of v.groups) ≡ true) (count : ℕ) (fits : v.position + count ≤ 1000000000000000) (after : List GroupValue)
     (handed : HasHanded v.entries v.links (map (cleared (v.position + count)) v.groups) after) (until : ℕ) (until_is : until ≡ window_end (setting_in v) (states_of after)) where

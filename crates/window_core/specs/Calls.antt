@@ -1,7 +1,6 @@
 -- The window, call by call: what it keeps of the state at which it opened, and what a turn gives.
 use Rattle.std.specs.Prelude.{ℕ, true, min, ◌≡◌, ◌≢◌, ◌==◌, ◌≤◌, ◌<◌, ◌+◌, List, length, filter, Option, Some, None, slice_index_or, slice_set}
 use Rattle.std.specs.FinMap as map
-use Rattle.std.specs.List.{AllByRecursion}
 use Rattle.sim_time.specs.declared.key.Key.{Key}
 use Rattle.scenario_image.specs.declared.parts.ScenarioParts.{ScenarioParts}
 use Rattle.scenario_image.specs.Scenario.{IsScenario}
@@ -12,7 +11,7 @@ use Rattle.table_run.specs.State.{State, no_part, part_at, due, run}
 use Rattle.table_run.specs.Sound.{EachEvent}
 use Rattle.table_run.specs.Laws.{ComesTo}
 use Rattle.window_core.specs.Groups.{GroupState, group_at, up_to, fire, fires, fire_times}
-use Rattle.window_core.specs.Windows.{Setting, WindowState, all_done, none_fired, in_order, all_lines, delivered, opened, setting_of}
+use Rattle.window_core.specs.Windows.{Setting, WindowState, AreBelow, all_done, none_fired, in_order, all_lines, delivered, opened, setting_of}
 use Rattle.window_core.specs.Standing.{Stands}
 
 -- a moment is at most the lookahead after another, where there is a lookahead
@@ -50,10 +49,11 @@ GroupsThatFiredKeepItOpen = (x : Setting) (edge : State) (w : WindowState) → I
 abbrev pub UnfiredGroupsStand : Type 0
 UnfiredGroupsStand = (x : Setting) (edge : State) (w : WindowState) → IsOpenFrom x edge w → none_fired w.groups ≡ true → Stands x.group edge w.groups
 
--- a turn: its lines are the run's next, and the next window opens at the state after them
-pub record IsTurned (x : Setting) (edge : State) (lines : List TraceLine) (w : WindowState) : Type 0 where
+-- a turn: its lines are the run's next, each before a moment, and the next window opens at the state after them
+pub record IsTurned (x : Setting) (edge : State) (until : ℕ) (lines : List TraceLine) (w : WindowState) : Type 0 where
   pub state : State
   pub is_run : run edge (length lines) ≡ Some (lines, state)
+  pub early : AreBelow until lines
   pub stands : Stands x.group state w.groups
   pub is_open : IsOpenFrom x state w
 
@@ -65,7 +65,7 @@ pub record IsInRun (p : ScenarioParts) (group : ℕ → ℕ) (m : ℕ) (before :
 
 abbrev pub TurnGivesTheRun : Type 0
 TurnGivesTheRun = (p : ScenarioParts) (group : ℕ → ℕ) (m : ℕ) (before : List TraceLine) (edge : State) (w : WindowState) → IsInRun p group m before edge w
-    → all_done w.until w.groups ≡ true → IsTurned (setting_of group p) edge (in_order (all_lines w.groups)) (opened (setting_of group p) (delivered group w.groups))
+    → all_done w.until w.groups ≡ true → IsTurned (setting_of group p) edge w.until (in_order (all_lines w.groups)) (opened (setting_of group p) (delivered group w.groups))
 
 -- something is under each key of a map under which something is in another
 abbrev pub AreUnder : Events → Events → Type 0
@@ -77,7 +77,7 @@ pub record IsDueInRun (edge : State) (until : ℕ) (group : ℕ → ℕ) (number
   pub lines : List TraceLine
   pub state : State
   pub is_run : run edge steps ≡ Some (lines, state)
-  pub early : AllByRecursion (λ (l : TraceLine). l.key.time < until) lines
+  pub early : AreBelow until lines
   pub is_due : due state ≡ Some (k, v)
   pub its_own : group k.node ≡ number
   pub same_part : part_at state k.node ≡ slice_index_or g.parts k.node no_part

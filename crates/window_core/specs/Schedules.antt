@@ -1,6 +1,5 @@
 -- The law of windows: after every schedule a turn leaves the state of the run and gives its lines, and between turns each group is at a step of the run.
 use Rattle.std.specs.Prelude.{ℕ, ◌≡◌, ◌≢◌, ◌<◌, ◌+◌, ◌==◌, List, ◌++◌, length, filter, Some, None, slice_index_or}
-use Rattle.std.specs.List.{AllByRecursion}
 use Rattle.std.specs.FinMap as map
 use Rattle.sim_time.specs.declared.key.Key.{Key}
 use Rattle.scenario_image.specs.declared.parts.ScenarioParts.{ScenarioParts}
@@ -9,7 +8,7 @@ use Rattle.node_core.specs.TraceLine.{TraceLine}
 use Rattle.table_run.specs.State.{State, no_part, part_at, run}
 use Rattle.table_run.specs.Laws.{ComesTo}
 use Rattle.window_core.specs.Groups.{GroupState, group_at}
-use Rattle.window_core.specs.Windows.{Move, Turn, Course, moved, went, setting_of, course_of}
+use Rattle.window_core.specs.Windows.{Move, Turn, Course, AreBelow, moved, went, setting_of, course_of}
 use Rattle.window_core.specs.Standing.{Stands}
 
 -- the groups hold the state after m and as many more steps as lines were given, and those are the lines
@@ -27,7 +26,7 @@ EveryScheduleGivesTheRun = (p : ScenarioParts) (m : ℕ) (before : List TraceLin
 
 -- these lines are below the window's end, and of a group they have just those that it has made
 abbrev pub AreLinesTo : (ℕ → ℕ) → Course → ℕ → List TraceLine → Type 0
-AreLinesTo group c h lines = AllByRecursion (λ (l : TraceLine). l.key.time < c.window.until) lines × ((group_at c.window.groups h).lines ≡ filter (λ (l : TraceLine). group l.key.node == h) lines)
+AreLinesTo group c h lines = AreBelow c.window.until lines × ((group_at c.window.groups h).lines ≡ filter (λ (l : TraceLine). group l.key.node == h) lines)
 
 -- a group has the parts of its nodes, and the events at them that are below the window's end, as a state has them
 abbrev pub IsAsIn : (ℕ → ℕ) → Course → ℕ → State → Type 0

@@ -1,7 +1,7 @@
 -- The window machine: groups fire below the window's end, and a turn brings them together.
-use Rattle.std.specs.Prelude.{ℕ, ◌+◌, min, Bool, true, false, ◌&&◌, ◌==◌, is_none, if◌then◌else◌, List, [], ◌∷◌, ◌++◌, map as each, flat_map, slice_set, Option, Some, None}
+use Rattle.std.specs.Prelude.{ℕ, ◌+◌, ◌<◌, min, Bool, true, false, ◌&&◌, ◌==◌, is_none, if◌then◌else◌, List, [], ◌∷◌, ◌++◌, map as each, flat_map, slice_set, Option, Some, None}
 use Rattle.std.specs.Option.{option_map}
-use Rattle.std.specs.List.{enumerate_from}
+use Rattle.std.specs.List.{enumerate_from, AllByRecursion}
 use Rattle.std.specs.FinMap as map
 use Rattle.sim_time.specs.declared.key.Key.{Key}
 use Rattle.sim_time.specs.Keys.{key_cmp}
@@ -52,6 +52,10 @@ keyed line = (line.key, line)
 
 abbrev pub in_order : List TraceLine → List TraceLine
 in_order lines = map.values (map.from_entries {R = key_cmp} (each keyed lines))
+
+-- each line is of an event before a moment
+abbrev pub AreBelow : ℕ → List TraceLine → Type 0
+AreBelow moment lines = AllByRecursion (λ (line : TraceLine). line.key.time < moment) lines
 
 -- a turn: each group gets what the others held back for its nodes
 abbrev pub delivered_to : (ℕ → ℕ) → Events → ℕ × GroupState → GroupState

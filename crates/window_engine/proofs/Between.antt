@@ -17,6 +17,7 @@ use Rattle.window_core.specs.Windows.{none_fired}
 use Rattle.window_engine.specs.Edges.{IsAtEdge, edge_of, reached_in}
 use Rattle.window_engine.specs.Engines.{EngineValue, GoesOn, NoneBelow, Commits, window_end_by}
 use Rattle.window_engine.specs.declared.fault.EngineFault.TheVariants.{Failed}
+use Rattle.window_engine.proofs.Whole.{whole_none}
 use Rattle.window_engine.proofs.Bytes.{appends_nothing}
 use Rattle.window_engine.proofs.Edge.{edge_is}
 use Rattle.window_engine.proofs.Resting.{end_is}
@@ -77,7 +78,7 @@ edge_given (Err e) v position committed is at gives = tt
 
 -- a call on an engine that has failed commits nothing
 pub commits_none : {T : Type 0} (net : Reached) (known : Option (List ℕ)) → Commits {T = T} net (Err Failed) net known known
-commits_none net known = record { lines = []; state = net.state; is_run = refl; position_is = omega arith; state_is = tt; takes = appends_nothing known }
+commits_none net known = record { lines = []; state = net.state; is_run = refl; whole = whole_none net.state; position_is = omega arith; state_is = tt; takes = appends_nothing known }
 
 -- an engine that begins with a scenario's net
 pub begun : {E : Type 0} (r : Result EngineValue E) (p : ScenarioParts) (entries : List ℕ) (net : Reached) → IsScenario p → net ≡ record { state = opening p; position = 0 }

@@ -14,7 +14,7 @@ use Rattle.window_core.specs.Partition.{group_in}
 use Rattle.window_core.specs.Standing.{Stands, joined}
 use Rattle.window_core.specs.Batches.{BatchValue}
 use Rattle.window_core.specs.Window.{WindowValue, IsFrom, IsWindow, HasGoneOn, HasTurned, states_of, machine_of, setting_in}
-use Rattle.window_core.specs.Windows.{Setting, WindowState, Turn, all_done, none_fired, in_order, all_lines, all_held, delivered, delivered_to, opened, moved, window_end, setting_of}
+use Rattle.window_core.specs.Windows.{Setting, WindowState, AreBelow, Turn, all_done, none_fired, in_order, all_lines, all_held, delivered, delivered_to, opened, moved, window_end, setting_of}
 use Rattle.window_core.specs.Calls.{IsInRun}
 use Rattle.window_core.proofs.Due.{IsLate, late_none}
 use Rattle.window_core.proofs.Matches.{Matches}
@@ -105,7 +105,7 @@ pub turned_stays : (w u : WindowValue) (batch : BatchValue) → HasTurned w batc
 turned_stays w u batch has = record { entries = ap (λ (x : WindowValue). x.entries) has.rest; ahead = ap (λ (x : WindowValue). x.ahead) has.rest; end = ap (λ (x : WindowValue). x.end) has.rest }
 
 module _ (v w u : WindowValue) (until : ℕ) (batch : BatchValue) (at : IsAtEdge v) (is : IsWindow v) (by : IsDoneBy until v w) (has : HasTurned w batch u)
-    (gone : (edge : State) → IsFrom edge w → HasGoneOn edge batch.lines u) where
+    (gone : (edge : State) → IsFrom edge w → HasGoneOn edge batch.lines u) (below : AreBelow w.until batch.lines) where
   lines_are : batch.lines ≡ in_order (all_lines (states_of w.groups))
   lines_are = ap (λ (p : WindowState × List TraceLine). p.1) (turned (setting_in w) (machine_of w) (machine_of u, batch.lines) has.moved_on)
 
@@ -124,18 +124,7 @@ module _ (v w u : WindowValue) (until : ℕ) (batch : BatchValue) (at : IsAtEdge
   now_is : edge_of u ≡ after.state
   now_is = edge_is u after.state after.from unfired
 
-  -- the net went on by the turn's lines
-  pub went_on : GoesOn (reached_in v) batch (reached_in u)
-  went_on = record {
-    first = has.first ∙ ap (λ n. n + 1) by.position;
-    is_run =
-        ap (λ s. run s (length batch.lines)) was
-        ∙ after.is_run
-        ∙ ap (λ s. Some (batch.lines, s)) (sym now_is);
-    position = has.position ∙ ap (λ n. n + length batch.lines) by.position;
-  }
-
-  -- and has no event left below the window's end
+  -- the net has no event left below the window's end
   pub left_none : NoneBelow (min v.until until) (edge_of u)
   left_none =
       let ran : run is.edge (length (in_order (all_lines (states_of w.groups)))) ≡ Some (in_order (all_lines (states_of w.groups)), after.state) =
@@ -144,6 +133,18 @@ module _ (v w u : WindowValue) (until : ℕ) (batch : BatchValue) (at : IsAtEdge
       none_left from_edge.scenario (group_in w.entries) w.position from_edge.before is.edge (machine_of w) from_edge.in_run by.done after.state ran in
       let to : NoneBelow (min v.until until) after.state = subst (λ (e : ℕ). NoneBelow e after.state) by.end_is none in
       subst (NoneBelow (min v.until until)) (sym now_is) to
+
+  -- and went on by the turn's lines
+  pub went_on : GoesOn (reached_in v) batch (reached_in u)
+  went_on = record {
+    first = has.first ∙ ap (λ n. n + 1) by.position;
+    is_run =
+        ap (λ s. run s (length batch.lines)) was
+        ∙ after.is_run
+        ∙ ap (λ s. Some (batch.lines, s)) (sym now_is);
+    position = has.position ∙ ap (λ n. n + length batch.lines) by.position;
+    whole = (min v.until until, record { early = subst (λ (e : ℕ). AreBelow e batch.lines) by.end_is below; none_left = left_none });
+  }
 
 pub stays_both : (a b c : WindowValue) → StaysNet a b → StaysNet b c → StaysNet a c
 stays_both a b c s t = record { entries = t.entries ∙ s.entries; ahead = t.ahead ∙ s.ahead; end = t.end ∙ s.end }

@@ -7,6 +7,7 @@ pub mod Numbered
 pub mod Parted
 pub mod Laying
 pub mod Resting
+pub mod Whole
 pub mod Writing
 pub mod Between
 pub mod TooMany

@@ -1,5 +1,5 @@
 -- Windows whose lines are written while the next one runs.
-use Rattle.std.proofs.Common.{◌≡◌, ◌≤◌, ◌+◌, ℕ, List, [], length, Option, Some, ap, sym, ◌∙◌, arith}
+use Rattle.std.proofs.Common.{◌≡◌, ◌≤◌, ◌+◌, ℕ, List, [], length, Option, Some, ap, sym, subst, ◌∙◌, arith}
 use Rattle.node_core.specs.TraceLine.{TraceLine}
 use Rattle.table_run.specs.State.{State, run}
 use Rattle.net_machine.specs.Run.{Reached}
@@ -9,7 +9,9 @@ use Rattle.window_core.proofs.Rests.{nothing_in_order}
 use Rattle.window_engine.specs.declared.course.Course.{Course}
 use Rattle.window_engine.specs.Courses.{AtRest, IsBehind, Wrote, WroteTo}
 use Rattle.window_engine.specs.Edges.{edge_of, reached_in}
+use Rattle.window_engine.specs.Engines.{AreWhole}
 use Rattle.window_engine.proofs.TooMany.{earlier_full}
+use Rattle.window_engine.proofs.Whole.{whole_none}
 
 module _ (net : Reached) (c : Course) (is : IsBehind net c) where
   -- what a run has after the lines that are not committed yet, it has after those that are
@@ -45,6 +47,7 @@ behind_by_none c s rest is =
         first = ap (λ (x : SheafValue). x.first) is ∙ ap (λ n. n + 1) at;
         is_run = ap (λ l. run (edge_of c.window) (length l)) none ∙ ap some (sym none);
         position = (let e = ap length none in omega (arith, e));
+        whole = subst (λ l. AreWhole l (edge_of c.window)) (sym none) (whole_none (edge_of c.window));
       };
       committed = at;
       few = omega (arith, few, at);

@@ -17,10 +17,11 @@ use Rattle.window_engine.specs.declared.course.WriteFault.TheVariants.{Workers, 
 use Rattle.window_engine.specs.Courses.{CanTell, Wrote, WroteFirst, WroteTo, Broke, told_as, fails_after}
 use Rattle.window_engine.proofs.Bytes.{appends_nothing, appends_more, take_past}
 use Rattle.window_engine.proofs.Numbered.{text_both}
+use Rattle.window_engine.proofs.Whole.{whole_none, whole_more}
 
 -- nothing was written yet
 pub wrote_none : (net : Reached) (known : Option (List ℕ)) → Wrote net net 0 known known
-wrote_none net known = record { lines = []; is_run = refl; position_is = omega arith; takes = appends_nothing known; count_is = refl; short = omega arith }
+wrote_none net known = record { lines = []; is_run = refl; whole = whole_none net.state; position_is = omega arith; takes = appends_nothing known; count_is = refl; short = omega arith }
 
 -- the text of a batch
 pub batch_text_is : (old new : Reached) (batch : BatchValue) (text : List ℕ) → GoesOn old batch new → text ≡ text_from batch.first batch.lines → text ≡ text_from (old.position + 1) batch.lines
@@ -38,6 +39,7 @@ wrote_batch old new count batch text a b gone is many small took =
     record {
       lines = batch.lines;
       is_run = gone.is_run;
+      whole = gone.whole;
       position_is = gone.position;
       takes = subst (Appends a b) same took;
       count_is = many ∙ ap length same;
@@ -53,6 +55,7 @@ broke_batch old new position count batch text a b gone at is took few =
       lines = batch.lines;
       state = new.state;
       is_run = gone.is_run;
+      whole = gone.whole;
       position_is = at ∙ gone.position;
       takes = subst (λ l. TakesFirst count l a b) same took;
       few = few;
@@ -74,6 +77,7 @@ wrote_more from mid to n m a b c w x =
     record {
       lines = w.lines ++ x.lines;
       is_run = run_more from.state mid.state to.state w.lines x.lines w.is_run x.is_run;
+      whole = whole_more mid.state to.state w.lines x.lines x.is_run w.whole x.whole;
       position_is = (let p = w.position_is in let q = x.position_is in omega (arith, p, q, length-append w.lines x.lines));
       takes = subst (Appends a c) (sym text) (appends_more a b c _ _ w.takes x.takes);
       count_is = (let p = w.count_is in let q = x.count_is in omega (arith, p, q, ap length text, length-append (text_from (from.position + 1) w.lines) (text_from (mid.position + 1) x.lines)));
@@ -82,7 +86,7 @@ wrote_more from mid to n m a b c w x =
 
 -- the windows so far, where the call ends with no fault
 pub committed : {T : Type 0} (from to new : Reached) (n : ℕ) (a b : Option (List ℕ)) (answer : T) → Wrote from to n a b → new.position ≡ to.position → new.state ≡ to.state → Commits {T = T} from (Ok answer) new a b
-committed from to new n a b answer w at same = record { lines = w.lines; state = to.state; is_run = w.is_run; position_is = at ∙ w.position_is; state_is = same; takes = w.takes }
+committed from to new n a b answer w at same = record { lines = w.lines; state = to.state; is_run = w.is_run; whole = w.whole; position_is = at ∙ w.position_is; state_is = same; takes = w.takes }
 
 takes_all : (T : Type 0) (fault : EngineFault) (text : List ℕ) (a b : Option (List ℕ)) → IsOfWorkers fault → Appends a b text → Takes {T = T} (Err fault) text a b
 takes_all T NoMemory text a b is took = took
@@ -100,6 +104,7 @@ stopped {T} from to n new a b c fault w x is =
       lines = all.lines;
       state = x.new.state;
       is_run = all.is_run;
+      whole = all.whole;
       position_is = x.position_is ∙ all.position_is;
       state_is = tt;
       takes = takes_all T fault _ a c is all.takes;
@@ -119,6 +124,7 @@ failed from to n count new a b c w x =
       lines = w.lines ++ x.lines;
       state = x.state;
       is_run = run_more from.state to.state x.state w.lines x.lines w.is_run x.is_run;
+      whole = whole_more to.state x.state w.lines x.lines x.is_run w.whole x.whole;
       position_is = (let p = w.position_is in let q = x.position_is in omega (arith, p, q, length-append w.lines x.lines));
       state_is = tt;
       takes = (

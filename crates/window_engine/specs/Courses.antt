@@ -12,7 +12,7 @@ use Rattle.window_engine.specs.declared.course.WriteFault.TheVariants.{Workers, 
 use Rattle.window_engine.specs.declared.fault.EngineFault.{EngineFault}
 use Rattle.window_engine.specs.declared.fault.EngineFault.TheVariants.{Sink as SinkFailed}
 use Rattle.window_engine.specs.Edges.{IsAtEdge, reached_in}
-use Rattle.window_engine.specs.Engines.{GoesOn}
+use Rattle.window_engine.specs.Engines.{AreWhole, GoesOn}
 use Rattle.window_engine.specs.Failures.{counted}
 use Rattle.window_engine.specs.Outcomes.{IsOfWorkers}
 use Rattle.window_engine.specs.Puts.{TakesFirst}
@@ -35,20 +35,22 @@ pub record IsBehind (net : Reached) (c : Course) : Type 0 where
   pub end : c.end ≡ c.window.end
   pub groups : groups_of c.window.entries ≤ 64
 
--- lines were committed, and the sink took all their text, so many bytes
+-- lines of whole windows were committed, and the sink took all their text, so many bytes
 pub record Wrote (old new : Reached) (count : ℕ) (before after : Option (List ℕ)) : Type 0 where
   pub lines : List TraceLine
   pub is_run : run old.state (length lines) ≡ Some (lines, new.state)
+  pub whole : AreWhole lines new.state
   pub position_is : new.position ≡ old.position + length lines
   pub takes : Appends before after (text_from (old.position + 1) lines)
   pub count_is : count ≡ length (text_from (old.position + 1) lines)
   pub short : count ≤ length lines * 2 ^ 71
 
--- lines were committed, and the sink took the first bytes of their text, so many
+-- lines of whole windows were committed, and the sink took the first bytes of their text, so many
 pub record WroteFirst (old : Reached) (position count : ℕ) (before after : Option (List ℕ)) : Type 0 where
   pub lines : List TraceLine
   pub state : State
   pub is_run : run old.state (length lines) ≡ Some (lines, state)
+  pub whole : AreWhole lines state
   pub position_is : position ≡ old.position + length lines
   pub takes : TakesFirst count (text_from (old.position + 1) lines) before after
   pub few : count < 2 ^ 71

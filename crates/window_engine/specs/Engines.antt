@@ -7,7 +7,7 @@ use Rattle.node_core.specs.TraceLine.{TraceLine}
 use Rattle.table_run.specs.State.{State, due, run}
 use Rattle.net_machine.specs.Run.{Reached}
 use Rattle.window_core.specs.Batches.{BatchValue}
-use Rattle.window_core.specs.Windows.{sum_of, at_most}
+use Rattle.window_core.specs.Windows.{AreBelow, sum_of, at_most}
 use Rattle.window_engine.specs.declared.fault.EngineFault.{EngineFault}
 use Rattle.window_engine.specs.declared.fault.EngineFault.TheVariants.{Sink}
 use Rattle.window_engine.specs.declared.fault.Stop.{Stop}
@@ -39,22 +39,33 @@ next_time s = option_map (λ (k : Key). k.time) (next_key s.pending)
 abbrev pub window_end_by : EngineValue → ℕ → ℕ
 window_end_by e until = min (at_most (sum_of (next_time e.net.state) e.ahead) e.net.state.end) until
 
--- the batch has the next lines of the run from one net, and the number of the first; the other net is the one after them
+-- these lines are a run's events below a moment, all of them and no others
+pub record AreAllBelow (moment : ℕ) (lines : List TraceLine) (state : State) : Type 0 where
+  pub early : AreBelow moment lines
+  pub none_left : NoneBelow moment state
+
+-- these lines are those of whole windows: a window may end at any moment
+abbrev pub AreWhole : List TraceLine → State → Type 0
+AreWhole lines state = (moment : ℕ) × AreAllBelow moment lines state
+
+-- the batch has the next lines of the run from one net, and the number of the first; the other net is the one after them, and the lines are a whole window's
 pub record GoesOn (old : Reached) (batch : BatchValue) (new : Reached) : Type 0 where
   pub first : batch.first ≡ old.position + 1
   pub is_run : run old.state (length batch.lines) ≡ Some (batch.lines, new.state)
   pub position : new.position ≡ old.position + length batch.lines
+  pub whole : AreWhole batch.lines new.state
 
 -- what a sink took of a text in a call: all of it, or its first bytes, where the call ended since the sink failed
 abbrev pub Takes : {T : Type 0} → Result T EngineFault → List ℕ → Option (List ℕ) → Option (List ℕ) → Type 0
 Takes (Err (Sink written)) text old new = TakesFirst written text old new
 Takes _ text old new = Appends old new text
 
--- the next lines of the run from a net were committed, and a sink took their text; where the call had no fault, the other net is the one after them
+-- the next lines of the run from a net were committed, those of whole windows, and a sink took their text; where the call had no fault, the other net is the one after them
 pub record Commits {T : Type 0} (old : Reached) (r : Result T EngineFault) (new : Reached) (before after : Option (List ℕ)) : Type 0 where
   pub lines : List TraceLine
   pub state : State
   pub is_run : run old.state (length lines) ≡ Some (lines, state)
+  pub whole : AreWhole lines state
   pub position_is : new.position ≡ old.position + length lines
   pub state_is : OnOk r (new.state ≡ state)
   pub takes : Takes r (text_from (old.position + 1) lines) before after

@@ -6,7 +6,7 @@ ghost use Rattle.window_core.specs.Group.{GroupValue, AfterFirings};
 ghost use Rattle.window_core.specs.Partition.{groups_of};
 ghost use Rattle.window_core.specs.Sheaves.{merged};
 ghost use Rattle.window_core.specs.Window.{IsFrom, HasGoneOn, HasTurned, states_of};
-ghost use Rattle.window_core.specs.Windows.{all_done, all_lines};
+ghost use Rattle.window_core.specs.Windows.{AreBelow, all_done, all_lines};
 ghost use Rattle.work_board.specs.Pieces.{PieceState};
 ghost use Rattle.window_engine.specs.Edges.{IsAtEdge, StaysNet, edge_of, reached_in};
 ghost use Rattle.window_engine.specs.Engines.{GoesOn, NoneBelow};
@@ -194,6 +194,7 @@ pub(crate) fn turn_done(window: &mut Window, sheaf: &mut Sheaf) -> Result<(), En
     requires done { all_done window.old.until (states_of window.old.groups) ≡ true }
     ensures turned { OnOk result (HasTurned window.old (merged sheaf.new) window.new) }
     ensures run { OnOk result ((edge : State) → IsFrom edge window.old → HasGoneOn edge (merged sheaf.new).lines window.new) }
+    ensures below { OnOk result (AreBelow window.old.until (merged sheaf.new).lines) }
     ensures stays { StaysNet window.old window.new }
     ensures no_sink { IfErr result IsOfWorkers }
     ensures full { IfErr result (λ fault. fault ≡ EngineFault.CountFull → 1000000000000000 < window.old.position + length (all_lines (states_of window.old.groups))) }

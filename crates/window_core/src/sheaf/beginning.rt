@@ -1,12 +1,11 @@
 //! A merge begins at a moment: each list is cut there.
-ghost use Rattle.std.specs.Prelude.{◌≡◌, ◌+◌, ◌≤◌, length, replicate, OnOk};
+ghost use Rattle.std.specs.Prelude.{◌≡◌, ◌+◌, ◌≤◌, length, replicate, OnOk, OnErr};
 ghost use Rattle.window_core.specs.Merged.{AreApart, all_of, rests};
 ghost use Rattle.window_core.specs.Sheaves.{AreCuts, IsCut, StandsIn, merged};
 
 use super::lines::Lines;
 use super::{Cursor, Sheaf};
 use crate::merge::rank_nexts;
-use ranking::Ranking;
 use sim_time::Time;
 use std::alloc::AllocError;
 
@@ -33,17 +32,14 @@ fn cut(lists: &[Lines], moment: Time, nexts: &mut [usize]) -> usize
 
 impl Sheaf {
     /// Puts a cursor behind the lines before a moment, in nanoseconds. Where memory is refused it
-    /// stands nowhere.
+    /// stays.
     pub fn begin_at(&self, cursor: &mut Cursor, moment: Time) -> Result<(), AllocError>
         ensures at { OnOk result (StandsIn self.now cursor.new) }
         ensures cut { OnOk result (IsCut moment cursor.new.at (merged self.now).lines) }
+        ensures err { OnErr result (cursor.new ≡ cursor.old) }
     {
-        let places = self.lists.len();
-        cursor.nexts.clear();
-        cursor.nexts.resize(places, 0)?;
-        if cursor.ranking.places() != places {
-            cursor.ranking = Ranking::new(*self.lists.allocator(), places)?;
-        }
+        cursor.fit(*self.lists.allocator(), self.lists.len())?;
+        cursor.nexts.fill(0);
         cursor.at = cut(&self.lists, moment, &mut cursor.nexts);
         rank_nexts(&self.lists, &cursor.nexts, &mut cursor.ranking);
         Ok(())

@@ -1,5 +1,5 @@
 //! Where a merge of a sheaf's lines stands.
-ghost use Rattle.std.specs.Prelude.{◌≡◌, [], IfOk};
+ghost use Rattle.std.specs.Prelude.{◌≡◌, ◌≤◌, ◌^◌, [], length, IfOk, OnOk, OnErr};
 
 use ranking::Ranking;
 use std::alloc::{AllocError, Global};
@@ -37,6 +37,22 @@ impl Cursor {
             nexts: Vec::new(alloc),
             ranking: Ranking::new(alloc, 0)?,
         })
+    }
+
+    /// Has room for so many groups. Where memory is refused it stays.
+    pub(super) fn fit(&mut self, alloc: Global, places: usize) -> Result<(), AllocError>
+        requires { places ≤ 2 ^ 31 }
+        ensures nexts { OnOk result (length self.new.nexts ≡ places) }
+        ensures ranks { OnOk result (length self.new.ranks ≡ places) }
+        ensures err { OnErr result (self.new ≡ self.old) }
+    {
+        if self.nexts.len() == places && self.ranking.places() == places {
+            return Ok(());
+        }
+        let nexts = vec![in alloc; 0usize; places]?;
+        self.ranking = Ranking::new(alloc, places)?;
+        self.nexts = nexts;
+        Ok(())
     }
 
     /// How many lines are before it.

@@ -7,7 +7,7 @@ ghost use Rattle.window_core.specs.Group.{GroupValue};
 ghost use Rattle.window_core.specs.Sheaves.{merged};
 ghost use Rattle.window_core.specs.Turning.{CanTurn};
 ghost use Rattle.window_core.specs.Window.{IsFrom, HasGoneOn, HasTurned, states_of};
-ghost use Rattle.window_core.specs.Windows.{all_done, all_lines, none_fired};
+ghost use Rattle.window_core.specs.Windows.{AreBelow, all_done, all_lines, none_fired};
 
 use super::Window;
 use crate::ahead::window_end;
@@ -55,6 +55,7 @@ impl Window {
         requires can { CanTurn self.old count }
         ensures ok { OnOk result (HasTurned self.old (merged sheaf.new) self.new) }
         ensures run { OnOk result ((edge : State) → IsFrom edge self.old → HasGoneOn edge (merged sheaf.new).lines self.new) }
+        ensures below { OnOk result (AreBelow self.old.until (merged sheaf.new).lines) }
         ensures lists { OnOk result (sheaf.new.lists ≡ each (λ (g : GroupValue). g.lines) self.old.groups) }
         ensures memory { IfErr result (λ fault. fault ≡ TurnFault.NoMemory) }
         ensures err { OnErr result (self.new ≡ self.old) }
@@ -80,6 +81,7 @@ impl Window {
         requires { self.old.out ≡ false }
         ensures ok { OnOk result (HasTurned self.old (merged sheaf.new) self.new) }
         ensures run { OnOk result ((edge : State) → IsFrom edge self.old → HasGoneOn edge (merged sheaf.new).lines self.new) }
+        ensures below { OnOk result (AreBelow self.old.until (merged sheaf.new).lines) }
         ensures lists { OnOk result (sheaf.new.lists ≡ each (λ (g : GroupValue). g.lines) self.old.groups) }
         ensures not_done { (result ≡ Err TurnFault.NotDone) ↔ (all_done self.old.until (states_of self.old.groups) ≡ false) }
         ensures full { (result ≡ Err TurnFault.CountFull) ↔ ((all_done self.old.until (states_of self.old.groups) ≡ true) × (1000000000000000 < self.old.position + length (all_lines (states_of self.old.groups)))) }
@@ -98,6 +100,7 @@ impl Window {
         requires { self.old.out ≡ false }
         ensures ok { OnOk result (HasTurned self.old batch.new self.new) }
         ensures run { OnOk result ((edge : State) → IsFrom edge self.old → HasGoneOn edge batch.new.lines self.new) }
+        ensures below { OnOk result (AreBelow self.old.until batch.new.lines) }
         ensures not_done { (result ≡ Err TurnFault.NotDone) ↔ (all_done self.old.until (states_of self.old.groups) ≡ false) }
         ensures full { (result ≡ Err TurnFault.CountFull) ↔ ((all_done self.old.until (states_of self.old.groups) ≡ true) × (1000000000000000 < self.old.position + length (all_lines (states_of self.old.groups)))) }
         ensures too_many { result ≡ Err TurnFault.CountFull → (edge : State) → IsFrom edge self.old → HasTooMany (opening_at edge self.old) }

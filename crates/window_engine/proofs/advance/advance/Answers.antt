@@ -10,12 +10,12 @@ returns-in-Ok-clause-edge g c = turned_edge c.run_groups_alone.new.window c.turn
 pub returns-in-Ok-clause-gone : goal.returns-in-Ok-clause-gone
 returns-in-Ok-clause-gone g c =
     went_on c.args.window.now c.run_groups_alone.new.window c.turn_into.new.self c.args.until c.turn_into.new.batch c.requires.edge c.position-began.ensures.is_window c.in_ok-run_groups_alone.ensures.done
-    c.in-Ok.ensures.ok c.in-Ok.ensures.run
+    c.in-Ok.ensures.ok c.in-Ok.ensures.run c.in-Ok.ensures.below
 
 pub returns-in-Ok-clause-none_left : goal.returns-in-Ok-clause-none_left
 returns-in-Ok-clause-none_left g c =
     left_none c.args.window.now c.run_groups_alone.new.window c.turn_into.new.self c.args.until c.turn_into.new.batch c.requires.edge c.position-began.ensures.is_window c.in_ok-run_groups_alone.ensures.done
-    c.in-Ok.ensures.ok c.in-Ok.ensures.run
+    c.in-Ok.ensures.ok c.in-Ok.ensures.run c.in-Ok.ensures.below
 
 pub returns-in-Ok-clause-stays : goal.returns-in-Ok-clause-stays
 returns-in-Ok-clause-stays g c =

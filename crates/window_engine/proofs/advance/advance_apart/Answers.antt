@@ -10,12 +10,12 @@ returns-clause-edge g c = turned_edge c.run_groups_alone.new.window c.turn_done.
 pub returns-clause-gone : goal.returns-clause-gone
 returns-clause-gone g c =
     went_on c.args.window.now c.run_groups_alone.new.window c.turn_done.new.window c.args.until (merged c.turn_done.new.sheaf) c.requires.edge c.position-began.ensures.is_window c.in_ok-run_groups_alone.ensures.done
-    c.in_ok-turn_done.ensures.turned c.in_ok-turn_done.ensures.run
+    c.in_ok-turn_done.ensures.turned c.in_ok-turn_done.ensures.run c.in_ok-turn_done.ensures.below
 
 pub returns-clause-none_left : goal.returns-clause-none_left
 returns-clause-none_left g c =
     left_none c.args.window.now c.run_groups_alone.new.window c.turn_done.new.window c.args.until (merged c.turn_done.new.sheaf) c.requires.edge c.position-began.ensures.is_window c.in_ok-run_groups_alone.ensures.done
-    c.in_ok-turn_done.ensures.turned c.in_ok-turn_done.ensures.run
+    c.in_ok-turn_done.ensures.turned c.in_ok-turn_done.ensures.run c.in_ok-turn_done.ensures.below
 
 pub returns-clause-stays : goal.returns-clause-stays
 returns-clause-stays g c =

@@ -17,10 +17,10 @@ pub returns-clause-at : goal.returns-clause-at
 returns-clause-at c =
     let s = c.args.self.now in
     let lists : c.self.inside.lists.items ≡ s.lists = ap (λ (x : SheafValue). x.lists) c.self.view_is in
-    let fields = c.if-places.cursor-inside in
+    let zeros = c.fill.new.self in
     let made = c.cut-cursor-inside.new.nexts in
-    let kept = with_items fields.nexts made in
-    let kept_is : kept.items ≡ made = with_items_is fields.nexts made (c.cut-cursor-inside.auto.nexts ∙ ap length c.deref_mut.ensures.value ∙ sym fields.nexts.ok.0) in
+    let kept = with_items zeros made in
+    let kept_is : kept.items ≡ made = with_items_is zeros made (c.cut-cursor-inside.auto.nexts ∙ ap length c.deref_mut.ensures.value ∙ sym zeros.ok.0) in
     let cursor : CursorValue = record { at = c.cut-cursor-inside.result; nexts = kept.items; ranks = c.rank_nexts.new.ranking } in
     let apart : AreApart s.lists = subst AreApart lists c.self.invariant.apart in
     let here : c.deref.result.now ≡ s.lists = c.deref.ensures.value ∙ lists in
@@ -34,10 +34,10 @@ pub returns-clause-cut : goal.returns-clause-cut
 returns-clause-cut c =
     let s = c.args.self.now in
     let lists : c.self.inside.lists.items ≡ s.lists = ap (λ (x : SheafValue). x.lists) c.self.view_is in
-    let fields = c.if-places.cursor-inside in
+    let zeros = c.fill.new.self in
     let made = c.cut-cursor-inside.new.nexts in
-    let kept = with_items fields.nexts made in
-    let kept_is : kept.items ≡ made = with_items_is fields.nexts made (c.cut-cursor-inside.auto.nexts ∙ ap length c.deref_mut.ensures.value ∙ sym fields.nexts.ok.0) in
+    let kept = with_items zeros made in
+    let kept_is : kept.items ≡ made = with_items_is zeros made (c.cut-cursor-inside.auto.nexts ∙ ap length c.deref_mut.ensures.value ∙ sym zeros.ok.0) in
     let cursor : CursorValue = record { at = c.cut-cursor-inside.result; nexts = kept.items; ranks = c.rank_nexts.new.ranking } in
     let apart : AreApart s.lists = subst AreApart lists c.self.invariant.apart in
     let here : c.deref.result.now ≡ s.lists = c.deref.ensures.value ∙ lists in

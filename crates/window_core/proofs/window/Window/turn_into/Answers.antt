@@ -5,6 +5,7 @@ use Rattle.window_core.specs.Group.{GroupValue}
 use Rattle.window_core.specs.Merged.{all_of}
 use Rattle.window_core.specs.Sheaves.{merged}
 use Rattle.window_core.specs.Window.{WindowValue, HasGoneOn}
+use Rattle.window_core.specs.Windows.{AreBelow}
 use Rattle.window_core.specs.WindowOf.{window_of}
 use Rattle.window_core.proofs.Readings.{lines_of_groups}
 use Rattle.window_core.proofs.Taken.{turned_size}
@@ -36,3 +37,6 @@ pub returns-clause-run : goal.returns-clause-run
 returns-clause-run c edge from =
     let sheaf = c.turn_with.new.sheaf in
     subst (λ (b : BatchValue). HasGoneOn edge b.lines (window_of c.self.inside)) (sym c.of.ensures.batch) (subst (HasGoneOn edge (merged sheaf).lines) (sym c.self.view_is) (c.in_ok-turn_with.ensures.run edge from))
+
+pub returns-clause-below : goal.returns-clause-below
+returns-clause-below c = subst (λ (b : BatchValue). AreBelow c.args.self.now.until b.lines) (sym c.of.ensures.batch) c.in_ok-turn_with.ensures.below

@@ -9,11 +9,11 @@ use Rattle.window_core.specs.Sheaves.{SheafValue, merged}
 use Rattle.window_core.specs.Turning.{CanTurn, AreReady, HasHanded}
 use Rattle.window_core.specs.Window.{WindowValue, no_value, value_at, states_of, setting_in, IsWindow, IsFrom, HasGoneOn, HasTurned}
 use Rattle.window_core.specs.WindowOf.{window_of}
-use Rattle.window_core.specs.Windows.{in_order, soonest, sum_of, at_most, window_end}
+use Rattle.window_core.specs.Windows.{AreBelow, in_order, soonest, sum_of, at_most, window_end}
 use Rattle.window_core.proofs.Readings.{lines_of_groups}
 use Rattle.window_core.proofs.Sheaves.{length_in_order}
 use Rattle.window_core.proofs.TurnReady.{ready, lists_apart, cleared}
-use Rattle.window_core.proofs.Turned.{window_next, gone_on, has_turned}
+use Rattle.window_core.proofs.Turned.{lines_early, window_next, gone_on, has_turned}
 use Rattle.window_core.proofs.Windowed.{bounded}
 use Rattle.window_core.proofs.window.Window.turn_with.Goals as goal
 
@@ -162,3 +162,13 @@ returns-clause-run c edge from =
     let many : length (merged s).lines ≡ c.args.count =
     ap length lines_are ∙ length_in_order (map (λ (g : GroupValue). g.lines) v.groups) (lists_apart v is are can.done) ∙ sym (can.count_is ∙ ap length (lines_of_groups v.groups)) in
     subst (HasGoneOn edge (merged s).lines) (sym view) (gone_on v is can.done c.args.count can.fits after handed u u_is (merged s).lines lines_are many edge (subst (IsFrom edge) (sym v_is) from))
+
+pub returns-clause-below : goal.returns-clause-below
+returns-clause-below c =
+    let w = c.self.inside in
+    let v : WindowValue = window_of w in
+    let v_is : v ≡ c.args.self.now = c.self.view_is in
+    let can : CanTurn v c.args.count = subst (λ (x : WindowValue). CanTurn x c.args.count) (sym v_is) c.requires.can in
+    let s = c.gather-gathered.new.sheaf in
+    let s_is : s ≡ record { first = w.position + 1; lists = map (λ (g : GroupValue). g.lines) v.groups } = on_ok c.gather-gathered.result (sym c.is_err.ensures.value ∙ c.if-is_err.false) c.gather-gathered.ensures.sheaf in
+    subst (λ (x : WindowValue). AreBelow x.until (merged s).lines) v_is (lines_early v c.self.invariant.window can.done (merged s).lines (ap (λ (x : SheafValue). (merged x).lines) s_is))

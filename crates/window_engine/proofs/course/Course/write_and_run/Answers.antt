@@ -72,7 +72,7 @@ returns-clause-behind g c =
     let turned = c.in-Ok-turn_done.ensures.turned in
     record {
       edge = turned_edge w u lines done.inside turned;
-      gone = went_on v w u c.args.until lines was.edge c.position-began.ensures.is_window done turned c.in-Ok-turn_done.ensures.run;
+      gone = went_on v w u c.args.until lines was.edge c.position-began.ensures.is_window done turned c.in-Ok-turn_done.ensures.run c.in-Ok-turn_done.ensures.below;
       committed = all_committed (reached_in c.args.before.now.value) c.args.self.now was c.put_made.new.self.position c.in_ok-bytes.ensures.position;
       few = c.position-turned.ensures.is_window.split.fits;
       end = ap (λ (x : Course). x.end) c.put_made.ensures.rest ∙ was.end ∙ sym stays.end;

@@ -1,9 +1,12 @@
 use Rattle.std.proofs.Common.{◌∙◌, refl, arith}
 use Rattle.window_engine.specs.Edges.{reached_in}
 use Rattle.window_engine.proofs.Edge.{stays_both}
-use Rattle.window_engine.proofs.Writing.{can_tell, committed, ended, still_fits, wrote_more}
+use Rattle.window_engine.proofs.Writing.{can_tell, committed, ended, still_fits, wrote_more, wrote_none}
 use Rattle.window_engine.proofs.TooMany.{told_full}
 use Rattle.window_engine.proofs.course.Course.write_in_turn.Goals as goal
+
+pub loop-init : goal.loop-init
+loop-init g c = (c.requires.rest, wrote_none (reached_in c.args.self.now.window) (g.S.Sink.contents c.args.sink.now), refl, record { entries = refl; ahead = refl; end = refl }, refl)
 
 pub returns-in-Err-clause-commits : goal.returns-in-Err-clause-commits
 returns-in-Err-clause-commits g c =
