@@ -26,6 +26,9 @@ pub full_of_step : {T P : Type 0} (r : Result T MoveFault) (fault : StepFault) �
 full_of_step (Ok x) fault is said = tt
 full_of_step (Err e) fault is said = λ full. said (step_full fault (sym is.1 ∙ full))
 
+pub full_from_step : {P : Type 0} (e : MoveFault) (fault : StepFault) → e ≡ of_step fault → (fault ≡ steps.CountFull → P) → e ≡ CountFull → P
+full_from_step e fault is said full = said (step_full fault (sym is ∙ full))
+
 -- and no worker was asked for
 pub alone_of_step : {T : Type 0} (r : Result T MoveFault) (fault : StepFault) → IsErr r × IsErrAnd r (λ e. e ≡ of_step fault) → IfErr r (λ e. e ≢ NoWorker)
 alone_of_step (Ok x) fault is = tt
@@ -47,3 +50,8 @@ full_of_memory (Err e) P is = λ full. absurd (none_of_memory (sym is.1 ∙ full
 pub alone_of_memory : {T : Type 0} (r : Result T MoveFault) → IsErr r × IsErrAnd r (λ e. e ≡ NoMemory) → IfErr r (λ e. e ≢ NoWorker)
 alone_of_memory (Ok x) is = tt
 alone_of_memory (Err e) is = λ none. memory_alone (sym is.1 ∙ none)
+
+-- no fault says that the count is full
+pub none_full : {T : Type 0} (r : Result T MoveFault) (P : Type 0) → IfErr r (λ e. e ≢ CountFull) → IfErr r (λ e. e ≡ CountFull → P)
+none_full (Ok x) P none = tt
+none_full (Err e) P none = λ full. absurd (none full)

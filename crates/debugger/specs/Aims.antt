@@ -1,13 +1,14 @@
 -- What a move by windows looks for, and where it goes.
-use Rattle.std.specs.Prelude.{◌≡◌, ◌≤◌, ◌+◌, ◌-◌, ℕ, Option, None, Some}
+use Rattle.std.specs.Prelude.{◌≡◌, ◌≤◌, ◌+◌, ◌-◌, ℕ, false, Option, None, Some}
 use Rattle.node_core.specs.TraceLine.{TraceLine}
 use Rattle.table_run.specs.State.{State}
 use Rattle.window_core.specs.Batches.{BatchValue}
 use Rattle.debugger.specs.declared.aim.Aim.{Aim}
 use Rattle.debugger.specs.declared.aim.Aim.TheVariants.{Hit, Moment}
 use Rattle.debugger.specs.Breaks.{IsHit}
-use Rattle.debugger.specs.Courses.{IsFirst, HasNone}
-use Rattle.debugger.specs.Moves.{RunGoesTo, UntilGoesTo}
+use Rattle.debugger.specs.declared.course.Course.{Course}
+use Rattle.debugger.specs.Courses.{IsOnWay, IsFirst, HasNone}
+use Rattle.debugger.specs.Moves.{Passes, HasPosition, RunGoesTo, UntilGoesTo}
 
 -- a breakpoint matches the line; or it is at a moment, or past it
 abbrev pub IsMet : Aim → TraceLine → Type 0
@@ -28,3 +29,8 @@ EndsIn aim batch (Some p) = (index : ℕ) × IsFirst (IsMet aim) batch index × 
 abbrev pub GoesTo : State → Aim → ℕ → ℕ → Type 0
 GoesTo start (Hit breaks) m = RunGoesTo start breaks.now m
 GoesTo start (Moment time) m = UntilGoesTo start time m
+
+-- a move from m ends in the last window of a course, at a position that its net behind is not past; or with the run, where the course stands
+abbrev pub IsSought : State → Aim → ℕ → Course → Option ℕ → Type 0
+IsSought start aim m c (Some p) = IsOnWay start p c × (HasPosition start p × GoesTo start aim m p)
+IsSought start aim m c None = (c.engine.failed ≡ false) × (Passes start c.engine.net × GoesTo start aim m c.engine.net.position)

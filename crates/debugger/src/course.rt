@@ -1,5 +1,5 @@
 //! A copy of a net, on its way by windows.
-ghost use Rattle.std.specs.Prelude.{◌≡◌, ◌<◌, ◌≤◌, false, length, IfOk, IfErr, OnOk, OnErr};
+ghost use Rattle.std.specs.Prelude.{◌≡◌, ◌≢◌, ◌<◌, ◌≤◌, false, length, IfOk, IfErr, OnOk, OnErr};
 ghost use Rattle.window_core.specs.Full.{HasTooMany};
 ghost use Rattle.debugger.specs.Moves.{Passes, HasPosition, IsTooLong};
 ghost use Rattle.debugger.specs.Courses.{IsOnWay, WentOn};
@@ -30,6 +30,16 @@ pub(crate) struct Course {
     pub slice: Time,
 }
 
+// An engine where a net stands.
+fn ahead(alloc: Global, present: &Net, partition: &Partition) -> Result<Engine, AllocError>
+    requires { length partition.now ≡ length present.now.state.parts }
+    ensures net { IfOk result (λ engine. engine.net ≡ present.now) }
+    ensures running { IfOk result (λ engine. engine.failed ≡ false) }
+{
+    let groups = partition.copy()?;
+    Engine::at(alloc, present.copy()?, groups)
+}
+
 impl Course {
     /// From where a net stands.
     pub(crate) fn new(
@@ -44,11 +54,18 @@ impl Course {
         ensures few { present.now.position ≤ 1000000000000000 }
     {
         let _reached = present.position();
-        Ok(Course {
-            engine: Engine::at(alloc, present.copy()?, partition.copy()?)?,
-            behind: present.copy()?,
-            slice: FIRST_SLICE,
-        })
+        let engine = ahead(alloc, present, partition)?;
+        match present.copy() {
+            Ok(behind) => Ok(Course {
+                engine,
+                behind,
+                slice: FIRST_SLICE,
+            }),
+            Err(fault) => {
+                drop(engine);
+                Err(fault)
+            }
+        }
     }
 
     /// Runs the next window by workers, and gives its lines; none where no event is left.
@@ -109,7 +126,27 @@ impl Course {
         ensures same { saved.new ≡ saved.old }
     {
         let mut net = self.behind;
-        reach(&mut net, target, saved, line)?;
-        Ok(net)
+        drop(self.engine);
+        match reach(&mut net, target, saved, line) {
+            Ok(()) => Ok(net),
+            Err(fault) => {
+                drop(net);
+                Err(fault.into())
+            }
+        }
+    }
+
+    /// The net at the last window's edge.
+    pub(crate) fn into_edge(self) -> Result<Net, MoveFault>
+        requires { self.engine.failed ≡ false }
+        ensures net { IfOk result (λ net. net ≡ self.engine.net) }
+        ensures no_count { IfErr result (λ fault. fault ≢ MoveFault.CountFull) }
+    {
+        let edge = self.engine.edge();
+        drop(self);
+        match edge {
+            Ok(net) => Ok(net),
+            Err(fault) => Err(fault.into()),
+        }
     }
 }

@@ -1,7 +1,7 @@
 //! Moves by windows, which workers run.
-ghost use Rattle.std.specs.Prelude.{◌≡◌, ◌<◌, ◌≤◌, length, IfOk, IfErr};
+ghost use Rattle.std.specs.Prelude.{◌≡◌, ◌<◌, ◌≤◌, false, length, IfOk, IfErr};
 ghost use Rattle.debugger.specs.Moves.{Passes, IsTooLong};
-ghost use Rattle.debugger.specs.Aims.{GoesTo};
+ghost use Rattle.debugger.specs.Aims.{GoesTo, IsSought};
 
 use crate::aim::Aim;
 use crate::course::Course;
@@ -47,12 +47,44 @@ impl Crew {
         ensures same { saved.new ≡ saved.old }
     {
         let mut course = Course::new(self.alloc, present, &self.partition)?;
+        match self.seek(rt, gate, present, aim, saved, &mut course) {
+            Ok(Some(target)) => course.into_net_at(target, saved, line),
+            Ok(None) => course.into_edge(),
+            Err(fault) => {
+                drop(course);
+                Err(fault)
+            }
+        }
+    }
+
+    // The position that a move from the present one goes to, where a window of a course has it; none
+    // where the course ends first, and the move with it.
+    fn seek<G: Gate, R: Threads + Wait + Sync>(
+        &self,
+        rt: &R,
+        gate: &G,
+        present: &Net,
+        aim: &Aim,
+        saved: &mut Saved,
+        course: &mut Course,
+    ) -> Result<Option<u64>, MoveFault>
+        requires on_run { Passes saved.old present.now }
+        requires net { course.old.engine.net ≡ present.now }
+        requires running { course.old.engine.failed ≡ false }
+        requires behind { course.old.behind ≡ present.now }
+        requires few { present.now.position ≤ 1000000000000000 }
+        ensures found { IfOk result (IsSought saved.old aim.now present.now.position course.new) }
+        ensures full { IfErr result (λ fault. fault ≡ MoveFault.CountFull → IsTooLong saved.old) }
+        ensures same { saved.new ≡ saved.old }
+    {
         for _ in rt.forever() {
             let Some(batch) = course.window(rt, gate, self.workers)? else {
-                return Ok(course.engine.edge()?);
+                return Ok(None);
             };
-            if let Some(target) = aim.end_in(&batch) {
-                return course.into_net_at(target, saved, line);
+            let found = aim.end_in(&batch);
+            drop(batch);
+            if let Some(target) = found {
+                return Ok(Some(target));
             }
             course.follow(saved);
         }

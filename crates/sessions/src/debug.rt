@@ -37,9 +37,11 @@ fn answer_commands<W: Sink, G: Gate, H: Threads + Wait + Sync>(
     let scenario = read_text(alloc, text)?;
     let partition = groups_for(alloc, sharing, &scenario)?;
     let workers = sharing.workers();
-    match run_session(
+    let answered = run_session(
         rt, gate, alloc, &scenario, partition, workers, commands, writer,
-    ) {
+    );
+    drop(scenario);
+    match answered {
         Ok(()) => Ok(()),
         Err(fault) => Err(SessionFault::from(fault)),
     }

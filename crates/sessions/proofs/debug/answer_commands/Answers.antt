@@ -58,13 +58,13 @@ returns-in_err-partition-clause-no_read g c =
 
 pub returns-in-Ok-clause-session : goal.returns-in-Ok-clause-session
 returns-in-Ok-clause-session g c =
-    answered c.args.sharing.now.groups c.args.input.now c.split.result.0.now c.split.result.1.now c.in_ok-scenario.scenario c.read_text.result (g.W.Sink.contents c.args.writer.now) (g.W.Sink.contents c.run_session.new.out)
+    answered c.args.sharing.now.groups c.args.input.now c.split.result.0.now c.split.result.1.now c.in_ok-scenario.scenario c.read_text.result (g.W.Sink.contents c.args.writer.now) (g.W.Sink.contents c.run_session-answered.new.out)
     c.split.ensures.text c.split.ensures.commands c.requires c.in_ok-scenario.was c.read_text.ensures c.in_ok-scenario.ensures.scenario c.in_ok-partition.ensures.named c.in-Ok.ensures.output
 
-pub returns-clause-session : goal.returns-clause-session
-returns-clause-session g c =
+pub returns-in-Err-clause-session : goal.returns-in-Err-clause-session
+returns-in-Err-clause-session g c =
     let before = g.W.Sink.contents c.args.writer.now in
-    let after = g.W.Sink.contents c.run_session.new.out in
+    let after = g.W.Sink.contents c.run_session-answered.new.out in
     let P : SessionFault → Type 0 = λ fault. IsDebugSession c.args.sharing.now.groups c.args.input.now (Err fault) before after in
     subst P (sym c.from.ensures)
     (not_answered c.args.sharing.now.groups c.args.input.now c.split.result.0.now c.split.result.1.now c.in_ok-scenario.scenario c.read_text.result before after c.split.ensures.text c.split.ensures.commands c.requires

@@ -1,7 +1,7 @@
 use Rattle.std.proofs.Common.{◌≡◌, ◌≤◌}
 use Rattle.debugger.specs.Courses.{IsOnWay}
 use Rattle.debugger.proofs.Aims.{NotYet}
-use Rattle.debugger.proofs.crew.Crew.find.Given as goal
+use Rattle.debugger.proofs.crew.Crew.seek.Given as goal
 
 abbrev pub invariant-loop : goal.invariant-loop
 invariant-loop g l = record {
