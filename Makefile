@@ -31,6 +31,7 @@ test:
 	@python3 scripts/build.py --ready
 	@python3 scripts/wrong_bodies.py --check
 	RT_JOBS=$$(nproc) rt ci
+	scripts/refuse_tests.sh
 	@$(MAKE) --no-print-directory test-scripts
 	scripts/try_shell.sh
 

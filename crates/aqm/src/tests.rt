@@ -206,9 +206,9 @@ fn drop_tail_refuses_what_is_beyond_its_capacity(rt: HostRuntime) -> Result<(), 
     Ok(())
 }
 
-// scripts/refuse_copies.sh runs this with each request for memory refused in turn: the source
-// stays, and a second copy is made. The gate refuses none: cells come from the C library's heap
-// alone, and no test can make that refuse.
+// scripts/refuse_tests.sh runs this with each request for memory refused in turn: the source stays,
+// and a second copy is made. The gate refuses none: cells come from the C library's heap alone, and
+// no test can make that refuse.
 #[test]
 fn copies_are_in_the_same_state(rt: HostRuntime) {
     let alloc = rt.alloc();

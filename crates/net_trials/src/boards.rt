@@ -2,6 +2,7 @@ ghost use Rattle.std.specs.Prelude.{◌≡◌, ◌<◌, ◌≤◌, length, IfOk}
 ghost use Rattle.work_board.specs.Seats.{IsOf, HoldsNothing};
 
 mod laid;
+mod refused;
 
 use self::laid::{groups, pieces, whole};
 use std::alloc::{AllocError, Global};

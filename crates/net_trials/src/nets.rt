@@ -1,4 +1,5 @@
 mod by_nodes;
+mod copies;
 mod star;
 mod two_flows;
 

@@ -1,6 +1,7 @@
 mod acting;
 mod apart;
 pub(crate) mod nets;
+mod refused;
 mod schedules;
 
 use std::test::Fail;

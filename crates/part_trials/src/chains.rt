@@ -90,15 +90,20 @@ fn pops_past_the_end_and_pushes_again(rt: HostRuntime) -> Result<(), Fail> {
     Ok(())
 }
 
-// scripts/refuse_copies.sh runs this with each request for memory refused in turn: the source
-// stays, and a second copy is made. The gate refuses none: cells come from the C library's heap
-// alone, and no test can make that refuse.
+// A chain of four packets. What is refused is asked for once more.
+fn made(rt: &impl Abort, alloc: Global) -> PacketChain {
+    match chain_of(rt, alloc, &[1, 2, 3, 4]) {
+        Ok(chain) => chain,
+        Err(_) => chain_of(rt, alloc, &[1, 2, 3, 4]).expect(rt, "one request is refused"),
+    }
+}
+
+// A refused copy leaves the source its four packets, and a second one has them. The gate refuses
+// none: cells come from the C library's heap alone, and no test can make that refuse. So
+// scripts/refuse_tests.sh runs this with each request for memory refused in turn.
 #[test]
-fn copies_four_cells(rt: HostRuntime) {
-    let alloc = rt.alloc();
-    let Ok(source) = chain_of(&rt, alloc, &[1, 2, 3, 4]) else {
-        return;
-    };
+fn a_refused_copy_leaves_its_source(rt: HostRuntime) {
+    let source = made(&rt, rt.alloc());
     let copied = match source.copy() {
         Ok(copied) => copied,
         Err(_) => {

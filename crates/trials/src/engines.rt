@@ -65,12 +65,13 @@ fn expect_run<R: Threads + Wait + Abort + Sync>(
 ) -> Result<(), Fail>
     requires { (0 < workers) × (workers ≤ 64) }
 {
-    let mut engine = engine_of(rt, alloc, scenario, groups)?;
     let mut room = vec![in alloc; 0u8; text.len().saturating_add(1)]?;
+    let mut engine = engine_of(rt, alloc, scenario, groups)?;
     let mut sink = OverWrite::new(room.as_mut_slice());
     let stop = run_to(rt, &mut engine, workers, &AllHands, u64::MAX, &mut sink);
     assert!(rt; stop == Ok(Stop::End));
     assert!(rt; !engine.failed());
+    drop(engine);
     expect_text(rt, room.as_slice(), text);
     Ok(())
 }
@@ -129,7 +130,9 @@ fn after_three<R: Threads + Wait + Abort + Sync>(rt: &R, alloc: Global) -> Resul
     assert!(rt; stop == Ok(Stop::Until));
     assert!(rt; engine.position() == 3);
     assert!(rt; !engine.failed());
-    Ok(engine.edge()?)
+    let edge = engine.edge().ok().expect(rt, "the net at the edge");
+    drop(engine);
+    Ok(edge)
 }
 
 #[test]
@@ -137,28 +140,30 @@ fn a_run_goes_on_from_the_net_at_its_edge(rt: HostRuntime) -> Result<(), Fail> {
     let alloc = rt.alloc();
     let net = after_three(&rt, alloc)?;
     assert!(rt; net.position() == 3);
-    let partition = partition(&rt, alloc, &[0, 0], net.nodes().len())?;
+    let groups = Vec::from_slice(alloc, &[0, 0]).ok().expect(&rt, "groups");
+    let partition = Partition::new(groups).expect(&rt, "a partition");
+    assert!(rt; partition.nodes() == net.nodes().len());
     let mut rest = Engine::at(alloc, net, partition)?;
     let mut sink = OverWrite::new(VecDeque::new(alloc));
     let stop = run_to(&rt, &mut rest, 1, &AllHands, u64::MAX, &mut sink);
     assert!(rt; stop == Ok(Stop::End));
     assert!(rt; rest.position() == 5);
+    drop(rest);
     Ok(())
 }
 
 // Runs three windows by two workers, each from where the last one ended.
-fn three_windows<R: Threads + Wait + Abort + Sync>(
-    rt: &R,
-    engine: &mut Engine,
-    gate: &Meeting,
-) -> Result<(), Fail> {
+fn three_windows<R: Threads + Wait + Abort + Sync>(rt: &R, engine: &mut Engine, gate: &Meeting) {
     let mut next = 1u64;
     for _window in 0..3 {
-        let batch = engine.window(rt, 2, gate, u64::MAX).ok().ok_or("a window")?;
+        let batch = engine
+            .window(rt, 2, gate, u64::MAX)
+            .ok()
+            .expect(rt, "a window");
         assert!(rt; batch.first() == next);
+        drop(batch);
         next = engine.position().saturating_add(1);
     }
-    Ok(())
 }
 
 #[test]
@@ -166,12 +171,13 @@ fn two_workers_are_at_work_at_once(rt: HostRuntime) -> Result<(), Fail> {
     let alloc = rt.alloc();
     let gate = Meeting::new();
     let mut engine = engine_of(&rt, alloc, &two_flows(alloc, 4)?, &[0, 1, 2, 3])?;
-    three_windows(&rt, &mut engine, &gate)?;
+    three_windows(&rt, &mut engine, &gate);
     assert!(rt; gate.entered() == (3, 3));
     let mut sink = OverWrite::new(VecDeque::new(alloc));
     let stop = run_to(&rt, &mut engine, 2, &gate, u64::MAX, &mut sink);
     assert!(rt; stop == Ok(Stop::End));
     assert!(rt; gate.missed() == 0);
+    drop(engine);
     Ok(())
 }
 
@@ -186,42 +192,78 @@ fn a_sink_that_fails_says_what_went_out(rt: HostRuntime) -> Result<(), Fail> {
     assert!(rt; engine.failed());
     let again = run_to(&rt, &mut engine, 2, &AllHands, u64::MAX, &mut sink);
     assert!(rt; again == Err(EngineFault::Failed));
+    drop(engine);
     Ok(())
 }
 
-// Runs two flows by so many workers into a room of so many bytes, too few: they are the text's
-// first. The answer is how many events are committed.
-fn run_to_a_full_room<R: Threads + Wait + Abort + Sync>(
+// How a run ended, and how many events are committed.
+type Ended = (Result<Stop, EngineFault>, u64);
+
+// Runs a scenario by so many workers into a room of so many bytes, which then has the text's first.
+fn run_into_room<G: Gate, R: Threads + Wait + Abort + Sync>(
     rt: &R,
     alloc: Global,
     scenario: &Scenario,
+    groups: &[u8],
     workers: usize,
+    gate: &G,
     text: &[u8],
     size: usize,
-) -> Result<u64, Fail>
+) -> Result<Ended, Fail>
     requires { (0 < workers) × (workers ≤ 64) }
 {
-    let mut engine = engine_of(rt, alloc, scenario, &[0, 0, 1, 1])?;
     let mut room = vec![in alloc; 0u8; size]?;
+    let mut engine = engine_of(rt, alloc, scenario, groups)?;
     let mut sink = OverWrite::new(room.as_mut_slice());
-    let fault = run_to(rt, &mut engine, workers, &OpenGate, u64::MAX, &mut sink);
-    let written = size as u128;
-    assert!(rt; fault == Err(EngineFault::Sink { written }));
+    let stop = run_to(rt, &mut engine, workers, gate, u64::MAX, &mut sink);
     assert_eq!(rt; text.get(..size), Some(room.as_slice()));
-    Ok(engine.position())
+    let position = engine.position();
+    drop(engine);
+    Ok((stop, position))
+}
+
+// Where the windows of one segment's run end, each of a millisecond at most: its events are at 0,
+// 1.04, 2.04, 2.08 and 3.08 milliseconds.
+const WINDOW_ENDS: [u64; 4] = [1, 2, 4, 5];
+
+// How that run ends in a room of so many bytes: with the first window whose text goes on behind it.
+fn ended_in(text: &[u8], size: usize) -> Ended {
+    let written = text.get(..size).unwrap_or(text);
+    let lines = written.iter().filter(|byte| **byte == b'\n').count() as u64;
+    let written = size as u128;
+    match WINDOW_ENDS.iter().find(|end| **end > lines) {
+        Some(end) => (Err(EngineFault::Sink { written }), *end),
+        None => (Ok(Stop::End), 5),
+    }
+}
+
+#[test]
+fn a_full_room_has_the_first_bytes(rt: HostRuntime) -> Result<(), Fail> {
+    let alloc = rt.alloc();
+    let scenario = one_flow(alloc, 1)?;
+    let text = ONE_SEGMENT.as_bytes();
+    for size in 0..=text.len() {
+        let one = run_into_room(&rt, alloc, &scenario, &[0, 1], 1, &AllHands, text, size)?;
+        let two = run_into_room(&rt, alloc, &scenario, &[0, 1], 2, &AllHands, text, size)?;
+        let ended = ended_in(text, size);
+        assert!(rt; one == ended && two == ended, "{size}");
+    }
+    Ok(())
 }
 
 // The first room is full in the midst of the run, the second in the last window's text.
 #[test]
-fn a_full_room_has_the_first_bytes(rt: HostRuntime) -> Result<(), Fail> {
-    let alloc = rt.alloc();
+fn a_full_room_ends_a_long_run_after_whole_windows(rt: HostRuntime) -> Result<(), Fail> {
+    let (alloc, gate, groups) = (rt.alloc(), OpenGate, [0, 0, 1, 1]);
     let scenario = two_flows(alloc, 2_000)?;
     let text = text_of(alloc, Net::new(alloc, &scenario)?)?;
     let text = text.as_slice();
     for size in [text.len() / 2, text.len().saturating_sub(1)] {
-        let one = run_to_a_full_room(&rt, alloc, &scenario, 1, text, size)?;
-        let two = run_to_a_full_room(&rt, alloc, &scenario, 2, text, size)?;
-        let three = run_to_a_full_room(&rt, alloc, &scenario, 3, text, size)?;
+        let written = size as u128;
+        let one = run_into_room(&rt, alloc, &scenario, &groups, 1, &gate, text, size)?;
+        let two = run_into_room(&rt, alloc, &scenario, &groups, 2, &gate, text, size)?;
+        let three = run_into_room(&rt, alloc, &scenario, &groups, 3, &gate, text, size)?;
+        assert!(rt; one.0 == Err(EngineFault::Sink { written }));
         assert!(rt; two == one && three == one);
     }
     Ok(())

@@ -9,4 +9,6 @@ mod engines;
 #[cfg(test)]
 mod hands;
 #[cfg(test)]
+mod refused;
+#[cfg(test)]
 mod whole;

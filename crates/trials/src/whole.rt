@@ -1,7 +1,9 @@
 //! Whole sessions over memory, and what texts are refused for.
 
 mod broken;
+mod cuts;
 mod debug;
+mod ends;
 mod groups;
 mod images;
 mod networks;
@@ -35,6 +37,9 @@ const FIRST_TRACE: &str =
 5 3080000 0 2 1 ack 0 1000 una=1000 nxt=1000 cwnd=5000 ssthresh=64000 phase=ss
 end 5
 ";
+
+/// What stands for the fault of an input without one.
+const RIGHT: &str = "right";
 
 /// A session with these words: it ends with this status, note and output.
 fn expect_words(

@@ -33,7 +33,10 @@ pub(super) fn whole(rt: &impl Abort, alloc: Global) -> (Group, Time)
 
 /// A piece for each of the groups, with an end before every event.
 pub(super) fn pieces(rt: &impl Abort, alloc: Global, groups: Vec<Group>) -> Vec<Piece> {
-    let mut pieces = Vec::with_capacity(alloc, groups.len()).expect(rt, "room");
+    let mut pieces = match Vec::with_capacity(alloc, groups.len()) {
+        Ok(pieces) => pieces,
+        Err(_) => Vec::with_capacity(alloc, groups.len()).expect(rt, "one request is refused"),
+    };
     for group in groups {
         pieces.push(Piece::new(group, 0)).expect(rt, "room");
     }

@@ -15,8 +15,8 @@ use std::alloc::{AllocError, Global};
 use std::process::Abort;
 use std::test::Fail;
 
-// A copy of a net.
-fn copied(net: &Net) -> Result<Net, AllocError>
+/// A copy of a net.
+pub(super) fn copied(net: &Net) -> Result<Net, AllocError>
     ensures { IfOk result (λ copy. copy ≡ net.now) }
 {
     match net.copy() {

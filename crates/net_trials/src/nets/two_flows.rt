@@ -1,5 +1,5 @@
-//! Two flows over one router: every kind of event at every kind of node, and each request for
-//! memory refused in turn by `rt try --test --fail-alloc N`.
+//! Two flows over one router: every kind of event at every kind of node. With each request for memory
+//! refused in turn (scripts/refuse_tests.sh) it passes as well: what is refused is asked for again.
 use crate::nets::{link, route};
 use net_machine::net::{Net, StepFault};
 use node_core::{After, Line};

@@ -36,13 +36,16 @@ pub fn is_same(rt: &impl Abort, line: &Line, other: &Line) {
     assert!(rt; line.acts.as_slice() == other.acts.as_slice());
 }
 
-// The next event's line, where one is due.
-fn stepped(rt: &impl Abort, net: &mut Net) -> Option<Line> {
-    net.step().ok().expect(rt, "a step")
+/// The next event's line, where one is due. What is refused memory is asked for once more.
+pub(super) fn stepped(rt: &impl Abort, net: &mut Net) -> Option<Line> {
+    match net.step() {
+        Ok(line) => line,
+        Err(_) => net.step().ok().expect(rt, "one request is refused"),
+    }
 }
 
-// The lines are those that the net tells next.
-fn steps_as(rt: &impl Abort, net: &mut Net, batch: &Batch) {
+/// The lines are those that the net tells next.
+pub(super) fn steps_as(rt: &impl Abort, net: &mut Net, batch: &Batch) {
     assert_eq!(rt; batch.first(), net.position().saturating_add(1));
     for index in 0..batch.len() {
         let line = stepped(rt, net).expect(rt, "an event that is due");

@@ -169,11 +169,19 @@ pub(super) const EQUAL_TIMES: &str =
 pub(super) fn text_of(alloc: Global, net: Net) -> Result<Vec<u8>, Fail> {
     let mut net = net;
     let mut text = Vec::new(alloc);
+    let put = put_lines(&mut net, &mut text);
+    drop(net);
+    put?;
+    Ok(text)
+}
+
+// The lines of a net's run, as text.
+fn put_lines(net: &mut Net, text: &mut Vec<u8>) -> Result<(), Fail> {
     for number in 1..100_000u64 {
         let Some(line) = net.step().map_err(|_| "step")? else {
-            return Ok(text);
+            return Ok(());
         };
-        line_text(number, &line, &mut text)?;
+        line_text(number, &line, text)?;
     }
-    Ok(text)
+    Ok(())
 }

@@ -1,81 +1,105 @@
-//! Sessions whose reader or writer fails, or that are long.
+//! Sessions whose reader or writer fails at one of its calls, or that are long.
 
+use super::ends::{Break, Giver, Taker};
+use crate::hands::AllHands;
 use crate::whole::{FIRST, FIRST_TRACE};
-use sessions::session::run_all;
+use sessions::session::{run_all, run_with};
 use sessions::source::OverRead;
+use std::alloc::{AllocError, Global};
 use std::io;
-use std::io::{Read, Write};
 use std::process::Abort;
 use std::sync::Wait;
 use std::test::Fail;
 use std::thread::Threads;
 use window_engine::OverWrite;
 
-/// What a reader or a writer does at one of its calls.
-#[derive(Clone, Copy, Drop)]
-enum Break {
-    /// It answers an error of this kind.
-    Fails(io::ErrorKind),
-    /// It answers 0.
-    GivesNothing,
-    /// It does as at every other call.
-    Never,
+/// The most bytes of a call, of a reader or writer that is asked often.
+const FEW: usize = 3;
+
+/// The most bytes of a call, of one that is asked as seldom as can be.
+const MANY: usize = 1_000_000_000;
+
+/// A debugging session on the first text.
+const SESSION: &str = "sim 1000000000
+node s sender
+node r receiver
+link a s r 8000000 1000000 droptail 10
+link b r s 8000000 1000000 droptail 10
+flow f s r 1000 1 0 64000 0
+---
+break kind data
+run
+bak
+";
+
+/// Sessions: their words and what they read.
+const SESSIONS: [(&[&str], &str); 7] = [
+    (&["tcpsim", "run"], FIRST),
+    (
+        &["tcpsim", "run", "--groups", "each", "--workers", "1"],
+        FIRST,
+    ),
+    (
+        &["tcpsim", "run", "--groups", "each", "--workers", "2"],
+        FIRST,
+    ),
+    (&["tcpsim", "asm"], FIRST),
+    (&["tcpsim", "dis"], FIRST),
+    (&["tcpsim", "debug"], SESSION),
+    (
+        &["tcpsim", "debug", "--groups", "each", "--workers", "2"],
+        SESSION,
+    ),
+];
+
+/// Words that are answered unread.
+const UNREAD: [&[&str]; 2] = [&["tcpsim", "--version"], &["tcpsim", "run", "--help"]];
+
+/// A session over a reader and a writer ends with this status and this note.
+fn expect_end(
+    rt: &(impl Abort + AllocGlobal + Threads + Wait + Sync),
+    words: &[&str],
+    reader: &mut Giver<'_>,
+    writer: &mut Taker,
+    (status, note): (u8, &str),
+) -> Result<(), Fail> {
+    let mut input = OverRead::new(reader);
+    let mut output = OverWrite::new(writer);
+    let outcome = run_with(rt, &mut input, &mut output, words, &AllHands);
+    let shown = match &outcome.note {
+        Some(note) => note.to_string(rt.alloc())?,
+        None => String::new(rt.alloc()),
+    };
+    assert_eq!(rt; (outcome.status, shown.as_str()), (status, note));
+    Ok(())
 }
 
-impl Break {
-    fn answer(self, usual: usize) -> io::Result<usize> {
-        match self {
-            Break::Fails(kind) => Err(io::Error::from(kind)),
-            Break::GivesNothing => Ok(0),
-            Break::Never => Ok(usual),
-        }
-    }
-}
-
-/// Takes few bytes a call, and breaks at one call. Asked again, it would go on.
-#[derive(Drop)]
-struct Taker {
-    taken: Vec<u8>,
-    /// The most bytes of a call.
+/// What a writer of so many bytes a call takes, where nothing fails.
+fn taken_whole(
+    rt: &(impl Abort + AllocGlobal + Threads + Wait + Sync),
+    words: &[&str],
+    input: &str,
     most: usize,
-    calls: u64,
-    /// The call at which it breaks, counted from 1.
-    broken_call: u64,
-    broken: Break,
-    /// The most bytes that it was offered at once.
-    greatest: usize,
+) -> Result<Taker, Fail> {
+    let mut reader = Giver::new(input, MANY, 0, Break::Never);
+    let mut writer = Taker::new(rt.alloc(), most, 0, Break::Never);
+    expect_end(rt, words, &mut reader, &mut writer, (0, ""))?;
+    Ok(writer)
 }
 
-impl Taker {
-    fn new(alloc: std::alloc::Global, most: usize, broken_call: u64, broken: Break) -> Taker {
-        Taker {
-            taken: Vec::new(alloc),
-            most,
-            calls: 0,
-            broken_call,
-            broken,
-            greatest: 0,
+/// Where a writer of few bytes a call is asked, if one of many takes these pieces, one a call.
+fn places_of(alloc: Global, pieces: &Taker) -> Result<Vec<usize>, AllocError> {
+    let mut places = Vec::new(alloc);
+    let mut begin = 0usize;
+    for place in 0..pieces.taken.len() {
+        if pieces.places.as_slice().contains(&place) {
+            begin = place;
+        }
+        if place.saturating_sub(begin) % FEW == 0 {
+            places.push(place)?;
         }
     }
-}
-
-impl Write for Taker {
-    fn write(&mut self, buf: &[u8]) -> io::Result<usize> {
-        self.calls = self.calls.wrapping_add(1);
-        self.greatest = self.greatest.max(buf.len());
-        let usual = buf.len().min(self.most);
-        let count = if self.calls == self.broken_call {
-            self.broken.answer(usual)?.min(usual)
-        } else {
-            usual
-        };
-        self.taken.extend_from_slice(&buf[..count])?;
-        Ok(count)
-    }
-
-    fn flush(&mut self) -> io::Result<()> {
-        Ok(())
-    }
+    Ok(places)
 }
 
 /// Every way in which a writer can break.
@@ -87,108 +111,117 @@ const WRITE_BREAKS: [Break; 5] = [
     Break::GivesNothing,
 ];
 
-/// A session over the writer ends with `write failed`, and so many bytes of the text are out.
+/// A session over a writer that breaks at this call ends with `write failed`: what the calls before
+/// took is out, and the writer is not asked again.
 fn expect_write_failed(
     rt: &(impl Abort + AllocGlobal + Threads + Wait + Sync),
-    words: &[&str],
-    mut writer: Taker,
-    text: &str,
-    out: usize,
+    (words, input): (&[&str], &str),
+    whole: &Taker,
+    call: usize,
+    broken: Break,
 ) -> Result<(), Fail> {
-    let mut input = OverRead::new(FIRST.as_bytes());
-    let outcome = run_all(rt, &mut input, &mut OverWrite::new(&mut writer), words);
-    assert_eq!(rt; outcome.status, 3);
-    let note = outcome.note.ok_or("a note")?;
-    assert_eq!(rt; note.to_string(rt.alloc())?.as_str(), "write failed\n");
-    assert_eq!(rt; writer.taken.len(), out);
-    assert!(rt; text.as_bytes().starts_with(writer.taken.as_slice()));
+    let mut reader = Giver::new(input, MANY, 0, Break::Never);
+    let mut writer = Taker::new(rt.alloc(), FEW, call, broken);
+    expect_end(rt, words, &mut reader, &mut writer, (3, "write failed\n"))?;
+    let (asked, taken) = (writer.places.as_slice(), writer.taken.as_slice());
+    assert_eq!(rt; whole.places.as_slice().get(..call), Some(asked));
+    assert_eq!(rt; asked.last(), Some(&taken.len()));
+    assert!(rt; whole.taken.as_slice().starts_with(taken));
+    Ok(())
+}
+
+/// A session's writer breaks at each of its calls in turn.
+fn expect_writing(
+    rt: &(impl Abort + AllocGlobal + Threads + Wait + Sync),
+    words: &[&str],
+    input: &str,
+) -> Result<(), Fail> {
+    let pieces = taken_whole(rt, words, input, MANY)?;
+    let whole = taken_whole(rt, words, input, FEW)?;
+    assert_eq!(rt; whole.taken.as_slice(), pieces.taken.as_slice());
+    let places = places_of(rt.alloc(), &pieces)?;
+    assert_eq!(rt; whole.places.as_slice(), places.as_slice());
+    for call in 1..=places.len() {
+        for broken in WRITE_BREAKS {
+            expect_write_failed(rt, (words, input), &whole, call, broken)?;
+        }
+    }
     Ok(())
 }
 
 #[test]
-fn a_writer_that_breaks_is_not_asked_again(rt: HostRuntime) -> Result<(), Fail> {
-    for broken in WRITE_BREAKS {
-        let words = ["tcpsim", "run"].as_slice();
-        let writer = Taker::new(rt.alloc(), 3, 26, broken);
-        expect_write_failed(&rt, words, writer, FIRST_TRACE, 75)?;
-        let writer = Taker::new(rt.alloc(), 1_000_000, 1, broken);
-        expect_write_failed(&rt, words, writer, FIRST_TRACE, 0)?;
-        let words = ["tcpsim", "--version"].as_slice();
-        let writer = Taker::new(rt.alloc(), 3, 4, broken);
-        expect_write_failed(&rt, words, writer, "tcpsim 0.1.0\n", 9)?;
+fn a_writer_breaks_at_each_call(rt: HostRuntime) -> Result<(), Fail> {
+    for (words, input) in SESSIONS {
+        expect_writing(&rt, words, input)?;
     }
+    for words in UNREAD {
+        expect_writing(&rt, words, "")?;
+    }
+    // The first line without its line feed has 75 bytes.
+    let run = taken_whole(&rt, &["tcpsim", "run"], FIRST, FEW)?;
+    assert_eq!(rt; run.taken.as_slice(), FIRST_TRACE.as_bytes());
+    assert_eq!(rt; run.places.as_slice().get(25), Some(&75));
     Ok(())
 }
 
-/// Gives few bytes a call, and breaks at one call. Asked again, it would go on.
-#[derive(Drop)]
-struct Giver<'a> {
-    rest: &'a [u8],
-    /// The most bytes of a call.
-    most: usize,
-    calls: u64,
-    /// The call at which it breaks, counted from 1.
-    broken_call: u64,
-    broken: Break,
+/// The ways in which a reader can fail.
+const READ_ERRORS: [io::ErrorKind; 3] = [
+    io::ErrorKind::Other,
+    io::ErrorKind::Interrupted,
+    io::ErrorKind::OutOfMemory,
+];
+
+/// A session over a reader that fails at this call ends with `read failed`: nothing is written, and
+/// the reader is not asked again.
+fn expect_read_failed(
+    rt: &(impl Abort + AllocGlobal + Threads + Wait + Sync),
+    (words, input): (&[&str], &str),
+    call: usize,
+    kind: io::ErrorKind,
+) -> Result<(), Fail> {
+    let mut reader = Giver::new(input, FEW, call, Break::Fails(kind));
+    let mut writer = Taker::new(rt.alloc(), MANY, 0, Break::Never);
+    expect_end(rt, words, &mut reader, &mut writer, (3, "read failed\n"))?;
+    assert_eq!(rt; reader.calls, call);
+    assert!(rt; writer.places.is_empty());
+    Ok(())
 }
 
-impl Read for Giver<'_> {
-    fn read(&mut self, buf: &mut [u8]) -> io::Result<usize> {
-        self.calls = self.calls.wrapping_add(1);
-        if self.calls == self.broken_call {
-            self.broken.answer(0)?;
-        }
-        let count = self.rest.len().min(self.most).min(buf.len());
-        buf[..count].copy_from_slice(&self.rest[..count]);
-        self.rest = &self.rest[count..];
-        Ok(count)
-    }
-}
-
-/// The status, the note and the bytes written of a session on the first text.
+/// A session's reader fails at each of its calls in turn. The last is the one that tells the end.
 fn expect_reading(
     rt: &(impl Abort + AllocGlobal + Threads + Wait + Sync),
-    most: usize,
-    broken_call: u64,
-    broken: Break,
-    told: (u8, &str, &str),
+    words: &[&str],
+    input: &str,
 ) -> Result<(), Fail> {
-    let giver = Giver {
-        rest: FIRST.as_bytes(),
-        most,
-        calls: 0,
-        broken_call,
-        broken,
-    };
-    let mut out = Vec::new(rt.alloc());
-    let outcome = run_all(
-        rt,
-        &mut OverRead::new(giver),
-        &mut OverWrite::new(&mut out),
-        ["tcpsim", "run"].as_slice(),
-    );
-    let note = match &outcome.note {
-        Some(note) => note.to_string(rt.alloc())?,
-        None => String::new(rt.alloc()),
-    };
-    assert_eq!(rt; (outcome.status, note.as_str()), (told.0, told.1));
-    assert_eq!(rt; out.as_slice(), told.2.as_bytes());
+    let calls = input.len().div_ceil(FEW).saturating_add(1);
+    let mut reader = Giver::new(input, FEW, 0, Break::Never);
+    let mut writer = Taker::new(rt.alloc(), MANY, 0, Break::Never);
+    expect_end(rt, words, &mut reader, &mut writer, (0, ""))?;
+    assert_eq!(rt; reader.calls, calls);
+    for call in 1..=calls {
+        for kind in READ_ERRORS {
+            expect_read_failed(rt, (words, input), call, kind)?;
+        }
+    }
     Ok(())
 }
 
 #[test]
-fn a_reader_that_fails_is_not_asked_again(rt: HostRuntime) -> Result<(), Fail> {
-    for kind in [
-        io::ErrorKind::Other,
-        io::ErrorKind::Interrupted,
-        io::ErrorKind::OutOfMemory,
-    ] {
-        for call in [1, 2, 40] {
-            expect_reading(&rt, 3, call, Break::Fails(kind), (3, "read failed\n", ""))?;
-        }
+fn a_reader_breaks_at_each_call(rt: HostRuntime) -> Result<(), Fail> {
+    for (words, input) in SESSIONS {
+        expect_reading(&rt, words, input)?;
     }
-    for most in [1, 3, 1_000_000] {
-        expect_reading(&rt, most, 0, Break::Never, (0, "", FIRST_TRACE))?;
+    Ok(())
+}
+
+#[test]
+fn a_reader_gives_as_many_bytes_a_call_as_it_likes(rt: HostRuntime) -> Result<(), Fail> {
+    for most in [1, FEW, MANY] {
+        let mut reader = Giver::new(FIRST, most, 0, Break::Never);
+        let mut writer = Taker::new(rt.alloc(), MANY, 0, Break::Never);
+        let words = ["tcpsim", "run"].as_slice();
+        expect_end(&rt, words, &mut reader, &mut writer, (0, ""))?;
+        assert_eq!(rt; writer.taken.as_slice(), FIRST_TRACE.as_bytes());
     }
     Ok(())
 }
@@ -204,7 +237,7 @@ flow f s r 1000 10000 0 64000 0
 
 #[test]
 fn a_long_run_meets_no_want_of_memory_and_goes_out_in_pages(rt: HostRuntime) -> Result<(), Fail> {
-    let mut writer = Taker::new(rt.alloc(), 1_000_000_000, 0, Break::Never);
+    let mut writer = Taker::new(rt.alloc(), MANY, 0, Break::Never);
     let outcome = run_all(
         &rt,
         &mut OverRead::new(LONG.as_bytes()),

@@ -1,6 +1,8 @@
 //! Sessions on images. What they are refused for was worked out from the layout by hand.
 
-use crate::whole::{FIRST, FIRST_TRACE, expect_words};
+mod counts;
+
+use crate::whole::{FIRST, FIRST_TRACE, RIGHT, expect_words};
 use std::alloc::{AllocError, Global};
 use std::process::Abort;
 use std::sync::Wait;
@@ -26,17 +28,17 @@ link l1 n1 n0 8000000 1000000 droptail 10
 flow f0 n0 n1 1000 1 0 64000 0
 ";
 
-/// What stands for the fault of an image without one.
-const RIGHT: &str = "right";
-
 /// Places in that image, the bytes put there, and the fault of the image with them.
 const CHANGED: &[(usize, &str, &str)] = &[
     (0, "54434258", "L2"),
     (0, "54434232", "L2"),
+    (4, "0000000000000001", RIGHT),
     (4, "00038d7ea4c68000", RIGHT),
     (4, "00038d7ea4c68001", "L3"),
     (4, "0000000000000000", "L3"),
     (12, "0001", "L3"),
+    (12, "0000", "L3"),
+    (14, "0000", "L3"),
     (14, "ffff", "L1"),
     (16, "0000", "L3"),
     (18, "00000001", "L1"),
@@ -46,6 +48,8 @@ const CHANGED: &[(usize, &str, &str)] = &[
     (22, "02", "L6"),
     (24, "0000 0000", "L6"),
     (24, "0001 0000", "L5"),
+    (24, "0002", "L3"),
+    (26, "0002", "L3"),
     (66, "0001 0001", "L6"),
     (28, "00000000000003e7", "L3"),
     (28, "00000000000003e8", RIGHT),
@@ -58,8 +62,15 @@ const CHANGED: &[(usize, &str, &str)] = &[
     (44, "01", "L3"),
     (44, "01 0001 0000000000000001 00000002540be400 ffff", RIGHT),
     (44, "01 0001 0000000000000001 00000002540be401 ffff", "L3"),
+    (44, "01 0001 0000000000000000 0000000000000001 0001", "L3"),
+    (44, "01 0001 0000000000000001 0000000000000000 0001", "L3"),
+    (44, "01 0001 0000000000000001 0000000000000001 0000", "L3"),
+    (44, "01 0001 0000000000000001 0000000000000001 0001", RIGHT),
+    (44, "01 0001 00000002540be400 0000000000000001 0001", RIGHT),
+    (44, "01 0001 00000002540be401 0000000000000001 0001", "L3"),
     (44, "02", "L3"),
     (45, "0000", "L3"),
+    (45, "0001", RIGHT),
     (45, "ffff", RIGHT),
     (47, "0000000000000001", "L3"),
     (55, "0000000000000001", "L3"),
@@ -67,12 +78,17 @@ const CHANGED: &[(usize, &str, &str)] = &[
     (65, "01", "L1"),
     (108, "0001 0000", "L6"),
     (108, "0001 0001", "L5"),
+    (108, "0002", "L3"),
+    (110, "0002", "L3"),
     (112, "0000", "L3"),
+    (112, "0001", RIGHT),
     (112, "2328", RIGHT),
     (112, "2329", "L3"),
     (114, "00000000", "L3"),
+    (114, "00000001", RIGHT),
     (114, "3b9aca00", RIGHT),
     (114, "3b9aca01", "L3"),
+    (118, "0000000000000001", RIGHT),
     (118, "000000003b9ac9ff", RIGHT),
     (118, "000000003b9aca00", "L3"),
     (126, "000003e7", "L3"),
@@ -177,6 +193,50 @@ fn images_have_their_faults(rt: HostRuntime) -> Result<(), Fail> {
     for (place, hex, code) in CHANGED {
         let image = changed(rt.alloc(), *place, hex)?;
         expect_image(&rt, image.as_slice(), code)?;
+    }
+    Ok(())
+}
+
+/// From which number to which the first link loses each packet, and the fault of the image with
+/// these losses.
+const LOST: [(u32, u32, &str); 7] = [
+    (0, 0, "L3"),
+    (1, 1, RIGHT),
+    (1_000_000_000, 1_000_000_000, RIGHT),
+    (1_000_000_001, 1_000_000_001, "L3"),
+    (1, 64, RIGHT),
+    (1, 65, "L3"),
+    (1, 255, "L3"),
+];
+
+/// Losses that do not rise.
+const NOT_RISING: [[u32; 2]; 3] = [[2, 2], [2, 1], [1_000_000_000, 1_000_000_000]];
+
+/// The image with these lost packets of the first link.
+fn with_lost(alloc: Global, numbers: &[u32]) -> Result<Vec<u8>, AllocError> {
+    let image = changed(alloc, 0, "")?;
+    let mut bytes = Vec::from_slice(alloc, image.as_slice().get(..65).unwrap_or(b""))?;
+    bytes.push(u8::try_from(numbers.len()).unwrap_or(u8::MAX))?;
+    for number in numbers {
+        bytes.extend_from_slice(&number.to_be_bytes())?;
+    }
+    bytes.extend_from_slice(image.as_slice().get(66..).unwrap_or(b""))?;
+    Ok(bytes)
+}
+
+#[test]
+fn lost_packets_have_their_faults(rt: HostRuntime) -> Result<(), Fail> {
+    for (first, last, code) in LOST {
+        let mut numbers = Vec::new(rt.alloc());
+        for number in first..=last {
+            numbers.push(number)?;
+        }
+        let image = with_lost(rt.alloc(), numbers.as_slice())?;
+        expect_image(&rt, image.as_slice(), code)?;
+    }
+    for numbers in NOT_RISING {
+        let image = with_lost(rt.alloc(), &numbers)?;
+        expect_image(&rt, image.as_slice(), "L3")?;
     }
     Ok(())
 }

@@ -1,5 +1,8 @@
 //! Texts and what they mean, worked out from the grammar by hand.
 
+mod bounds;
+
+use crate::whole::RIGHT;
 use scenario_asm::{AsmFault, assemble};
 use std::alloc::{AllocError, Global};
 use std::process::Abort;
@@ -37,9 +40,6 @@ const LOOP: &str =
 /// That text without the route for its acknowledgements.
 const LOOP_WITHOUT_ITS_LAST_LINE: &str =
     "sim 1000\nnode s sender\nnode p router\nnode q router\nnode r receiver\nlink a s p 1000000 10 droptail 5\nlink b p q 1000000 10 droptail 5\nlink c q p 1000000 10 droptail 5\nlink d p s 1000000 10 droptail 5\nlink e r p 1000000 10 droptail 5\nflow f s r 100 1 0 1000 0\nroute p r b\nroute q r c\n";
-
-/// What stands for the fault of a text without one.
-const RIGHT: &str = "right";
 
 /// The pieces of a line by which link `a` loses a packet of some number.
 const LOSSES: (&str, &str) = ("lose a ", "");
@@ -149,6 +149,12 @@ const PLACED: &[(usize, &str, &str, u64)] = &[
     ),
     (4, "link a s r 1000 1 codel 0 x x x", "E5", 4),
     (4, "link a s r 1000 1 codel 1 0 x x", "E5", 4),
+    (4, "link a s r 1000 1 codel 1 10000000001 x x", "E5", 4),
+    (4, "link a s r 1000 1 codel 1 x 0 0", "E4", 4),
+    (4, "link a s r 1000 1 codel 1 1 0 x", "E5", 4),
+    (4, "link a s r 1000 1 codel 1 1 x 0", "E4", 4),
+    (4, "link a s r 1000 1 codel 1 1 1 0", "E5", 4),
+    (4, "link a s r 1000 1 codel 1 1 1 65535", RIGHT, 0),
     (4, "link a s r 1000 1 codel 1 1 10000000001 x", "E5", 4),
     (4, "link a s r 1000 1 codel 1 1 1 65536", "E5", 4),
     (4, "link a x r 999 1 droptail 1", "E7", 4),

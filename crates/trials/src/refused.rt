@@ -1,0 +1,336 @@
+//! The engine and the debugger where memory is refused, by one worker and by two. Each test passes
+//! whichever one request is refused, as scripts/refuse_tests.sh tries: what is refused is asked for
+//! once more.
+ghost use Rattle.std.specs.Prelude.{◌<◌, ◌≤◌};
+
+use crate::hands::AllHands;
+use crate::whole::traces::DELAYED;
+use debugger::{Break, Debugger, EventKind, MoveFault};
+use scenario_asm::assemble;
+use scenario_image::Scenario;
+use std::alloc::Global;
+use std::process::Abort;
+use std::sync::Wait;
+use std::test::Fail;
+use std::thread::Threads;
+use window_core::Partition;
+use window_engine::{Engine, EngineFault, OverWrite, Stop};
+
+/// How many events the run has.
+const EVENTS: u64 = 7;
+
+/// The scenario of seven events, at two nodes.
+fn scenario(rt: &impl Abort, alloc: Global) -> Scenario {
+    let text = DELAYED.0.as_bytes();
+    match assemble(alloc, text) {
+        Ok(scenario) => scenario,
+        Err(_) => assemble(alloc, text)
+            .ok()
+            .expect(rt, "one request is refused"),
+    }
+}
+
+/// Its engine, with a group for each node.
+fn engine_of(rt: &impl Abort, alloc: Global, scenario: &Scenario) -> Engine {
+    assert!(rt; scenario.parts().nodes.len() == 2 && Partition::each(2).nodes() == 2);
+    match Engine::new(alloc, scenario, Partition::each(2)) {
+        Ok(engine) => engine,
+        Err(_) => Engine::new(alloc, scenario, Partition::each(2)).expect(
+            rt,
+            "one request is refused",
+        ),
+    }
+}
+
+/// A fault that comes of a refusal: a thread that finds no memory is not started.
+fn is_refusal(fault: EngineFault, workers: usize) -> bool {
+    fault == EngineFault::NoMemory || workers > 1 && fault == EngineFault::NoWorker
+}
+
+/// Runs the next window. The answer is how many lines it has.
+fn window<R: Threads + Wait + Sync>(
+    rt: &R,
+    engine: &mut Engine,
+    workers: usize,
+) -> Result<usize, EngineFault>
+    requires { (0 < workers) × (workers ≤ 64) }
+{
+    match engine.window(rt, workers, &AllHands, u64::MAX) {
+        Ok(batch) => {
+            let lines = batch.len();
+            drop(batch);
+            Ok(lines)
+        }
+        Err(fault) => Err(fault),
+    }
+}
+
+/// Runs windows to the run's end, unless one is refused: the engine has failed then, and stands
+/// where it stood. Whether one was.
+fn is_refused<R: Threads + Wait + Abort + Sync>(rt: &R, engine: &mut Engine, workers: usize) -> bool
+    requires { (0 < workers) × (workers ≤ 64) }
+{
+    for _window in 0..EVENTS + 1 {
+        let position = engine.position();
+        match window(rt, engine, workers) {
+            Ok(0) => {
+                assert_eq!(rt; position, EVENTS);
+                return false;
+            }
+            Ok(_) => assert!(rt; !engine.failed()),
+            Err(fault) => {
+                assert!(rt; is_refusal(fault, workers) && engine.failed());
+                assert_eq!(rt; engine.position(), position);
+                return true;
+            }
+        }
+    }
+    assert!(rt; false, "a window for each event at most");
+    false
+}
+
+/// An engine that has failed answers so, and puts nothing.
+fn stays_failed<R: Threads + Wait + Abort + Sync>(rt: &R, engine: &mut Engine, workers: usize)
+    requires { (0 < workers) × (workers ≤ 64) }
+{
+    let again = window(rt, engine, workers);
+    assert!(rt; again == Err(EngineFault::Failed));
+    let mut room = [0u8; 8];
+    let mut sink = OverWrite::new(room.as_mut_slice());
+    let ended = engine.run(rt, workers, &AllHands, u64::MAX, &mut sink);
+    assert!(rt; ended == Err(EngineFault::Failed));
+    assert_eq!(rt; room, [0; 8]);
+}
+
+/// Whether a window of the run was refused, which then fails the engine.
+fn fails<R: Threads + Wait + Abort + Sync>(
+    rt: &R,
+    alloc: Global,
+    scenario: &Scenario,
+    workers: usize,
+) -> bool
+    requires { (0 < workers) × (workers ≤ 64) }
+{
+    let mut engine = engine_of(rt, alloc, scenario);
+    let refused = is_refused(rt, &mut engine, workers);
+    if refused {
+        stays_failed(rt, &mut engine, workers);
+    }
+    drop(engine);
+    refused
+}
+
+#[test]
+fn a_refused_window_fails_the_engine(rt: HostRuntime) -> Result<(), Fail> {
+    let alloc = rt.alloc();
+    let scenario = scenario(&rt, alloc);
+    for workers in [1, 2] {
+        if fails(&rt, alloc, &scenario, workers) {
+            let again = fails(&rt, alloc, &scenario, workers);
+            assert!(rt; !again);
+        }
+    }
+    drop(scenario);
+    Ok(())
+}
+
+/// How many bytes the first lines of a text have, so many.
+fn size_of_lines(text: &[u8], lines: u64) -> usize {
+    let mut left = lines;
+    for (at, byte) in text.iter().enumerate() {
+        if left == 0 {
+            return at;
+        }
+        if *byte == b'\n' {
+            left -= 1;
+        }
+    }
+    text.len()
+}
+
+/// So many events are those of the run's first windows.
+fn expect_edge<R: Threads + Wait + Abort + Sync>(
+    rt: &R,
+    alloc: Global,
+    scenario: &Scenario,
+    position: u64,
+) {
+    let mut engine = engine_of(rt, alloc, scenario);
+    for _window in 0..EVENTS {
+        if engine.position() < position {
+            let lines = window(rt, &mut engine, 1);
+            assert!(rt; lines.is_ok());
+        }
+    }
+    assert_eq!(rt; engine.position(), position);
+    drop(engine);
+}
+
+/// Runs the whole by so many workers: the lines up to the engine's position are put out, and no
+/// other byte. Whether it was refused, which is at a window's edge.
+fn stops_at_an_edge<R: Threads + Wait + Abort + Sync>(
+    rt: &R,
+    alloc: Global,
+    scenario: &Scenario,
+    workers: usize,
+) -> bool
+    requires { (0 < workers) × (workers ≤ 64) }
+{
+    let mut engine = engine_of(rt, alloc, scenario);
+    let mut room = [0u8; 1_000];
+    let mut sink = OverWrite::new(room.as_mut_slice());
+    let ended = engine.run(rt, workers, &AllHands, u64::MAX, &mut sink);
+    let position = engine.position();
+    assert!(rt; engine.failed() == ended.is_err());
+    drop(engine);
+    let trace = DELAYED.1.as_bytes();
+    let size = size_of_lines(trace, position);
+    assert_eq!(rt; room.get(..size), trace.get(..size));
+    assert_eq!(rt; room.get(size), Some(&0));
+    match ended {
+        Ok(stop) => {
+            assert!(rt; stop == Stop::End && position == EVENTS);
+            false
+        }
+        Err(fault) => {
+            assert!(rt; is_refusal(fault, workers));
+            expect_edge(rt, alloc, scenario, position);
+            true
+        }
+    }
+}
+
+#[test]
+fn a_refused_text_commits_nothing_of_its_window(rt: HostRuntime) -> Result<(), Fail> {
+    let alloc = rt.alloc();
+    let scenario = scenario(&rt, alloc);
+    for workers in [1, 2] {
+        if stops_at_an_edge(&rt, alloc, &scenario, workers) {
+            let again = stops_at_an_edge(&rt, alloc, &scenario, workers);
+            assert!(rt; !again);
+        }
+    }
+    drop(scenario);
+    Ok(())
+}
+
+/// What a debugger is told.
+#[derive(Clone, Copy)]
+enum Move {
+    Step(u64),
+    Back(u64),
+    Run,
+    Until(u64),
+}
+
+/// Moves, and the positions that they come to, with a breakpoint on segments: lines 3 and 5.
+const MOVES: [(Move, u64); 6] = [
+    (Move::Run, 3),
+    (Move::Step(2), 5),
+    (Move::Back(4), 1),
+    (Move::Until(3_000_000), 4),
+    (Move::Run, 5),
+    (Move::Run, 7),
+];
+
+/// A debugger by so many workers, with that breakpoint.
+fn debugger_of(rt: &impl Abort, alloc: Global, scenario: &Scenario, workers: usize) -> Debugger
+    requires { (0 < workers) × (workers ≤ 64) }
+{
+    assert!(rt; scenario.parts().nodes.len() == 2 && Partition::each(2).nodes() == 2);
+    match Debugger::new(alloc, scenario, Partition::each(2), workers) {
+        Ok(debugger) => debugger,
+        Err(_) => Debugger::new(alloc, scenario, Partition::each(2), workers).expect(
+            rt,
+            "one request is refused",
+        ),
+    }
+}
+
+/// Stops at segments from now on.
+fn stops_at_segments(rt: &impl Abort, debugger: &mut Debugger) {
+    let segments = Break::Kind(EventKind::Data);
+    if debugger.add_break(segments).is_err() {
+        let again = debugger.add_break(segments);
+        assert!(rt; again == Ok(1));
+    }
+}
+
+/// The dump of the state that is shown.
+fn dump(rt: &impl Abort, alloc: Global, debugger: &Debugger) -> Vec<u8> {
+    let mut text = Vec::new(alloc);
+    if debugger.state_text(&mut text).is_err() {
+        assert!(rt; text.is_empty());
+        debugger
+            .state_text(&mut text)
+            .expect(rt, "one request is refused");
+    }
+    text
+}
+
+/// Does what a debugger is told.
+fn moved<R: Threads + Wait + Sync>(
+    rt: &R,
+    debugger: &mut Debugger,
+    told: Move,
+) -> Result<u64, MoveFault> {
+    match told {
+        Move::Step(count) => debugger.step(count),
+        Move::Back(count) => debugger.back(count),
+        Move::Run => debugger.run(rt, &AllHands),
+        Move::Until(time) => debugger.until(rt, &AllHands, time),
+    }
+}
+
+/// Does it. Where it is refused, the dump is the one before, and it is done when it is told once
+/// more.
+fn moves<R: Threads + Wait + Abort + Sync>(
+    rt: &R,
+    alloc: Global,
+    debugger: &mut Debugger,
+    told: Move,
+    workers: usize,
+) -> u64 {
+    let before = dump(rt, alloc, debugger);
+    match moved(rt, debugger, told) {
+        Ok(position) => position,
+        Err(fault) => {
+            assert!(rt;
+                fault == MoveFault::NoMemory || workers > 1 && fault == MoveFault::NoWorker
+            );
+            let after = dump(rt, alloc, debugger);
+            assert!(rt; after.as_slice() == before.as_slice());
+            moved(rt, debugger, told)
+                .ok()
+                .expect(rt, "one request is refused")
+        }
+    }
+}
+
+/// Does all moves by so many workers.
+fn moves_all<R: Threads + Wait + Abort + Sync>(
+    rt: &R,
+    alloc: Global,
+    scenario: &Scenario,
+    workers: usize,
+)
+    requires { (0 < workers) × (workers ≤ 64) }
+{
+    let mut debugger = debugger_of(rt, alloc, scenario, workers);
+    stops_at_segments(rt, &mut debugger);
+    for (told, position) in MOVES {
+        let come = moves(rt, alloc, &mut debugger, told, workers);
+        assert_eq!(rt; come, position);
+    }
+    drop(debugger);
+}
+
+#[test]
+fn a_refused_move_changes_nothing(rt: HostRuntime) -> Result<(), Fail> {
+    let alloc = rt.alloc();
+    let scenario = scenario(&rt, alloc);
+    moves_all(&rt, alloc, &scenario, 1);
+    moves_all(&rt, alloc, &scenario, 2);
+    drop(scenario);
+    Ok(())
+}
