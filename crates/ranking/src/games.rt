@@ -4,7 +4,7 @@ ghost use Rattle.std.specs.Prelude.{◌≡◌, ℕ, ◌+◌, ◌*◌, ◌^◌, �
 ghost use Rattle.ranking.specs.Tournament.{AllWon, AreOwn, AreWithin, won_below};
 ghost use Rattle.ranking.specs.Replayed.{WonAside};
 
-use crate::standing::{Standing, first_of};
+use crate::standing::{Standing, second_leads};
 use std::alloc::{AllocError, Global};
 
 // Plays the game of a node: which place comes first below it.
@@ -15,7 +15,10 @@ fn winner(leaves: &[Standing], winners: &[u32], at: usize) -> u32
     ensures first { result ≡ won_below leaves.now winners.now at }
     ensures within { result < length leaves.now }
 {
-    first_of(leaves, winners[2 * at], winners[2 * at + 1])
+    let left = &leaves[winners[2 * at] as usize];
+    let right = &leaves[winners[2 * at + 1] as usize];
+    // Which comes first cannot be guessed, so it is an index and no branch.
+    winners[2 * at + usize::from(second_leads(left, right))]
 }
 
 /// Plays the games above a place, whose standing has changed, from the place up to the root.

@@ -1,7 +1,7 @@
 //! A key at its place, and which of two comes first.
-ghost use Rattle.std.specs.Prelude.{◌≡◌, ◌<◌, ◌≤◌, length, false};
+ghost use Rattle.std.specs.Prelude.{◌≡◌, false};
 ghost use Rattle.std.specs.Ordering.{is_lt};
-ghost use Rattle.ranking.specs.Tournament.{standing_cmp, standing_at, first_place, vacant_key, IsDated};
+ghost use Rattle.ranking.specs.Tournament.{standing_cmp, vacant_key, IsDated};
 
 use sim_time::{Key, key_order};
 
@@ -60,22 +60,14 @@ fn precedes_at_once(a: &Standing, b: &Standing) -> bool
         .is_lt()
 }
 
-/// Which of two places comes first.
-#[inline]
-pub(crate) fn first_of(leaves: &[Standing], left: u32, right: u32) -> u32
-    requires left { left < length leaves.now }
-    requires right { right < length leaves.now }
-    ensures first { result ≡ first_place leaves.now left right }
-    ensures within { result < length leaves.now }
+/// Whether the second of two comes before the first.
+#[inline(always)]
+pub(crate) fn second_leads(first: &Standing, second: &Standing) -> bool
+    ensures { result ≡ is_lt (standing_cmp second.now first.now) }
 {
-    let (l, r) = (&leaves[left as usize], &leaves[right as usize]);
-    // Times mostly differ, so they are compared before the rest.
-    if l.key.time < r.key.time {
-        return left;
+    // Times mostly differ.
+    if first.key.time == second.key.time {
+        return precedes_at_once(second, first);
     }
-    if r.key.time < l.key.time || precedes_at_once(r, l) {
-        right
-    } else {
-        left
-    }
+    second.key.time < first.key.time
 }
