@@ -21,9 +21,10 @@ pub fn assemble(alloc: Global, text: &[u8]) -> Result<Scenario, AsmFault>
 {
     let mut draft = Draft::new(alloc);
     let mut number = 0u64;
+    let mut words = Vec::new(alloc);
     for line in Pieces::new(text, b'\n') {
         number += 1;
-        let words = first_words(alloc, line)?;
+        first_words(line, &mut words)?;
         let said = match read_line(&draft.table, line, &words) {
             Ok(said) => said,
             Err(fault) => return Err(AsmFault::At {

@@ -1,11 +1,11 @@
 //! Lines, comments and words.
-ghost use Rattle.std.specs.Prelude.{◌≡◌, ◌==◌, IfOk, take};
+ghost use Rattle.std.specs.Prelude.{◌≡◌, ◌==◌, OnOk, take};
 ghost use Rattle.std.specs.Iterator.{YieldsFirstRef, item_count};
 ghost use Rattle.std.specs.List.{before_first, after_first, list_all, position};
 ghost use Rattle.std.specs.Str.{bytes_eq};
 ghost use Rattle.scenario_asm.specs.Lines.{pieces, words_of, without_comment, is_printable, is_word};
 
-use std::alloc::{AllocError, Global};
+use std::alloc::AllocError;
 use std::marker::Model;
 
 /// Where a byte first stands.
@@ -109,19 +109,20 @@ pub fn is_clean(line: &[u8]) -> bool
 /// One more than the most words of a statement: of a longer line no more words are kept.
 const MOST_WORDS: usize = 12;
 
-/// The first words of a line, its comment left out: at most twelve.
-pub fn first_words<'a>(alloc: Global, line: &'a [u8]) -> Result<Vec<Word<'a>>, AllocError>
-    ensures { IfOk result (λ v. v.items ≡ take 12 (words_of line.now)) }
+/// The first words of a line, its comment left out: at most twelve. They take the place of what was in
+/// the vector, so that one vector does for all lines.
+pub fn first_words<'a>(line: &'a [u8], words: &mut Vec<Word<'a>>) -> Result<(), AllocError>
+    ensures { OnOk result (words.new.items ≡ take 12 (words_of line.now)) }
 {
     let (content, _comment) = cut(line, b'#');
-    let mut words = Vec::new(alloc);
+    words.clear();
     for bytes in Pieces::new(content, b' ') {
         if words.len() == MOST_WORDS {
-            return Ok(words);
+            return Ok(());
         }
         if !bytes.is_empty() {
             words.push(Word { bytes })?;
         }
     }
-    Ok(words)
+    Ok(())
 }
