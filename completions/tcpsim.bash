@@ -6,13 +6,14 @@ _tcpsim() {
   case $before in '<' | '>' | '>>' | '>|' | '2>') return ;; esac
   case $word in '<'* | '>'*) return ;; esac
   if [ "$COMP_CWORD" = 1 ]; then
-    COMPREPLY=($(compgen -W 'asm dis run debug --help --version -h -V' -- "$word"))
+    COMPREPLY=($(compgen -W 'asm dis run debug explain --help --version -h -V' -- "$word"))
     return
   fi
   # readline parts `--groups=each` at the sign.
   if [ "$before" = = ]; then before=${COMP_WORDS[COMP_CWORD - 2]}; fi
   if [ "$word" = = ]; then word=; fi
   case ${COMP_WORDS[1]} in
+    explain) COMPREPLY=($(compgen -W "$(_tcpsim_codes) --help -h" -- "$word")) ;;
     asm | dis) COMPREPLY=($(compgen -W '--help -h' -- "$word")) ;;
     run | debug) case $before in
       --workers) COMPREPLY=($(compgen -W '1 2 4 8 16 32 64' -- "$word")) ;;
@@ -20,6 +21,11 @@ _tcpsim() {
       *) COMPREPLY=($(compgen -W '--workers --groups --help -h' -- "$word")) ;;
     esac ;;
   esac
+}
+
+# The codes that there are to explain.
+_tcpsim_codes() {
+  "${COMP_WORDS[0]}" explain 2>/dev/null </dev/null | sed 's/:.*//'
 }
 
 # The options that a command's help lists.

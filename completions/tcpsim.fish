@@ -1,8 +1,10 @@
 # fish completion for tcpsim and the tools beside it. What is no option is the name of a file.
-complete -c tcpsim -n __fish_use_subcommand -f -a asm -d 'Write the image of the scenario on standard input'
-complete -c tcpsim -n __fish_use_subcommand -f -a dis -d 'Write the canonical text of the scenario on standard input'
-complete -c tcpsim -n __fish_use_subcommand -f -a run -d 'Run the scenario on standard input and print its trace'
+complete -c tcpsim -n __fish_use_subcommand -f -a asm -d 'Write the image of a scenario'
+complete -c tcpsim -n __fish_use_subcommand -f -a dis -d 'Write the canonical text of a scenario'
+complete -c tcpsim -n __fish_use_subcommand -f -a run -d 'Run a scenario and print its trace'
 complete -c tcpsim -n __fish_use_subcommand -f -a debug -d 'Answer the commands behind the scenario text on standard input'
+complete -c tcpsim -n __fish_use_subcommand -f -a explain -d 'Say what a code means, or list all codes'
+complete -c tcpsim -n '__fish_seen_subcommand_from explain' -f -a '(tcpsim explain 2>/dev/null </dev/null | string replace -r ":.*" "")'
 complete -c tcpsim -s h -l help -d 'Print help'
 complete -c tcpsim -n __fish_use_subcommand -s V -l version -d 'Print version'
 complete -c tcpsim -n '__fish_seen_subcommand_from run debug' -l workers -x -a '1 2 4 8 16 32 64' -d 'Run the groups by so many workers, 1 to 64'

@@ -39,6 +39,9 @@ LINES = (
     ('tcpsim asm < scenario\\ ', 'tcpsim asm < scenario\\ one.txt '),
     ('tcpsim dis > scenario_', 'tcpsim dis > scenario_two.txt '),
     ('tcpsim run scenario_', 'tcpsim run scenario_two.txt '),
+    ('tcpsim asm sh', 'tcpsim asm shelf/'),
+    ('tcpsim exp', 'tcpsim explain '),
+    ('tcpsim explain gr', 'tcpsim explain groups '),
     ('tcpsim-flows scenario_', 'tcpsim-flows scenario_two.txt '),
     ('tcpsim-flows scenario_two.txt --ser', 'tcpsim-flows scenario_two.txt --series '),
     ('tcpsim-flows --program shelf/in', 'tcpsim-flows --program shelf/inner.txt '),
@@ -71,6 +74,10 @@ class Folder(unittest.TestCase):
             with open(path, 'w', encoding='utf-8') as file:
                 file.write(f'#!/bin/sh\nexec {sys.executable} {HERE}/{tool}.py "$@"\n')
             os.chmod(path, stat.S_IRWXU)
+        path = os.path.join(self.bin, 'tcpsim')
+        with open(path, 'w', encoding='utf-8') as file:
+            file.write('#!/bin/sh\n[ "$*" = explain ] && printf "E4: a word\\nE10: no sim\\ngroups: none\\n"\n')
+        os.chmod(path, stat.S_IRWXU)
         self.environment = {'PATH': f'{self.bin}:{os.environ["PATH"]}', 'HOME': folder.name, 'TERM': 'dumb',
                             'LANG': 'C', 'INPUTRC': os.devnull, 'XDG_CONFIG_HOME': folder.name}
 
@@ -91,7 +98,7 @@ class Compgen(Folder):
                                      *words))
 
     def test_words_of_the_program(self):
-        for words, answer in ((['tcpsim', ''], ['--help', '--version', '-V', '-h', 'asm', 'debug', 'dis', 'run']),
+        for words, answer in ((['tcpsim', ''], ['--help', '--version', '-V', '-h', 'asm', 'debug', 'dis', 'explain', 'run']),
                               (['tcpsim', 'd'], ['debug', 'dis']),
                               (['tcpsim', 'run', '--'], ['--groups', '--help', '--workers']),
                               (['tcpsim', 'dis', '--'], ['--help']),

@@ -67,10 +67,11 @@ Simulate TCP flows through bottlenecks, packet by packet
 Usage: tcpsim <COMMAND>
 
 Commands:
-  asm    Write the image of the scenario on standard input
-  dis    Write the canonical text of the scenario on standard input
-  run    Run the scenario on standard input and print its trace
-  debug  Answer the commands behind the scenario text on standard input
+  asm      Write the image of a scenario
+  dis      Write the canonical text of a scenario
+  run      Run a scenario and print its trace
+  debug    Answer the commands behind the scenario text on standard input
+  explain  Say what a code means, with an example, or list all codes
 
 Options:
   -h, --help     Print help
@@ -80,14 +81,21 @@ T
 help_of() {
   {
     case $1 in
-      run | debug) printf '%s\n\nUsage: tcpsim %s [OPTIONS]\n\nOptions:\n' "$2" "$1"; cat "$work/options" ;;
-      *) printf '%s\n\nUsage: tcpsim %s\n\nOptions:\n  -h, --help  Print help\n' "$2" "$1" ;;
+      run) printf '%s\n\nUsage: tcpsim run [OPTIONS] [FILE]\n\n' "$2"; cat "$work/argument"; printf 'Options:\n'; cat "$work/options" ;;
+      debug) printf '%s\n\nUsage: tcpsim debug [OPTIONS]\n\nOptions:\n' "$2"; cat "$work/options" ;;
+      explain) printf '%s\n\nUsage: tcpsim explain [CODE]\n\nArguments:\n  [CODE]  The code, as it stands behind `refused`\n\nOptions:\n  -h, --help  Print help\n' "$2" ;;
+      *) printf '%s\n\nUsage: tcpsim %s [FILE]\n\n' "$2" "$1"; cat "$work/argument"; printf 'Options:\n  -h, --help  Print help\n' ;;
     esac
   } > "$work/expected"
   for flag in --help -h; do
     run "$1" $flag < "$first"; ended "tcpsim $1 $flag" 0 "$work/nothing" "$work/expected"
   done
 }
+cat > "$work/argument" <<'T'
+Arguments:
+  [FILE]  The scenario's file; without it, or where it is -, standard input
+
+T
 cat > "$work/options" <<'T'
       --workers <N>  How many workers run the groups, 1 to 64 [default: 1]
       --groups <G>   The group of each node: one, each, or numbers as in 0,0,1 [default: one]
@@ -96,10 +104,11 @@ T
 echo 'tcpsim 0.1.0' > "$work/version"
 run --help < "$first"; ended 'tcpsim --help' 0 "$work/nothing" "$work/help"
 run -h < "$first"; ended 'tcpsim -h' 0 "$work/nothing" "$work/help"
-help_of asm 'Write the image of the scenario on standard input'
-help_of dis 'Write the canonical text of the scenario on standard input'
-help_of run 'Run the scenario on standard input and print its trace'
+help_of asm 'Write the image of a scenario'
+help_of dis 'Write the canonical text of a scenario'
+help_of run 'Run a scenario and print its trace'
 help_of debug 'Answer the commands behind the scenario text on standard input'
+help_of explain 'Say what a code means, with an example, or list all codes'
 run --version < "$first"; ended 'tcpsim --version' 0 "$work/nothing" "$work/version"
 run -V < "$first"; ended 'tcpsim -V' 0 "$work/nothing" "$work/version"
 
@@ -116,16 +125,26 @@ mistaken() {
 }
 
 mistaken 'tcpsim <COMMAND>' "'tcpsim' requires a subcommand but one was not provided
-  [subcommands: asm, dis, run, debug]"
+  [subcommands: asm, dis, run, debug, explain]"
 mistaken 'tcpsim <COMMAND>' "unrecognized subcommand 'verify'" verify
 mistaken 'tcpsim <COMMAND>' "unrecognized subcommand 'help'" help
 mistaken 'tcpsim <COMMAND>' "unexpected argument '--fast' found" --fast run
-mistaken 'tcpsim asm' "unexpected argument '--workers' found" asm --workers 2
-mistaken 'tcpsim dis' "unexpected argument '--groups' found" dis --groups each
-mistaken 'tcpsim run [OPTIONS]' "unexpected argument 'run' found" run run
-mistaken 'tcpsim asm' "unexpected argument 'dis' found" asm dis
-mistaken 'tcpsim dis' "unexpected argument '--fast' found" dis --fast
-mistaken 'tcpsim run [OPTIONS]' "unexpected argument '--version' found" run --version
+mistaken 'tcpsim asm [FILE]' "unexpected argument '--workers' found
+
+  tip: to pass '--workers' as a value, use '-- --workers'" asm --workers 2
+mistaken 'tcpsim dis [FILE]' "unexpected argument '--groups' found
+
+  tip: to pass '--groups' as a value, use '-- --groups'" dis --groups each
+mistaken 'tcpsim run [OPTIONS] [FILE]' "unexpected argument 'twice' found" run "$first" twice
+mistaken 'tcpsim asm [FILE]' "unexpected argument 'twice' found" asm "$first" twice
+mistaken 'tcpsim debug [OPTIONS]' "unexpected argument 'file' found" debug file
+mistaken 'tcpsim dis [FILE]' "unexpected argument '--fast' found
+
+  tip: to pass '--fast' as a value, use '-- --fast'" dis --fast
+mistaken 'tcpsim run [OPTIONS] [FILE]' "unexpected argument '--version' found
+
+  tip: to pass '--version' as a value, use '-- --version'" run --version
+mistaken 'tcpsim explain [CODE]' "unexpected argument 'E2' found" explain E1 E2
 # valued LINE WORD..: options whose value is refused, whatever the input is
 valued() {
   printf "error: %s\n\nFor more information, try '--help'.\n" "$1" > "$work/expected"
@@ -144,6 +163,59 @@ for words in run debug; do
 done
 run "$(printf 'r\377n')" < "$first"; told 'a word that is not UTF-8' 2 'error: a word is not valid UTF-8'
 run run "$(printf '\200')" < "$first"; told 'a second word that is not UTF-8' 2 'error: a word is not valid UTF-8'
+
+# ---- a code
+
+echo 'error: no such code; there are E1 to E10, L1 to L8, I1, B1 to B4, M and groups' > "$work/expected"
+for code in E0 E11 e1 E 1 '' 'E1:' L9 B5 group; do
+  run explain "$code" < "$first"; ended "tcpsim explain '$code'" 2 "$work/expected" "$work/nothing"
+done
+run explain <&-; mv "$work/out" "$work/codes"
+if [ "$(wc -l < "$work/codes")" = 25 ]; then pass 'tcpsim explain'; else fail 'tcpsim explain' "it lists $(wc -l < "$work/codes") codes"; fi
+for code in E1 E10 L8 groups; do
+  run explain "$code" <&-
+  if [ "$(head -n 1 "$work/out")" = "$(grep "^$code: " "$work/codes")" ]; then pass "tcpsim explain $code"
+  else fail "tcpsim explain $code" 'it begins with another line than the list has'; fi
+done
+"$program" explain E4 > /dev/full 2> "$work/note"; status=$?; : > "$work/out"
+told 'tcpsim explain to a full device' 3 'write failed'
+
+# ---- a file in the place of standard input
+
+cp "$first" "$work/one scenario.txt"
+cp "$first" "$work/--workers"
+for words in run asm dis 'run --groups each --workers 2'; do
+  run $words < "$first"; mv "$work/out" "$work/expected"
+  for file in "$first" "$work/one scenario.txt" -; do
+    run $words "$file" < "$first"; ended "tcpsim $words $file" 0 "$work/nothing" "$work/expected"
+    if [ "$file" = - ]; then continue; fi
+    run $words "$file" <&-; ended "tcpsim $words $file with standard input closed" 0 "$work/nothing" "$work/expected"
+    run $words "$file" < /dev/null; ended "tcpsim $words $file with nothing on standard input" 0 "$work/nothing" "$work/expected"
+  done
+  for file in "$work/none" "$work" "$work/none/none" ''; do
+    printf 'cannot read %s\n' "$file" > "$work/refusal"
+    run $words "$file" < "$first"; ended "tcpsim $words '$file'" 3 "$work/refusal" "$work/nothing"
+  done
+done
+cd "$work" || exit 1
+run run -- --workers; ended 'tcpsim run -- --workers' 0 "$work/nothing" "$first_trace"
+run run ./-; told 'tcpsim run ./-' 3 'cannot read ./-'
+cd "$top" || exit 1
+run asm "$first"; mv "$work/out" "$work/first.tcb"
+run run "$work/first.tcb"; ended 'tcpsim run of an image in a file' 0 "$work/nothing" "$first_trace"
+mkfifo "$work/pipe"
+cat "$first" > "$work/pipe" & run run "$work/pipe"; ended 'tcpsim run of a pipe with a name' 0 "$work/nothing" "$first_trace"; wait
+: > "$work/pipe" & run run "$work/pipe"; told 'tcpsim run of a pipe that ends at once' 1 'refused E10 line 0'; wait
+{ cat "$first"; head -c 16777216 /dev/zero | tr '\0' '\n'; } | head -c 16777217 > "$work/most"
+run run "$work/most"; told 'tcpsim run of a file of 16,777,217 bytes' 1 'refused I1'
+head -c 16777216 "$work/most" > "$work/much"
+run run "$work/much"; ended 'tcpsim run of a file of 16,777,216 bytes' 0 "$work/nothing" "$first_trace"
+rm -f "$work/most" "$work/much" "$work/pipe"
+printf 'sim 01\n' > "$work/text"
+run run "$work/text"; told 'a text in a file' 1 'refused E4 line 1'
+run run --workers 0 "$work/none"
+if [ "$status" = 2 ]; then pass 'mistaken words and no file'; else fail 'mistaken words and no file' "status $status"; fi
+run run --groups 0 "$work/none"; told 'a file is opened before groups are judged' 3 "cannot read $work/none"
 
 # ---- the input
 

@@ -1,14 +1,20 @@
 -- A debugging session, from its reader on.
-use Rattle.std.proofs.Common.{◌≡◌, ◌≢◌, ◌∙◌, ℕ, List, Option, Err, refl, sym, subst}
+use Rattle.std.proofs.Common.{◌≡◌, ◌≢◌, ◌∙◌, ℕ, Bool, true, false, List, [], codes, bytes_eq, MatchBool, Option, None, Some, Err, refl, sym, subst}
 use Rattle.sessions.specs.declared.fault.SessionFault.{SessionFault}
 use Rattle.sessions.specs.declared.fault.SessionFault.TheVariants.{ReadFailed, NoMemory}
+use Rattle.sessions.specs.declared.subcommand.Asked.{Asked}
+use Rattle.sessions.specs.declared.subcommand.Asked.TheVariants.{Session, Explanation}
 use Rattle.sessions.specs.declared.subcommand.Task.{Task}
 use Rattle.sessions.specs.declared.subcommand.Task.TheVariants.{Scenario, Debug}
+use Rattle.sessions.specs.Asked.{IsTaskOnFile, IsExplanation, IsNamedOn, IsAskedOn}
+use Rattle.sessions.specs.CommandLine.{IsExplained}
 use Rattle.sessions.specs.Debug.{IsDebugSession, IsDebugSessionOn, IsTaskOn}
 use Rattle.sessions.specs.Ended.{Ended, IsReadFault, reads_after, writes_after}
 use Rattle.sessions.specs.Streams.{Streams, IsInputOf}
 use Rattle.sessions.proofs.DebugEnds.{unread_input}
-use Rattle.sessions.proofs.Reading.{hindered_text, reads_stay, writes_stay, never_begun}
+use Rattle.sessions.proofs.Reading.{hindered_text, reads_stay, writes_stay, unread}
+use Rattle.window_engine.specs.Failures.{counted}
+use Rattle.window_engine.proofs.Bytes.{appends_nothing}
 
 -- the input was not read
 pub debug_unread : (groups : List ℕ) (known : Option (List ℕ)) (fault : SessionFault) (before after : Streams) → (text : List ℕ) × IsInputOf known text × IsReadFault text fault → after.written ≡ before.written
@@ -28,9 +34,45 @@ pub debug_read : (groups : List ℕ) (known : Option (List ℕ)) (input : List �
 debug_read groups known input ended before after given session other reads writes =
     record { input = input; given = given; session = session; reads = reads ∙ reads_stay ended before.read_failures other; writes = writes }
 
+-- nothing was read of a task's input
+pub task_unread : (task : Task) (known : Option (List ℕ)) (fault : SessionFault) (before after : Streams) → (text : List ℕ) × IsInputOf known text × IsReadFault text fault → after.written ≡ before.written
+    → after.write_failures ≡ before.write_failures → after.read_failures ≡ reads_after {T = Unit {0}} (Err fault) before.read_failures → IsTaskOn task known (Err fault) before after
+task_unread (Scenario subcommand) known fault before after of_input written writes reads = unread subcommand known fault before after of_input written writes reads
+task_unread (Debug sharing) known fault before after of_input written writes reads = debug_unread sharing.groups known fault before after of_input written writes reads
+
+-- the file could not be opened
+pub task_unopened : (task : Task) (known : Option (List ℕ)) (before after : Streams) → after.written ≡ before.written → after.write_failures ≡ before.write_failures → after.read_failures ≡ counted before.read_failures
+    → IsTaskOn task known (Err ReadFailed) before after
+task_unopened task known before after written writes reads = task_unread task known ReadFailed before after (hindered_text known ReadFailed (λ text. tt)) written writes reads
+
 -- memory was refused before anything was read
 pub task_never_begun : (task : Task) (known : Option (List ℕ)) (before after : Streams) → after ≡ before → IsTaskOn task known (Err NoMemory) before after
-task_never_begun (Scenario subcommand) known before after same = never_begun subcommand known before after same
-task_never_begun (Debug sharing) known before after same =
-    subst (λ streams. IsDebugSessionOn sharing.groups known (Err NoMemory) before streams) (sym same)
-    (debug_unread sharing.groups known NoMemory before before (hindered_text known NoMemory (λ text. tt)) refl refl refl)
+task_never_begun task known before after same =
+    subst (λ streams. IsTaskOn task known (Err NoMemory) before streams) (sym same) (task_unread task known NoMemory before before (hindered_text known NoMemory (λ text. tt)) refl refl refl)
+
+-- so over a file
+pub file_never_begun : (task : Task) (file : List ℕ) (known : Option (List ℕ)) (before after : Streams) → after ≡ before → IsTaskOnFile task file known (Err NoMemory) before after
+file_never_begun task file known before after same = record { ended = Err NoMemory; is_told = refl; session = task_never_begun task known before after same }
+
+-- and of all that may be asked for
+named_never_begun : (task : Task) (file : Option (List ℕ)) (known : Option (List ℕ)) (bytes_of : List ℕ → Option (List ℕ)) (before after : Streams) → after ≡ before
+    → IsNamedOn task file known bytes_of (Err NoMemory) before after
+named_never_begun task None known bytes_of before after same = task_never_begun task known before after same
+named_never_begun task (Some file) known bytes_of before after same = go (bytes_eq file (codes "-"))
+  where
+    go : (b : Bool) → MatchBool b (IsTaskOn task known (Err NoMemory) before after) (IsTaskOnFile task file (bytes_of file) (Err NoMemory) before after)
+    go true = task_never_begun task known before after same
+    go false = file_never_begun task file (bytes_of file) before after same
+
+pub asked_never_begun : (asked : Asked) (known : Option (List ℕ)) (bytes_of : List ℕ → Option (List ℕ)) (before after : Streams) → after ≡ before → IsAskedOn asked known bytes_of (Err NoMemory) before after
+asked_never_begun (Session task file) known bytes_of before after same = named_never_begun task file known bytes_of before after same
+asked_never_begun (Explanation code) known bytes_of before after same = explained code
+  where
+    nothing : (code : Option (List ℕ)) → IsExplained code (Err NoMemory) []
+    nothing None = refl
+    nothing (Some code) = refl
+
+    explained : (code : Option (List ℕ)) → IsExplanation code (Err NoMemory) before after
+    explained code =
+        subst (λ streams. IsExplanation code (Err NoMemory) before streams) (sym same)
+        (record { output = ([], appends_nothing before.written, nothing code); writes = refl; unread = refl })

@@ -7,21 +7,24 @@ use Rattle.clap.specs.Facts.{explicit_source}
 use Rattle.clap.specs.Faults.{fault_of, is_simple_and_free, level_fault, walk_fault, settle_fault, defaults_fault, check_fault, entered_fault}
 use Rattle.clap.specs.Kinds.{Kinds, or_else, check_kinds}
 use Rattle.clap.specs.Matches.{subcommand_name_of}
-use Rattle.clap.specs.Simple.{App, HasMatchesOf, Shape, argument_words, built, built_leaf, entered, inherited, marked_built, names_of, new_shape, on_top, rows_at, subcommand_of, subcommand_rows_of, with_leaf_noted}
+use Rattle.clap.specs.Simple.{App, HasMatchesOf, Shape, argument_words, built, built_leaf, entered, inherited, marked_built, names_of, on_top, rows_at, subcommand_of, subcommand_rows_of, with_leaf_noted}
 use Rattle.clap.specs.Takes.{is_given}
 use Rattle.clap.specs.Walk.{Held, Names, Row, Text, finished, first_of, nothing_held, settled, stop_after, walk, walk_from}
 use Rattle.clap.specs.declared.parser.matches.ArgMatches.{ArgMatches}
 use Rattle.clap.specs.declared.parser.matches.ArgMatches.TheViews.{out-ArgMatches}
+use Rattle.sessions.specs.declared.subcommand.Asked.{Asked}
+use Rattle.sessions.specs.declared.subcommand.Asked.TheVariants.{Session, Explanation}
 use Rattle.sessions.specs.declared.subcommand.Subcommand.TheVariants.{Asm, Dis, Run}
 use Rattle.sessions.specs.declared.subcommand.Task.{Task}
 use Rattle.sessions.specs.declared.subcommand.Task.TheVariants.{Scenario, Debug}
-use Rattle.sessions.specs.CommandLine.{program, word_faults, option_text, number_of, Give, AskFor, WordsAskForOne}
-use Rattle.sessions.specs.Given.{AreOptions, AreOfSubcommand, IsSharing}
+use Rattle.sessions.specs.CommandLine.{program, file_shape, code_shape, word_faults, option_text, number_of, Give, GiveAll, AskFor, WordsAskForOne}
+use Rattle.sessions.specs.Given.{AreOptions, AreOfSubcommand, AreOfAsked, IsSharing}
 use Rattle.sessions.specs.Sharing.{SharingValue}
-use Rattle.sessions.specs.Subcommand.{word_of, sharing_of}
+use Rattle.sessions.specs.Subcommand.{word_of, asked_word, sharing_of}
 use Rattle.sessions.proofs.NoKinds.{some_kind, first, second}
 use Rattle.sessions.proofs.Options.{some_none, same_some}
-use Rattle.sessions.proofs.OptionWalk.{shared_shape, options_there}
+use Rattle.sessions.proofs.OptionRows.{shared_rules, shared_usable, shared_there, run_rules, run_usable, run_there}
+use Rattle.sessions.proofs.OptionWalk.{shape_with, options_there}
 
 fifth : (a b c d last : Kinds) → or_else a (or_else b (or_else c (or_else d last))) ≡ [] → last ≡ []
 fifth a b c d last none =
@@ -79,57 +82,73 @@ fault_at rest found = option_map_or (λ (s : Shape). level_fault s [] nothing_he
 abbrev IsNamed : Option (Text × List Row) → Type 0
 IsNamed found = (named : Text × List Row) × (found ≡ Some named) × AreOfSubcommand named.0 named.1
 
-abbrev plain_shape : Text → Shape
-plain_shape name = built_leaf (inherited (on_top with_leaf_noted (on_top marked_built program)).top (new_shape name))
+-- a subcommand as its parse has it
+abbrev leaf : Shape → Shape
+leaf shape = built_leaf (inherited (on_top with_leaf_noted (on_top marked_built program)).top shape)
 
-abbrev first_of_four : Bool → Bool → Bool → Bool → Option Shape
-first_of_four asm dis run debug =
-    cond asm (Some (plain_shape (codes "asm"))) (cond dis (Some (plain_shape (codes "dis"))) (cond run (Some (shared_shape (codes "run"))) (cond debug (Some (shared_shape (codes "debug"))) None)))
+abbrev asm_shape : Shape
+asm_shape = leaf (file_shape (codes "asm"))
 
--- the first of four subcommands that passes a test
-one_of_four : (asm dis run debug : Bool) (rest : List Text) → is_some (found_at rest (first_of_four asm dis run debug)) ≡ true → fault_at rest (first_of_four asm dis run debug) ≡ []
-    → IsNamed (found_at rest (first_of_four asm dis run debug))
-one_of_four true dis run debug rest found none = (rows_at (plain_shape (codes "asm")) rest, refl, inl refl)
-one_of_four false true run debug rest found none = (rows_at (plain_shape (codes "dis")) rest, refl, inr (inl refl))
-one_of_four false false true debug rest found none = (rows_at (shared_shape (codes "run")) rest, refl, inr (inr (inl (refl, options_there (codes "run") rest none))))
-one_of_four false false false true rest found none = (rows_at (shared_shape (codes "debug")) rest, refl, inr (inr (inr (refl, options_there (codes "debug") rest none))))
-one_of_four false false false false rest found none = absurd (false≢true found)
+abbrev dis_shape : Shape
+dis_shape = leaf (file_shape (codes "dis"))
+
+abbrev explain_shape : Shape
+explain_shape = leaf (code_shape (codes "explain"))
+
+abbrev first_of_five : Bool → Bool → Bool → Bool → Bool → Option Shape
+first_of_five asm dis run debug explain =
+    cond asm (Some asm_shape) (cond dis (Some dis_shape) (cond run (Some (shape_with (codes "run") run_rules)) (cond debug (Some (shape_with (codes "debug") shared_rules)) (cond explain (Some explain_shape) None))))
+
+-- the first of five subcommands that passes a test
+one_of_five : (asm dis run debug explain : Bool) (rest : List Text) → is_some (found_at rest (first_of_five asm dis run debug explain)) ≡ true → fault_at rest (first_of_five asm dis run debug explain) ≡ []
+    → IsNamed (found_at rest (first_of_five asm dis run debug explain))
+one_of_five true dis run debug explain rest found none = (rows_at asm_shape rest, refl, inr (inl refl))
+one_of_five false true run debug explain rest found none = (rows_at dis_shape rest, refl, inr (inr (inl refl)))
+one_of_five false false true debug explain rest found none = (rows_at (shape_with (codes "run") run_rules) rest, refl, inr (inr (inr (inl (refl, options_there run_rules run_usable (codes "run") run_there rest none)))))
+one_of_five false false false true explain rest found none = (rows_at (shape_with (codes "debug") shared_rules) rest, refl, inr (inr (inr (inr (refl, options_there shared_rules shared_usable (codes "debug") shared_there rest none)))))
+one_of_five false false false false true rest found none = (rows_at explain_shape rest, refl, inl refl)
+one_of_five false false false false false rest found none = absurd (false≢true found)
 
 -- the subcommand that was entered is one of them
 name_entered : (stop : Option (Text × List Text)) → is_some (entered (built program) stop) ≡ true → entered_fault (built program) stop ≡ [] → IsNamed (entered (built program) stop)
 name_entered None found none = absurd (false≢true found)
-name_entered (Some (word, rest)) found none = one_of_four _ _ _ _ rest found none
+name_entered (Some (word, rest)) found none = one_of_five _ _ _ _ _ rest found none
 
 pub named_by : (words : List Text) → word_faults words ≡ [] → IsNamed (subcommand_of program words)
 named_by words none = name_entered (stop_in words) (enter words none) (inside words none)
 
--- the task of a subcommand's word and options
-abbrev IsTaskOf : Text → List Row → Task → Type 0
-IsTaskOf word rows task = (word ≡ word_of task) × IfSome (sharing_of task) (IsSharing rows)
+-- what a subcommand's word and options ask for
+abbrev IsOf : Text → List Row → Asked → Type 0
+IsOf word rows asked = (word ≡ asked_word asked) × AreOfAsked rows asked
 
 sharing_there : (rows : List Row) → AreOptions rows → (sharing : SharingValue) × IsSharing rows sharing
 sharing_there rows has = (record { workers = number_of has.workers; groups = has.groups }, record { workers = ap (option_map number_of) has.are_workers; groups = has.are_groups })
 
-task_there : (word : Text) (rows : List Row) → AreOfSubcommand word rows → (task : Task) × IsTaskOf word rows task
-task_there word rows (inl is) = (Scenario Asm, (is, tt))
-task_there word rows (inr (inl is)) = (Scenario Dis, (is, tt))
-task_there word rows (inr (inr (inl run))) = let shared = sharing_there rows run.1 in (Scenario (Run shared.0), (run.0, shared.1))
-task_there word rows (inr (inr (inr debug))) = let shared = sharing_there rows debug.1 in (Debug shared.0, (debug.0, shared.1))
+asked_there : (word : Text) (rows : List Row) → AreOfSubcommand word rows → (asked : Asked) × IsOf word rows asked
+asked_there word rows (inl explain) = (Explanation (first_of (codes "code") rows), (explain, refl))
+asked_there word rows (inr (inl asm)) = (Session (Scenario Asm) (first_of (codes "file") rows), (asm, (tt, refl)))
+asked_there word rows (inr (inr (inl dis))) = (Session (Scenario Dis) (first_of (codes "file") rows), (dis, (tt, refl)))
+asked_there word rows (inr (inr (inr (inl run)))) = let shared = sharing_there rows run.1 in (Session (Scenario (Run shared.0)) (first_of (codes "file") rows), (run.0, (shared.1, refl)))
+asked_there word rows (inr (inr (inr (inr debug)))) = let shared = sharing_there rows debug.1 in (Session (Debug shared.0) (first_of (codes "file") rows), (debug.0, (shared.1, refl)))
 
--- a task by the word and options of the subcommand that faultless words name
-pub asked_for : (words : List Text) (named : Text × List Row) (task : Task) → word_faults words ≡ [] → subcommand_of program words ≡ Some named → IsTaskOf named.0 named.1 task → AskFor words task
-asked_for words named task none is of = record {
+-- what the word and options of the subcommand that faultless words name ask for
+pub asked_for : (words : List Text) (named : Text × List Row) (asked : Asked) → word_faults words ≡ [] → subcommand_of program words ≡ Some named → IsOf named.0 named.1 asked → AskFor words asked
+asked_for words named asked none is of = record {
   faultless = none;
   named = ap (option_map (λ (n : Text × List Row). n.0)) is ∙ ap Some of.0;
-  given = go (sharing_of task) of.1;
+  given = all asked of.1;
 }
   where
     text : (id : Text) → option_text id words ≡ first_of id named.1
     text id = ap (option_and_then (λ (n : Text × List Row). first_of id n.1)) is
 
-    go : (o : Option SharingValue) → IfSome o (IsSharing named.1) → IfSome o (Give words)
-    go None given = tt
-    go (Some sharing) given = record { workers = ap (option_map number_of) (text (codes "workers")) ∙ given.workers; groups = text (codes "groups") ∙ given.groups }
+    options : (o : Option SharingValue) → IfSome o (IsSharing named.1) → IfSome o (Give words)
+    options None given = tt
+    options (Some sharing) given = record { workers = ap (option_map number_of) (text (codes "workers")) ∙ given.workers; groups = text (codes "groups") ∙ given.groups }
+
+    all : (asked : Asked) → AreOfAsked named.1 asked → GiveAll words asked
+    all (Session task file) given = (options (sharing_of task) given.0, text (codes "file") ∙ given.1)
+    all (Explanation code) given = text (codes "code") ∙ given
 
 -- words that differ in their second letters are two
 differ : (a b : List ℕ) → a ≡ b → (slice_index a 1 == slice_index a 1) ≡ true → (slice_index a 1 == slice_index b 1) ≡ false → ⊥
@@ -161,12 +180,25 @@ same_task words (Debug sharing) (Scenario Dis) is gives gives_too = absurd (diff
 same_task words (Debug sharing) (Scenario (Run other)) is gives gives_too = absurd (differ _ _ is refl refl)
 same_task words (Debug one) (Debug other) is gives gives_too = ap Debug (one_sharing words one other gives gives_too)
 
+-- the word of a task is not `explain`
+not_explained : (task : Task) → word_of task ≡ codes "explain" → ⊥
+not_explained (Scenario Asm) is = differ _ _ is refl refl
+not_explained (Scenario Dis) is = differ _ _ is refl refl
+not_explained (Scenario (Run sharing)) is = differ _ _ is refl refl
+not_explained (Debug sharing) is = differ _ _ is refl refl
+
+same_asked : (words : List Text) (one other : Asked) → asked_word one ≡ asked_word other → GiveAll words one → GiveAll words other → one ≡ other
+same_asked words (Session task file) (Session task' file') is gives gives_too = ap₂ Session (same_task words task task' is gives.0 gives_too.0) (sym gives.1 ∙ gives_too.1)
+same_asked words (Session task file) (Explanation code) is gives gives_too = absurd (not_explained task is)
+same_asked words (Explanation code) (Session task file) is gives gives_too = absurd (not_explained task (sym is))
+same_asked words (Explanation code) (Explanation code') is gives gives_too = ap Explanation (sym gives ∙ gives_too)
+
 pub words_ask_for_one : WordsAskForOne
 words_ask_for_one words = record {
   some = λ none.
       let named = named_by words none in
-      let task = task_there named.0.0 named.0.1 named.2 in (task.0, asked_for words named.0 task.0 none named.1 task.1);
-  only = λ one other asks asks_too. same_task words one other (same_some (word_of one) (word_of other) (sym asks.named ∙ asks_too.named)) asks.given asks_too.given;
+      let asked = asked_there named.0.0 named.0.1 named.2 in (asked.0, asked_for words named.0 asked.0 none named.1 asked.1);
+  only = λ one other asks asks_too. same_asked words one other (same_some (asked_word one) (asked_word other) (sym asks.named ∙ asks_too.named)) asks.given asks_too.given;
 }
 
 map_of_map : {A B C : Type 0} (f : B → C) (g : A → B) (o : Option A) → option_map f (option_map g o) ≡ option_map (λ a. f (g a)) o

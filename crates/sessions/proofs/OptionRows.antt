@@ -7,14 +7,14 @@ use Rattle.std.specs.Str.{bytes_eq}
 use Rattle.clap.specs.Facts.{parser_of_value}
 use Rattle.clap.specs.Faults.{use_fault, values_fault, set_fault, repeat_fault}
 use Rattle.clap.specs.Kinds.{value_kinds, values_kinds}
-use Rattle.clap.specs.Simple.{filled, help_rule}
+use Rattle.clap.specs.Simple.{filled, help_rule, with_index}
 use Rattle.clap.specs.ValueTests.{accepts}
 use Rattle.clap.specs.Values.{refused_kind}
 use Rattle.clap.specs.Walk.{Row, Rule, Text, at_row, has_row, more_values, reading_by, used, with_default, with_values, without}
 use Rattle.clap.specs.declared.error.kind.ErrorKind.TheVariants.{ArgumentConflict, DisplayHelp}
 use Rattle.clap.specs.declared.parser.matches.ValueSource.{ValueSource}
 use Rattle.clap.specs.declared.parser.matches.ValueSource.TheVariants.{CommandLine, DefaultValue}
-use Rattle.sessions.specs.CommandLine.{workers_rule, groups_rule}
+use Rattle.sessions.specs.CommandLine.{workers_rule, groups_rule, file_rule}
 use Rattle.sessions.proofs.NoKinds.{some_kind, first, second}
 use Rattle.sessions.proofs.Options.{some_none}
 
@@ -28,8 +28,15 @@ groups = filled groups_rule
 abbrev pub help : Rule
 help = filled help_rule
 
-abbrev pub rules : List Rule
-rules = workers ∷ groups ∷ help ∷ []
+abbrev pub file : Rule
+file = with_index 1 (filled file_rule)
+
+-- the rules of a subcommand that takes the options only, and of one that takes a file too
+abbrev pub shared_rules : List Rule
+shared_rules = workers ∷ groups ∷ help ∷ []
+
+abbrev pub run_rules : List Rule
+run_rules = workers ∷ groups ∷ file ∷ help ∷ []
 
 -- the row has a first value, which the rule's parser takes, and is read as the parser says
 pub record IsFilled (a : Rule) (r : Row) : Type 0 where
@@ -136,18 +143,42 @@ groups_usable (v ∷ vs) rows none fine =
       groups_held = holds_more groups rows (row_for groups CommandLine (v ∷ vs)) fine.groups_held (fills groups CommandLine v vs refl);
     })
 
+file_usable : Usable file
+file_usable [] rows none fine = absurd (some_kind _ _ none)
+file_usable (v ∷ vs) rows none fine =
+    let set : set_fault false file (v ∷ vs) rows ≡ [] = second _ (set_fault false file (v ∷ vs) rows) none in
+    let new : has_row file.id rows ≡ false = never_before file rows (first (repeat_fault false file.id rows) (values_fault file (v ∷ vs)) set) in
+    subst Fine (sym (used_once file CommandLine (v ∷ vs) rows new))
+    (record {
+      workers_held = holds_more workers rows (row_for file CommandLine (v ∷ vs)) fine.workers_held tt;
+      groups_held = holds_more groups rows (row_for file CommandLine (v ∷ vs)) fine.groups_held tt;
+    })
+
 help_usable : Usable help
 help_usable values rows none fine = absurd (some_kind _ _ (second _ (DisplayHelp ∷ []) none))
 
--- so does each rule that a search finds
-pub found_usable : (test : Rule → Bool) → IfSome (find test rules) Usable
-found_usable test = go (test workers) (test groups) (test help)
+-- each rule that a search finds is usable
+abbrev pub AreUsable : List Rule → Type 0
+AreUsable rules = (test : Rule → Bool) → IfSome (find test rules) Usable
+
+pub shared_usable : AreUsable shared_rules
+shared_usable test = go (test workers) (test groups) (test help)
   where
     go : (a b c : Bool) → IfSome (cond a (Some workers) (cond b (Some groups) (cond c (Some help) None))) Usable
     go true b c = workers_usable
     go false true c = groups_usable
     go false false true = help_usable
     go false false false = tt
+
+pub run_usable : AreUsable run_rules
+run_usable test = go (test workers) (test groups) (test file) (test help)
+  where
+    go : (a b c d : Bool) → IfSome (cond a (Some workers) (cond b (Some groups) (cond c (Some file) (cond d (Some help) None)))) Usable
+    go true b c d = workers_usable
+    go false true c d = groups_usable
+    go false false true d = file_usable
+    go false false false true = help_usable
+    go false false false false = tt
 
 -- a row that is found is the one of its rule
 found_row : (a : Rule) (rows : List Row) → has_row a.id rows ≡ true → Holds a rows → Has a rows
@@ -194,15 +225,32 @@ default_groups rows has holds = go (has_row groups.id rows) refl
         subst P (sym (row_missing groups.id (more_values DefaultValue (codes "one" ∷ [])) (new ∷ []) rows is))
         (has_more workers rows new has, new_row groups rows new is refl (fills groups DefaultValue (codes "one") [] refl))
 
-default_help : (rows : List Row) → with_default rows help ≡ rows
-default_help rows = go (has_row help.id rows)
-  where
-    go : (b : Bool) → (if b then rows else rows) ≡ rows
-    go true = refl
-    go false = refl
+-- what has no default leaves the rows
+no_default : (b : Bool) (rows : List Row) → (if b then rows else rows) ≡ rows
+no_default true rows = refl
+no_default false rows = refl
 
-pub both_there : (rows : List Row) → Fine rows → Has workers (fold with_default rows rules) × Has groups (fold with_default rows rules)
-both_there rows fine =
-    let first = default_workers rows fine in
-    let P : List Row → Type 0 = λ l. Has workers l × Has groups l in
-    subst P (sym (default_help (with_default (with_default rows workers) groups))) (default_groups (with_default rows workers) first.0 first.1)
+default_help : (rows : List Row) → with_default rows help ≡ rows
+default_help rows = no_default (has_row help.id rows) rows
+
+default_file : (rows : List Row) → with_default rows file ≡ rows
+default_file rows = no_default (has_row file.id rows) rows
+
+-- both options have their rows after the defaults of these rules
+abbrev pub AreThere : List Rule → Type 0
+AreThere rules = (rows : List Row) → Fine rows → Has workers (fold with_default rows rules) × Has groups (fold with_default rows rules)
+
+-- and they have after the first two
+both_first : (rows : List Row) → Fine rows → Has workers (with_default (with_default rows workers) groups) × Has groups (with_default (with_default rows workers) groups)
+both_first rows fine = let first = default_workers rows fine in default_groups (with_default rows workers) first.0 first.1
+
+abbrev Both : List Row → Type 0
+Both rows = Has workers rows × Has groups rows
+
+pub shared_there : AreThere shared_rules
+shared_there rows fine = subst Both (sym (default_help (with_default (with_default rows workers) groups))) (both_first rows fine)
+
+pub run_there : AreThere run_rules
+run_there rows fine =
+    let two : List Row = with_default (with_default rows workers) groups in
+    subst Both (sym (default_help (with_default two file))) (subst Both (sym (default_file two)) (both_first rows fine))

@@ -3,7 +3,7 @@ use Rattle.std.proofs.Common.{◌≡◌, ◌≢◌, ℕ, ◌+◌, ◌<◌, List,
 use Rattle.std.proofs.lemmas.List.{append-nil}
 use Rattle.std.specs.Io.KnownBytes.{Consumes, IsAtEnd}
 use Rattle.sessions.specs.declared.fault.SessionFault.{SessionFault}
-use Rattle.sessions.specs.declared.fault.SessionFault.TheVariants.{TooLong, ReadFailed, WriteFailed, NoMemory}
+use Rattle.sessions.specs.declared.fault.SessionFault.TheVariants.{TooLong, ReadFailed, WriteFailed}
 use Rattle.sessions.specs.Ended.{Ended, IsReadFault, reads_after, writes_after}
 use Rattle.sessions.specs.Streams.{Streams, IsInputOf}
 use Rattle.sessions.specs.declared.subcommand.Subcommand.{Subcommand}
@@ -77,9 +77,3 @@ pub read : (subcommand : Subcommand) (known : Option (List ℕ)) (input : List �
     → ended ≢ Err ReadFailed → after.read_failures ≡ before.read_failures → after.write_failures ≡ writes_after ended before.write_failures → IsSessionOn subcommand known ended before after
 read subcommand known input ended before after given session other reads writes =
     record { input = input; given = given; session = session; reads = reads ∙ reads_stay ended before.read_failures other; writes = writes }
-
--- memory was refused before anything was read
-pub never_begun : (subcommand : Subcommand) (known : Option (List ℕ)) (before after : Streams) → after ≡ before → IsSessionOn subcommand known (Err NoMemory) before after
-never_begun subcommand known before after same =
-    subst (λ streams. IsSessionOn subcommand known (Err NoMemory) before streams) (sym same)
-    (unread subcommand known NoMemory before before (hindered_text known NoMemory (λ text. tt)) refl refl refl)

@@ -9,14 +9,14 @@ use Rattle.clap.specs.declared.error.kind.ErrorKind.TheVariants.{OutOfMemory}
 use Rattle.sessions.specs.declared.outcome.Outcome.{Outcome}
 use Rattle.sessions.specs.declared.fault.SessionFault.TheVariants.{CommandLine, NoMemory}
 use Rattle.sessions.specs.CommandLine.{word_faults, AskFor, IsRequest, AreMistaken, IsRefusal}
-use Rattle.sessions.specs.declared.subcommand.Task.{Task}
-use Rattle.sessions.specs.Debug.{IsTaskOn}
+use Rattle.sessions.specs.declared.subcommand.Asked.{Asked}
+use Rattle.sessions.specs.Asked.{IsAskedOn}
 use Rattle.sessions.specs.Ended.{Ended}
 use Rattle.sessions.specs.Outcome.{outcome_of}
 use Rattle.sessions.specs.Session.{Tells}
 use Rattle.sessions.specs.Streams.{Streams}
 use Rattle.sessions.proofs.Naming.{words_ask_for_one}
-use Rattle.sessions.proofs.DebugReading.{task_never_begun}
+use Rattle.sessions.proofs.DebugReading.{asked_never_begun}
 
 is_out_of_memory : ErrorKind → Bool
 is_out_of_memory OutOfMemory = true
@@ -46,18 +46,18 @@ refusal {W} words error answered outcome old new kinds mistaken told no_memory m
     of_memory short = let is = no_memory short in ((Err NoMemory, told ∙ ap outcome_of is.0, tt), is.1)
 
 -- words that ask for a subcommand are refused for want of memory only, and then nothing was begun
-pub no_begin : (words : List (List ℕ)) (task : Task) (known : Option (List ℕ)) (error : Error) (answered : Ended) (outcome : Outcome) (before after : Streams) → HasKind (word_faults words) error
-    → AskFor words task → outcome ≡ outcome_of answered → (kind_of error ≡ OutOfMemory → (answered ≡ Err NoMemory) × (after ≡ before))
-    → Tells outcome (λ ended. IsTaskOn task known ended before after)
-no_begin words task known error answered outcome before after kinds asked is no_memory =
-    let none : HasKind [] error = subst (λ ks. HasKind ks error) asked.faultless kinds in
+pub no_begin : (words : List (List ℕ)) (asked : Asked) (known : Option (List ℕ)) (bytes_of : List ℕ → Option (List ℕ)) (error : Error) (answered : Ended) (outcome : Outcome) (before after : Streams) → HasKind (word_faults words) error
+    → AskFor words asked → outcome ≡ outcome_of answered → (kind_of error ≡ OutOfMemory → (answered ≡ Err NoMemory) × (after ≡ before))
+    → Tells outcome (λ ended. IsAskedOn asked known bytes_of ended before after)
+no_begin words asked known bytes_of error answered outcome before after kinds asks is no_memory =
+    let none : HasKind [] error = subst (λ ks. HasKind ks error) asks.faultless kinds in
     elim none [
-      | inl short ↦ let short_of = no_memory short in (Err NoMemory, is ∙ ap outcome_of short_of.0, task_never_begun task known before after short_of.1)
+      | inl short ↦ let short_of = no_memory short in (Err NoMemory, is ∙ ap outcome_of short_of.0, asked_never_begun asked known bytes_of before after short_of.1)
       | inr among ↦ absurd among
     ]
 
 -- words that ask for a subcommand ask for no other
-pub asked_session : (words : List (List ℕ)) (found task : Task) (known : Option (List ℕ)) (outcome : Outcome) (before after : Streams) → AskFor words found → AskFor words task
-    → Tells outcome (λ ended. IsTaskOn found known ended before after) → Tells outcome (λ ended. IsTaskOn task known ended before after)
-asked_session words found task known outcome before after reads asked told =
-    subst (λ s. Tells outcome (λ ended. IsTaskOn s known ended before after)) ((words_ask_for_one words).only found task reads asked) told
+pub asked_session : (words : List (List ℕ)) (found asked : Asked) (known : Option (List ℕ)) (bytes_of : List ℕ → Option (List ℕ)) (ended : Ended) (outcome : Outcome) (before after : Streams) → AskFor words found → AskFor words asked
+    → outcome ≡ outcome_of ended → IsAskedOn found known bytes_of ended before after → Tells outcome (λ ended. IsAskedOn asked known bytes_of ended before after)
+asked_session words found asked known bytes_of ended outcome before after reads asks told done =
+    (ended, told, subst (λ a. IsAskedOn a known bytes_of ended before after) ((words_ask_for_one words).only found asked reads asks) done)

@@ -1,22 +1,26 @@
 -- The command line: what is wrong with its words, by the rules of `clap`, and how they are answered.
-use Rattle.std.specs.Prelude.{◌≡◌, ◌≢◌, ◌⊎◌, ℕ, ◌∷◌, [], List, codes, true, Option, Some, IfSome, Ok, Err, option_and_then}
+use Rattle.std.specs.Prelude.{◌≡◌, ◌≢◌, ◌⊎◌, ℕ, ◌∷◌, [], List, codes, true, false, Option, None, Some, IfSome, Ok, Err, option_and_then}
 use Rattle.std.specs.Option.{option_map}
 use Rattle.std.specs.Str.Parse.{digits_value, without_leading_plus}
-use Rattle.clap.specs.Simple.{App, Shape, new_rule, new_shape, with_subcommand, subcommand_of}
+use Rattle.clap.specs.Simple.{App, Shape, new_rule, new_shape, shape_of, with_subcommand, subcommand_of}
 use Rattle.clap.specs.Faults.{fault_of}
 use Rattle.clap.specs.Kinds.{Kinds, IsAmong}
 use Rattle.clap.specs.Walk.{Rule, first_of}
 use Rattle.clap.specs.declared.builder.value_parser.ValueParser.TheVariants.{Unsigned}
 use Rattle.clap.specs.Values.{kind_of}
+use Rattle.clap.specs.declared.builder.command.Command.{Command}
+use Rattle.clap.specs.declared.builder.command.Command.TheViews.{out-Command as fields_of}
 use Rattle.clap.specs.declared.error.kind.ErrorKind.{ErrorKind}
 use Rattle.clap.specs.declared.error.kind.ErrorKind.TheVariants.{DisplayHelp, DisplayVersion}
-use Rattle.sessions.specs.declared.fault.SessionFault.TheVariants.{CommandLine, WriteFailed, NoMemory}
+use Rattle.sessions.specs.declared.fault.SessionFault.TheVariants.{CommandLine, NoSuchCode, WriteFailed, NoMemory}
+use Rattle.sessions.specs.declared.subcommand.Asked.{Asked}
+use Rattle.sessions.specs.declared.subcommand.Asked.TheVariants.{Session, Explanation}
 use Rattle.sessions.specs.declared.subcommand.Subcommand.TheVariants.{Asm, Dis, Run}
 use Rattle.sessions.specs.declared.subcommand.Task.{Task}
 use Rattle.sessions.specs.declared.subcommand.Task.TheVariants.{Scenario, Debug}
 use Rattle.sessions.specs.Ended.{Ended}
 use Rattle.sessions.specs.Sharing.{SharingValue}
-use Rattle.sessions.specs.Subcommand.{word_of, sharing_of}
+use Rattle.sessions.specs.Subcommand.{asked_word, sharing_of}
 
 -- the program without its subcommands: it has a version and wants a subcommand
 abbrev pub top_program : App
@@ -30,13 +34,42 @@ workers_rule = record (new_rule (codes "workers")) { long = Some (codes "workers
 abbrev pub groups_rule : Rule
 groups_rule = record (new_rule (codes "groups")) { long = Some (codes "groups"); value_names = 1; defaults = codes "one" ∷ [] }
 
+-- FILE: any text
+abbrev pub file_rule : Rule
+file_rule = record (new_rule (codes "file")) { value_names = 1 }
+
+-- CODE: any text; whether it is a code is judged later
+abbrev pub code_rule : Rule
+code_rule = record (new_rule (codes "code")) { value_names = 1 }
+
+-- a subcommand that takes a file
+abbrev pub file_shape : List ℕ → Shape
+file_shape name = record (new_shape name) { rules = file_rule ∷ [] }
+
 -- a subcommand that takes both options
 abbrev pub sharing_shape : List ℕ → Shape
 sharing_shape name = record (new_shape name) { rules = workers_rule ∷ groups_rule ∷ [] }
 
--- the program with its subcommands: two that take nothing, and two that are shared out
+-- a subcommand that takes both options and a file
+abbrev pub run_shape : List ℕ → Shape
+run_shape name = record (new_shape name) { rules = workers_rule ∷ groups_rule ∷ file_rule ∷ [] }
+
+-- a subcommand that takes a code
+abbrev pub code_shape : List ℕ → Shape
+code_shape name = record (new_shape name) { rules = code_rule ∷ [] }
+
+-- a command has this shape, and no argument that its subcommands would take over
+pub record IsBelow (shape : Shape) (command : Command) : Type 0 where
+  pub is_shape : shape_of command ≡ shape
+  pub no_globals : (fields_of command).has_globals ≡ false
+
+-- the program without the subcommand that takes a code
+abbrev pub sessions_program : App
+sessions_program = with_subcommand (with_subcommand (with_subcommand (with_subcommand top_program (file_shape (codes "asm"))) (file_shape (codes "dis"))) (run_shape (codes "run"))) (sharing_shape (codes "debug"))
+
+-- the program with its subcommands: two that take a file, one that is shared out as well, one that is shared out only, and one that takes a code
 abbrev pub program : App
-program = with_subcommand (with_subcommand (with_subcommand (with_subcommand top_program (new_shape (codes "asm"))) (new_shape (codes "dis"))) (sharing_shape (codes "run"))) (sharing_shape (codes "debug"))
+program = with_subcommand sessions_program (code_shape (codes "explain"))
 
 -- the kinds of fault that the words have, none where they ask for a subcommand
 abbrev pub word_faults : List (List ℕ) → Kinds
@@ -59,16 +92,21 @@ pub record Give (words : List (List ℕ)) (sharing : SharingValue) : Type 0 wher
   pub workers : option_map number_of (option_text (codes "workers") words) ≡ Some sharing.workers
   pub groups : option_text (codes "groups") words ≡ Some sharing.groups
 
--- the words have no fault, name this subcommand, and give its options where it is shared out
-pub record AskFor (words : List (List ℕ)) (task : Task) : Type 0 where
+-- the words give the options of a session where it is shared out, and its file; or a code
+abbrev pub GiveAll : List (List ℕ) → Asked → Type 0
+GiveAll words (Session task file) = IfSome (sharing_of task) (Give words) × (option_text (codes "file") words ≡ file)
+GiveAll words (Explanation code) = option_text (codes "code") words ≡ code
+
+-- the words have no fault, name this subcommand, and give what belongs to it
+pub record AskFor (words : List (List ℕ)) (asked : Asked) : Type 0 where
   pub faultless : word_faults words ≡ []
-  pub named : named_word words ≡ Some (word_of task)
-  pub given : IfSome (sharing_of task) (Give words)
+  pub named : named_word words ≡ Some (asked_word asked)
+  pub given : GiveAll words asked
 
 -- words without a fault ask for a subcommand, and for no other
 pub record AskForOne (words : List (List ℕ)) : Type 0 where
-  pub some : word_faults words ≡ [] → (task : Task) × AskFor words task
-  pub only : (one other : Task) → AskFor words one → AskFor words other → one ≡ other
+  pub some : word_faults words ≡ [] → (asked : Asked) × AskFor words asked
+  pub only : (one other : Asked) → AskFor words one → AskFor words other → one ≡ other
 
 -- all words without a fault ask for one subcommand
 abbrev pub WordsAskForOne : Type 0
@@ -82,14 +120,24 @@ alone = record { workers = 1; groups = codes "one" }
 abbrev pub shared : SharingValue
 shared = record { workers = 3; groups = codes "0,1" }
 
--- the words `tcpsim asm`, `tcpsim dis`, `tcpsim run` and `tcpsim debug` ask for their subcommands, and options may come in any order, behind `=` or as a word of their own
+-- a session of standard input, where no file is named
+abbrev pub of_input : Task → Asked
+of_input task = Session task None
+
+-- the words `tcpsim asm`, `tcpsim dis`, `tcpsim run`, `tcpsim debug` and `tcpsim explain` ask for their subcommands; options may come in any order, behind `=` or as a word of their own, and before a file or behind it
 pub record WordsOfSubcommands : Type 0 where
-  pub asm : AskFor (codes "tcpsim" ∷ codes "asm" ∷ []) (Scenario Asm)
-  pub dis : AskFor (codes "tcpsim" ∷ codes "dis" ∷ []) (Scenario Dis)
-  pub run : AskFor (codes "tcpsim" ∷ codes "run" ∷ []) (Scenario (Run alone))
-  pub run_shared : AskFor (codes "tcpsim" ∷ codes "run" ∷ codes "--workers" ∷ codes "3" ∷ codes "--groups=0,1" ∷ []) (Scenario (Run shared))
-  pub debug : AskFor (codes "tcpsim" ∷ codes "debug" ∷ []) (Debug alone)
-  pub debug_shared : AskFor (codes "tcpsim" ∷ codes "debug" ∷ codes "--groups" ∷ codes "0,1" ∷ codes "--workers=+3" ∷ []) (Debug shared)
+  pub asm : AskFor (codes "tcpsim" ∷ codes "asm" ∷ []) (of_input (Scenario Asm))
+  pub dis : AskFor (codes "tcpsim" ∷ codes "dis" ∷ []) (of_input (Scenario Dis))
+  pub run : AskFor (codes "tcpsim" ∷ codes "run" ∷ []) (of_input (Scenario (Run alone)))
+  pub run_shared : AskFor (codes "tcpsim" ∷ codes "run" ∷ codes "--workers" ∷ codes "3" ∷ codes "--groups=0,1" ∷ []) (of_input (Scenario (Run shared)))
+  pub debug : AskFor (codes "tcpsim" ∷ codes "debug" ∷ []) (of_input (Debug alone))
+  pub debug_shared : AskFor (codes "tcpsim" ∷ codes "debug" ∷ codes "--groups" ∷ codes "0,1" ∷ codes "--workers=+3" ∷ []) (of_input (Debug shared))
+  pub asm_file : AskFor (codes "tcpsim" ∷ codes "asm" ∷ codes "a.txt" ∷ []) (Session (Scenario Asm) (Some (codes "a.txt")))
+  pub dis_file : AskFor (codes "tcpsim" ∷ codes "dis" ∷ codes "-" ∷ []) (Session (Scenario Dis) (Some (codes "-")))
+  pub run_file : AskFor (codes "tcpsim" ∷ codes "run" ∷ codes "--workers" ∷ codes "3" ∷ codes "a.txt" ∷ codes "--groups=0,1" ∷ []) (Session (Scenario (Run shared)) (Some (codes "a.txt")))
+  pub run_dashes : AskFor (codes "tcpsim" ∷ codes "run" ∷ codes "--" ∷ codes "--workers" ∷ []) (Session (Scenario (Run alone)) (Some (codes "--workers")))
+  pub explain : AskFor (codes "tcpsim" ∷ codes "explain" ∷ []) (Explanation None)
+  pub explain_code : AskFor (codes "tcpsim" ∷ codes "explain" ∷ codes "E4" ∷ []) (Explanation (Some (codes "E4")))
 
 -- a text is to be shown, and nothing is wrong
 abbrev pub IsRequest : ErrorKind → Type 0
@@ -117,6 +165,11 @@ IsAnswer (Err WriteFailed) out = Unit {0}
 IsAnswer (Err NoMemory) out = out ≡ []
 IsAnswer _ out = ⊥
 
+-- an explanation was asked for, and that ended so with these bytes written: as a text that was to be shown, or there is no such code
+abbrev pub IsExplained : Option (List ℕ) → Ended → List ℕ → Type 0
+IsExplained (Some code) (Err NoSuchCode) out = out ≡ []
+IsExplained code ended out = IsAnswer ended out
+
 -- `--help`, of the program and of each subcommand, and `--version` ask for a text
 pub record WordsOfText : Type 0 where
   pub help : AskForText (codes "tcpsim" ∷ codes "--help" ∷ [])
@@ -124,12 +177,15 @@ pub record WordsOfText : Type 0 where
   pub dis_help : AskForText (codes "tcpsim" ∷ codes "dis" ∷ codes "--help" ∷ [])
   pub run_help : AskForText (codes "tcpsim" ∷ codes "run" ∷ codes "--help" ∷ [])
   pub debug_help : AskForText (codes "tcpsim" ∷ codes "debug" ∷ codes "--help" ∷ [])
+  pub explain_help : AskForText (codes "tcpsim" ∷ codes "explain" ∷ codes "--help" ∷ [])
   pub version : AskForText (codes "tcpsim" ∷ codes "--version" ∷ [])
 
--- mistaken are the program's name alone, a word behind `run`, workers below 1 or above 64, and an option of `asm`
+-- mistaken are the program's name alone, a second file, a file of `debug`, workers below 1 or above 64, an option of `asm`, and a second code
 pub record WordsOfMistake : Type 0 where
   pub nothing_else : AreMistaken (codes "tcpsim" ∷ [])
-  pub word_behind : AreMistaken (codes "tcpsim" ∷ codes "run" ∷ codes "twice" ∷ [])
+  pub two_files : AreMistaken (codes "tcpsim" ∷ codes "run" ∷ codes "once" ∷ codes "twice" ∷ [])
+  pub debug_file : AreMistaken (codes "tcpsim" ∷ codes "debug" ∷ codes "a.txt" ∷ [])
   pub no_worker : AreMistaken (codes "tcpsim" ∷ codes "run" ∷ codes "--workers" ∷ codes "0" ∷ [])
   pub many_workers : AreMistaken (codes "tcpsim" ∷ codes "debug" ∷ codes "--workers" ∷ codes "65" ∷ [])
   pub asm_is_not_shared : AreMistaken (codes "tcpsim" ∷ codes "asm" ∷ codes "--groups" ∷ codes "one" ∷ [])
+  pub two_codes : AreMistaken (codes "tcpsim" ∷ codes "explain" ∷ codes "E1" ∷ codes "E2" ∷ [])

@@ -1,8 +1,8 @@
 -- The ways in which a session ends, and what they tell of its run and its streams.
-use Rattle.std.specs.Prelude.{ℕ, ◌<◌, List, length, Result, Ok, Err}
+use Rattle.std.specs.Prelude.{ℕ, ◌≡◌, ◌<◌, List, length, string_bytes, Result, Ok, Err}
 use Rattle.table_run.specs.State.{State}
 use Rattle.sessions.specs.declared.fault.SessionFault.{SessionFault}
-use Rattle.sessions.specs.declared.fault.SessionFault.TheVariants.{TooLong, ReadFailed, WriteFailed, NoMemory, CountFull, NoWorker}
+use Rattle.sessions.specs.declared.fault.SessionFault.TheVariants.{TooLong, ReadFailed, CannotRead, WriteFailed, NoMemory, CountFull, NoWorker}
 use Rattle.sessions.specs.Trace.{IsTrace, IsTraceStart, IsTooLong, IsTraceOrStart}
 use Rattle.sessions.specs.Written.{IsBeginningOf}
 use Rattle.window_engine.specs.Failures.{counted}
@@ -38,6 +38,12 @@ IsReadFault input _ = ⊥
 abbrev pub reads_after : {T : Type 0} → Result T SessionFault → ℕ → ℕ
 reads_after (Err ReadFailed) n = counted n
 reads_after _ n = n
+
+-- how the end of a session over a file is told: where reading failed, it was this file that could not be read; any other end as it is
+abbrev pub IsToldOf : List ℕ → Ended → Ended → Type 0
+IsToldOf file (Err ReadFailed) (Err (CannotRead name)) = string_bytes name ≡ file
+IsToldOf file (Err ReadFailed) _ = ⊥
+IsToldOf file ended told = told ≡ ended
 
 -- the writer's count of failures after what ended so
 abbrev pub writes_after : {T : Type 0} → Result T SessionFault → ℕ → ℕ

@@ -1,5 +1,5 @@
 -- The status and the note of each way to end.
-use Rattle.std.specs.Prelude.{ℕ, List, ◌++◌, codes, decimal, Option, None, Some}
+use Rattle.std.specs.Prelude.{ℕ, List, ◌++◌, codes, decimal, string_bytes, Option, None, Some}
 use Rattle.net_machine.specs.declared.net.StepFault.{StepFault}
 use Rattle.net_machine.specs.declared.net.StepFault.TheVariants.{NoMemory as step_NoMemory, CountFull as step_CountFull}
 use Rattle.scenario_image.specs.Fault.{fault_name}
@@ -13,7 +13,7 @@ use Rattle.window_engine.specs.declared.fault.EngineFault.TheVariants.{NoMemory 
 use Rattle.debug_session.specs.declared.session.SessionFault.{SessionFault as CommandsFault}
 use Rattle.debug_session.specs.declared.session.SessionFault.TheVariants.{NoMemory as commands_NoMemory, OutputFailed}
 use Rattle.sessions.specs.declared.fault.SessionFault.{SessionFault}
-use Rattle.sessions.specs.declared.fault.SessionFault.TheVariants.{TooLong, Refused, RefusedImage, CommandLine, WordsNotUtf8, Groups, ReadFailed, WriteFailed, NoMemory, CountFull, NoWorker}
+use Rattle.sessions.specs.declared.fault.SessionFault.TheVariants.{TooLong, Refused, RefusedImage, CommandLine, NoSuchCode, WordsNotUtf8, Groups, ReadFailed, CannotRead, WriteFailed, NoMemory, CountFull, NoWorker}
 
 -- input refused; command line refused; reading or writing failed; no room to go on
 abbrev pub status_of : SessionFault → ℕ
@@ -21,9 +21,11 @@ status_of TooLong = 1
 status_of (Refused line fault) = 1
 status_of (RefusedImage fault) = 1
 status_of (CommandLine error) = 2
+status_of NoSuchCode = 2
 status_of WordsNotUtf8 = 2
 status_of Groups = 2
 status_of ReadFailed = 3
+status_of (CannotRead file) = 3
 status_of WriteFailed = 3
 status_of NoMemory = 4
 status_of CountFull = 4
@@ -35,9 +37,11 @@ note_of TooLong = Some (codes "refused I1\n")
 note_of (Refused line fault) = Some (codes "refused " ++ code_of fault ++ codes " line " ++ decimal line ++ codes "\n")
 note_of (RefusedImage fault) = Some (codes "refused " ++ fault_name fault ++ codes "\n")
 note_of (CommandLine error) = None
+note_of NoSuchCode = Some (codes "error: no such code; there are E1 to E10, L1 to L8, I1, B1 to B4, M and groups\n")
 note_of WordsNotUtf8 = Some (codes "error: a word is not valid UTF-8\n")
 note_of Groups = Some (codes "refused groups\n")
 note_of ReadFailed = Some (codes "read failed\n")
+note_of (CannotRead file) = Some (codes "cannot read " ++ string_bytes file ++ codes "\n")
 note_of WriteFailed = Some (codes "write failed\n")
 note_of NoMemory = Some (codes "no memory\n")
 note_of CountFull = Some (codes "count full\n")

@@ -1,10 +1,13 @@
 -- The options of a subcommand, as a parse of the words found them.
-use Rattle.std.specs.Prelude.{◌≡◌, ◌⊎◌, List, ℕ, codes, Some}
+use Rattle.std.specs.Prelude.{◌≡◌, ◌⊎◌, List, ℕ, codes, Some, IfSome}
 use Rattle.std.specs.Option.{option_map}
 use Rattle.clap.specs.Values.{IsUnsignedIn}
 use Rattle.clap.specs.Walk.{Row, first_of, one_of}
+use Rattle.sessions.specs.declared.subcommand.Asked.{Asked}
+use Rattle.sessions.specs.declared.subcommand.Asked.TheVariants.{Session, Explanation}
 use Rattle.sessions.specs.CommandLine.{number_of}
 use Rattle.sessions.specs.Sharing.{SharingValue}
+use Rattle.sessions.specs.Subcommand.{sharing_of}
 
 -- the workers are a number from 1 to 64, and the groups are there
 pub record AreOptions (rows : List Row) : Type 0 where
@@ -21,5 +24,14 @@ pub record IsSharing (rows : List Row) (sharing : SharingValue) : Type 0 where
   pub groups : first_of (codes "groups") rows ≡ Some sharing.groups
 
 -- the word is `asm` or `dis`, or `run` or `debug` with its options
+abbrev pub AreOfTask : List ℕ → List Row → Type 0
+AreOfTask word rows = (word ≡ codes "asm") ⊎ (word ≡ codes "dis") ⊎ ((word ≡ codes "run") × AreOptions rows) ⊎ ((word ≡ codes "debug") × AreOptions rows)
+
+-- the word is `explain`, or that of a task
 abbrev pub AreOfSubcommand : List ℕ → List Row → Type 0
-AreOfSubcommand word rows = (word ≡ codes "asm") ⊎ (word ≡ codes "dis") ⊎ ((word ≡ codes "run") × AreOptions rows) ⊎ ((word ≡ codes "debug") × AreOptions rows)
+AreOfSubcommand word rows = (word ≡ codes "explain") ⊎ AreOfTask word rows
+
+-- the options say so how a session is shared out, where it is, and its file; or a code
+abbrev pub AreOfAsked : List Row → Asked → Type 0
+AreOfAsked rows (Session task file) = IfSome (sharing_of task) (IsSharing rows) × (first_of (codes "file") rows ≡ file)
+AreOfAsked rows (Explanation code) = first_of (codes "code") rows ≡ code

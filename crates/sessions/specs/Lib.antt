@@ -14,4 +14,5 @@ pub mod Output
 pub mod Session
 pub mod Debug
 pub mod CommandLine
+pub mod Asked
 pub mod Given

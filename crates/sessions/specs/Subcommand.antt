@@ -2,6 +2,8 @@
 use Rattle.std.specs.Prelude.{ℕ, List, codes, Option, None, Some}
 use Rattle.sessions.specs.Sharing.{SharingValue}
 use Rattle.sessions.specs.declared.subcommand.Subcommand.TheVariants.{Asm, Dis, Run}
+use Rattle.sessions.specs.declared.subcommand.Asked.{Asked}
+use Rattle.sessions.specs.declared.subcommand.Asked.TheVariants.{Session, Explanation}
 use Rattle.sessions.specs.declared.subcommand.Task.{Task}
 use Rattle.sessions.specs.declared.subcommand.Task.TheVariants.{Scenario, Debug}
 
@@ -18,3 +20,8 @@ sharing_of (Scenario Asm) = None
 sharing_of (Scenario Dis) = None
 sharing_of (Scenario (Run sharing)) = Some sharing
 sharing_of (Debug sharing) = Some sharing
+
+-- the word that asks for it
+abbrev pub asked_word : Asked → List ℕ
+asked_word (Session task file) = word_of task
+asked_word (Explanation code) = codes "explain"

@@ -1,17 +1,17 @@
 //! The words of the command line.
 ghost use Rattle.std.specs.Prelude.{◌≡◌, false, map, IfOk, IfSome};
-ghost use Rattle.clap.specs.Simple.{app_of, shape_of, new_shape, with_subcommand};
+ghost use Rattle.clap.specs.Simple.{Shape, app_of, shape_of, new_shape, with_subcommand};
 ghost use Rattle.clap.specs.declared.builder.command.Command.TheViews.{out-Command as fields_of};
 ghost use Rattle.clap.specs.Kinds.{FailsBy};
 ghost use Rattle.clap.specs.Matches.{found_of};
 ghost use Rattle.clap.specs.Walk.{rule_of, rows_of};
-ghost use Rattle.sessions.specs.CommandLine.{program, top_program, workers_rule, groups_rule, sharing_shape, word_faults, AskFor, WordsAskForOne, WordsOfSubcommands, WordsOfText, WordsOfMistake};
-ghost use Rattle.sessions.specs.Given.{AreOptions, AreOfSubcommand, IsSharing};
-ghost use Rattle.sessions.specs.Subcommand.{word_of, sharing_of as task_sharing};
+ghost use Rattle.sessions.specs.CommandLine.{program, top_program, workers_rule, groups_rule, file_rule, code_rule, file_shape, sharing_shape, run_shape, code_shape, IsBelow, word_faults, AskFor, WordsAskForOne, WordsOfSubcommands, WordsOfText, WordsOfMistake};
+ghost use Rattle.sessions.specs.Given.{AreOptions, AreOfTask, AreOfSubcommand, AreOfAsked, IsSharing};
+ghost use Rattle.sessions.specs.Subcommand.{word_of, asked_word, sharing_of as task_sharing};
 ghost use Rattle.sessions.specs.declared.subcommand.Task.{Task};
 
 use crate::sharing::Sharing;
-use crate::subcommand::{Subcommand, Task};
+use crate::subcommand::{Asked, OptionalWord, Subcommand, Task};
 use clap::{Arg, ArgMatches, Command, Error, value_parser};
 use std::alloc::{AllocError, Global};
 use std::convert::AsStr;
@@ -28,6 +28,26 @@ fn top_command<'a>(alloc: Global) -> Command<'a>
         .version(VERSION)
         .disable_help_subcommand(true)
         .subcommand_required(true)
+}
+
+/// The word for the file of a scenario.
+fn file_word<'a>(alloc: Global) -> Arg<'a>
+    ensures rule { rule_of result ≡ file_rule }
+    ensures local { result.global ≡ false }
+{
+    Arg::new(alloc, "file").value_name("FILE").help(
+        "The scenario's file; without it, or where it is -, standard input",
+    )
+}
+
+/// The word for a code that is explained.
+fn code_word<'a>(alloc: Global) -> Arg<'a>
+    ensures rule { rule_of result ≡ code_rule }
+    ensures local { result.global ≡ false }
+{
+    Arg::new(alloc, "code")
+        .value_name("CODE")
+        .help("The code, as it stands behind `refused`")
 }
 
 /// A subcommand that takes nothing.
@@ -63,57 +83,76 @@ fn groups_option<'a>(alloc: Global) -> Arg<'a>
         .help("The group of each node: one, each, or numbers as in 0,0,1")
 }
 
+/// A subcommand that takes a scenario's file.
+fn file_subcommand<'a>(
+    alloc: Global,
+    name: &'a str,
+    about: &'a str,
+) -> Result<Command<'a>, AllocError>
+    ensures { IfOk result (IsBelow (file_shape name.entry.now)) }
+{
+    plain_subcommand(alloc, name, about).arg(file_word(alloc))
+}
+
 /// A subcommand that takes the options on how a run is shared out.
 fn sharing_subcommand<'a>(
     alloc: Global,
     name: &'a str,
     about: &'a str,
 ) -> Result<Command<'a>, AllocError>
-    ensures shape { IfOk result (λ command. shape_of command ≡ sharing_shape name.entry.now) }
-    ensures no_globals { IfOk result (λ command. (fields_of command).has_globals ≡ false) }
+    ensures { IfOk result (IsBelow (sharing_shape name.entry.now)) }
 {
     plain_subcommand(alloc, name, about)
         .arg(workers_option(alloc))?
         .arg(groups_option(alloc))
 }
 
-/// A command with one more subcommand, which takes nothing.
-fn with_plain<'a>(
+/// A subcommand that takes these options, and a scenario's file.
+fn run_subcommand<'a>(
     alloc: Global,
-    above: Command<'a>,
     name: &'a str,
     about: &'a str,
 ) -> Result<Command<'a>, AllocError>
-    ensures { IfOk result (λ command. app_of command ≡ with_subcommand (app_of above.entry) (new_shape name.entry.now)) }
+    ensures { IfOk result (IsBelow (run_shape name.entry.now)) }
 {
-    above.subcommand(plain_subcommand(alloc, name, about))
+    sharing_subcommand(alloc, name, about)?.arg(file_word(alloc))
 }
 
-/// A command with one more subcommand, which takes the options on how a run is shared out.
-fn with_sharing<'a>(
+/// A subcommand that takes a code.
+fn code_subcommand<'a>(
     alloc: Global,
-    above: Command<'a>,
     name: &'a str,
     about: &'a str,
 ) -> Result<Command<'a>, AllocError>
-    ensures { IfOk result (λ command. app_of command ≡ with_subcommand (app_of above.entry) (sharing_shape name.entry.now)) }
+    ensures { IfOk result (IsBelow (code_shape name.entry.now)) }
 {
-    let below = sharing_subcommand(alloc, name, about)?;
-    above.subcommand(below)
+    plain_subcommand(alloc, name, about).arg(code_word(alloc))
+}
+
+/// A command with one more subcommand, where there was memory for it.
+fn with_below<'a>(
+    above: Command<'a>,
+    below: Result<Command<'a>, AllocError>,
+) -> Result<Command<'a>, AllocError>
+    ensures { (shape : Shape) → IfOk below.entry (IsBelow shape) → IfOk result (λ command. app_of command ≡ with_subcommand (app_of above.entry) shape) }
+{
+    above.subcommand(below?)
 }
 
 /// The commands of the program.
 fn commands<'a>(alloc: Global) -> Result<Command<'a>, AllocError>
     ensures { IfOk result (λ command. app_of command ≡ program) }
 {
-    let asm = "Write the image of the scenario on standard input";
-    let with_asm = with_plain(alloc, top_command(alloc), "asm", asm)?;
-    let dis = "Write the canonical text of the scenario on standard input";
-    let with_dis = with_plain(alloc, with_asm, "dis", dis)?;
-    let run = "Run the scenario on standard input and print its trace";
-    let with_run = with_sharing(alloc, with_dis, "run", run)?;
+    let asm = "Write the image of a scenario";
+    let with_asm = with_below(top_command(alloc), file_subcommand(alloc, "asm", asm))?;
+    let dis = "Write the canonical text of a scenario";
+    let with_dis = with_below(with_asm, file_subcommand(alloc, "dis", dis))?;
+    let run = "Run a scenario and print its trace";
+    let with_run = with_below(with_dis, run_subcommand(alloc, "run", run))?;
     let debug = "Answer the commands behind the scenario text on standard input";
-    with_sharing(alloc, with_run, "debug", debug)
+    let with_debug = with_below(with_run, sharing_subcommand(alloc, "debug", debug))?;
+    let explain = "Say what a code means, with an example, or list all codes";
+    with_below(with_debug, code_subcommand(alloc, "explain", explain))
 }
 
 /// How the options of a subcommand share a run out.
@@ -132,7 +171,7 @@ fn sharing_of<'a>(options: &ArgMatches<'a>) -> Sharing<'a>
 
 /// The task of a subcommand's word and options.
 fn task_of<'a>(word: &str, options: &ArgMatches<'a>) -> Task<'a>
-    requires { AreOfSubcommand word.now (rows_of (found_of options.now)) }
+    requires { AreOfTask word.now (rows_of (found_of options.now)) }
     ensures word { word.now ≡ word_of result }
     ensures sharing { IfSome (task_sharing result) (IsSharing (rows_of (found_of options.now))) }
 {
@@ -147,15 +186,29 @@ fn task_of<'a>(word: &str, options: &ArgMatches<'a>) -> Task<'a>
     }
 }
 
+/// What a subcommand's word and options ask for.
+fn asked_of<'a>(word: &str, options: &ArgMatches<'a>) -> Asked<'a>
+    requires { AreOfSubcommand word.now (rows_of (found_of options.now)) }
+    ensures word { word.now ≡ asked_word result }
+    ensures said { AreOfAsked (rows_of (found_of options.now)) result }
+{
+    if word == "explain" {
+        Asked::Explanation(OptionalWord::new(options.get_str("code")))
+    } else {
+        let task = task_of(word, options);
+        Asked::Session(task, OptionalWord::new(options.get_str("file")))
+    }
+}
+
 /// Judges the words, the program's name first. They ask for a subcommand, or the error has what to
 /// print.
-pub(crate) fn read_words<'a, S: AsStr>(alloc: Global, words: &'a [S]) -> Result<Task<'a>, Error>
+pub(crate) fn read_words<'a, S: AsStr>(alloc: Global, words: &'a [S]) -> Result<Asked<'a>, Error>
     ensures faults { FailsBy (word_faults (map S.text words.now)) result }
     ensures asked { IfOk result (AskFor (map S.text words.now)) }
 {
     let matches = commands(alloc)?.try_get_matches_from(words)?;
     match matches.subcommand() {
-        Some((word, options)) => Ok(task_of(word, options)),
+        Some((word, options)) => Ok(asked_of(word, options)),
         None => unreachable!(),
     }
 }
@@ -165,8 +218,8 @@ pub fn words_ask_for_one_subcommand()
     ensures { WordsAskForOne }
 {}
 
-/// The words `tcpsim asm`, `tcpsim dis`, `tcpsim run` and `tcpsim debug` ask for their subcommands,
-/// the last two with options or without.
+/// The words `tcpsim asm`, `tcpsim dis`, `tcpsim run`, `tcpsim debug` and `tcpsim explain` ask for
+/// their subcommands, with a file, options or a code, or without.
 pub fn subcommands_are_asked_for()
     ensures { WordsOfSubcommands }
 {}
@@ -176,8 +229,8 @@ pub fn help_and_version_are_asked_for()
     ensures { WordsOfText }
 {}
 
-/// The program's name alone is mistaken, a word behind `run`, a number of workers that is not from
-/// 1 to 64, and an option of `asm`.
+/// The program's name alone is mistaken, a second file, a file of `debug`, a number of workers that
+/// is not from 1 to 64, an option of `asm`, and a second code.
 pub fn other_words_are_mistaken()
     ensures { WordsOfMistake }
 {}

@@ -48,7 +48,7 @@ fn answer_commands<W: Sink, G: Gate, H: Threads + Wait + Sync>(
 }
 
 /// Writes the answers to the commands on the reader.
-fn answer_reader<R: Source, W: Sink, G: Gate, H: Threads + Wait + Sync>(
+pub(crate) fn answer_reader<R: Source, W: Sink, G: Gate, H: Threads + Wait + Sync>(
     rt: &H,
     alloc: Global,
     sharing: &Sharing,

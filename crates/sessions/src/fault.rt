@@ -27,12 +27,16 @@ pub enum SessionFault {
     RefusedImage(LoadFault),
     /// The command line is not one of this program.
     CommandLine(clap::Error),
+    /// There is no such code to explain.
+    NoSuchCode,
     /// A word of the command line is not UTF-8.
     WordsNotUtf8,
     /// The groups that the command line names are none, or not as many as the nodes.
     Groups,
     /// The input could not be read.
     ReadFailed,
+    /// The file of this name could not be opened or read.
+    CannotRead(String),
     /// The output could not be written.
     WriteFailed,
     /// Memory ran out.
@@ -51,8 +55,11 @@ impl SessionFault {
         match self {
             SessionFault::TooLong | SessionFault::Refused { .. } | SessionFault::RefusedImage(_) =>
                 1,
-            SessionFault::CommandLine(_) | SessionFault::WordsNotUtf8 | SessionFault::Groups => 2,
-            SessionFault::ReadFailed | SessionFault::WriteFailed => 3,
+            SessionFault::CommandLine(_)
+            | SessionFault::NoSuchCode
+            | SessionFault::WordsNotUtf8
+            | SessionFault::Groups => 2,
+            SessionFault::ReadFailed | SessionFault::CannotRead(_) | SessionFault::WriteFailed => 3,
             SessionFault::NoMemory | SessionFault::CountFull | SessionFault::NoWorker => 4,
         }
     }
@@ -72,9 +79,13 @@ impl fmt::Display for SessionFault {
             }
             SessionFault::RefusedImage(fault) => write!(f, "refused {fault}\n"),
             SessionFault::CommandLine(error) => write!(f, "{error}"),
+            SessionFault::NoSuchCode => f.write_str(
+                "error: no such code; there are E1 to E10, L1 to L8, I1, B1 to B4, M and groups\n",
+            ),
             SessionFault::WordsNotUtf8 => f.write_str("error: a word is not valid UTF-8\n"),
             SessionFault::Groups => f.write_str("refused groups\n"),
             SessionFault::ReadFailed => f.write_str("read failed\n"),
+            SessionFault::CannotRead(file) => write!(f, "cannot read {file}\n"),
             SessionFault::WriteFailed => f.write_str("write failed\n"),
             SessionFault::NoMemory => f.write_str("no memory\n"),
             SessionFault::CountFull => f.write_str("count full\n"),

@@ -5,6 +5,7 @@
 pub mod command_line;
 pub mod conversion;
 pub mod debug;
+mod explain;
 pub mod fault;
 pub mod groups;
 mod input;

@@ -1,11 +1,12 @@
 //! A session: from the words and the input to the output, the status and the note.
-ghost use Rattle.std.specs.Prelude.{◌≡◌, ◌≢◌, [], map, Err};
+ghost use Rattle.std.specs.Prelude.{◌≡◌, ◌≢◌, [], map, string_bytes, Err};
 ghost use Rattle.clap.specs.Values.{kind_of};
 ghost use Rattle.clap.specs.declared.error.kind.ErrorKind.TheVariants.{OutOfMemory};
-ghost use Rattle.sessions.specs.declared.subcommand.Task.{Task};
+ghost use Rattle.sessions.specs.declared.subcommand.Asked.{Asked};
+ghost use Rattle.sessions.specs.Asked.{IsTaskOnFile, IsNamedOn, IsAskedOn};
 ghost use Rattle.sessions.specs.CommandLine.{word_faults, AskFor, AreMistaken, AskForText, IsRefusal, IsRequest, IsAnswer};
 ghost use Rattle.sessions.specs.Debug.{IsTaskOn};
-ghost use Rattle.sessions.specs.Ended.{writes_after};
+ghost use Rattle.sessions.specs.Ended.{IsToldOf, writes_after};
 ghost use Rattle.sessions.specs.Output.{IsOutput};
 ghost use Rattle.sessions.specs.Session.{IsWithin, IsSession, IsSessionOn, Tells};
 ghost use Rattle.sessions.specs.Streams.{streams_of};
@@ -13,7 +14,8 @@ ghost use Rattle.sessions.specs.Written.{Writes};
 
 use crate::command_line::read_words;
 use crate::conversion::{put_image, put_text};
-use crate::debug::run_debug;
+use crate::debug::answer_reader;
+use crate::explain::explain;
 use crate::fault::SessionFault;
 use crate::input::read_input;
 use crate::outcome::Outcome;
@@ -21,7 +23,7 @@ use crate::output::put_all;
 use crate::run::run_shared;
 use crate::scenario_input::read_scenario;
 use crate::source::Source;
-use crate::subcommand::{Subcommand, Task};
+use crate::subcommand::{Asked, OptionalWord, Subcommand, Task};
 use clap::error::ErrorKind;
 use scenario_image::Scenario;
 use std::alloc::Global;
@@ -96,6 +98,23 @@ pub fn run_session<R: Source, W: Sink, G: Gate, H: Threads + Wait + Sync>(
     Outcome::from(answer_input(rt, alloc, subcommand, gate, reader, writer))
 }
 
+/// Does a task over the reader's input.
+fn answer_task<R: Source, W: Sink, G: Gate, H: Threads + Wait + Sync>(
+    rt: &H,
+    alloc: Global,
+    task: Task,
+    gate: &G,
+    reader: &mut R,
+    writer: &mut W,
+) -> Result<(), SessionFault>
+    ensures { let seen = streams_of R.failures W.failures W.contents in IsTaskOn task.entry (R.remaining reader.old) result (seen reader.old writer.old) (seen reader.new writer.new) }
+{
+    match task {
+        Task::Scenario(subcommand) => answer_input(rt, alloc, subcommand, gate, reader, writer),
+        Task::Debug(sharing) => answer_reader(rt, alloc, &sharing, gate, reader, writer),
+    }
+}
+
 /// The session of a task.
 pub fn run_task<R: Source, W: Sink, G: Gate, H: Threads + Wait + Sync>(
     rt: &H,
@@ -107,9 +126,88 @@ pub fn run_task<R: Source, W: Sink, G: Gate, H: Threads + Wait + Sync>(
 ) -> Outcome
     ensures { let seen = streams_of R.failures W.failures W.contents in Tells result (λ ended. IsTaskOn task.entry (R.remaining reader.old) ended (seen reader.old writer.old) (seen reader.new writer.new)) }
 {
-    match task {
-        Task::Scenario(subcommand) => run_session(rt, alloc, subcommand, gate, reader, writer),
-        Task::Debug(sharing) => run_debug(rt, alloc, &sharing, gate, reader, writer),
+    Outcome::from(answer_task(rt, alloc, task, gate, reader, writer))
+}
+
+/// Opens a file and does a task over its bytes.
+fn answer_opened<R: Source, W: Sink, G: Gate, H: Threads + Wait + Sync>(
+    rt: &H,
+    alloc: Global,
+    task: Task,
+    file: &str,
+    gate: &G,
+    reader: &mut R,
+    writer: &mut W,
+) -> Result<(), SessionFault>
+    ensures { let seen = streams_of R.failures W.failures W.contents in IsTaskOn task.entry (R.bytes_of reader.old file.now) result (seen reader.old writer.old) (seen reader.new writer.new) }
+{
+    reader.open(file)?;
+    answer_task(rt, alloc, task, gate, reader, writer)
+}
+
+/// How the end of a session over this file is told.
+fn told_of_file(file: String, ended: Result<(), SessionFault>) -> Result<(), SessionFault>
+    ensures { IsToldOf (string_bytes file) ended result }
+{
+    match ended {
+        Err(SessionFault::ReadFailed) => Err(SessionFault::CannotRead(file)),
+        other => other,
+    }
+}
+
+/// Does a task over the file of this name.
+fn answer_file<R: Source, W: Sink, G: Gate, H: Threads + Wait + Sync>(
+    rt: &H,
+    alloc: Global,
+    task: Task,
+    file: &str,
+    gate: &G,
+    reader: &mut R,
+    writer: &mut W,
+) -> Result<(), SessionFault>
+    ensures { let seen = streams_of R.failures W.failures W.contents in IsTaskOnFile task.entry file.now (R.bytes_of reader.old file.now) result (seen reader.old writer.old) (seen reader.new writer.new) }
+{
+    let name = String::from_str(alloc, file)?;
+    let ended = answer_opened(rt, alloc, task, file, gate, reader, writer);
+    told_of_file(name, ended)
+}
+
+/// Does a task over the input that is named.
+fn answer_named<R: Source, W: Sink, G: Gate, H: Threads + Wait + Sync>(
+    rt: &H,
+    alloc: Global,
+    task: Task,
+    file: &OptionalWord,
+    gate: &G,
+    reader: &mut R,
+    writer: &mut W,
+) -> Result<(), SessionFault>
+    ensures { let seen = streams_of R.failures W.failures W.contents in IsNamedOn task.entry file.now (R.remaining reader.old) (R.bytes_of reader.old) result (seen reader.old writer.old) (seen reader.new writer.new) }
+{
+    let Some(name) = file.get() else {
+        return answer_task(rt, alloc, task, gate, reader, writer);
+    };
+    if name == "-" {
+        answer_task(rt, alloc, task, gate, reader, writer)
+    } else {
+        answer_file(rt, alloc, task, name, gate, reader, writer)
+    }
+}
+
+/// Does what the words ask for.
+fn answer_asked<R: Source, W: Sink, G: Gate, H: Threads + Wait + Sync>(
+    rt: &H,
+    alloc: Global,
+    asked: Asked,
+    gate: &G,
+    reader: &mut R,
+    writer: &mut W,
+) -> Result<(), SessionFault>
+    ensures { let seen = streams_of R.failures W.failures W.contents in IsAskedOn asked.entry (R.remaining reader.old) (R.bytes_of reader.old) result (seen reader.old writer.old) (seen reader.new writer.new) }
+{
+    match asked {
+        Asked::Session(task, file) => { answer_named(rt, alloc, task, &file, gate, reader, writer) }
+        Asked::Explanation(code) => explain(alloc, &code, writer),
     }
 }
 
@@ -150,13 +248,13 @@ pub fn run_with<H: AllocGlobal + Threads + Wait + Sync, R: Source, W: Sink, S: A
     words: &[S],
     gate: &G,
 ) -> Outcome
-    ensures asked { let seen = streams_of R.failures W.failures W.contents in (task : Task) → AskFor (map S.text words.now) task → Tells result (λ ended. IsTaskOn task (R.remaining reader.old) ended (seen reader.old writer.old) (seen reader.new writer.new)) }
+    ensures asked { let seen = streams_of R.failures W.failures W.contents in (asked : Asked) → AskFor (map S.text words.now) asked → Tells result (λ ended. IsAskedOn asked (R.remaining reader.old) (R.bytes_of reader.old) ended (seen reader.old writer.old) (seen reader.new writer.new)) }
     ensures mistake { AreMistaken (map S.text words.now) → Tells result (IsRefusal (map S.text words.now)) × (writer.new ≡ writer.old) }
     ensures request { AskForText (map S.text words.now) → Tells result (λ ended. Writes (IsAnswer ended) (W.contents writer.old) (W.contents writer.new) × (W.failures writer.new ≡ writes_after ended (W.failures writer.old))) }
     ensures unread { word_faults (map S.text words.now) ≢ [] → reader.new ≡ reader.old }
 {
     match read_words(rt.alloc(), words) {
-        Ok(task) => run_task(rt, rt.alloc(), task, gate, reader, writer),
+        Ok(asked) => Outcome::from(answer_asked(rt, rt.alloc(), asked, gate, reader, writer)),
         Err(error) => Outcome::from(answer_words(rt.alloc(), error, writer)),
     }
 }
@@ -168,7 +266,7 @@ pub fn run_all<H: AllocGlobal + Threads + Wait + Sync, R: Source, W: Sink, S: As
     writer: &mut W,
     words: &[S],
 ) -> Outcome
-    ensures asked { let seen = streams_of R.failures W.failures W.contents in (task : Task) → AskFor (map S.text words.now) task → Tells result (λ ended. IsTaskOn task (R.remaining reader.old) ended (seen reader.old writer.old) (seen reader.new writer.new)) }
+    ensures asked { let seen = streams_of R.failures W.failures W.contents in (asked : Asked) → AskFor (map S.text words.now) asked → Tells result (λ ended. IsAskedOn asked (R.remaining reader.old) (R.bytes_of reader.old) ended (seen reader.old writer.old) (seen reader.new writer.new)) }
     ensures mistake { AreMistaken (map S.text words.now) → Tells result (IsRefusal (map S.text words.now)) × (writer.new ≡ writer.old) }
     ensures request { AskForText (map S.text words.now) → Tells result (λ ended. Writes (IsAnswer ended) (W.contents writer.old) (W.contents writer.new) × (W.failures writer.new ≡ writes_after ended (W.failures writer.old))) }
     ensures unread { word_faults (map S.text words.now) ≢ [] → reader.new ≡ reader.old }

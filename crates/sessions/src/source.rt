@@ -2,6 +2,7 @@
 
 ghost use Rattle.std.specs.Prelude.{◌≡◌};
 ghost use Rattle.sessions.specs.Over.{read_through, read_failures};
+ghost use Rattle.window_engine.specs.Failures.{counted};
 
 use std::io::Read;
 
@@ -12,15 +13,23 @@ pub struct SourceFail;
 /// Where bytes come from. It counts its failures, in 64 bits; at its greatest value the count
 /// stays.
 pub trait Source {
-    ghost use Rattle.std.specs.Prelude.{◌≡◌, ◌≤◌, ℕ, List, length, Option, None, IfOk};
+    ghost use Rattle.std.specs.Prelude.{◌≡◌, ◌≤◌, ℕ, List, length, Option, None, IfOk, OnOk};
     ghost use Rattle.std.specs.Io.KnownBytes.{ReadConsumes};
     ghost use Rattle.window_engine.specs.Failures.{failures_after};
 
     // The bytes that it will give from here on, where they are known.
     ghost remaining: { Self → Option (List ℕ) } = { λ _. None };
 
+    // The bytes of the file of this name, where they are known.
+    ghost bytes_of: { Self → List ℕ → Option (List ℕ) } = { λ _ _. None };
+
     // How often it has failed.
     ghost failures: { Self → ℕ };
+
+    /// Turns to the file of this name: what it gives from here on are the bytes of that file.
+    fn open(&mut self, file: &str) -> Result<(), SourceFail>
+        ensures opened { OnOk result (remaining self.new ≡ bytes_of self.old file.now) }
+        ensures failures { failures self.new ≡ failures_after result (failures self.old) };
 
     /// Puts the next bytes at the start of the room and answers how many: 0 at the end, or where
     /// there is no room. A refusal gives none.
@@ -30,8 +39,8 @@ pub trait Source {
         ensures failures { failures self.new ≡ failures_after result (failures self.old) };
 }
 
-/// A reader as a source. Each error of the reader is a failure, an interruption too; nothing is
-/// tried again.
+/// A reader as a source, which has no files. Each error of the reader is a failure, an interruption
+/// too; nothing is tried again.
 #[derive(Drop)]
 pub struct OverRead<R> {
     reader: R,
@@ -50,6 +59,14 @@ impl<R> OverRead<R> {
             failures: 0,
         }
     }
+
+    /// Counts a failure.
+    fn fail(&mut self) -> SourceFail
+        ensures { self.new ≡ record self.old { failures = counted self.old.failures } }
+    {
+        self.failures = self.failures.saturating_add(1);
+        SourceFail
+    }
 }
 
 impl<R: Read> Source for OverRead<R> {
@@ -57,13 +74,14 @@ impl<R: Read> Source for OverRead<R> {
 
     ghost failures = { λ s. read_failures s };
 
+    fn open(&mut self, _file: &str) -> Result<(), SourceFail> {
+        Err(self.fail())
+    }
+
     fn get(&mut self, room: &mut [u8]) -> Result<usize, SourceFail> {
         match self.reader.read(room) {
             Ok(count) => Ok(count),
-            Err(_) => {
-                self.failures = self.failures.saturating_add(1);
-                Err(SourceFail)
-            }
+            Err(_) => Err(self.fail()),
         }
     }
 }

@@ -1,6 +1,10 @@
 //! What the program can be asked to do.
 
+ghost use Rattle.std.specs.Prelude.{◌≡◌};
+ghost use Rattle.std.specs.Option.{option_map};
+
 use crate::sharing::Sharing;
+use std::marker::Model;
 
 /// A subcommand that makes something of a scenario, which it reads from an image or a text.
 #[derive(Debug, Drop)]
@@ -13,11 +17,52 @@ pub enum Subcommand<'a> {
     Run(Sharing<'a>),
 }
 
-/// What the words of the command line ask for.
+/// What a session over an input does.
 #[derive(Debug, Drop)]
 pub enum Task<'a> {
     /// To make something of a scenario.
     Scenario(Subcommand<'a>),
     /// To answer the commands that stand behind a scenario text.
     Debug(Sharing<'a>),
+}
+
+/// A word of the command line that may be left out.
+#[derive(Debug, Drop)]
+pub struct OptionalWord<'a> {
+    word: Option<&'a str>,
+}
+
+impl<'a> Model for OptionalWord<'a> {
+    ghost use Rattle.std.specs.Prelude.{List, ℕ, Option};
+    ghost use Rattle.std.specs.Option.{option_map};
+
+    ghost Value = { Option (List ℕ) };
+
+    ghost view = { λ s. option_map (λ w. w.now) s.word };
+}
+
+impl<'a> OptionalWord<'a> {
+    /// This word, or none.
+    pub fn new(word: Option<&'a str>) -> OptionalWord<'a>
+        ensures { result ≡ option_map (λ w. w.now) word.entry }
+    {
+        OptionalWord { word }
+    }
+
+    /// The word, where it is there.
+    pub fn get(&self) -> Option<&'a str>
+        ensures { option_map (λ w. w.now) result ≡ self.now }
+    {
+        self.word
+    }
+}
+
+/// What the words of the command line ask for.
+#[derive(Debug, Drop)]
+pub enum Asked<'a> {
+    /// A session over an input: that of the file that is named, or the standard input where none is,
+    /// or `-`.
+    Session(Task<'a>, OptionalWord<'a>),
+    /// What this code means, or a list of all codes.
+    Explanation(OptionalWord<'a>),
 }

@@ -1,10 +1,12 @@
 //! The program: a session with the process's own words, input and output.
 #![tactic(auto)]
 
+mod input;
+
+use crate::input::Input;
 use sessions::fault::SessionFault;
 use sessions::outcome::Outcome;
 use sessions::session::run_all;
-use sessions::source::OverRead;
 use std::env;
 use std::io::ErrorKind;
 use std::process::ExitCode;
@@ -23,7 +25,7 @@ fn process_words(rt: &HostRuntime) -> Result<Vec<String>, SessionFault> {
 fn main(rt: HostRuntime) -> ExitCode {
     let outcome = match process_words(&rt) {
         Ok(words) => {
-            let mut input = OverRead::new(rt.stdin());
+            let mut input = Input::new(rt.stdin(), &rt);
             let mut output = OverWrite::new(rt.stdout());
             run_all(&rt, &mut input, &mut output, words.as_slice())
         }

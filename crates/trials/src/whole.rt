@@ -4,6 +4,7 @@ mod broken;
 mod cuts;
 mod debug;
 mod ends;
+mod files;
 mod groups;
 mod images;
 mod networks;
@@ -189,9 +190,11 @@ fn a_way_that_breaks_is_told_before_one_that_returns(rt: HostRuntime) -> Result<
 fn mistaken_words_are_refused(rt: HostRuntime) -> Result<(), Fail> {
     for words in [
         ["tcpsim"].as_slice(),
-        ["tcpsim", "asm", "dis"].as_slice(),
+        ["tcpsim", "asm", "one", "two"].as_slice(),
         ["tcpsim", "help"].as_slice(),
-        ["tcpsim", "run", "run"].as_slice(),
+        ["tcpsim", "run", "one", "two"].as_slice(),
+        ["tcpsim", "debug", "one"].as_slice(),
+        ["tcpsim", "explain", "E1", "E2"].as_slice(),
         ["tcpsim", "run", "--workers", "0"].as_slice(),
         ["tcpsim", "run", "--workers=65"].as_slice(),
         ["tcpsim", "run", "--workers", "two"].as_slice(),
@@ -237,35 +240,45 @@ const HELP: &str = "Simulate TCP flows through bottlenecks, packet by packet
 Usage: tcpsim <COMMAND>
 
 Commands:
-  asm    Write the image of the scenario on standard input
-  dis    Write the canonical text of the scenario on standard input
-  run    Run the scenario on standard input and print its trace
-  debug  Answer the commands behind the scenario text on standard input
+  asm      Write the image of a scenario
+  dis      Write the canonical text of a scenario
+  run      Run a scenario and print its trace
+  debug    Answer the commands behind the scenario text on standard input
+  explain  Say what a code means, with an example, or list all codes
 
 Options:
   -h, --help     Print help
   -V, --version  Print version
 ";
 
-const ASM_HELP: &str = "Write the image of the scenario on standard input
+const ASM_HELP: &str = "Write the image of a scenario
 
-Usage: tcpsim asm
+Usage: tcpsim asm [FILE]
 
-Options:
-  -h, --help  Print help
-";
-
-const DIS_HELP: &str = "Write the canonical text of the scenario on standard input
-
-Usage: tcpsim dis
+Arguments:
+  [FILE]  The scenario's file; without it, or where it is -, standard input
 
 Options:
   -h, --help  Print help
 ";
 
-const RUN_HELP: &str = "Run the scenario on standard input and print its trace
+const DIS_HELP: &str = "Write the canonical text of a scenario
 
-Usage: tcpsim run [OPTIONS]
+Usage: tcpsim dis [FILE]
+
+Arguments:
+  [FILE]  The scenario's file; without it, or where it is -, standard input
+
+Options:
+  -h, --help  Print help
+";
+
+const RUN_HELP: &str = "Run a scenario and print its trace
+
+Usage: tcpsim run [OPTIONS] [FILE]
+
+Arguments:
+  [FILE]  The scenario's file; without it, or where it is -, standard input
 
 Options:
       --workers <N>  How many workers run the groups, 1 to 64 [default: 1]

@@ -12,6 +12,7 @@ text_words = record {
   dis_help = (DisplayHelp, refl, inl refl);
   run_help = (DisplayHelp, refl, inl refl);
   debug_help = (DisplayHelp, refl, inl refl);
+  explain_help = (DisplayHelp, refl, inl refl);
   version = (DisplayVersion, refl, inr refl);
 }
 

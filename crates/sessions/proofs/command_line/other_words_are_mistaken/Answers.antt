@@ -35,10 +35,12 @@ mistakes : WordsOfMistake
 unfolding clap_on_literals is_request
 mistakes = record {
   nothing_else = one_mistake (codes "tcpsim" ∷ []) MissingSubcommand refl refl;
-  word_behind = one_mistake (codes "tcpsim" ∷ codes "run" ∷ codes "twice" ∷ []) UnknownArgument refl refl;
+  two_files = one_mistake (codes "tcpsim" ∷ codes "run" ∷ codes "once" ∷ codes "twice" ∷ []) UnknownArgument refl refl;
+  debug_file = one_mistake (codes "tcpsim" ∷ codes "debug" ∷ codes "a.txt" ∷ []) UnknownArgument refl refl;
   no_worker = one_mistake (codes "tcpsim" ∷ codes "run" ∷ codes "--workers" ∷ codes "0" ∷ []) ValueValidation refl refl;
   many_workers = one_mistake (codes "tcpsim" ∷ codes "debug" ∷ codes "--workers" ∷ codes "65" ∷ []) ValueValidation refl refl;
   asm_is_not_shared = one_mistake (codes "tcpsim" ∷ codes "asm" ∷ codes "--groups" ∷ codes "one" ∷ []) UnknownArgument refl refl;
+  two_codes = one_mistake (codes "tcpsim" ∷ codes "explain" ∷ codes "E1" ∷ codes "E2" ∷ []) UnknownArgument refl refl;
 }
 
 pub returns : goal.returns

@@ -8,8 +8,8 @@ use Rattle.sessions.proofs.Naming.{parsed_faultless, parsed_rows, met_named, nam
 use Rattle.sessions.proofs.Options.{same_some}
 use Rattle.sessions.proofs.command_line.read_words.Goals as goal
 
-pub task_of-requires : goal.task_of-requires
-task_of-requires g c =
+pub asked_of-requires : goal.asked_of-requires
+asked_of-requires g c =
     let words = map g.S.AsStr.text c.args.words.now in
     let app = app_of c.in_ok-commands.field-0 in
     let faultless = parsed_faultless app words c.in_ok-commands.ensures c.in_ok-matches.ensures.kinds in
@@ -29,4 +29,4 @@ returns-clause-asked g c =
     let rows = rows_of (found_of c.in-Some.options.now) in
     let met = met_named c.in_ok-matches.matches c.in-Some.word.now rows (subcommand_of program words)
     (parsed_rows app words c.in_ok-commands.ensures c.in_ok-matches.matches c.in_ok-matches.ensures.matches) c.in-Some.ensures.name c.in-Some.ensures.rows in
-    asked_for words (c.in-Some.word.now, rows) c.task_of.result (parsed_faultless app words c.in_ok-commands.ensures c.in_ok-matches.ensures.kinds) met (c.task_of.ensures.word, c.task_of.ensures.sharing)
+    asked_for words (c.in-Some.word.now, rows) c.asked_of.result (parsed_faultless app words c.in_ok-commands.ensures c.in_ok-matches.ensures.kinds) met (c.asked_of.ensures.word, c.asked_of.ensures.said)

@@ -1,0 +1,64 @@
+//! The process's input: standard input, or a file that was opened in its place.
+ghost use Rattle.window_engine.specs.Failures.{counted};
+ghost use Rattle.std.specs.Prelude.{◌≡◌};
+
+use sessions::source::{Source, SourceFail};
+use std::fs::{File, Files};
+use std::io::{self, Read};
+
+/// A reader, or a file that was opened in its place. Each error of either is a failure, an
+/// interruption too; nothing is tried again.
+#[derive(Drop)]
+pub struct Input<'f, R, F: Files> {
+    reader: R,
+    files: &'f F,
+    /// The file that is read, once one was opened.
+    file: Option<F::File>,
+    /// How often opening or reading failed.
+    failures: u64,
+}
+
+impl<'f, R, F: Files> Input<'f, R, F> {
+    /// The reader, which has not failed yet, and the files that may be opened in its place.
+    pub fn new(reader: R, files: &'f F) -> Input<'f, R, F> {
+        Input {
+            reader,
+            files,
+            file: None,
+            failures: 0,
+        }
+    }
+
+    /// Counts a failure.
+    fn fail(&mut self) -> SourceFail
+        ensures { self.new ≡ record self.old { failures = counted self.old.failures } }
+    {
+        self.failures = self.failures.saturating_add(1);
+        SourceFail
+    }
+}
+
+impl<'f, R: Read, F: Files> Source for Input<'f, R, F> {
+    ghost failures = { λ s. s.failures };
+
+    fn open(&mut self, file: &str) -> Result<(), SourceFail> {
+        match File::open(self.files, file) {
+            Ok(file) => {
+                self.file = Some(file);
+                Ok(())
+            }
+            Err(_) => Err(self.fail()),
+        }
+    }
+
+    fn get(&mut self, room: &mut [u8]) -> Result<usize, SourceFail> {
+        let count: io::Result<usize> = match &mut self.file {
+            Some(file) => file.read(room),
+            None => self.reader.read(room),
+        };
+        match count {
+            Ok(count) => Ok(count),
+            Err(_) => Err(self.fail()),
+        }
+    }
+}
