@@ -1,9 +1,17 @@
--- The tree once the standing of one place has changed.
-use Rattle.std.specs.Prelude.{◌≡◌, ◌≢◌, ◌<◌, ◌+◌, ◌*◌, ◌⊎◌, ℕ, List, length, slice_index}
+-- The tree while the games above a place are played, whose standing has changed.
+use Rattle.std.specs.Prelude.{◌≡◌, ◌<◌, ◌*◌, ◌/◌, ℕ, zero, suc, List, length}
 use Rattle.ranking.specs.declared.standing.Standing.{Standing}
 use Rattle.ranking.specs.Tournament.{IsWon}
 
--- each node has a place of one of the two below it, the first where neither has the changed place
-pub record WonAside (leaves : List Standing) (winners : List ℕ) (place : ℕ) : Type 0 where
-  pub one_of : (j : ℕ) → 0 < j → 2 * j < length winners → (slice_index winners j ≡ slice_index winners (2 * j)) ⊎ (slice_index winners j ≡ slice_index winners (2 * j + 1))
-  pub aside : (j : ℕ) → 0 < j → 2 * j < length winners → slice_index winners (2 * j) ≢ place → slice_index winners (2 * j + 1) ≢ place → IsWon leaves winners j
+-- halved so many times
+abbrev pub halves : ℕ → ℕ → ℕ
+halves zero x = x
+halves (suc k) x = halves k x / 2
+
+-- a node stands on the way from another up to the root, or is that other itself
+abbrev pub IsOnWay : ℕ → ℕ → Type 0
+IsOnWay x j = (k : ℕ) × (halves k x ≡ j)
+
+-- each node but this one and those above it has the place that comes first below it
+abbrev pub WonBut : List Standing → List ℕ → ℕ → Type 0
+WonBut leaves winners at = (j : ℕ) → 0 < j → 2 * j < length winners → (IsOnWay at j → ⊥) → IsWon leaves winners j

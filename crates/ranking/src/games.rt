@@ -1,8 +1,8 @@
 //! A tree of winners over places, flat: node j has the first of what nodes 2j and 2j + 1 have, and
 //! the last half of the nodes have the places themselves.
-ghost use Rattle.std.specs.Prelude.{◌≡◌, ℕ, ◌+◌, ◌*◌, ◌^◌, ◌<◌, ◌≤◌, length, IfOk};
-ghost use Rattle.ranking.specs.Tournament.{AllWon, AreOwn, AreWithin, won_below};
-ghost use Rattle.ranking.specs.Replayed.{WonAside};
+ghost use Rattle.std.specs.Prelude.{◌≡◌, ◌≢◌, ℕ, ◌+◌, ◌*◌, ◌/◌, ◌^◌, ◌<◌, ◌≤◌, length, IfOk};
+ghost use Rattle.ranking.specs.Tournament.{AllWon, AreDated, AreOwn, AreWithin, standing_at, won_below};
+ghost use Rattle.ranking.specs.Replayed.{WonBut};
 
 use crate::standing::{Standing, second_leads};
 use std::alloc::{AllocError, Global};
@@ -12,6 +12,7 @@ use std::alloc::{AllocError, Global};
 fn winner(leaves: &[Standing], winners: &[u32], at: usize) -> u32
     requires below { 2 * at + 1 < length winners.now }
     requires within { AreWithin (length leaves.now) winners.now }
+    requires dated { AreDated leaves.now }
     ensures first { result ≡ won_below leaves.now winners.now at }
     ensures within { result < length leaves.now }
 {
@@ -21,32 +22,72 @@ fn winner(leaves: &[Standing], winners: &[u32], at: usize) -> u32
     winners[2 * at + usize::from(second_leads(left, right))]
 }
 
-/// Plays the games above a place, whose standing has changed, from the place up to the root.
-pub(crate) fn games_above(leaves: &[Standing], winners: &mut [u32], place: u32)
+// The node that is below the same node as this one.
+#[inline(always)]
+fn beside(at: usize) -> usize
+    ensures other { result ≢ at }
+    ensures below { result / 2 ≡ at / 2 }
+{
+    at ^ 1
+}
+
+/// Plays the games above a place, whose standing has changed, from the place, of this moment, up to
+/// the root.
+#[inline(always)]
+pub(crate) fn games_above(leaves: &[Standing], winners: &mut [u32], place: u32, mut moment: u64)
     requires size { length winners.old ≡ 2 * length leaves.now }
     requires place { place < length leaves.now }
+    requires moment { moment ≡ (standing_at leaves.now place).moment }
     requires within { AreWithin (length leaves.now) winners.old }
     requires own { AreOwn (length leaves.now) winners.old }
-    requires aside { WonAside leaves.now winners.old place }
+    requires dated { AreDated leaves.now }
+    requires won { WonBut leaves.now winners.old ((length leaves.now + place) / 2) }
     ensures within { AreWithin (length leaves.now) winners.new }
     ensures own { AreOwn (length leaves.now) winners.new }
     ensures won { AllWon leaves.now winners.new }
 {
-    let mut at = (leaves.len() + place as usize) / 2;
-    while at > 0 {
-        let first = winner(leaves, winners, at);
-        // Where another stays first, nothing above changes.
-        if first != place && winners[at] == first {
+    let mut first = place;
+    let mut at = leaves.len() + place as usize;
+    while at > 1 {
+        let other = winners[beside(at)];
+        let its = leaves[other as usize].moment;
+        at /= 2;
+        if its == moment {
+            games_from(leaves, winners, at);
             return;
         }
+        // Which comes first cannot be guessed, so it is chosen with no branch.
+        first = if its < moment { other } else { first };
+        moment = moment.min(its);
         winners[at] = first;
+    }
+}
+
+// Plays the games from a node up to the root by whole standings, as the moments of two are equal.
+#[cold]
+#[inline(never)]
+fn games_from(leaves: &[Standing], winners: &mut [u32], node: usize)
+    requires size { length winners.old ≡ 2 * length leaves.now }
+    requires node { node < length leaves.now }
+    requires within { AreWithin (length leaves.now) winners.old }
+    requires own { AreOwn (length leaves.now) winners.old }
+    requires dated { AreDated leaves.now }
+    requires won { WonBut leaves.now winners.old node }
+    ensures within { AreWithin (length leaves.now) winners.new }
+    ensures own { AreOwn (length leaves.now) winners.new }
+    ensures won { AllWon leaves.now winners.new }
+{
+    let mut at = node;
+    while at > 0 {
+        winners[at] = winner(leaves, winners, at);
         at /= 2;
     }
 }
 
 /// The tree of these places: each game is played after those below it.
 pub(crate) fn all_games(alloc: Global, leaves: &[Standing]) -> Result<Vec<u32>, AllocError>
-    requires { length leaves.now ≤ 2 ^ 31 }
+    requires few { length leaves.now ≤ 2 ^ 31 }
+    requires dated { AreDated leaves.now }
     ensures size { IfOk result (λ winners. length winners.items ≡ 2 * length leaves.now) }
     ensures within { IfOk result (λ winners. AreWithin (length leaves.now) winners.items) }
     ensures own { IfOk result (λ winners. AreOwn (length leaves.now) winners.items) }
@@ -65,6 +106,7 @@ fn play_all(leaves: &[Standing], winners: &mut [u32])
     requires size { length winners.old ≡ 2 * length leaves.now }
     requires within { AreWithin (length leaves.now) winners.old }
     requires own { AreOwn (length leaves.now) winners.old }
+    requires dated { AreDated leaves.now }
     ensures within { AreWithin (length leaves.now) winners.new }
     ensures own { AreOwn (length leaves.now) winners.new }
     ensures won { AllWon leaves.now winners.new }

@@ -3,10 +3,14 @@
 //!
 //! Node j of the tree has the place that comes first of those that nodes 2j and 2j + 1 have, and
 //! the last half of the nodes have the places themselves; node 1 is the root, and node 0 is not
-//! used. A change of one place plays the games from there up to the root again, one a level, and
-//! ends early where another place stays first; reading the least is one read. This is the tree of
-//! winners of Knuth, The Art of Computer Programming, volume 3, section 5.4.1: the nodes hold
-//! numbers of places, and the keys stand once, at their places.
+//! used. A change of one place plays the games from there up to the root again, one a level; reading
+//! the least is one read. This is the tree of winners of Knuth, The Art of Computer Programming,
+//! volume 3, section 5.4.1: the nodes hold numbers of places, and the keys stand once, at their
+//! places.
+//!
+//! Which of two keys is less cannot be guessed, so most games are played with no branch on it: each
+//! place has a moment, the time of its key, or a later one that is its own where it has none, and of
+//! two moments the lesser is chosen. Only where two are the same are the keys compared.
 #![tactic(auto)]
 
 mod games;

@@ -1,11 +1,11 @@
 //! The places with their keys, and the least of them.
-ghost use Rattle.std.specs.Prelude.{◌≡◌, ℕ, ◌+◌, ◌*◌, ◌^◌, ◌<◌, ◌≤◌, length, replicate, slice_set, IfOk, MatchOption, Some, None, false, if◌then◌else◌};
+ghost use Rattle.std.specs.Prelude.{◌≡◌, ℕ, ◌+◌, ◌*◌, ◌^◌, ◌<◌, ◌≤◌, length, replicate, slice_set, IfOk, MatchOption, Some, None, if◌then◌else◌};
 ghost use Rattle.sim_time.specs.declared.key.Key.{Key};
 ghost use Rattle.ranking.specs.Leading.{rank_at, Leads};
-ghost use Rattle.ranking.specs.Tournament.{IsVacantAt, vacant_key};
+ghost use Rattle.ranking.specs.Tournament.{IsVacantAt};
 
 use crate::games::{all_games, games_above};
-use crate::standing::{Standing, no_key, vacant};
+use crate::standing::{Standing, moment_of, no_key, vacant};
 use sim_time::{Key, Time};
 use std::alloc::{AllocError, Global};
 use std::marker::Model;
@@ -101,9 +101,7 @@ impl Ranking {
     // Gives a place this key, where it is held, and none otherwise.
     #[inline(always)]
     fn put(&mut self, place: usize, key: Key, held: bool)
-        requires place { place < length self.old }
-        requires fits { key.time < 2 ^ 64 }
-        requires none { held ≡ false → key ≡ vacant_key }
+        requires { place < length self.old }
         ensures { self.new ≡ slice_set self.old place (if held then Some key else None) }
     {
         let time = key.time;
@@ -113,8 +111,10 @@ impl Ranking {
             return;
         }
         leaf.key = key;
+        let moment = moment_of(time, place as u32, held);
+        leaf.moment = moment;
         leaf.held = held;
-        games_above(&self.leaves, &mut self.winners, place as u32);
+        games_above(&self.leaves, &mut self.winners, place as u32, moment);
     }
 
     /// The place of the least key, the lowest such place, and the key.

@@ -1,15 +1,21 @@
 //! A key at its place, and which of two comes first.
-ghost use Rattle.std.specs.Prelude.{◌≡◌, false};
+ghost use Rattle.std.specs.Prelude.{◌≡◌, ◌<◌, ◌^◌, false};
 ghost use Rattle.std.specs.Ordering.{is_lt};
-ghost use Rattle.ranking.specs.Tournament.{standing_cmp, vacant_key, IsDated};
+ghost use Rattle.ranking.specs.Tournament.{standing_cmp, moment_of, vacant_key, IsDated};
 
-use sim_time::{Key, key_order};
+use sim_time::{Key, Time, key_order};
+
+/// The last moment of a key. Those of places with no key follow it.
+const LAST_MOMENT: u64 = u64::MAX - (1 << 31);
 
 /// What a place has: a key, or none.
 #[derive(Clone, Copy, Debug, PartialEq, Eq)]
 pub struct Standing {
     /// The key, where there is one. Where there is none its time is the greatest.
     pub key: Key,
+    /// The key's time in nanoseconds, at most the last moment; where there is no key, a later
+    /// moment, which no other place has. Of two places the one with the lesser moment comes first.
+    pub moment: u64,
     /// The place's number.
     pub place: u32,
     /// Whether there is a key.
@@ -29,31 +35,45 @@ pub(crate) fn no_key() -> Key
     }
 }
 
+/// The moment of a place that has a key of this time, or none.
+#[inline(always)]
+pub(crate) fn moment_of(time: Time, place: u32, held: bool) -> u64
+    requires { place < 2 ^ 31 }
+    ensures { result ≡ moment_of time place held }
+{
+    if held {
+        time.min(LAST_MOMENT)
+    } else {
+        LAST_MOMENT + 1 + place as u64
+    }
+}
+
 /// A place with no key.
 pub(crate) fn vacant(place: u32) -> Standing
+    requires { place < 2 ^ 31 }
     ensures place { result.place ≡ place }
     ensures held { result.held ≡ false }
     ensures dated { IsDated result }
 {
     Standing {
         key: no_key(),
+        moment: moment_of(u64::MAX, place, false),
         place,
         held: false,
     }
 }
 
-// Whether `a` comes before `b`, where times are equal: a key before none, the lesser key, the lower
+// Whether `a` comes before `b`, whatever their moments: a key before none, the lesser key, the lower
 // place.
 #[inline]
-fn precedes_at_once(a: &Standing, b: &Standing) -> bool
-    requires { a.now.key.time ≡ b.now.key.time }
+fn precedes(a: &Standing, b: &Standing) -> bool
     ensures { result ≡ is_lt (standing_cmp a.now b.now) }
 {
     if a.held != b.held {
         return a.held;
     }
     if !a.held {
-        return false;
+        return a.place < b.place;
     }
     key_order(&a.key, &b.key)
         .then(a.place.cmp(&b.place))
@@ -63,11 +83,13 @@ fn precedes_at_once(a: &Standing, b: &Standing) -> bool
 /// Whether the second of two comes before the first.
 #[inline(always)]
 pub(crate) fn second_leads(first: &Standing, second: &Standing) -> bool
+    requires first { IsDated first.now }
+    requires second { IsDated second.now }
     ensures { result ≡ is_lt (standing_cmp second.now first.now) }
 {
-    // Times mostly differ.
-    if first.key.time == second.key.time {
-        return precedes_at_once(second, first);
+    // Moments mostly differ.
+    if first.moment == second.moment {
+        return precedes(second, first);
     }
-    second.key.time < first.key.time
+    second.moment < first.moment
 }

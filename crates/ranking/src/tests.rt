@@ -56,6 +56,19 @@ fn a_copy_changes_alone(rt: HostRuntime) -> Result<(), Fail> {
 }
 
 #[test]
+fn the_greatest_times_are_told_apart(rt: HostRuntime) -> Result<(), Fail> {
+    let mut ranking = Ranking::new(rt.alloc(), 4)?;
+    assert_eq!(rt; ranking.places(), 4);
+    ranking.set(3, Some(due(u64::MAX)));
+    assert_eq!(rt; ranking.first(), Some((3, due(u64::MAX))));
+    ranking.set(1, Some(due(u64::MAX)));
+    assert_eq!(rt; ranking.first(), Some((1, due(u64::MAX))));
+    ranking.set(2, Some(due(u64::MAX - 1)));
+    assert_eq!(rt; ranking.first(), Some((2, due(u64::MAX - 1))));
+    Ok(())
+}
+
+#[test]
 fn no_places_have_no_first(rt: HostRuntime) -> Result<(), Fail> {
     let ranking = Ranking::new(rt.alloc(), 0)?;
     assert!(rt; ranking.first().is_none());

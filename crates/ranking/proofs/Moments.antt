@@ -1,0 +1,59 @@
+-- Which of two places comes first, by their moments.
+use Rattle.std.proofs.Common.{◌≡◌, ◌≢◌, ℕ, ◌+◌, ◌*◌, ◌/◌, ◌<◌, Bool, true, false, cond, List, refl, sym, ap, ◌∙◌, ⊎_elim, arith}
+use Rattle.std.proofs.lemmas.Bool.{cases_eq}
+use Rattle.std.specs.Prelude.{slice_index}
+use Rattle.std.specs.Cmp.{nat_cmp_is}
+use Rattle.std.specs.declared.cmp.Ordering.{Ordering}
+use Rattle.std.specs.declared.cmp.Ordering.TheVariants.{Less}
+use Rattle.std.specs.Ordering.{nat_cmp, ordering_then, ordering_reverse, is_lt}
+use Rattle.sim_time.proofs.Order.{earlier_less}
+use Rattle.sim_time.specs.declared.key.Key.{Key}
+use Rattle.sim_time.specs.Keys.{key_cmp}
+use Rattle.ranking.specs.declared.standing.Standing.{Standing}
+use Rattle.ranking.specs.Tournament.{standing_cmp, vacant_key, moment_of, first_place, standing_at, won_below, IsDated}
+use Rattle.ranking.proofs.Winners.{standings_total}
+
+-- the order of keys, or none, at places
+abbrev order : Bool → Bool → Key → Key → ℕ → ℕ → Ordering
+order h g k l p q = ordering_then (nat_cmp (cond h 0 1) (cond g 0 1)) (ordering_then (key_cmp (cond h k vacant_key) (cond g l vacant_key)) (nat_cmp p q))
+
+earlier : (h g : Bool) (k l : Key) (p q : ℕ) → moment_of k.time p h < moment_of l.time q g → order h g k l p q ≡ Less
+earlier true true k l p q less = ap (λ o. ordering_then o (nat_cmp p q)) (earlier_less k l (omega (arith, less)))
+earlier true false k l p q less = refl
+earlier false true k l p q less = absurd (omega (arith, less))
+earlier false false k l p q less = sym (nat_cmp_is p q Less (omega (arith, less)))
+
+-- the one with the lesser moment comes first
+lesser_moment : (a b : Standing) → IsDated a → IsDated b → a.moment < b.moment → standing_cmp a b ≡ Less
+lesser_moment a b da db less = earlier a.held b.held a.key b.key a.place b.place (omega (arith, less, da.moment, db.moment))
+
+module _ (leaves : List Standing) (p q : ℕ) (dated : IsDated (standing_at leaves p)) (other_dated : IsDated (standing_at leaves q)) (less : (standing_at leaves p).moment < (standing_at leaves q).moment) where
+  abbrev a : Standing
+  a = standing_at leaves p
+
+  abbrev b : Standing
+  b = standing_at leaves q
+
+  before : standing_cmp a b ≡ Less
+  before = lesser_moment a b dated other_dated less
+
+  first_as_left : p ≡ first_place leaves p q
+  first_as_left = ap (λ o. cond (is_lt o) q p) (sym (standings_total.antisymm b a ∙ ap ordering_reverse before))
+
+  first_as_right : p ≡ first_place leaves q p
+  first_as_right = ap (λ o. cond (is_lt o) p q) (sym before)
+
+-- of the two below a node the one with the lesser moment has the place that comes first there
+pub first_beside : (leaves : List Standing) (winners : List ℕ) (i s : ℕ) → i ≢ s → i / 2 ≡ s / 2 → IsDated (standing_at leaves (slice_index winners i)) → IsDated (standing_at leaves (slice_index winners s))
+    → (standing_at leaves (slice_index winners i)).moment < (standing_at leaves (slice_index winners s)).moment → slice_index winners i ≡ won_below leaves winners (i / 2)
+first_beside leaves winners i s apart same dated other_dated less =
+    let p = slice_index winners i in
+    let q = slice_index winners s in
+    let h = i / 2 in
+    ⊎_elim
+    (λ (even : i ≡ 2 * h).
+    first_as_left leaves p q dated other_dated less ∙ ap (λ n. first_place leaves (slice_index winners n) q) even ∙ ap (λ n. first_place leaves (slice_index winners (2 * h)) (slice_index winners n)) {x = s} {y = 2 * h + 1} (omega (arith, apart, same, even)))
+    (λ (odd : i ≢ 2 * h).
+    first_as_right leaves p q dated other_dated less ∙ ap (λ n. first_place leaves (slice_index winners n) p) {x = s} {y = 2 * h} (omega (arith, apart, same, odd))
+    ∙ ap (λ n. first_place leaves (slice_index winners (2 * h)) (slice_index winners n)) {x = i} {y = 2 * h + 1} (omega (arith, odd)))
+    (cases_eq i (2 * h))
