@@ -3,6 +3,8 @@ pub mod Digits
 pub mod Verdicts
 pub mod Links
 pub mod Words
+pub mod Ranges
+pub mod Places
 pub mod Routes
 pub mod Declared
 pub mod Holds

@@ -106,7 +106,7 @@ first_fault text m n f g a b =
     (faulty_at text n g b)
 
 -- where all lines are read, none is faulty
-none_faulty : (text : List ℕ) (n : ℕ) (f : Fault) (said : List (Option Statement)) → IsLineFault text n f → AreRead (lines_of text) said → ⊥
+pub none_faulty : (text : List ℕ) (n : ℕ) (f : Fault) (said : List (Option Statement)) → IsLineFault text n f → AreRead (lines_of text) said → ⊥
 none_faulty text n f said first read =
     let le : length (lines_of text) ≤ length first.above = fault_stops (lines_of text) first.above (lines_of text) first.said said f (above_front text n f first) (front_all (lines_of text)) first.above_read read (faulty_at text n f first) in
     omega (arith, ap length first.lines, length-append first.above (first.line ∷ first.below))

@@ -8,13 +8,13 @@ pub one_plus : (n : ℕ) → 1 + n ≡ suc n
 one_plus n = omega arith
 
 -- a byte that doesn't end the piece is the first of it
-before_more : (p : ℕ → Bool) (b : ℕ) (bs : List ℕ) → p b ≡ false → before_first p (b ∷ bs) ≡ b ∷ before_first p bs
+pub before_more : (p : ℕ → Bool) (b : ℕ) (bs : List ℕ) → p b ≡ false → before_first p (b ∷ bs) ≡ b ∷ before_first p bs
 before_more p b bs isn't = simp (isn't, one_plus)
 
 after_more : (p : ℕ → Bool) (b : ℕ) (bs : List ℕ) → p b ≡ false → after_first p (b ∷ bs) ≡ after_first p bs
 after_more p b bs isn't = simp (isn't, one_plus, add-one)
 
-pieces_no : (end b : ℕ) (bs : List ℕ) → (b == end) ≡ false → pieces end (b ∷ bs) ≡ onto_first b (pieces end bs)
+pub pieces_no : (end b : ℕ) (bs : List ℕ) → (b == end) ≡ false → pieces end (b ∷ bs) ≡ onto_first b (pieces end bs)
 pieces_no end b bs isn't = simp isn't
 
 pieces_yes : (end b : ℕ) (bs : List ℕ) → (b == end) ≡ true → pieces end (b ∷ bs) ≡ before_first (λ x. x == end) (b ∷ bs) ∷ pieces end (after_first (λ x. x == end) (b ∷ bs))

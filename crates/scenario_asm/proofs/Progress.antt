@@ -1,5 +1,5 @@
 -- How far a text has been read.
-use Rattle.std.proofs.Common.{◌≡◌, ℕ, ◌+◌, ◌^◌, ◌<◌, List, [], ◌∷◌, ◌++◌, length, Option, Result, Ok, Err, inl, refl, ap, sym, subst, ◌∙◌, arith, append_assoc, length-append}
+use Rattle.std.proofs.Common.{◌≡◌, ℕ, ◌+◌, ◌^◌, ◌<◌, List, [], ◌∷◌, ◌++◌, length, Option, Some, None, IfSome, IfNone, Result, Ok, Err, inl, refl, ap, sym, subst, ◌∙◌, arith, append_assoc, length-append}
 use Rattle.std.proofs.lemmas.List.{append-nil}
 use Rattle.scenario_image.specs.declared.parts.ScenarioParts.{ScenarioParts}
 use Rattle.scenario_asm.specs.declared.fault.Fault.{Fault}
@@ -13,6 +13,9 @@ use Rattle.scenario_asm.specs.Table.{known_in}
 use Rattle.scenario_asm.specs.Text.{known_of}
 use Rattle.scenario_asm.specs.Draft.{Holds, WholeGives}
 use Rattle.scenario_asm.specs.Meaning.{AreRead, statements_of, MeansFault}
+use Rattle.scenario_asm.specs.Places.{line_word}
+use Rattle.scenario_asm.specs.Refusals.{fault_in, word_in, AllRead, IsRefusedLine}
+use Rattle.scenario_asm.specs.declared.lines.RefusedLine.{RefusedLine}
 use Rattle.scenario_asm.proofs.OneMeaning.{IsRight, right_at, right_whole}
 use Rattle.scenario_asm.proofs.Pieces.{pieces_few}
 use Rattle.scenario_asm.proofs.Read.{read_none, read_more}
@@ -55,27 +58,45 @@ progress_more text draft new number all line rest says so is read holds =
       holds = holds so.said so.holds;
     }
 
--- at a line with a fault
-pub line_right : (text : List ℕ) (draft : Draft) (number : ℕ) (all : List (List ℕ)) (line : List ℕ) (rest : List (List ℕ)) (fault : Fault) (result : Result ScenarioParts AsmFault) → Progress text draft number all → all ≡ line ∷ rest → line_at (known_in draft.table) line ≡ Err fault → result ≡ Err (At (number + 1) fault) → IsRight text result
-line_right text draft number all line rest fault result so is faulty was =
-    let means : MeansFault text (number + 1) fault =
-    inl (record {
-      above = so.above;
-      line = line;
-      below = rest;
-      said = so.said;
-      lines = so.lines ∙ ap (λ l. so.above ++ l) is;
-      counted = ap (λ n. n + 1) so.counted;
-      above_read = so.read;
-      faulty = ap (λ known. line_at known line) (sym so.holds.known) ∙ faulty;
-    })
-    in
-    let P : Result ScenarioParts AsmFault → Type 0 = λ r. IsRight text r in
-    subst P (sym was) (right_at text (number + 1) fault means)
+-- at a line that is refused
+pub refused_line : (text : List ℕ) (draft : Draft) (number : ℕ) (all : List (List ℕ)) (line : List ℕ) (rest : List (List ℕ)) (refused : RefusedLine) → Progress text draft number all → all ≡ line ∷ rest → refused.number ≡ number + 1 → refused.bytes.now ≡ line → ◌≡◌ {A = Result (Option Statement) Fault} (Err (fault_in refused.refusal)) (line_at (known_in draft.table) line) → word_in refused.refusal ≡ line_word (known_in draft.table) line → IsRefusedLine text refused
+refused_line text draft number all line rest refused so is counted bytes faulty word =
+    record {
+      first =
+          record {
+            above = so.above;
+            line = line;
+            below = rest;
+            said = so.said;
+            lines = so.lines ∙ ap (λ l. so.above ++ l) is;
+            counted = counted ∙ ap (λ n. n + 1) so.counted;
+            above_read = so.read;
+            faulty = ap (λ known. line_at known line) (sym so.holds.known) ∙ sym faulty;
+          };
+      bytes = bytes;
+      word = word ∙ ap (λ known. line_word known line) so.holds.known;
+    }
 
 -- at the end of the text
-pub whole_right : (text : List ℕ) (draft : Draft) (number : ℕ) (all : List (List ℕ)) (result : Result ScenarioParts AsmFault) → Progress text draft number all → all ≡ [] → ((statements : List Statement) → Holds draft statements → WholeGives statements result) → IsRight text result
-whole_right text draft number all result so is gives =
+pub all_read : (text : List ℕ) (draft : Draft) (number : ℕ) (all : List (List ℕ)) → Progress text draft number all → all ≡ [] → AllRead text draft
+all_read text draft number all so is =
     let lines : so.above ≡ lines_of text = sym (so.lines ∙ (ap (λ l. so.above ++ l) is ∙ append-nil so.above)) in
-    let read : AreRead (lines_of text) so.said = let P : List (List ℕ) → Type 0 = λ l. AreRead l so.said in subst P lines so.read in
-    right_whole text so.said result read (gives (statements_of so.said) so.holds)
+    record { said = so.said; read = (let P : List (List ℕ) → Type 0 = λ l. AreRead l so.said in subst P lines so.read); holds = so.holds }
+
+-- what is known where no line is refused, and where one is
+pub none_refused : (text : List ℕ) (draft : Draft) (found : Option RefusedLine) → found ≡ None → IfNone found (AllRead text draft) → AllRead text draft
+none_refused text draft found is all = let P : Option RefusedLine → Type 0 = λ o. IfNone o (AllRead text draft) in subst P is all
+
+pub one_refused : (text : List ℕ) (found : Option RefusedLine) (refused : RefusedLine) → found ≡ Some refused → IfSome found (IsRefusedLine text) → IsRefusedLine text refused
+one_refused text found refused is first = let P : Option RefusedLine → Type 0 = λ o. IfSome o (IsRefusedLine text) in subst P is first
+
+-- what a text is answered with a line that is refused
+pub line_right : (text : List ℕ) (refused : RefusedLine) (fault : Fault) (result : Result ScenarioParts AsmFault) → IsRefusedLine text refused → fault ≡ fault_in refused.refusal → result ≡ Err (At refused.number fault) → IsRight text result
+line_right text refused fault result is same was =
+    let means : MeansFault text refused.number (fault_in refused.refusal) = inl is.first in
+    let P : Result ScenarioParts AsmFault → Type 0 = λ r. IsRight text r in
+    subst P (sym (was ∙ ap (λ f. Err (At refused.number f)) same)) (right_at text refused.number (fault_in refused.refusal) means)
+
+-- what a text is answered whose lines are all read
+pub whole_right : (text : List ℕ) (draft : Draft) (result : Result ScenarioParts AsmFault) → AllRead text draft → ((statements : List Statement) → Holds draft statements → WholeGives statements result) → IsRight text result
+whole_right text draft result all gives = right_whole text all.said result all.read (gives (statements_of all.said) all.holds)

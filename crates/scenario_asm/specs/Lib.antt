@@ -11,6 +11,8 @@ pub mod Right
 pub mod OneAnswer
 pub mod Draft
 pub mod Meaning
+pub mod Places
+pub mod Refusals
 pub mod Spelling
 pub mod CanonicalText
 pub use Rattle.scenario_image.specs.Limits

@@ -1,5 +1,5 @@
 -- The statements: what a line says, or its first fault.
-use Rattle.std.specs.Prelude.{ℕ, ◌-◌, Bool, false, ◌||◌, ◌==◌, nat_le, List, [], ◌∷◌, length, codes, Option, Some, None, Result, Ok, Err, if◌then◌else◌, unwrap_or, is_some}
+use Rattle.std.specs.Prelude.{ℕ, ◌-◌, Bool, false, ◌||◌, ◌==◌, nat_le, List, [], ◌∷◌, ◌++◌, length, codes, Option, Some, None, Result, Ok, Err, if◌then◌else◌, unwrap_or, is_some}
 use Rattle.std.specs.List.{slice_index_or, list_all}
 use Rattle.std.specs.Str.{bytes_eq}
 use Rattle.sim_time.specs.declared.rate.TheConstants.{LEAST_RATE, GREATEST_RATE}
@@ -52,13 +52,21 @@ is_codel words = bytes_eq (nth words 6) (codes "codel")
 abbrev pub has_link_length : List Word → Bool
 has_link_length words = if is_drop_tail words then length words == 8 else (if is_codel words then length words == 11 else (length words == 8 || length words == 11))
 
+-- the verdicts on the numbers of CoDel
+abbrev pub codel_number_verdicts : List Word → List Verdict
+codel_number_verdicts words = number_verdict 1 LONGEST_DELAY (nth words 8) ∷ number_verdict 1 LONGEST_DELAY (nth words 9) ∷ number_verdict 1 65535 (nth words 10) ∷ []
+
+-- the verdicts on the words of `link` after the eighth: on the numbers of CoDel, where the seventh word asks for them
+abbrev pub codel_verdicts : List Word → List Verdict
+codel_verdicts words = if is_codel words then codel_number_verdicts words else []
+
 -- the numbers of CoDel, where the seventh word asks for them
 abbrev pub codel_verdict : List Word → Verdict
-codel_verdict words = if is_codel words then first_fault (number_verdict 1 LONGEST_DELAY (nth words 8) ∷ number_verdict 1 LONGEST_DELAY (nth words 9) ∷ number_verdict 1 65535 (nth words 10) ∷ []) else None
+codel_verdict words = if is_codel words then first_fault (codel_number_verdicts words) else None
 
--- the verdicts on the words of `link` after the first
-abbrev pub link_verdicts : Known → List Word → List Verdict
-link_verdicts known words =
+-- the verdicts on the words of `link` after the first and up to the eighth
+abbrev pub link_first_verdicts : Known → List Word → List Verdict
+link_first_verdicts known words =
     new_name_verdict known (nth words 1)
     ∷ node_verdict known (nth words 2)
     ∷ other_node_verdict known (number_of known (nth words 2)) (nth words 3)
@@ -66,8 +74,11 @@ link_verdicts known words =
     ∷ number_verdict 1 LONGEST_DELAY (nth words 5)
     ∷ faulty_unless (is_drop_tail words || is_codel words) E4
     ∷ number_verdict 1 65535 (nth words 7)
-    ∷ codel_verdict words
     ∷ []
+
+-- the verdicts on the words of `link` after the first
+abbrev pub link_verdicts : Known → List Word → List Verdict
+link_verdicts known words = link_first_verdicts known words ++ codel_verdict words ∷ []
 
 -- how the queue drops
 abbrev pub queue_said : List Word → QueueKind

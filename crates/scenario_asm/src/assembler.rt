@@ -6,13 +6,11 @@ ghost use Rattle.scenario_asm.specs.Meaning.{MeansScenario, MeansFault};
 
 use crate::draft::Draft;
 use crate::fault::AsmFault;
-use crate::lexer::{Pieces, first_words};
-use crate::statement::read_line;
+use crate::lines::read_lines;
 use scenario_image::Scenario;
 use std::alloc::Global;
 
 /// The scenario that a text means.
-#[tactic(auto, using(crate::proofs::Progress::progress_more))]
 pub fn assemble(alloc: Global, text: &[u8]) -> Result<Scenario, AsmFault>
     ensures scenario { IfOk result (MeansScenario text.now) }
     ensures only_scenario { (parts : ScenarioParts) → MeansScenario text.now parts → (result ≡ Ok parts) ⊎ (result ≡ Err AsmFault.NoMemory) }
@@ -20,19 +18,11 @@ pub fn assemble(alloc: Global, text: &[u8]) -> Result<Scenario, AsmFault>
     ensures only_fault { (number : ℕ) (fault : Fault) → MeansFault text.now number fault → (result ≡ Err (AsmFault.At number fault)) ⊎ (result ≡ Err AsmFault.NoMemory) }
 {
     let mut draft = Draft::new(alloc);
-    let mut number = 0u64;
-    let mut words = Vec::new(alloc);
-    for line in Pieces::new(text, b'\n') {
-        number += 1;
-        first_words(line, &mut words)?;
-        let said = match read_line(&draft.table, line, &words) {
-            Ok(said) => said,
-            Err(fault) => return Err(AsmFault::At {
-                line: number,
-                fault,
-            }),
-        };
-        draft.add_said(alloc, said)?;
+    match read_lines(alloc, text, &mut draft)? {
+        Some(refused) => Err(AsmFault::At {
+            line: refused.number,
+            fault: refused.refusal.fault(),
+        }),
+        None => draft.finish(alloc),
     }
-    draft.finish(alloc)
 }

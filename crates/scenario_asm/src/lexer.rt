@@ -1,9 +1,10 @@
 //! Lines, comments and words.
-ghost use Rattle.std.specs.Prelude.{◌≡◌, ◌==◌, OnOk, take};
+ghost use Rattle.std.specs.Prelude.{◌≡◌, ◌==◌, not, OnOk, take};
 ghost use Rattle.std.specs.Iterator.{YieldsFirstRef, item_count};
 ghost use Rattle.std.specs.List.{before_first, after_first, list_all, position};
 ghost use Rattle.std.specs.Str.{bytes_eq};
 ghost use Rattle.scenario_asm.specs.Lines.{pieces, words_of, without_comment, is_printable, is_word};
+ghost use Rattle.scenario_asm.specs.Places.{IsWord};
 
 use std::alloc::AllocError;
 use std::marker::Model;
@@ -99,11 +100,25 @@ impl<'a> Word<'a> {
     }
 }
 
+/// Whether a byte is printable ASCII.
+fn is_printable(byte: u8) -> bool
+    ensures { result ≡ is_printable byte }
+{
+    matches!(byte, 0x20..=0x7e)
+}
+
 /// Whether every byte of a line is printable ASCII.
 pub fn is_clean(line: &[u8]) -> bool
     ensures { result ≡ list_all is_printable line.now }
 {
-    line.iter().all(|byte| matches!(*byte, 0x20..=0x7e))
+    line.iter().all(|byte| is_printable(*byte))
+}
+
+/// Where the first byte of a line stands that is not printable ASCII.
+pub fn first_unprintable(line: &[u8]) -> Option<usize>
+    ensures { result ≡ position (λ byte. not (is_printable byte)) line.now }
+{
+    line.iter().position(|byte| !is_printable(*byte))
 }
 
 /// One more than the most words of a statement: of a longer line no more words are kept.
@@ -125,4 +140,26 @@ pub fn first_words<'a>(line: &'a [u8], words: &mut Vec<Word<'a>>) -> Result<(), 
         }
     }
     Ok(())
+}
+
+/// Where in a line a word begins, and one more than where it ends; with fewer words twice the end of
+/// what stands before the comment.
+pub fn word_range(line: &[u8], number: usize) -> (usize, usize)
+    ensures { IsWord line.now number result.0 result.1 }
+{
+    let (content, _comment) = cut(line, b'#');
+    let mut start = 0;
+    let mut before = 0;
+    for bytes in Pieces::new(content, b' ') {
+        let end = start + bytes.len();
+        if !bytes.is_empty() {
+            if before == number {
+                return (start, end);
+            }
+            before += 1;
+        }
+        // The last piece may have no space after it.
+        start = end.saturating_add(1);
+    }
+    (content.len(), content.len())
 }

@@ -1,9 +1,21 @@
 //! Statements: what a line says.
-ghost use Rattle.std.specs.Prelude.{◌≡◌, ◌<◌, length, take};
+ghost use Rattle.std.specs.Prelude.{◌≡◌, ◌<◌, length, take, IfErr};
 ghost use Rattle.std.specs.Str.{bytes_eq};
 ghost use Rattle.scenario_asm.specs.Lines.{words_of};
+ghost use Rattle.scenario_asm.specs.Places.{sim_word, statement_word, line_word};
+ghost use Rattle.scenario_asm.specs.Refusals.{fault_in, word_in, as_fault};
 ghost use Rattle.scenario_asm.specs.Statements.{nth, sim_at, statement_at, line_at};
 ghost use Rattle.scenario_asm.specs.Table.{known_in};
+
+/// What a word gives, which is the word at this place, counted from 0; its fault ends the reading.
+macro_rules! judge {
+    ($place:literal, $read:expr) => {
+        match $read {
+            Ok(value) => value,
+            Err(fault) => return Err(Refusal::Word($place, fault)),
+        }
+    };
+}
 
 mod flow;
 mod link;
@@ -63,6 +75,36 @@ pub enum Statement<'a> {
     Lose(LoseLine),
 }
 
+/// What is wrong with a line.
+#[derive(Clone, Copy)]
+pub enum Refusal {
+    /// This is wrong with the line as a whole.
+    Line(Fault),
+    /// This is wrong with the word at this place, counted from 0.
+    Word(usize, Fault),
+}
+
+impl Refusal {
+    /// What is wrong.
+    pub fn fault(self) -> Fault
+        ensures { result ≡ fault_in self }
+    {
+        match self {
+            Refusal::Line(fault) | Refusal::Word(_, fault) => fault,
+        }
+    }
+
+    /// Which word is faulty, counted from 0.
+    pub fn word(self) -> Option<usize>
+        ensures { result ≡ word_in self }
+    {
+        match self {
+            Refusal::Line(_) => None,
+            Refusal::Word(place, _) => Some(place),
+        }
+    }
+}
+
 /// Whether the word at a place, counted from 0, is this one.
 fn has_word(words: &[Word<'_>], place: usize, word: &[u8]) -> bool
     requires { 0 < length word.now }
@@ -72,19 +114,21 @@ fn has_word(words: &[Word<'_>], place: usize, word: &[u8]) -> bool
 }
 
 /// `sim END`
-fn sim<'a>(words: &[Word<'a>]) -> Result<Statement<'a>, Fault>
-    ensures { result ≡ sim_at words.now }
+fn sim<'a>(words: &[Word<'a>]) -> Result<Statement<'a>, Refusal>
+    ensures said { as_fault result ≡ sim_at words.now }
+    ensures word { IfErr result (λ refusal. word_in refusal ≡ sim_word words.now) }
 {
     let [_sim, end] = words else {
-        return Err(Fault::E3);
+        return Err(Refusal::Line(Fault::E3));
     };
-    let end = number_in(end, 1, LATEST_END)?;
+    let end = judge!(1, number_in(end, 1, LATEST_END));
     Ok(Statement::Sim(end))
 }
 
 /// What a line's words say.
-fn read<'a>(table: &Table<'a>, words: &[Word<'a>]) -> Result<Statement<'a>, Fault>
-    ensures { result ≡ statement_at (known_in table.now) words.now }
+fn read<'a>(table: &Table<'a>, words: &[Word<'a>]) -> Result<Statement<'a>, Refusal>
+    ensures said { as_fault result ≡ statement_at (known_in table.now) words.now }
+    ensures word { IfErr result (λ refusal. word_in refusal ≡ statement_word (known_in table.now) words.now) }
 {
     if has_word(words, 0, b"sim") {
         sim(words)
@@ -99,23 +143,24 @@ fn read<'a>(table: &Table<'a>, words: &[Word<'a>]) -> Result<Statement<'a>, Faul
     } else if has_word(words, 0, b"lose") {
         lose::read(table, words)
     } else {
-        Err(Fault::E2)
+        Err(Refusal::Word(0, Fault::E2))
     }
 }
 
 /// What a line says, of which these are the first words, at most twelve: nothing, a statement, or
 /// its first fault.
-#[tactic(auto, unfolding(crate::specs::Statements::line_at))]
+#[tactic(auto, unfolding(crate::specs::Statements::line_at, crate::specs::Places::line_word))]
 pub fn read_line<'a>(
     table: &Table<'a>,
     line: &'a [u8],
     words: &[Word<'a>],
-) -> Result<Option<Statement<'a>>, Fault>
+) -> Result<Option<Statement<'a>>, Refusal>
     requires { words.now ≡ take 12 (words_of line.now) }
-    ensures { result ≡ line_at (known_in table.now) line.now }
+    ensures said { as_fault result ≡ line_at (known_in table.now) line.now }
+    ensures word { IfErr result (λ refusal. word_in refusal ≡ line_word (known_in table.now) line.now) }
 {
     if !is_clean(line) {
-        return Err(Fault::E1);
+        return Err(Refusal::Line(Fault::E1));
     }
     if words.is_empty() {
         return Ok(None);

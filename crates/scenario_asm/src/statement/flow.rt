@@ -1,9 +1,11 @@
 //! `flow` statements.
-ghost use Rattle.std.specs.Prelude.{◌≡◌};
+ghost use Rattle.std.specs.Prelude.{◌≡◌, IfErr};
+ghost use Rattle.scenario_asm.specs.Places.{flow_word};
+ghost use Rattle.scenario_asm.specs.Refusals.{word_in, as_fault};
 ghost use Rattle.scenario_asm.specs.Statements.{flow_at};
 ghost use Rattle.scenario_asm.specs.Table.{known_in};
 
-use super::Statement;
+use super::{Refusal, Statement};
 use crate::fault::Fault;
 use crate::lexer::Word;
 use crate::number::number_in;
@@ -14,8 +16,9 @@ use scenario_image::limits::{
 };
 
 /// `flow NAME SENDER RECEIVER MSS SEGMENTS START RWND DELACK`
-pub(super) fn read<'a>(table: &Table<'a>, words: &[Word<'a>]) -> Result<Statement<'a>, Fault>
-    ensures { result ≡ flow_at (known_in table.now) words.now }
+pub(super) fn read<'a>(table: &Table<'a>, words: &[Word<'a>]) -> Result<Statement<'a>, Refusal>
+    ensures said { as_fault result ≡ flow_at (known_in table.now) words.now }
+    ensures word { IfErr result (λ refusal. word_in refusal ≡ flow_word (known_in table.now) words.now) }
 {
     let [
         _flow,
@@ -29,18 +32,18 @@ pub(super) fn read<'a>(table: &Table<'a>, words: &[Word<'a>]) -> Result<Statemen
         delack,
     ] = words
     else {
-        return Err(Fault::E3);
+        return Err(Refusal::Line(Fault::E3));
     };
-    let name = table.new_name(name)?;
-    let sender = table.sender(sender)?;
-    let receiver = table.receiver(receiver)?;
-    let mss = number_in(mss, 1, u64::from(GREATEST_MSS))? as u16;
-    let segments = number_in(segments, 1, u64::from(MOST_SEGMENTS))? as u32;
-    let start = number_in(start, 0, LATEST_END - 1)?;
-    let rwnd = number_in(rwnd, u64::from(mss), u64::from(GREATEST_RWND))? as u32;
-    let delack = number_in(delack, 0, u64::from(LONGEST_DELACK))? as u32;
+    let name = judge!(1, table.new_name(name));
+    let sender = judge!(2, table.sender(sender));
+    let receiver = judge!(3, table.receiver(receiver));
+    let mss = judge!(4, number_in(mss, 1, u64::from(GREATEST_MSS))) as u16;
+    let segments = judge!(5, number_in(segments, 1, u64::from(MOST_SEGMENTS))) as u32;
+    let start = judge!(6, number_in(start, 0, LATEST_END - 1));
+    let rwnd = judge!(7, number_in(rwnd, u64::from(mss), u64::from(GREATEST_RWND))) as u32;
+    let delack = judge!(8, number_in(delack, 0, u64::from(LONGEST_DELACK))) as u32;
     if table.flows.len() >= MOST_FLOWS {
-        return Err(Fault::E9);
+        return Err(Refusal::Line(Fault::E9));
     }
     let part = FlowPart {
         sender,

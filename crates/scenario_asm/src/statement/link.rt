@@ -1,11 +1,13 @@
 //! `link` statements.
-ghost use Rattle.std.specs.Prelude.{◌≡◌, ◌||◌, ◌≤◌, IsTrue, nat_le, length};
+ghost use Rattle.std.specs.Prelude.{◌≡◌, ◌||◌, ◌≤◌, ◌++◌, IsTrue, IfErr, nat_le, length};
 ghost use Rattle.scenario_asm.specs.Names.{is_full_router};
-ghost use Rattle.scenario_asm.specs.Statements.{is_drop_tail, is_codel, has_link_length, codel_verdict, link_verdicts, queue_said, link_said, link_at, nth};
+ghost use Rattle.scenario_asm.specs.Places.{first_faulty, link_word};
+ghost use Rattle.scenario_asm.specs.Refusals.{word_in, as_fault};
+ghost use Rattle.scenario_asm.specs.Statements.{is_drop_tail, is_codel, has_link_length, codel_verdict, codel_verdicts, link_first_verdicts, link_verdicts, queue_said, link_said, link_at, nth};
 ghost use Rattle.scenario_asm.specs.Table.{known_in};
 ghost use Rattle.scenario_asm.specs.Verdicts.{Judges, first_fault};
 
-use super::{LinkLine, Statement, has_word};
+use super::{LinkLine, Refusal, Statement, has_word};
 use crate::fault::Fault;
 use crate::lexer::Word;
 use crate::name::Name;
@@ -44,19 +46,20 @@ fn is_full(table: &Table<'_>, from: u16) -> bool
 }
 
 /// How a queue drops: with the seventh word `codel` by the last three of eleven words.
-fn queue(words: &[Word<'_>]) -> Result<QueueKind, Fault>
+fn queue(words: &[Word<'_>]) -> Result<QueueKind, Refusal>
     requires { IsTrue (is_codel words.now) → length words.now ≡ 11 }
-    ensures { Judges (codel_verdict words.now) (queue_said words.now) result }
+    ensures judges { Judges (codel_verdict words.now) (queue_said words.now) (as_fault result) }
+    ensures word { IfErr result (λ refusal. word_in refusal ≡ first_faulty 8 (codel_verdicts words.now)) }
 {
     if !has_word(words, 6, b"codel") {
         return Ok(QueueKind::DropTail);
     }
     let [_, _, _, _, _, _, _, _, target, interval, maxpacket] = words else {
-        return Err(Fault::E3);
+        return Err(Refusal::Line(Fault::E3));
     };
-    let target = number_in(target, 1, LONGEST_DELAY)?;
-    let interval = number_in(interval, 1, LONGEST_DELAY)?;
-    let maxpacket = number_in(maxpacket, 1, u64::from(u16::MAX))? as u16;
+    let target = judge!(8, number_in(target, 1, LONGEST_DELAY));
+    let interval = judge!(9, number_in(interval, 1, LONGEST_DELAY));
+    let maxpacket = judge!(10, number_in(maxpacket, 1, u64::from(u16::MAX))) as u16;
     Ok(QueueKind::Codel(Codel {
         target,
         interval,
@@ -65,23 +68,24 @@ fn queue(words: &[Word<'_>]) -> Result<QueueKind, Fault>
 }
 
 /// The words of `link` after the first.
-fn link_words<'a>(table: &Table<'a>, words: &[Word<'a>]) -> Result<(Name<'a>, LinkLine), Fault>
+fn link_words<'a>(table: &Table<'a>, words: &[Word<'a>]) -> Result<(Name<'a>, LinkLine), Refusal>
     requires least { 8 ≤ length words.now }
     requires codel { IsTrue (is_codel words.now) → length words.now ≡ 11 }
-    ensures { Judges (first_fault (link_verdicts (known_in table.now) words.now)) (nth words.now 1, link_said (known_in table.now) words.now) result }
+    ensures judges { Judges (first_fault (link_verdicts (known_in table.now) words.now)) (nth words.now 1, link_said (known_in table.now) words.now) (as_fault result) }
+    ensures word { IfErr result (λ refusal. word_in refusal ≡ first_faulty 1 (link_first_verdicts (known_in table.now) words.now ++ codel_verdicts words.now)) }
 {
     let [_link, name, from, to, rate, delay, _drops, capacity, ..] = words else {
-        return Err(Fault::E3);
+        return Err(Refusal::Line(Fault::E3));
     };
-    let name = table.new_name(name)?;
-    let from = table.node(from)?;
-    let to = table.other_node(from, to)?;
-    let rate = number_in(rate, LEAST_RATE, GREATEST_RATE)?;
-    let delay = number_in(delay, 1, LONGEST_DELAY)?;
+    let name = judge!(1, table.new_name(name));
+    let from = judge!(2, table.node(from));
+    let to = judge!(3, table.other_node(from, to));
+    let rate = judge!(4, number_in(rate, LEAST_RATE, GREATEST_RATE));
+    let delay = judge!(5, number_in(delay, 1, LONGEST_DELAY));
     if !names_a_queue(words) {
-        return Err(Fault::E4);
+        return Err(Refusal::Word(6, Fault::E4));
     }
-    let capacity = number_in(capacity, 1, u64::from(u16::MAX))? as u16;
+    let capacity = judge!(7, number_in(capacity, 1, u64::from(u16::MAX))) as u16;
     let queue = queue(words)?;
     let line = LinkLine {
         from,
@@ -95,15 +99,16 @@ fn link_words<'a>(table: &Table<'a>, words: &[Word<'a>]) -> Result<(Name<'a>, Li
 }
 
 /// `link NAME FROM TO RATE DELAY droptail CAP`, or with `codel CAP TARGET INTERVAL MAXPACKET`
-pub(super) fn read<'a>(table: &Table<'a>, words: &[Word<'a>]) -> Result<Statement<'a>, Fault>
-    ensures { result ≡ link_at (known_in table.now) words.now }
+pub(super) fn read<'a>(table: &Table<'a>, words: &[Word<'a>]) -> Result<Statement<'a>, Refusal>
+    ensures said { as_fault result ≡ link_at (known_in table.now) words.now }
+    ensures word { IfErr result (λ refusal. word_in refusal ≡ link_word (known_in table.now) words.now) }
 {
     if !has_link_length(words) {
-        return Err(Fault::E3);
+        return Err(Refusal::Line(Fault::E3));
     }
     let (name, line) = link_words(table, words)?;
     if is_full(table, line.from) {
-        return Err(Fault::E9);
+        return Err(Refusal::Line(Fault::E9));
     }
     Ok(Statement::Link(name, line))
 }

@@ -1,10 +1,12 @@
 //! `lose` statements.
-ghost use Rattle.std.specs.Prelude.{◌≡◌};
+ghost use Rattle.std.specs.Prelude.{◌≡◌, IfErr};
 ghost use Rattle.scenario_asm.specs.Names.{last_of, least_above};
+ghost use Rattle.scenario_asm.specs.Places.{lose_word};
+ghost use Rattle.scenario_asm.specs.Refusals.{word_in, as_fault};
 ghost use Rattle.scenario_asm.specs.Statements.{lose_at};
 ghost use Rattle.scenario_asm.specs.Table.{known_in};
 
-use super::{LoseLine, Statement};
+use super::{LoseLine, Refusal, Statement};
 use crate::fault::Fault;
 use crate::lexer::Word;
 use crate::number::number_in;
@@ -22,17 +24,21 @@ fn least_number(lost: &[u32]) -> u64
 }
 
 /// `lose LINK NUMBER`
-pub(super) fn read<'a>(table: &Table<'a>, words: &[Word<'a>]) -> Result<Statement<'a>, Fault>
-    ensures { result ≡ lose_at (known_in table.now) words.now }
+pub(super) fn read<'a>(table: &Table<'a>, words: &[Word<'a>]) -> Result<Statement<'a>, Refusal>
+    ensures said { as_fault result ≡ lose_at (known_in table.now) words.now }
+    ensures word { IfErr result (λ refusal. word_in refusal ≡ lose_word (known_in table.now) words.now) }
 {
     let [_lose, link, number] = words else {
-        return Err(Fault::E3);
+        return Err(Refusal::Line(Fault::E3));
     };
-    let link = table.link(link)?;
+    let link = judge!(1, table.link(link));
     let lost = table.lost(link);
-    let number = number_in(number, least_number(lost), u64::from(MOST_SEGMENTS))? as u32;
+    let number = judge!(
+        2,
+        number_in(number, least_number(lost), u64::from(MOST_SEGMENTS))
+    ) as u32;
     if lost.len() >= MOST_LOSE {
-        return Err(Fault::E9);
+        return Err(Refusal::Line(Fault::E9));
     }
     Ok(Statement::Lose(LoseLine { link, number }))
 }
