@@ -1,8 +1,9 @@
 -- Which lists of entries are partitions, and the greatest of a list.
-use Rattle.std.proofs.Common.{◌≡◌, ◌≤◌, ◌<◌, ◌%◌, ℕ, zero, suc, true, ◌&&◌, nat_lt, nat_le, List, [], ◌∷◌, length, replicate, refl, ap₂, ◌∙◌, arith, lt-ltb, le-leb, length-append, ltb-true}
-use Rattle.std.specs.List.{list_all}
+use Rattle.std.proofs.Common.{◌≡◌, ◌≤◌, ◌<◌, ◌%◌, ℕ, zero, suc, true, ◌&&◌, nat_lt, nat_le, List, [], ◌∷◌, take, length, replicate, All, refl, ap₂, ◌∙◌, arith, lt-ltb, le-leb, length-append, ltb-true}
+use Rattle.std.specs.List.{list_all, AllByRecursion}
 use Rattle.std.proofs.lemmas.Bool.{and_parts}
-use Rattle.std.proofs.lemmas.List.{length-replicate}
+use Rattle.std.proofs.lemmas.List.{length-replicate, length-take}
+use Rattle.std.proofs.lemmas.List.Elements.{All-take, recursion_from_All}
 use Rattle.std.proofs.lemmas.List.Folds.{list_all-append}
 use Rattle.window_core.specs.Partition.{is_partition, group_in, greatest_of, groups_of, alone}
 
@@ -47,4 +48,30 @@ pub few_groups : (entries : List ℕ) → is_partition entries ≡ true → grou
 few_groups entries is =
     let all : list_all (λ group. nat_lt group 64) entries ≡ true = (and_parts (nat_le (length entries) 256) _ (and_parts (nat_le 2 (length entries)) _ is).1).1 in
     let below : greatest_of entries < 64 = greatest_below entries all in
+    omega (arith, below)
+
+all_below : (most : ℕ) → most ≤ 64 → (entries : List ℕ) → AllByRecursion (λ group. group < most) entries → list_all (λ group. nat_lt group 64) entries ≡ true
+all_below most few [] all = refl
+all_below most few (x ∷ xs) all =
+    let here : x < most = all.0 in
+    λ i. lt-ltb x 64 (omega (arith, here)) i && all_below most few xs all.1 i
+
+greatest_within : (most : ℕ) → 1 ≤ most → (entries : List ℕ) → AllByRecursion (λ group. group < most) entries → greatest_of entries < most
+greatest_within most some [] all = omega (arith, some)
+greatest_within most some (x ∷ xs) all =
+    let here : x < most = all.0 in
+    let rest = greatest_within most some xs all.1 in
+    omega (arith, here, rest)
+
+-- the first ones of entries that are all below a number up to 64 are a partition
+pub below_is : (most n : ℕ) (entries : List ℕ) → most ≤ 64 → 2 ≤ n → n ≤ 256 → length entries ≡ 256 → All (λ group. group < most) entries → is_partition (take n entries) ≡ true
+below_is most n entries few least upto size all =
+    let l = length-take n entries in
+    within (take n entries) (omega (arith, least, upto, size, l)) (omega (arith, upto, size, l))
+    (all_below most few (take n entries) (recursion_from_All (λ (group : ℕ). group < most) (take n entries) (All-take (λ (group : ℕ). group < most) n entries all)))
+
+-- their groups are no more than that
+pub few_below : (most n : ℕ) (entries : List ℕ) → 1 ≤ most → All (λ group. group < most) entries → groups_of (take n entries) ≤ most
+few_below most n entries some all =
+    let below : greatest_of (take n entries) < most = greatest_within most some (take n entries) (recursion_from_All (λ (group : ℕ). group < most) (take n entries) (All-take (λ (group : ℕ). group < most) n entries all)) in
     omega (arith, below)

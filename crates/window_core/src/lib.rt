@@ -4,6 +4,7 @@
 pub mod ahead;
 pub mod batch;
 mod exits;
+mod found;
 pub mod group;
 mod held;
 pub mod laws;

@@ -1,9 +1,11 @@
 //! Which group each node of a net is in.
-ghost use Rattle.std.specs.Prelude.{◌≡◌, ◌≤◌, ◌<◌, ◌*◌, ℕ, true, take, length, replicate, if◌then◌else◌, Option, Some, None, Ok};
+ghost use Rattle.std.specs.Prelude.{◌≡◌, ◌≤◌, ◌<◌, ◌*◌, ℕ, true, take, length, replicate, max, if◌then◌else◌, Option, Some, None, Ok};
 ghost use Rattle.std.specs.List.{list_all};
 ghost use Rattle.std.specs.Prelude.{nat_lt};
 ghost use Rattle.window_core.specs.Partition.{is_partition, group_in, greatest_of, groups_of, alone};
 
+use crate::found::found_groups;
+use scenario_image::Scenario;
 use std::alloc::AllocError;
 use std::marker::Model;
 
@@ -115,6 +117,22 @@ impl Partition {
             entries[node] = (node % 64) as u8;
         }
         Partition { entries, nodes }
+    }
+
+    /// A good partition of a scenario's nodes for so many workers, of which more than 64 are as
+    /// many as 64: links between groups are long, and the groups have about as many events each,
+    /// reckoned from what the flows are expected to send. One group where a run in windows is not
+    /// expected to gain a tenth. The same scenario and number of workers have the same partition.
+    /// Which one it is no clause says, as a run gives the same trace in any. No memory is taken.
+    pub fn found(scenario: &Scenario, workers: usize) -> Partition
+        ensures nodes { length result ≡ length scenario.now.nodes }
+        ensures few { groups_of result ≤ max 1 workers }
+    {
+        let parts = scenario.parts();
+        Partition {
+            entries: found_groups(parts, workers.clamp(1, 64)),
+            nodes: parts.nodes.len(),
+        }
     }
 
     /// The same once more. No memory is taken.
