@@ -12,13 +12,15 @@ _tcpsim() {
   # readline parts `--groups=each` at the sign.
   if [ "$before" = = ]; then before=${COMP_WORDS[COMP_CWORD - 2]}; fi
   if [ "$word" = = ]; then word=; fi
+  local flags=
+  if [ "${COMP_WORDS[1]}" = run ]; then flags=' --progress --explain'; fi
   case ${COMP_WORDS[1]} in
     explain) COMPREPLY=($(compgen -W "$(_tcpsim_codes) --help -h" -- "$word")) ;;
-    asm | dis) COMPREPLY=($(compgen -W '--help -h' -- "$word")) ;;
+    asm | dis) COMPREPLY=($(compgen -W '--explain --help -h' -- "$word")) ;;
     run | debug) case $before in
       --workers) COMPREPLY=($(compgen -W '1 2 4 8 16 32 64' -- "$word")) ;;
-      --groups) COMPREPLY=($(compgen -W 'one each' -- "$word")) ;;
-      *) COMPREPLY=($(compgen -W '--workers --groups --help -h' -- "$word")) ;;
+      --groups) COMPREPLY=($(compgen -W 'one each auto' -- "$word")) ;;
+      *) COMPREPLY=($(compgen -W "--workers --groups$flags --help -h" -- "$word")) ;;
     esac ;;
   esac
 }

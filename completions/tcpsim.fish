@@ -8,7 +8,9 @@ complete -c tcpsim -n '__fish_seen_subcommand_from explain' -f -a '(tcpsim expla
 complete -c tcpsim -s h -l help -d 'Print help'
 complete -c tcpsim -n __fish_use_subcommand -s V -l version -d 'Print version'
 complete -c tcpsim -n '__fish_seen_subcommand_from run debug' -l workers -x -a '1 2 4 8 16 32 64' -d 'Run the groups by so many workers, 1 to 64'
-complete -c tcpsim -n '__fish_seen_subcommand_from run debug' -l groups -x -a 'one each' -d 'Which group each node is in, or a number a node with commas between'
+complete -c tcpsim -n '__fish_seen_subcommand_from run debug' -l groups -x -a 'one each auto' -d 'Which group each node is in, or a number a node with commas between'
+complete -c tcpsim -n '__fish_seen_subcommand_from run' -l progress -d 'Say on standard error how far the run is'
+complete -c tcpsim -n '__fish_seen_subcommand_from asm dis run' -l explain -d 'Show on standard error why an input is refused'
 
 # The options that a tool's help lists, behind the shape of tcpsim-net those of the shape.
 function __tcpsim_options

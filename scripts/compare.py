@@ -199,12 +199,12 @@ def runs(pick, args):
 def options(pick, args, nodes):
     if not args.options:
         return ()
-    groups = pick.choice(('one', 'each', 'each', 'list', 'list', 'wrong'))
+    groups = pick.choice(('one', 'each', 'each', 'auto', 'auto', 'list', 'list', 'wrong'))
     if groups == 'list':
         most = pick.choice((1, 2, 5, 63))
         groups = ','.join(str(pick.randint(0, most)) for _ in range(nodes))
     elif groups == 'wrong':
-        groups = pick.choice(('0', '0,01', '0,64', ',', '0,', ',0', '0 ,0', 'On', 'a', '0,' * nodes + '0'))
+        groups = pick.choice(('0', '0,01', '0,64', ',', '0,', ',0', '0 ,0', 'On', 'a', 'Auto', 'auto,0', '0,' * nodes + '0'))
     words = ['--groups', groups] if pick.random() < 0.9 else []
     return (*words, '--workers', pick.choice(('1', '2', '3', '64'))) if pick.random() < 0.8 else tuple(words)
 

@@ -30,6 +30,9 @@ LINES = (
     ('tcpsim debug --wor', 'tcpsim debug --workers'),
     ('tcpsim run --gro', 'tcpsim run --groups'),
     ('tcpsim run --workers 3', 'tcpsim run --workers 32 '),
+    ('tcpsim run --pro', 'tcpsim run --progress '),
+    ('tcpsim asm --ex', 'tcpsim asm --explain '),
+    ('tcpsim run --groups au', 'tcpsim run --groups auto '),
     ('tcpsim run --groups=ea', 'tcpsim run --groups=each '),
     ('tcpsim dis --h', 'tcpsim dis --help '),
     ('tcpsim run < scenario_', 'tcpsim run < scenario_two.txt '),
@@ -100,11 +103,11 @@ class Compgen(Folder):
     def test_words_of_the_program(self):
         for words, answer in ((['tcpsim', ''], ['--help', '--version', '-V', '-h', 'asm', 'debug', 'dis', 'explain', 'run']),
                               (['tcpsim', 'd'], ['debug', 'dis']),
-                              (['tcpsim', 'run', '--'], ['--groups', '--help', '--workers']),
-                              (['tcpsim', 'dis', '--'], ['--help']),
+                              (['tcpsim', 'run', '--'], ['--explain', '--groups', '--help', '--progress', '--workers']),
+                              (['tcpsim', 'dis', '--'], ['--explain', '--help']),
                               (['tcpsim', 'run', '--workers', ''], ['1', '16', '2', '32', '4', '64', '8']),
                               (['tcpsim', 'run', '--groups', '=', 'o'], ['one']),
-                              (['tcpsim', 'run', '--groups', '='], ['each', 'one']),
+                              (['tcpsim', 'run', '--groups', '='], ['auto', 'each', 'one']),
                               (['tcpsim', 'run', '--wrong'], [])):
             with self.subTest(words):
                 self.assertEqual(self.compgen('_tcpsim', *words), answer)

@@ -81,10 +81,11 @@ T
 help_of() {
   {
     case $1 in
-      run) printf '%s\n\nUsage: tcpsim run [OPTIONS] [FILE]\n\n' "$2"; cat "$work/argument"; printf 'Options:\n'; cat "$work/options" ;;
-      debug) printf '%s\n\nUsage: tcpsim debug [OPTIONS]\n\nOptions:\n' "$2"; cat "$work/options" ;;
+      run) printf '%s\n\nUsage: tcpsim run [OPTIONS] [FILE]\n\n' "$2"; cat "$work/argument"; printf 'Options:\n'; cat "$work/options" "$work/flags" ;;
+      debug) printf '%s\n\nUsage: tcpsim debug [OPTIONS]\n\nOptions:\n' "$2"; cat "$work/options"; echo '  -h, --help         Print help' ;;
       explain) printf '%s\n\nUsage: tcpsim explain [CODE]\n\nArguments:\n  [CODE]  The code, as it stands behind `refused`\n\nOptions:\n  -h, --help  Print help\n' "$2" ;;
-      *) printf '%s\n\nUsage: tcpsim %s [FILE]\n\n' "$2" "$1"; cat "$work/argument"; printf 'Options:\n  -h, --help  Print help\n' ;;
+      *) printf '%s\n\nUsage: tcpsim %s [OPTIONS] [FILE]\n\n' "$2" "$1"; cat "$work/argument"
+        printf 'Options:\n      --explain  Show on standard error why an input is refused\n  -h, --help     Print help\n' ;;
     esac
   } > "$work/expected"
   for flag in --help -h; do
@@ -97,8 +98,12 @@ Arguments:
 
 T
 cat > "$work/options" <<'T'
-      --workers <N>  How many workers run the groups, 1 to 64 [default: 1]
-      --groups <G>   The group of each node: one, each, or numbers as in 0,0,1 [default: one]
+      --workers <N>  How many workers run the groups, 1 to 64; with --groups auto or yours [default: 1]
+      --groups <G>   The group of each node: one, each, auto, or numbers as in 0,0,1 [default: one]
+T
+cat > "$work/flags" <<'T'
+      --progress     Say on standard error how far the run is
+      --explain      Show on standard error why an input is refused
   -h, --help         Print help
 T
 echo 'tcpsim 0.1.0' > "$work/version"
@@ -129,22 +134,24 @@ mistaken 'tcpsim <COMMAND>' "'tcpsim' requires a subcommand but one was not prov
 mistaken 'tcpsim <COMMAND>' "unrecognized subcommand 'verify'" verify
 mistaken 'tcpsim <COMMAND>' "unrecognized subcommand 'help'" help
 mistaken 'tcpsim <COMMAND>' "unexpected argument '--fast' found" --fast run
-mistaken 'tcpsim asm [FILE]' "unexpected argument '--workers' found
+mistaken 'tcpsim asm [OPTIONS] [FILE]' "unexpected argument '--workers' found
 
   tip: to pass '--workers' as a value, use '-- --workers'" asm --workers 2
-mistaken 'tcpsim dis [FILE]' "unexpected argument '--groups' found
+mistaken 'tcpsim dis [OPTIONS] [FILE]' "unexpected argument '--groups' found
 
   tip: to pass '--groups' as a value, use '-- --groups'" dis --groups each
 mistaken 'tcpsim run [OPTIONS] [FILE]' "unexpected argument 'twice' found" run "$first" twice
-mistaken 'tcpsim asm [FILE]' "unexpected argument 'twice' found" asm "$first" twice
+mistaken 'tcpsim asm [OPTIONS] [FILE]' "unexpected argument 'twice' found" asm "$first" twice
 mistaken 'tcpsim debug [OPTIONS]' "unexpected argument 'file' found" debug file
-mistaken 'tcpsim dis [FILE]' "unexpected argument '--fast' found
+mistaken 'tcpsim dis [OPTIONS] [FILE]' "unexpected argument '--fast' found
 
   tip: to pass '--fast' as a value, use '-- --fast'" dis --fast
 mistaken 'tcpsim run [OPTIONS] [FILE]' "unexpected argument '--version' found
 
   tip: to pass '--version' as a value, use '-- --version'" run --version
 mistaken 'tcpsim explain [CODE]' "unexpected argument 'E2' found" explain E1 E2
+mistaken 'tcpsim debug [OPTIONS]' "unexpected argument '--progress' found" debug --progress
+mistaken 'tcpsim run [OPTIONS] [FILE]' "the argument '--explain' cannot be used multiple times" run --explain --explain
 # valued LINE WORD..: options whose value is refused, whatever the input is
 valued() {
   printf "error: %s\n\nFor more information, try '--help'.\n" "$1" > "$work/expected"
@@ -216,6 +223,38 @@ run run "$work/text"; told 'a text in a file' 1 'refused E4 line 1'
 run run --workers 0 "$work/none"
 if [ "$status" = 2 ]; then pass 'mistaken words and no file'; else fail 'mistaken words and no file' "status $status"; fi
 run run --groups 0 "$work/none"; told 'a file is opened before groups are judged' 3 "cannot read $work/none"
+
+# ---- how far a run is, and why an input is refused
+
+for words in 'run --progress' 'run --progress --groups auto --workers 4' 'run --progress --groups each --workers 2'; do
+  "$program" $words "$first" > "$work/out" 2> "$work/note"; status=$?
+  tr '\r' '\n' < "$work/note" | tail -n 1 > "$work/last"
+  echo '100 % of 1 s simulated, 5 events' > "$work/expected"
+  if ! cmp -s "$work/last" "$work/expected"; then fail "tcpsim $words" "its last line is: $(cat "$work/last")"; fi
+  : > "$work/note"; ended "tcpsim $words" 0 "$work/nothing" "$first_trace"
+  "$program" $words "$first" > "$work/out" 2>&-; status=$?
+  ended "tcpsim $words with standard error closed" 0 "$work/nothing" "$first_trace"
+done
+"$program" run --progress "$first" > /dev/full 2> "$work/note"; status=$?
+if [ "$status" = 3 ] && [ "$(tail -n 1 "$work/note")" = 'write failed' ]; then pass 'a note behind the progress'
+else fail 'a note behind the progress' "status $status, note: $(cat "$work/note")"; fi
+printf 'sim 5\nnode s sendr\n' > "$work/text"
+{ printf 'refused E4 line 2\nnode s sendr\n       ^^^^^\n'; grep '^E4: ' "$work/codes"; } > "$work/expected"
+for words in run asm dis; do
+  run $words --explain "$work/text"; ended "tcpsim $words --explain" 1 "$work/expected" "$work/nothing"
+  run $words --explain < "$first"; mv "$work/out" "$work/plain"
+  run $words < "$first"; ended "tcpsim $words of a right text" 0 "$work/nothing" "$work/plain"
+done
+{ printf 'refused groups\ngroups that are given: 3; nodes: 2\n'; grep '^groups: ' "$work/codes"; } > "$work/expected"
+run run --explain --groups 0,1,1 "$first"; ended 'tcpsim run --explain of other groups' 2 "$work/expected" "$work/nothing"
+{ echo 'refused I1'; grep '^I1: ' "$work/codes"; } > "$work/expected"
+head -c 16777217 /dev/zero > "$work/most"
+run run --explain "$work/most"; ended 'tcpsim run --explain of too many bytes' 1 "$work/expected" "$work/nothing"
+head -c 16777216 "$work/most" > "$work/much"
+run run --explain "$work/much"
+if [ "$status" = 1 ] && [ "$(head -n 1 "$work/note")" = 'refused E1 line 1' ] && [ "$(wc -c < "$work/note")" -lt 1000 ]; then pass 'a refused line of 16 MiB'
+else fail 'a refused line of 16 MiB' "status $status, $(wc -c < "$work/note") bytes of note"; fi
+rm -f "$work/most" "$work/much"
 
 # ---- the input
 
@@ -379,8 +418,10 @@ for scenario in "$examples"/*.txt; do
     run run --groups each --workers "$workers" < "$scenario"
     ended "examples/$(basename "$scenario"), each node by itself, workers: $workers" 0 "$work/nothing" "$stored"
   done
+  run run --groups auto --workers 4 "$scenario"
+  ended "examples/$(basename "$scenario"), groups that are found" 0 "$work/nothing" "$stored"
 done
-for options in '--groups one --workers 64' '--workers=2 --groups=63,7' '--groups 0,0' '--workers +1 --groups 0,1'; do
+for options in '--groups auto' '--groups auto --workers 4' '--groups one --workers 64' '--workers=2 --groups=63,7' '--groups 0,0' '--workers +1 --groups 0,1'; do
   run run $options < "$first"; ended "run $options" 0 "$work/nothing" "$first_trace"
 done
 for words in run debug; do

@@ -41,8 +41,8 @@ def options_of(words):
 
 
 def check_groups(groups, nodes):
-    """Groups are `one`, `each`, or one number from 0 to 63 for each node."""
-    if groups in ('one', 'each'):
+    """Groups are `one`, `each`, `auto`, or one number from 0 to 63 for each node."""
+    if groups in ('one', 'each', 'auto'):
         return True
     numbers = groups.split(',')
     return len(numbers) == nodes and all(GROUP.fullmatch(n) and int(n) <= 63 for n in numbers)

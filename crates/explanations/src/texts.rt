@@ -470,7 +470,7 @@ it depends on the machine: `ulimit -v` takes memory away.
 ",
     "groups: the groups are no list, or not one for each node
 
-`--groups` is one, each, or a number from 0 to 63 for each node of the scenario, in the order of the
+`--groups` is one, each, auto, or a number from 0 to 63 for each node of the scenario, in the order of the
 nodes, without leading zeros, with commas between them and no spaces.
 
 Refused, with the note `refused groups`, where one.txt is the text that `tcpsim explain E2` ends with:

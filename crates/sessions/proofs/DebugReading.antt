@@ -65,7 +65,7 @@ named_never_begun task (Some file) known bytes_of before after same = go (bytes_
     go false = file_never_begun task file (bytes_of file) before after same
 
 pub asked_never_begun : (asked : Asked) (known : Option (List ℕ)) (bytes_of : List ℕ → Option (List ℕ)) (before after : Streams) → after ≡ before → IsAskedOn asked known bytes_of (Err NoMemory) before after
-asked_never_begun (Session task file) known bytes_of before after same = named_never_begun task file known bytes_of before after same
+asked_never_begun (Session task file wishes) known bytes_of before after same = named_never_begun task file known bytes_of before after same
 asked_never_begun (Explanation code) known bytes_of before after same = explained code
   where
     nothing : (code : Option (List ℕ)) → IsExplained code (Err NoMemory) []

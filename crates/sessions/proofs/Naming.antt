@@ -21,6 +21,8 @@ use Rattle.sessions.specs.CommandLine.{program, file_shape, code_shape, word_fau
 use Rattle.sessions.specs.Given.{AreOptions, AreOfSubcommand, AreOfAsked, IsSharing}
 use Rattle.sessions.specs.Sharing.{SharingValue}
 use Rattle.sessions.specs.Subcommand.{word_of, asked_word, sharing_of}
+use Rattle.sessions.specs.Wishes.{is_true, wishes_by, wishes_in}
+use Rattle.sessions.specs.declared.subcommand.Wishes.{Wishes}
 use Rattle.sessions.proofs.NoKinds.{some_kind, first, second}
 use Rattle.sessions.proofs.Options.{some_none, same_some}
 use Rattle.sessions.proofs.OptionRows.{shared_rules, shared_usable, shared_there, run_rules, run_usable, run_there}
@@ -126,10 +128,10 @@ sharing_there rows has = (record { workers = number_of has.workers; groups = has
 
 asked_there : (word : Text) (rows : List Row) → AreOfSubcommand word rows → (asked : Asked) × IsOf word rows asked
 asked_there word rows (inl explain) = (Explanation (first_of (codes "code") rows), (explain, refl))
-asked_there word rows (inr (inl asm)) = (Session (Scenario Asm) (first_of (codes "file") rows), (asm, (tt, refl)))
-asked_there word rows (inr (inr (inl dis))) = (Session (Scenario Dis) (first_of (codes "file") rows), (dis, (tt, refl)))
-asked_there word rows (inr (inr (inr (inl run)))) = let shared = sharing_there rows run.1 in (Session (Scenario (Run shared.0)) (first_of (codes "file") rows), (run.0, (shared.1, refl)))
-asked_there word rows (inr (inr (inr (inr debug)))) = let shared = sharing_there rows debug.1 in (Session (Debug shared.0) (first_of (codes "file") rows), (debug.0, (shared.1, refl)))
+asked_there word rows (inr (inl asm)) = (Session (Scenario Asm) (first_of (codes "file") rows) (wishes_in rows), (asm, (tt, refl, refl)))
+asked_there word rows (inr (inr (inl dis))) = (Session (Scenario Dis) (first_of (codes "file") rows) (wishes_in rows), (dis, (tt, refl, refl)))
+asked_there word rows (inr (inr (inr (inl run)))) = let shared = sharing_there rows run.1 in (Session (Scenario (Run shared.0)) (first_of (codes "file") rows) (wishes_in rows), (run.0, (shared.1, refl, refl)))
+asked_there word rows (inr (inr (inr (inr debug)))) = let shared = sharing_there rows debug.1 in (Session (Debug shared.0) (first_of (codes "file") rows) (wishes_in rows), (debug.0, (shared.1, refl, refl)))
 
 -- what the word and options of the subcommand that faultless words name ask for
 pub asked_for : (words : List Text) (named : Text × List Row) (asked : Asked) → word_faults words ≡ [] → subcommand_of program words ≡ Some named → IsOf named.0 named.1 asked → AskFor words asked
@@ -146,8 +148,11 @@ asked_for words named asked none is of = record {
     options None given = tt
     options (Some sharing) given = record { workers = ap (option_map number_of) (text (codes "workers")) ∙ given.workers; groups = text (codes "groups") ∙ given.groups }
 
+    wishes : wishes_by (λ flag. option_text flag words) ≡ wishes_in named.1
+    wishes = ap₂ (λ progress explain. record { progress = is_true progress; explain = is_true explain }) (text (codes "progress")) (text (codes "explain"))
+
     all : (asked : Asked) → AreOfAsked named.1 asked → GiveAll words asked
-    all (Session task file) given = (options (sharing_of task) given.0, text (codes "file") ∙ given.1)
+    all (Session task file wished) given = (options (sharing_of task) given.0, text (codes "file") ∙ given.1, wishes ∙ given.2)
     all (Explanation code) given = text (codes "code") ∙ given
 
 -- words that differ in their second letters are two
@@ -188,9 +193,10 @@ not_explained (Scenario (Run sharing)) is = differ _ _ is refl refl
 not_explained (Debug sharing) is = differ _ _ is refl refl
 
 same_asked : (words : List Text) (one other : Asked) → asked_word one ≡ asked_word other → GiveAll words one → GiveAll words other → one ≡ other
-same_asked words (Session task file) (Session task' file') is gives gives_too = ap₂ Session (same_task words task task' is gives.0 gives_too.0) (sym gives.1 ∙ gives_too.1)
-same_asked words (Session task file) (Explanation code) is gives gives_too = absurd (not_explained task is)
-same_asked words (Explanation code) (Session task file) is gives gives_too = absurd (not_explained task (sym is))
+same_asked words (Session task file wishes) (Session task' file' wishes') is gives gives_too =
+    ap₂ (λ (t : Task) (rest : Option Text × Wishes). Session t rest.0 rest.1) (same_task words task task' is gives.0 gives_too.0) (ap₂ (λ (f : Option Text) (w : Wishes). (f, w)) (sym gives.1 ∙ gives_too.1) (sym gives.2 ∙ gives_too.2))
+same_asked words (Session task file wishes) (Explanation code) is gives gives_too = absurd (not_explained task is)
+same_asked words (Explanation code) (Session task file wishes) is gives gives_too = absurd (not_explained task (sym is))
 same_asked words (Explanation code) (Explanation code') is gives gives_too = ap Explanation (sym gives ∙ gives_too)
 
 pub words_ask_for_one : WordsAskForOne

@@ -1,20 +1,20 @@
 -- What a parse without a fault has found of an option: one value, which its parser takes.
 use mathlib.Core.Bool.{false≢true}
-use Rattle.std.proofs.Common.{◌≡◌, ◌∙◌, Bool, true, false, not, cond, ◌&&◌, ◌||◌, if◌then◌else◌, List, [], ◌∷◌, ◌++◌, None, Some, IfSome, refl, sym, ap, subst, find, fold, codes}
+use Rattle.std.proofs.Common.{◌≡◌, ◌∙◌, Bool, true, false, not, cond, ◌&&◌, ◌||◌, if◌then◌else◌, List, [], ◌∷◌, ◌++◌, length, None, Some, IfSome, refl, sym, ap, subst, find, fold, codes}
 use Rattle.std.proofs.lemmas.List.{append-nil}
 use Rattle.std.specs.List.{slice_get}
 use Rattle.std.specs.Str.{bytes_eq}
-use Rattle.clap.specs.Facts.{parser_of_value}
+use Rattle.clap.specs.Facts.{parser_of_value, unwrap_or_range}
 use Rattle.clap.specs.Faults.{use_fault, values_fault, set_fault, repeat_fault}
-use Rattle.clap.specs.Kinds.{value_kinds, values_kinds}
+use Rattle.clap.specs.Kinds.{Kinds, range_kinds, value_kinds, values_kinds}
 use Rattle.clap.specs.Simple.{filled, help_rule, with_index}
 use Rattle.clap.specs.ValueTests.{accepts}
 use Rattle.clap.specs.Values.{refused_kind}
-use Rattle.clap.specs.Walk.{Row, Rule, Text, at_row, has_row, more_values, reading_by, used, with_default, with_values, without}
+use Rattle.clap.specs.Walk.{Row, Rule, Text, at_row, has_row, more_values, most_values, reading_by, used, with_default, with_values, without}
 use Rattle.clap.specs.declared.error.kind.ErrorKind.TheVariants.{ArgumentConflict, DisplayHelp}
 use Rattle.clap.specs.declared.parser.matches.ValueSource.{ValueSource}
 use Rattle.clap.specs.declared.parser.matches.ValueSource.TheVariants.{CommandLine, DefaultValue}
-use Rattle.sessions.specs.CommandLine.{workers_rule, groups_rule, file_rule}
+use Rattle.sessions.specs.CommandLine.{workers_rule, groups_rule, file_rule, progress_rule, explain_rule}
 use Rattle.sessions.proofs.NoKinds.{some_kind, first, second}
 use Rattle.sessions.proofs.Options.{some_none}
 
@@ -31,12 +31,18 @@ help = filled help_rule
 abbrev pub file : Rule
 file = with_index 1 (filled file_rule)
 
--- the rules of a subcommand that takes the options only, and of one that takes a file too
+abbrev pub progress : Rule
+progress = filled progress_rule
+
+abbrev pub explain : Rule
+explain = filled explain_rule
+
+-- the rules of a subcommand that takes the options only, and of one that takes a file and two flags too
 abbrev pub shared_rules : List Rule
 shared_rules = workers ∷ groups ∷ help ∷ []
 
 abbrev pub run_rules : List Rule
-run_rules = workers ∷ groups ∷ file ∷ help ∷ []
+run_rules = workers ∷ groups ∷ file ∷ progress ∷ explain ∷ help ∷ []
 
 -- the row has a first value, which the rule's parser takes, and is read as the parser says
 pub record IsFilled (a : Rule) (r : Row) : Type 0 where
@@ -120,39 +126,41 @@ fills a source v vs taken = record { value = v; is_first = refl; reads = refl; t
 abbrev pub Usable : Rule → Type 0
 Usable a = (values : List Text) (rows : List Row) → use_fault false a values rows ≡ [] → Fine rows → Fine (used a values rows)
 
+-- one that takes a value, or has one without it, and whose row is filled where it is that of an option
+value_usable : (a : Rule) (v : Text) (vs : List Text) (rows : List Row) → used a (v ∷ vs) rows ≡ with_values a.id (reading_by a) CommandLine (v ∷ vs) (without a.id rows)
+    → (accepts a.ignore_case (parser_of_value a.parser) v ≡ true → Holds workers (row_for a CommandLine (v ∷ vs) ∷ []) × Holds groups (row_for a CommandLine (v ∷ vs) ∷ [])) → set_fault false a (v ∷ vs) rows ≡ [] → Fine rows
+    → Fine (used a (v ∷ vs) rows)
+value_usable a v vs rows is held none fine =
+    let new : has_row a.id rows ≡ false = never_before a rows (first (repeat_fault false a.id rows) (values_fault a (v ∷ vs)) none) in
+    let both = held (value_taken a v vs (second (repeat_fault false a.id rows) (values_fault a (v ∷ vs)) none)) in
+    subst Fine (sym (is ∙ used_once a CommandLine (v ∷ vs) rows new))
+    (record { workers_held = holds_more workers rows (row_for a CommandLine (v ∷ vs)) fine.workers_held both.0; groups_held = holds_more groups rows (row_for a CommandLine (v ∷ vs)) fine.groups_held both.1 })
+
 workers_usable : Usable workers
 workers_usable [] rows none fine = absurd (some_kind _ _ none)
-workers_usable (v ∷ vs) rows none fine =
-    let set : set_fault false workers (v ∷ vs) rows ≡ [] = second _ (set_fault false workers (v ∷ vs) rows) none in
-    let new : has_row workers.id rows ≡ false = never_before workers rows (first (repeat_fault false workers.id rows) (values_fault workers (v ∷ vs)) set) in
-    let taken = value_taken workers v vs (second (repeat_fault false workers.id rows) (values_fault workers (v ∷ vs)) set) in
-    subst Fine (sym (used_once workers CommandLine (v ∷ vs) rows new))
-    (record {
-      workers_held = holds_more workers rows (row_for workers CommandLine (v ∷ vs)) fine.workers_held (fills workers CommandLine v vs taken);
-      groups_held = holds_more groups rows (row_for workers CommandLine (v ∷ vs)) fine.groups_held tt;
-    })
+workers_usable (v ∷ vs) rows none fine = value_usable workers v vs rows refl (λ taken. (fills workers CommandLine v vs taken, tt)) (second _ (set_fault false workers (v ∷ vs) rows) none) fine
 
 groups_usable : Usable groups
 groups_usable [] rows none fine = absurd (some_kind _ _ none)
-groups_usable (v ∷ vs) rows none fine =
-    let set : set_fault false groups (v ∷ vs) rows ≡ [] = second _ (set_fault false groups (v ∷ vs) rows) none in
-    let new : has_row groups.id rows ≡ false = never_before groups rows (first (repeat_fault false groups.id rows) (values_fault groups (v ∷ vs)) set) in
-    subst Fine (sym (used_once groups CommandLine (v ∷ vs) rows new))
-    (record {
-      workers_held = holds_more workers rows (row_for groups CommandLine (v ∷ vs)) fine.workers_held tt;
-      groups_held = holds_more groups rows (row_for groups CommandLine (v ∷ vs)) fine.groups_held (fills groups CommandLine v vs refl);
-    })
+groups_usable (v ∷ vs) rows none fine = value_usable groups v vs rows refl (λ taken. (tt, fills groups CommandLine v vs taken)) (second _ (set_fault false groups (v ∷ vs) rows) none) fine
 
 file_usable : Usable file
 file_usable [] rows none fine = absurd (some_kind _ _ none)
-file_usable (v ∷ vs) rows none fine =
-    let set : set_fault false file (v ∷ vs) rows ≡ [] = second _ (set_fault false file (v ∷ vs) rows) none in
-    let new : has_row file.id rows ≡ false = never_before file rows (first (repeat_fault false file.id rows) (values_fault file (v ∷ vs)) set) in
-    subst Fine (sym (used_once file CommandLine (v ∷ vs) rows new))
-    (record {
-      workers_held = holds_more workers rows (row_for file CommandLine (v ∷ vs)) fine.workers_held tt;
-      groups_held = holds_more groups rows (row_for file CommandLine (v ∷ vs)) fine.groups_held tt;
-    })
+file_usable (v ∷ vs) rows none fine = value_usable file v vs rows refl (λ taken. (tt, tt)) (second _ (set_fault false file (v ∷ vs) rows) none) fine
+
+-- a flag has a value without one
+none_given : Rule → Kinds
+none_given a = range_kinds (unwrap_or_range a.range).start_inclusive (most_values a) (length {A = Text} [])
+
+progress_usable : Usable progress
+unfolding none_given
+progress_usable [] rows none fine = value_usable progress (codes "true") [] rows refl (λ taken. (tt, tt)) (second (none_given progress) (set_fault false progress (codes "true" ∷ []) rows) none) fine
+progress_usable (v ∷ vs) rows none fine = value_usable progress v vs rows refl (λ taken. (tt, tt)) (second _ (set_fault false progress (v ∷ vs) rows) none) fine
+
+explain_usable : Usable explain
+unfolding none_given
+explain_usable [] rows none fine = value_usable explain (codes "true") [] rows refl (λ taken. (tt, tt)) (second (none_given explain) (set_fault false explain (codes "true" ∷ []) rows) none) fine
+explain_usable (v ∷ vs) rows none fine = value_usable explain v vs rows refl (λ taken. (tt, tt)) (second _ (set_fault false explain (v ∷ vs) rows) none) fine
 
 help_usable : Usable help
 help_usable values rows none fine = absurd (some_kind _ _ (second _ (DisplayHelp ∷ []) none))
@@ -171,14 +179,16 @@ shared_usable test = go (test workers) (test groups) (test help)
     go false false false = tt
 
 pub run_usable : AreUsable run_rules
-run_usable test = go (test workers) (test groups) (test file) (test help)
+run_usable test = go (test workers) (test groups) (test file) (test progress) (test explain) (test help)
   where
-    go : (a b c d : Bool) → IfSome (cond a (Some workers) (cond b (Some groups) (cond c (Some file) (cond d (Some help) None)))) Usable
-    go true b c d = workers_usable
-    go false true c d = groups_usable
-    go false false true d = file_usable
-    go false false false true = help_usable
-    go false false false false = tt
+    go : (a b c d e f : Bool) → IfSome (cond a (Some workers) (cond b (Some groups) (cond c (Some file) (cond d (Some progress) (cond e (Some explain) (cond f (Some help) None)))))) Usable
+    go true b c d e f = workers_usable
+    go false true c d e f = groups_usable
+    go false false true d e f = file_usable
+    go false false false true e f = progress_usable
+    go false false false false true f = explain_usable
+    go false false false false false true = help_usable
+    go false false false false false false = tt
 
 -- a row that is found is the one of its rule
 found_row : (a : Rule) (rows : List Row) → has_row a.id rows ≡ true → Holds a rows → Has a rows
@@ -250,7 +260,20 @@ Both rows = Has workers rows × Has groups rows
 pub shared_there : AreThere shared_rules
 shared_there rows fine = subst Both (sym (default_help (with_default (with_default rows workers) groups))) (both_first rows fine)
 
+-- a flag that was not used has a row of its default
+flag_default : (a : Rule) (rows : List Row) → Both rows → Both (if has_row a.id rows then rows else with_values a.id (reading_by a) DefaultValue (codes "false" ∷ []) rows)
+flag_default a rows both = go (has_row a.id rows) refl
+  where
+    new : Row
+    new = row_for a DefaultValue (codes "false" ∷ [])
+
+    go : (b : Bool) → has_row a.id rows ≡ b → Both (if b then rows else with_values a.id (reading_by a) DefaultValue (codes "false" ∷ []) rows)
+    go true is = both
+    go false is = subst Both (sym (row_missing a.id (more_values DefaultValue (codes "false" ∷ [])) (new ∷ []) rows is)) (has_more workers rows new both.0, has_more groups rows new both.1)
+
 pub run_there : AreThere run_rules
 run_there rows fine =
     let two : List Row = with_default (with_default rows workers) groups in
-    subst Both (sym (default_help (with_default two file))) (subst Both (sym (default_file two)) (both_first rows fine))
+    let three : List Row = with_default two file in
+    let four : List Row = with_default three progress in
+    subst Both (sym (default_help (with_default four explain))) (flag_default explain four (flag_default progress three (subst Both (sym (default_file two)) (both_first rows fine))))

@@ -1,5 +1,5 @@
 -- What a run by workers has written.
-use Rattle.std.proofs.Common.{◌≡◌, ◌∙◌, ℕ, ◌≤◌, List, ◌++◌, length, take, drop, append_assoc, Option, None, Some, Result, Ok, Err, refl, sym, ap, subst, arith, inl, inr}
+use Rattle.std.proofs.Common.{◌≡◌, ◌∙◌, ℕ, ◌≤◌, ◌+◌, List, [], ◌++◌, length, length-append, take, drop, append_assoc, Option, None, Some, Result, Ok, Err, IfErr, refl, sym, ap, subst, arith, inl, inr}
 use Rattle.std.specs.Option.{option_map}
 use Rattle.std.proofs.lemmas.List.{take-append-drop}
 use Rattle.std.specs.Io.KnownBytes.{Appends}
@@ -7,7 +7,7 @@ use Rattle.ranking.specs.Keyed.{least}
 use Rattle.scenario_image.specs.declared.parts.ScenarioParts.{ScenarioParts}
 use Rattle.node_core.specs.TraceLine.{TraceLine}
 use Rattle.table_run.specs.State.{State, below, due, opening, run, step_at}
-use Rattle.table_run.proofs.Runs.{run_end}
+use Rattle.table_run.proofs.Runs.{run_add, run_end}
 use Rattle.net_machine.specs.Run.{Reached}
 use Rattle.trace_text.specs.End.{end_bytes}
 use Rattle.window_core.specs.Full.{HasTooMany}
@@ -15,30 +15,87 @@ use Rattle.window_engine.specs.declared.fault.EngineFault.{EngineFault}
 use Rattle.window_engine.specs.declared.fault.EngineFault.TheVariants.{NoMemory as engine_NoMemory, CountFull as engine_CountFull, NoWorker as engine_NoWorker, Sink, Failed}
 use Rattle.window_engine.specs.declared.fault.Stop.{Stop}
 use Rattle.window_engine.specs.declared.fault.Stop.TheVariants.{End, Until}
-use Rattle.window_engine.specs.Engines.{Commits, IsStop}
-use Rattle.window_engine.proofs.Bytes.{appends_more}
+use Rattle.window_engine.specs.Engines.{Commits, IsStop, Takes}
+use Rattle.window_engine.specs.Text.{text_from}
+use Rattle.window_engine.proofs.Bytes.{appends_more, appends_nothing, take_past}
+use Rattle.window_engine.proofs.Numbered.{text_both}
+use Rattle.window_engine.proofs.TooMany.{earlier_full}
 use Rattle.sessions.specs.Ended.{IsRunOutput}
 use Rattle.sessions.specs.Faults.{of_engine}
 use Rattle.sessions.specs.Trace.{lines_bytes, IsTrace, IsTraceStart, IsTraceOrStart}
+use Rattle.sessions.specs.Worked.{RunsTo, TakesAll, at_first}
 use Rattle.sessions.specs.Written.{Writes, IsBeginningOf}
 
--- the net before the first event
-abbrev pub at_first : State → Reached
-at_first s = record { state = s; position = 0 }
+-- the text of some lines, and of more
+text_more : (xs ys : List TraceLine) (n : ℕ) → n ≡ length xs → lines_bytes (xs ++ ys) ≡ lines_bytes xs ++ text_from (n + 1) ys
+text_more xs ys n at =
+    let first : 1 + length xs ≡ n + 1 = omega (arith, at) in
+    text_both 1 xs ys ∙ ap (λ k. lines_bytes xs ++ text_from k ys) first
 
--- what a call of the engine from there has committed and written
-abbrev pub Committed : State → Result Stop EngineFault → Reached → Option (List ℕ) → Option (List ℕ) → Type 0
-Committed s = Commits (at_first s)
+-- what a call takes, behind what was taken
+takes_more : (r : Result Stop EngineFault) (xs ys : List ℕ) (a b c : Option (List ℕ)) → Appends a b xs → Takes r ys b c → TakesAll r (xs ++ ys) a c
+takes_more (Ok stop) xs ys a b c first then = appends_more a b c xs ys first then
+takes_more (Err engine_NoMemory) xs ys a b c first then = appends_more a b c xs ys first then
+takes_more (Err engine_CountFull) xs ys a b c first then = appends_more a b c xs ys first then
+takes_more (Err engine_NoWorker) xs ys a b c first then = appends_more a b c xs ys first then
+takes_more (Err Failed) xs ys a b c first then = appends_more a b c xs ys first then
+takes_more (Err (Sink written)) xs ys a b c first then =
+    let few = then.0 in (
+      length xs + written,
+      (omega (arith, few, length-append xs ys), subst (Appends a c) (sym (take_past written xs ys)) (appends_more a b c xs (take written ys) first then.1)),
+    )
 
-pub from_start : (s : State) (old : Reached) (r : Result Stop EngineFault) (new : Reached) (a b : Option (List ℕ)) → old ≡ at_first s → Commits old r new a b → Committed s r new a b
-from_start s old r new a b is commits = subst (λ start. Commits start r new a b) is commits
+-- nothing was run yet
+pub runs_nothing : (old : Reached) (known : Option (List ℕ)) → old.position ≡ 0 → RunsTo old.state (Ok End) old known known
+runs_nothing old known is = record { lines = []; state = old.state; is_run = refl; position_is = is; state_is = refl; takes = appends_nothing known }
+
+-- a call of the engine more
+pub runs_on : (s : State) (stop : Stop) (mid : Reached) (r : Result Stop EngineFault) (new : Reached) (a b c : Option (List ℕ)) → RunsTo s (Ok stop) mid a b → Commits mid r new b c → RunsTo s r new a c
+runs_on s stop mid r new a b c to commits =
+    let n = length to.lines in
+    let m = length commits.lines in
+    let both : run s n ≡ Some (to.lines, mid.state) = subst (λ t. run s n ≡ Some (to.lines, t)) (sym to.state_is) to.is_run in
+    let text = text_more to.lines commits.lines mid.position to.position_is in
+    record {
+      lines = to.lines ++ commits.lines;
+      state = commits.state;
+      is_run = ap (run s) (length-append to.lines commits.lines) ∙ run_add s mid.state commits.state n m to.lines commits.lines both commits.is_run;
+      position_is = (let p = to.position_is in let q = commits.position_is in omega (arith, p, q, length-append to.lines commits.lines));
+      state_is = commits.state_is;
+      takes = subst (λ all. TakesAll r all a c) (sym text) (takes_more r (lines_bytes to.lines) (text_from (mid.position + 1) commits.lines) a b c to.takes commits.takes);
+    }
+
+-- where a run stopped makes no difference
+pub any_stop : (s : State) (one other : Stop) (new : Reached) (a b : Option (List ℕ)) → RunsTo s (Ok one) new a b → RunsTo s (Ok other) new a b
+any_stop s one other new a b to = record { lines = to.lines; state = to.state; is_run = to.is_run; position_is = to.position_is; state_is = to.state_is; takes = to.takes }
+
+-- a call of the engine from the beginning
+pub from_start : (old : Reached) (r : Result Stop EngineFault) (new : Reached) (a b : Option (List ℕ)) → old.position ≡ 0 → Commits old r new a b → RunsTo old.state r new a b
+from_start old r new a b is commits = runs_on old.state End old r new a a b (runs_nothing old a is) commits
+
+-- a run that has too many events from here has too many from its beginning
+pub full_from_start : (old : Reached) (stop : Stop) (mid : Reached) (a b : Option (List ℕ)) → old.position ≡ 0 → RunsTo old.state (Ok stop) mid a b → mid.position ≤ 1000000000000000 → HasTooMany mid
+    → HasTooMany old
+full_from_start old stop mid a b is to few full =
+    let both : run old.state (length to.lines) ≡ Some (to.lines, mid.state) = subst (λ t. run old.state (length to.lines) ≡ Some (to.lines, t)) (sym to.state_is) to.is_run in
+    let at = to.position_is in
+    earlier_full old mid to.lines both (omega (arith, is, at)) few full
+
+-- the same of whatever a call answers
+pub full_by : (old mid : Reached) (r : Result Stop EngineFault) → (HasTooMany mid → HasTooMany old) → IfErr r (λ fault. fault ≡ engine_CountFull → HasTooMany mid) → IfErr r (λ fault. fault ≡ engine_CountFull → HasTooMany old)
+full_by old mid (Ok stop) earlier full = tt
+full_by old mid (Err fault) earlier full = λ is. earlier (full is)
+
+-- what was run from a state, where that is the beginning of a run
+pub run_from : (s : State) (r : Result Stop EngineFault) (new : Reached) (a b : Option (List ℕ)) (old : Reached) → old ≡ at_first s → RunsTo old.state r new a b → RunsTo s r new a b
+run_from s r new a b old is = subst (λ (from : Reached). RunsTo from.state r new a b) is
 
 -- lines of the run's first events
 begun : (s : State) (lines : List TraceLine) (last : State) → run s (length lines) ≡ Some (lines, last) → IsTraceStart s (lines_bytes lines)
 begun s lines last is = record { n = length lines; lines = lines; last = last; is_run = is; bytes_are = refl }
 
 -- a fault of the engine ended the run
-pub engine_failed : (s : State) (fault : EngineFault) (new : Reached) (a b : Option (List ℕ)) → Committed s (Err fault) new a b → (fault ≡ engine_CountFull → HasTooMany (at_first s))
+pub engine_failed : (s : State) (fault : EngineFault) (new : Reached) (a b : Option (List ℕ)) → RunsTo {T = Stop} s (Err fault) new a b → (fault ≡ engine_CountFull → HasTooMany (at_first s))
     → Writes (IsRunOutput s (Err (of_engine fault))) a b
 engine_failed s engine_NoMemory new a b commits full = (lines_bytes commits.lines, commits.takes, begun s commits.lines commits.state commits.is_run)
 engine_failed s engine_CountFull new a b commits full = (lines_bytes commits.lines, commits.takes, (full refl, begun s commits.lines commits.state commits.is_run))
@@ -46,19 +103,20 @@ engine_failed s engine_NoWorker new a b commits full = (lines_bytes commits.line
 engine_failed s Failed new a b commits full = (lines_bytes commits.lines, commits.takes, begun s commits.lines commits.state commits.is_run)
 engine_failed s (Sink written) new a b commits full =
     let all = lines_bytes commits.lines in
-    (take written all, commits.takes.1, (drop written all, inr (subst (IsTraceStart s) (sym (take-append-drop written all)) (begun s commits.lines commits.state commits.is_run))))
+    let count = commits.takes.0 in
+    (take count all, commits.takes.1.1, (drop count all, inr (subst (IsTraceStart s) (sym (take-append-drop count all)) (begun s commits.lines commits.state commits.is_run))))
 
 module _ (p : ScenarioParts) (new : Reached) (a b : Option (List ℕ)) where
   -- before the scenario's end nothing is due
-  none_due : (stop : Stop) → Committed (opening p) (Ok stop) new a b → IsStop p.end new.state stop → due new.state ≡ None
+  none_due : (stop : Stop) → RunsTo (opening p) (Ok stop) new a b → IsStop p.end new.state stop → due new.state ≡ None
   none_due End commits stops = stops
   none_due Until commits stops =
       let ends : new.state.end ≡ p.end = ap (λ (t : State). t.end) commits.state_is ∙ run_end (length commits.lines) (opening p) commits.state commits.lines commits.is_run in
       subst (λ end. below end (least new.state.pending) ≡ None) (sym ends) stops.1
 
-  module _ (stop : Stop) (commits : Committed (opening p) (Ok stop) new a b) where
+  module _ (stop : Stop) (commits : RunsTo (opening p) (Ok stop) new a b) where
     count : new.position ≡ length commits.lines
-    count = let is = commits.position_is in omega (arith, is)
+    count = commits.position_is
 
     trace : (n : ℕ) (last : List ℕ) → IsStop p.end new.state stop → new.position ≤ 1000000000000000 → n ≡ new.position → last ≡ end_bytes n → IsTrace (opening p) (lines_bytes commits.lines ++ last)
     trace n last stops few at ends =

@@ -28,5 +28,5 @@ IsNamedOn task (Some file) known bytes_of ended before after = MatchBool (bytes_
 
 -- what the words ask for was done and ended so
 abbrev pub IsAskedOn : Asked → Option (List ℕ) → (List ℕ → Option (List ℕ)) → Ended → Streams → Streams → Type 0
-IsAskedOn (Session task file) known bytes_of = IsNamedOn task file known bytes_of
+IsAskedOn (Session task file wishes) known bytes_of = IsNamedOn task file known bytes_of
 IsAskedOn (Explanation code) known bytes_of = IsExplanation code

@@ -7,6 +7,7 @@ use Rattle.clap.specs.Faults.{fault_of}
 use Rattle.clap.specs.Kinds.{Kinds, IsAmong}
 use Rattle.clap.specs.Walk.{Rule, first_of}
 use Rattle.clap.specs.declared.builder.value_parser.ValueParser.TheVariants.{Unsigned}
+use Rattle.clap.specs.declared.builder.action.ArgAction.TheVariants.{SetTrue}
 use Rattle.clap.specs.Values.{kind_of}
 use Rattle.clap.specs.declared.builder.command.Command.{Command}
 use Rattle.clap.specs.declared.builder.command.Command.TheViews.{out-Command as fields_of}
@@ -21,6 +22,8 @@ use Rattle.sessions.specs.declared.subcommand.Task.TheVariants.{Scenario, Debug}
 use Rattle.sessions.specs.Ended.{Ended}
 use Rattle.sessions.specs.Sharing.{SharingValue}
 use Rattle.sessions.specs.Subcommand.{asked_word, sharing_of}
+use Rattle.sessions.specs.Wishes.{wishes_by}
+use Rattle.sessions.specs.declared.subcommand.Wishes.{Wishes}
 
 -- the program without its subcommands: it has a version and wants a subcommand
 abbrev pub top_program : App
@@ -38,21 +41,29 @@ groups_rule = record (new_rule (codes "groups")) { long = Some (codes "groups");
 abbrev pub file_rule : Rule
 file_rule = record (new_rule (codes "file")) { value_names = 1 }
 
+-- `--progress`: a flag
+abbrev pub progress_rule : Rule
+progress_rule = record (new_rule (codes "progress")) { long = Some (codes "progress"); action = Some SetTrue }
+
+-- `--explain`: a flag
+abbrev pub explain_rule : Rule
+explain_rule = record (new_rule (codes "explain")) { long = Some (codes "explain"); action = Some SetTrue }
+
 -- CODE: any text; whether it is a code is judged later
 abbrev pub code_rule : Rule
 code_rule = record (new_rule (codes "code")) { value_names = 1 }
 
--- a subcommand that takes a file
+-- a subcommand that takes a file and the flag of why
 abbrev pub file_shape : List ℕ → Shape
-file_shape name = record (new_shape name) { rules = file_rule ∷ [] }
+file_shape name = record (new_shape name) { rules = file_rule ∷ explain_rule ∷ [] }
 
 -- a subcommand that takes both options
 abbrev pub sharing_shape : List ℕ → Shape
 sharing_shape name = record (new_shape name) { rules = workers_rule ∷ groups_rule ∷ [] }
 
--- a subcommand that takes both options and a file
+-- a subcommand that takes both options, a file and both flags
 abbrev pub run_shape : List ℕ → Shape
-run_shape name = record (new_shape name) { rules = workers_rule ∷ groups_rule ∷ file_rule ∷ [] }
+run_shape name = record (new_shape name) { rules = workers_rule ∷ groups_rule ∷ file_rule ∷ progress_rule ∷ explain_rule ∷ [] }
 
 -- a subcommand that takes a code
 abbrev pub code_shape : List ℕ → Shape
@@ -67,7 +78,7 @@ pub record IsBelow (shape : Shape) (command : Command) : Type 0 where
 abbrev pub sessions_program : App
 sessions_program = with_subcommand (with_subcommand (with_subcommand (with_subcommand top_program (file_shape (codes "asm"))) (file_shape (codes "dis"))) (run_shape (codes "run"))) (sharing_shape (codes "debug"))
 
--- the program with its subcommands: two that take a file, one that is shared out as well, one that is shared out only, and one that takes a code
+-- the program with its subcommands: two that take a file, one that is shared out and told of as well, one that is shared out only, and one that takes a code
 abbrev pub program : App
 program = with_subcommand sessions_program (code_shape (codes "explain"))
 
@@ -92,9 +103,9 @@ pub record Give (words : List (List ℕ)) (sharing : SharingValue) : Type 0 wher
   pub workers : option_map number_of (option_text (codes "workers") words) ≡ Some sharing.workers
   pub groups : option_text (codes "groups") words ≡ Some sharing.groups
 
--- the words give the options of a session where it is shared out, and its file; or a code
+-- the words give the options of a session where it is shared out, its file, and what is wished beside; or a code
 abbrev pub GiveAll : List (List ℕ) → Asked → Type 0
-GiveAll words (Session task file) = IfSome (sharing_of task) (Give words) × (option_text (codes "file") words ≡ file)
+GiveAll words (Session task file wishes) = IfSome (sharing_of task) (Give words) × (option_text (codes "file") words ≡ file) × (wishes_by (λ flag. option_text flag words) ≡ wishes)
 GiveAll words (Explanation code) = option_text (codes "code") words ≡ code
 
 -- the words have no fault, name this subcommand, and give what belongs to it
@@ -120,9 +131,20 @@ alone = record { workers = 1; groups = codes "one" }
 abbrev pub shared : SharingValue
 shared = record { workers = 3; groups = codes "0,1" }
 
+-- nothing is wished beside the output, and to be told how far a run is
+abbrev pub no_wishes : Wishes
+no_wishes = record { progress = false; explain = false }
+
+abbrev pub told : Wishes
+told = record { progress = true; explain = false }
+
+-- to be shown why an input is refused
+abbrev pub shown : Wishes
+shown = record { progress = false; explain = true }
+
 -- a session of standard input, where no file is named
 abbrev pub of_input : Task → Asked
-of_input task = Session task None
+of_input task = Session task None no_wishes
 
 -- the words `tcpsim asm`, `tcpsim dis`, `tcpsim run`, `tcpsim debug` and `tcpsim explain` ask for their subcommands; options may come in any order, behind `=` or as a word of their own, and before a file or behind it
 pub record WordsOfSubcommands : Type 0 where
@@ -132,10 +154,12 @@ pub record WordsOfSubcommands : Type 0 where
   pub run_shared : AskFor (codes "tcpsim" ∷ codes "run" ∷ codes "--workers" ∷ codes "3" ∷ codes "--groups=0,1" ∷ []) (of_input (Scenario (Run shared)))
   pub debug : AskFor (codes "tcpsim" ∷ codes "debug" ∷ []) (of_input (Debug alone))
   pub debug_shared : AskFor (codes "tcpsim" ∷ codes "debug" ∷ codes "--groups" ∷ codes "0,1" ∷ codes "--workers=+3" ∷ []) (of_input (Debug shared))
-  pub asm_file : AskFor (codes "tcpsim" ∷ codes "asm" ∷ codes "a.txt" ∷ []) (Session (Scenario Asm) (Some (codes "a.txt")))
-  pub dis_file : AskFor (codes "tcpsim" ∷ codes "dis" ∷ codes "-" ∷ []) (Session (Scenario Dis) (Some (codes "-")))
-  pub run_file : AskFor (codes "tcpsim" ∷ codes "run" ∷ codes "--workers" ∷ codes "3" ∷ codes "a.txt" ∷ codes "--groups=0,1" ∷ []) (Session (Scenario (Run shared)) (Some (codes "a.txt")))
-  pub run_dashes : AskFor (codes "tcpsim" ∷ codes "run" ∷ codes "--" ∷ codes "--workers" ∷ []) (Session (Scenario (Run alone)) (Some (codes "--workers")))
+  pub asm_file : AskFor (codes "tcpsim" ∷ codes "asm" ∷ codes "a.txt" ∷ []) (Session (Scenario Asm) (Some (codes "a.txt")) no_wishes)
+  pub dis_file : AskFor (codes "tcpsim" ∷ codes "dis" ∷ codes "-" ∷ []) (Session (Scenario Dis) (Some (codes "-")) no_wishes)
+  pub run_file : AskFor (codes "tcpsim" ∷ codes "run" ∷ codes "--workers" ∷ codes "3" ∷ codes "a.txt" ∷ codes "--groups=0,1" ∷ []) (Session (Scenario (Run shared)) (Some (codes "a.txt")) no_wishes)
+  pub run_dashes : AskFor (codes "tcpsim" ∷ codes "run" ∷ codes "--" ∷ codes "--workers" ∷ []) (Session (Scenario (Run alone)) (Some (codes "--workers")) no_wishes)
+  pub run_told : AskFor (codes "tcpsim" ∷ codes "run" ∷ codes "--progress" ∷ codes "a.txt" ∷ []) (Session (Scenario (Run alone)) (Some (codes "a.txt")) told)
+  pub asm_shown : AskFor (codes "tcpsim" ∷ codes "asm" ∷ codes "a.txt" ∷ codes "--explain" ∷ []) (Session (Scenario Asm) (Some (codes "a.txt")) shown)
   pub explain : AskFor (codes "tcpsim" ∷ codes "explain" ∷ []) (Explanation None)
   pub explain_code : AskFor (codes "tcpsim" ∷ codes "explain" ∷ codes "E4" ∷ []) (Explanation (Some (codes "E4")))
 
@@ -180,7 +204,7 @@ pub record WordsOfText : Type 0 where
   pub explain_help : AskForText (codes "tcpsim" ∷ codes "explain" ∷ codes "--help" ∷ [])
   pub version : AskForText (codes "tcpsim" ∷ codes "--version" ∷ [])
 
--- mistaken are the program's name alone, a second file, a file of `debug`, workers below 1 or above 64, an option of `asm`, and a second code
+-- mistaken are the program's name alone, a second file, a file of `debug`, workers below 1 or above 64, an option of `asm`, the flag of a run behind `debug`, and a second code
 pub record WordsOfMistake : Type 0 where
   pub nothing_else : AreMistaken (codes "tcpsim" ∷ [])
   pub two_files : AreMistaken (codes "tcpsim" ∷ codes "run" ∷ codes "once" ∷ codes "twice" ∷ [])
@@ -188,4 +212,5 @@ pub record WordsOfMistake : Type 0 where
   pub no_worker : AreMistaken (codes "tcpsim" ∷ codes "run" ∷ codes "--workers" ∷ codes "0" ∷ [])
   pub many_workers : AreMistaken (codes "tcpsim" ∷ codes "debug" ∷ codes "--workers" ∷ codes "65" ∷ [])
   pub asm_is_not_shared : AreMistaken (codes "tcpsim" ∷ codes "asm" ∷ codes "--groups" ∷ codes "one" ∷ [])
+  pub debug_is_not_told : AreMistaken (codes "tcpsim" ∷ codes "debug" ∷ codes "--progress" ∷ [])
   pub two_codes : AreMistaken (codes "tcpsim" ∷ codes "explain" ∷ codes "E1" ∷ codes "E2" ∷ [])

@@ -8,6 +8,7 @@ use Rattle.sessions.specs.declared.subcommand.Asked.TheVariants.{Session, Explan
 use Rattle.sessions.specs.CommandLine.{number_of}
 use Rattle.sessions.specs.Sharing.{SharingValue}
 use Rattle.sessions.specs.Subcommand.{sharing_of}
+use Rattle.sessions.specs.Wishes.{wishes_in}
 
 -- the workers are a number from 1 to 64, and the groups are there
 pub record AreOptions (rows : List Row) : Type 0 where
@@ -31,7 +32,7 @@ AreOfTask word rows = (word ≡ codes "asm") ⊎ (word ≡ codes "dis") ⊎ ((wo
 abbrev pub AreOfSubcommand : List ℕ → List Row → Type 0
 AreOfSubcommand word rows = (word ≡ codes "explain") ⊎ AreOfTask word rows
 
--- the options say so how a session is shared out, where it is, and its file; or a code
+-- the options say so how a session is shared out, where it is, its file, and what is wished beside; or a code
 abbrev pub AreOfAsked : List Row → Asked → Type 0
-AreOfAsked rows (Session task file) = IfSome (sharing_of task) (IsSharing rows) × (first_of (codes "file") rows ≡ file)
+AreOfAsked rows (Session task file wishes) = IfSome (sharing_of task) (IsSharing rows) × (first_of (codes "file") rows ≡ file) × (wishes_in rows ≡ wishes)
 AreOfAsked rows (Explanation code) = first_of (codes "code") rows ≡ code

@@ -7,6 +7,8 @@ pub mod Ended
 pub mod Outcome
 pub mod Sharing
 pub mod Subcommand
+pub mod Wishes
+pub mod Worked
 pub mod Groups
 pub mod Nodes
 pub mod Input

@@ -23,5 +23,5 @@ sharing_of (Debug sharing) = Some sharing
 
 -- the word that asks for it
 abbrev pub asked_word : Asked → List ℕ
-asked_word (Session task file) = word_of task
+asked_word (Session task file wishes) = word_of task
 asked_word (Explanation code) = codes "explain"

@@ -4,15 +4,16 @@ ghost use Rattle.clap.specs.Simple.{Shape, app_of, shape_of, new_shape, with_sub
 ghost use Rattle.clap.specs.declared.builder.command.Command.TheViews.{out-Command as fields_of};
 ghost use Rattle.clap.specs.Kinds.{FailsBy};
 ghost use Rattle.clap.specs.Matches.{found_of};
-ghost use Rattle.clap.specs.Walk.{rule_of, rows_of};
-ghost use Rattle.sessions.specs.CommandLine.{program, top_program, workers_rule, groups_rule, file_rule, code_rule, file_shape, sharing_shape, run_shape, code_shape, IsBelow, word_faults, AskFor, WordsAskForOne, WordsOfSubcommands, WordsOfText, WordsOfMistake};
+ghost use Rattle.clap.specs.Walk.{first_of, rule_of, rows_of};
+ghost use Rattle.sessions.specs.CommandLine.{program, top_program, workers_rule, groups_rule, file_rule, progress_rule, explain_rule, code_rule, file_shape, sharing_shape, run_shape, code_shape, IsBelow, word_faults, AskFor, WordsAskForOne, WordsOfSubcommands, WordsOfText, WordsOfMistake};
 ghost use Rattle.sessions.specs.Given.{AreOptions, AreOfTask, AreOfSubcommand, AreOfAsked, IsSharing};
+ghost use Rattle.sessions.specs.Wishes.{is_true, wishes_in};
 ghost use Rattle.sessions.specs.Subcommand.{word_of, asked_word, sharing_of as task_sharing};
 ghost use Rattle.sessions.specs.declared.subcommand.Task.{Task};
 
 use crate::sharing::Sharing;
-use crate::subcommand::{Asked, OptionalWord, Subcommand, Task};
-use clap::{Arg, ArgMatches, Command, Error, value_parser};
+use crate::subcommand::{Asked, OptionalWord, Subcommand, Task, Wishes};
+use clap::{Arg, ArgAction, ArgMatches, Command, Error, value_parser};
 use std::alloc::{AllocError, Global};
 use std::convert::AsStr;
 
@@ -68,7 +69,7 @@ fn workers_option<'a>(alloc: Global) -> Arg<'a>
         .value_name("N")
         .value_parser(value_parser!(usize).range(1..=64))
         .default_value("1")
-        .help("How many workers run the groups, 1 to 64")
+        .help("How many workers run the groups, 1 to 64; with --groups auto or yours")
 }
 
 /// The option that says which group each node is in.
@@ -80,10 +81,32 @@ fn groups_option<'a>(alloc: Global) -> Arg<'a>
         .long("groups")
         .value_name("G")
         .default_value("one")
-        .help("The group of each node: one, each, or numbers as in 0,0,1")
+        .help("The group of each node: one, each, auto, or numbers as in 0,0,1")
 }
 
-/// A subcommand that takes a scenario's file.
+/// The flag for being told how far a run is.
+fn progress_flag<'a>(alloc: Global) -> Arg<'a>
+    ensures rule { rule_of result ≡ progress_rule }
+    ensures local { result.global ≡ false }
+{
+    Arg::new(alloc, "progress")
+        .long("progress")
+        .action(ArgAction::SetTrue)
+        .help("Say on standard error how far the run is")
+}
+
+/// The flag for being shown why an input is refused.
+fn explain_flag<'a>(alloc: Global) -> Arg<'a>
+    ensures rule { rule_of result ≡ explain_rule }
+    ensures local { result.global ≡ false }
+{
+    Arg::new(alloc, "explain")
+        .long("explain")
+        .action(ArgAction::SetTrue)
+        .help("Show on standard error why an input is refused")
+}
+
+/// A subcommand that takes a scenario's file and a flag.
 fn file_subcommand<'a>(
     alloc: Global,
     name: &'a str,
@@ -91,7 +114,9 @@ fn file_subcommand<'a>(
 ) -> Result<Command<'a>, AllocError>
     ensures { IfOk result (IsBelow (file_shape name.entry.now)) }
 {
-    plain_subcommand(alloc, name, about).arg(file_word(alloc))
+    plain_subcommand(alloc, name, about)
+        .arg(file_word(alloc))?
+        .arg(explain_flag(alloc))
 }
 
 /// A subcommand that takes the options on how a run is shared out.
@@ -107,7 +132,7 @@ fn sharing_subcommand<'a>(
         .arg(groups_option(alloc))
 }
 
-/// A subcommand that takes these options, and a scenario's file.
+/// A subcommand that takes these options, a scenario's file and two flags.
 fn run_subcommand<'a>(
     alloc: Global,
     name: &'a str,
@@ -115,7 +140,10 @@ fn run_subcommand<'a>(
 ) -> Result<Command<'a>, AllocError>
     ensures { IfOk result (IsBelow (run_shape name.entry.now)) }
 {
-    sharing_subcommand(alloc, name, about)?.arg(file_word(alloc))
+    sharing_subcommand(alloc, name, about)?
+        .arg(file_word(alloc))?
+        .arg(progress_flag(alloc))?
+        .arg(explain_flag(alloc))
 }
 
 /// A subcommand that takes a code.
@@ -186,6 +214,26 @@ fn task_of<'a>(word: &str, options: &ArgMatches<'a>) -> Task<'a>
     }
 }
 
+/// Whether a flag is among the options.
+fn is_set<'a>(options: &ArgMatches<'a>, flag: &str) -> bool
+    ensures { result ≡ is_true (first_of flag.now (rows_of (found_of options.now))) }
+{
+    match options.get_str(flag) {
+        Some(value) => value == "true",
+        None => false,
+    }
+}
+
+/// What the options wish beside the output.
+fn wishes_of<'a>(options: &ArgMatches<'a>) -> Wishes
+    ensures { result ≡ wishes_in (rows_of (found_of options.now)) }
+{
+    Wishes {
+        progress: is_set(options, "progress"),
+        explain: is_set(options, "explain"),
+    }
+}
+
 /// What a subcommand's word and options ask for.
 fn asked_of<'a>(word: &str, options: &ArgMatches<'a>) -> Asked<'a>
     requires { AreOfSubcommand word.now (rows_of (found_of options.now)) }
@@ -196,7 +244,8 @@ fn asked_of<'a>(word: &str, options: &ArgMatches<'a>) -> Asked<'a>
         Asked::Explanation(OptionalWord::new(options.get_str("code")))
     } else {
         let task = task_of(word, options);
-        Asked::Session(task, OptionalWord::new(options.get_str("file")))
+        let file = OptionalWord::new(options.get_str("file"));
+        Asked::Session(task, file, wishes_of(options))
     }
 }
 

@@ -79,7 +79,8 @@ pub fn partition_of(
     }
 }
 
-/// The groups in which the nodes of a scenario are.
+/// The groups in which the nodes of a scenario are, those that are found where the text leaves it to
+/// the program.
 pub(crate) fn groups_for(
     alloc: Global,
     sharing: &Sharing,
@@ -89,8 +90,12 @@ pub(crate) fn groups_for(
     ensures nodes { IfOk result (λ partition. length partition ≡ length scenario.now.nodes) }
     ensures faults { IfErr result (LacksGroups sharing.now.groups scenario.now) }
 {
+    let text = sharing.groups();
+    if text == "auto" {
+        return Ok(Partition::found(scenario, sharing.workers()));
+    }
     let nodes = scenario.parts().nodes.len();
-    match partition_of(alloc, sharing.groups(), nodes)? {
+    match partition_of(alloc, text, nodes)? {
         Some(partition) => Ok(partition),
         None => Err(SessionFault::Groups),
     }

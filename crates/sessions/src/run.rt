@@ -1,16 +1,19 @@
 //! The run of a scenario, shared out as the command line says.
-ghost use Rattle.std.specs.Prelude.{◌≡◌};
+ghost use Rattle.std.specs.Prelude.{◌≡◌, length, IfErr, IfOk};
 ghost use Rattle.sessions.specs.Ended.{writes_after};
+ghost use Rattle.sessions.specs.Nodes.{HasGroups, LacksGroups};
 ghost use Rattle.sessions.specs.Output.{IsSharedOutput};
 ghost use Rattle.sessions.specs.Written.{Writes};
 
 use crate::fault::SessionFault;
 use crate::groups::groups_for;
+use crate::means::Means;
+use crate::notes::Notes;
 use crate::sharing::Sharing;
 use crate::trace::run_scenario;
+use crate::why::why_groups;
 use crate::workers::run_by_workers;
 use scenario_image::Scenario;
-use std::alloc::Global;
 use std::sync::Wait;
 use std::thread::Threads;
 use window_core::Partition;
@@ -26,24 +29,45 @@ fn is_parted(partition: &Partition) -> bool {
     false
 }
 
+/// The groups in which the nodes of a scenario are. Tells why they are refused, where that is wished
+/// and there is memory to say it.
+fn told_groups<G: Gate, H: Threads + Wait + Sync, N: Notes>(
+    means: &Means<H, G>,
+    sharing: &Sharing,
+    scenario: &Scenario,
+    notes: &mut N,
+) -> Result<Partition, SessionFault>
+    ensures named { IfOk result (λ _. HasGroups sharing.now.groups scenario.now) }
+    ensures nodes { IfOk result (λ partition. length partition ≡ length scenario.now.nodes) }
+    ensures faults { IfErr result (LacksGroups sharing.now.groups scenario.now) }
+{
+    let found = groups_for(means.alloc, sharing, scenario);
+    if means.wishes.explain && matches!(found, Err(SessionFault::Groups)) {
+        let nodes = scenario.parts().nodes.len();
+        if let Ok(shown) = why_groups(means.alloc, sharing.groups(), nodes) {
+            notes.refused(shown);
+        }
+    }
+    found
+}
+
 /// Runs a scenario to its end, and writes its trace: one event at a time where all nodes are in one
 /// group, and else by workers.
-pub(crate) fn run_shared<W: Sink, G: Gate, H: Threads + Wait + Sync>(
-    rt: &H,
-    alloc: Global,
+pub(crate) fn run_shared<W: Sink, G: Gate, H: Threads + Wait + Sync, N: Notes>(
+    means: &Means<H, G>,
     sharing: Sharing,
-    gate: &G,
     scenario: &Scenario,
     writer: &mut W,
+    notes: &mut N,
 ) -> Result<(), SessionFault>
     ensures output { Writes (IsSharedOutput sharing.entry.groups scenario.now result) (W.contents writer.old) (W.contents writer.new) }
     ensures failures { W.failures writer.new ≡ writes_after result (W.failures writer.old) }
 {
-    let partition = groups_for(alloc, &sharing, scenario)?;
+    let partition = told_groups(means, &sharing, scenario, notes)?;
     if is_parted(&partition) {
         let workers = sharing.workers();
-        run_by_workers(rt, alloc, workers, gate, scenario, partition, writer)
+        run_by_workers(means, workers, scenario, partition, writer, notes)
     } else {
-        run_scenario(alloc, scenario, writer)
+        run_scenario(means.alloc, means.wishes, scenario, writer, notes)
     }
 }

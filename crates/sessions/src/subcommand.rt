@@ -57,12 +57,29 @@ impl<'a> OptionalWord<'a> {
     }
 }
 
+/// What is wished beside the output.
+#[derive(Clone, Copy, Debug, Drop)]
+pub struct Wishes {
+    /// To be told how far a run is.
+    pub progress: bool,
+    /// To be shown why an input is refused.
+    pub explain: bool,
+}
+
+impl Wishes {
+    /// Nothing.
+    pub const NONE: Wishes = Wishes {
+        progress: false,
+        explain: false,
+    };
+}
+
 /// What the words of the command line ask for.
 #[derive(Debug, Drop)]
 pub enum Asked<'a> {
     /// A session over an input: that of the file that is named, or the standard input where none is,
     /// or `-`.
-    Session(Task<'a>, OptionalWord<'a>),
+    Session(Task<'a>, OptionalWord<'a>, Wishes),
     /// What this code means, or a list of all codes.
     Explanation(OptionalWord<'a>),
 }

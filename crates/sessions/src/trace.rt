@@ -6,7 +6,10 @@ ghost use Rattle.sessions.specs.Trace.{IsTraceOrStart};
 ghost use Rattle.sessions.specs.Ended.{IsRunOutput, writes_after};
 
 use crate::fault::SessionFault;
+use crate::notes::Notes;
 use crate::output::{PAGE, put_full_page, put_page};
+use crate::progress::Progress;
+use crate::subcommand::Wishes;
 use net_machine::Net;
 use node_core::{Acts, After, Event, Line};
 use scenario_image::Scenario;
@@ -15,12 +18,14 @@ use std::alloc::Global;
 use trace_text::{end_text, line_text};
 use window_engine::Sink;
 
-/// Runs a scenario to its end, and writes its trace. Memory that is refused and a run of too many
-/// events end it after whole lines.
-pub fn run_scenario<W: Sink>(
+/// Runs a scenario to its end, writes its trace, and tells how far it is where that is wished.
+/// Memory that is refused and a run of too many events end it after whole lines.
+pub fn run_scenario<W: Sink, N: Notes>(
     alloc: Global,
+    wishes: Wishes,
     scenario: &Scenario,
     writer: &mut W,
+    notes: &mut N,
 ) -> Result<(), SessionFault>
     ensures output { Writes (IsRunOutput (opening scenario.now) result) (W.contents writer.old) (W.contents writer.new) }
     ensures failures { W.failures writer.new ≡ writes_after result (W.failures writer.old) }
@@ -28,7 +33,8 @@ pub fn run_scenario<W: Sink>(
     let mut page = Vec::with_capacity(alloc, PAGE)?;
     let mut net = Net::new(alloc, scenario)?;
     let mut line = unused_line(alloc);
-    run_net(&mut net, &mut line, &mut page, writer)
+    let mut progress = Progress::new(wishes.progress, net.end());
+    run_net(&mut net, &mut line, &mut page, writer, &mut progress, notes)
 }
 
 /// A line to be lent to each step. What it shows before the first one is used nowhere.
@@ -47,18 +53,21 @@ fn unused_line(alloc: Global) -> Line {
 }
 
 /// Runs a net to its end, and writes all that it made of the trace.
-fn run_net<W: Sink>(
+fn run_net<W: Sink, N: Notes>(
     net: &mut Net,
     line: &mut Line,
     page: &mut Vec<u8>,
     writer: &mut W,
+    progress: &mut Progress,
+    notes: &mut N,
 ) -> Result<(), SessionFault>
     requires opening { net.old.position ≡ 0 }
     requires empty { page.old.items ≡ [] }
     ensures output { Writes (IsRunOutput net.old.state result) (W.contents writer.old) (W.contents writer.new) }
     ensures failures { W.failures writer.new ≡ writes_after result (W.failures writer.old) }
 {
-    let ended = put_lines(net, line, page, writer);
+    let ended = put_lines(net, line, page, writer, progress, notes);
+    progress.ends(ended.is_ok(), net.position(), notes);
     let failed = writer_failed(&ended);
     if failed {
         return ended;
@@ -76,11 +85,13 @@ fn writer_failed(ended: &Result<(), SessionFault>) -> bool
 }
 
 /// Runs a net to its end. What it made of the trace was written, or waits in the page.
-fn put_lines<W: Sink>(
+fn put_lines<W: Sink, N: Notes>(
     net: &mut Net,
     line: &mut Line,
     page: &mut Vec<u8>,
     writer: &mut W,
+    progress: &mut Progress,
+    notes: &mut N,
 ) -> Result<(), SessionFault>
     requires opening { net.old.position ≡ 0 }
     requires empty { page.old.items ≡ [] }
@@ -91,6 +102,7 @@ fn put_lines<W: Sink>(
     while net.step_into(line)? {
         line_text(net.position(), line, page)?;
         put_full_page(page, writer)?;
+        progress.pass(line.key.time, net.position(), notes);
     }
     end_text(net.position(), page)?;
     Ok(())

@@ -2,15 +2,17 @@
 #![tactic(auto)]
 
 mod input;
+mod notes;
 
 use crate::input::Input;
+use crate::notes::ErrorNotes;
 use sessions::fault::SessionFault;
 use sessions::outcome::Outcome;
-use sessions::session::run_all;
+use sessions::session::run_noted;
 use std::env;
 use std::io::ErrorKind;
 use std::process::ExitCode;
-use window_engine::OverWrite;
+use window_engine::{OpenGate, OverWrite};
 
 /// The process's own words.
 fn process_words(rt: &HostRuntime) -> Result<Vec<String>, SessionFault> {
@@ -23,16 +25,27 @@ fn process_words(rt: &HostRuntime) -> Result<Vec<String>, SessionFault> {
 
 /// A session with the process's own words, input and output.
 fn main(rt: HostRuntime) -> ExitCode {
+    let mut notes = ErrorNotes::new(&rt);
     let outcome = match process_words(&rt) {
         Ok(words) => {
             let mut input = Input::new(rt.stdin(), &rt);
             let mut output = OverWrite::new(rt.stdout());
-            run_all(&rt, &mut input, &mut output, words.as_slice())
+            run_noted(
+                &rt,
+                &mut input,
+                &mut output,
+                words.as_slice(),
+                &OpenGate,
+                &mut notes,
+            )
         }
         Err(fault) => Outcome::from(Err(fault)),
     };
     if let Some(note) = &outcome.note {
         let _ = eprint!(rt; "{note}");
+    }
+    if let Some(why) = &notes.why {
+        let _ = eprint!(rt; "{why}");
     }
     ExitCode::from(outcome.status)
 }

@@ -5,9 +5,11 @@ mod cuts;
 mod debug;
 mod ends;
 mod files;
+mod found;
 mod groups;
 mod images;
 mod networks;
+mod notes;
 mod texts;
 pub(crate) mod traces;
 mod workers;
@@ -253,24 +255,26 @@ Options:
 
 const ASM_HELP: &str = "Write the image of a scenario
 
-Usage: tcpsim asm [FILE]
+Usage: tcpsim asm [OPTIONS] [FILE]
 
 Arguments:
   [FILE]  The scenario's file; without it, or where it is -, standard input
 
 Options:
-  -h, --help  Print help
+      --explain  Show on standard error why an input is refused
+  -h, --help     Print help
 ";
 
 const DIS_HELP: &str = "Write the canonical text of a scenario
 
-Usage: tcpsim dis [FILE]
+Usage: tcpsim dis [OPTIONS] [FILE]
 
 Arguments:
   [FILE]  The scenario's file; without it, or where it is -, standard input
 
 Options:
-  -h, --help  Print help
+      --explain  Show on standard error why an input is refused
+  -h, --help     Print help
 ";
 
 const RUN_HELP: &str = "Run a scenario and print its trace
@@ -281,8 +285,10 @@ Arguments:
   [FILE]  The scenario's file; without it, or where it is -, standard input
 
 Options:
-      --workers <N>  How many workers run the groups, 1 to 64 [default: 1]
-      --groups <G>   The group of each node: one, each, or numbers as in 0,0,1 [default: one]
+      --workers <N>  How many workers run the groups, 1 to 64; with --groups auto or yours [default: 1]
+      --groups <G>   The group of each node: one, each, auto, or numbers as in 0,0,1 [default: one]
+      --progress     Say on standard error how far the run is
+      --explain      Show on standard error why an input is refused
   -h, --help         Print help
 ";
 
@@ -291,7 +297,7 @@ const DEBUG_HELP: &str = "Answer the commands behind the scenario text on standa
 Usage: tcpsim debug [OPTIONS]
 
 Options:
-      --workers <N>  How many workers run the groups, 1 to 64 [default: 1]
-      --groups <G>   The group of each node: one, each, or numbers as in 0,0,1 [default: one]
+      --workers <N>  How many workers run the groups, 1 to 64; with --groups auto or yours [default: 1]
+      --groups <G>   The group of each node: one, each, auto, or numbers as in 0,0,1 [default: one]
   -h, --help         Print help
 ";

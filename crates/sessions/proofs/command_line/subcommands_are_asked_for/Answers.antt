@@ -6,16 +6,18 @@ use Rattle.sessions.proofs.command_line.subcommands_are_asked_for.Goals as goal
 subcommand_words : WordsOfSubcommands
 unfolding clap_on_literals
 subcommand_words = record {
-  asm = record { faultless = refl; named = refl; given = (tt, refl) };
-  dis = record { faultless = refl; named = refl; given = (tt, refl) };
-  run = record { faultless = refl; named = refl; given = (record { workers = refl; groups = refl }, refl) };
-  run_shared = record { faultless = refl; named = refl; given = (record { workers = refl; groups = refl }, refl) };
-  debug = record { faultless = refl; named = refl; given = (record { workers = refl; groups = refl }, refl) };
-  debug_shared = record { faultless = refl; named = refl; given = (record { workers = refl; groups = refl }, refl) };
-  asm_file = record { faultless = refl; named = refl; given = (tt, refl) };
-  dis_file = record { faultless = refl; named = refl; given = (tt, refl) };
-  run_file = record { faultless = refl; named = refl; given = (record { workers = refl; groups = refl }, refl) };
-  run_dashes = record { faultless = refl; named = refl; given = (record { workers = refl; groups = refl }, refl) };
+  asm = record { faultless = refl; named = refl; given = (tt, refl, refl) };
+  dis = record { faultless = refl; named = refl; given = (tt, refl, refl) };
+  run = record { faultless = refl; named = refl; given = (record { workers = refl; groups = refl }, refl, refl) };
+  run_shared = record { faultless = refl; named = refl; given = (record { workers = refl; groups = refl }, refl, refl) };
+  debug = record { faultless = refl; named = refl; given = (record { workers = refl; groups = refl }, refl, refl) };
+  debug_shared = record { faultless = refl; named = refl; given = (record { workers = refl; groups = refl }, refl, refl) };
+  asm_file = record { faultless = refl; named = refl; given = (tt, refl, refl) };
+  dis_file = record { faultless = refl; named = refl; given = (tt, refl, refl) };
+  run_file = record { faultless = refl; named = refl; given = (record { workers = refl; groups = refl }, refl, refl) };
+  run_dashes = record { faultless = refl; named = refl; given = (record { workers = refl; groups = refl }, refl, refl) };
+  run_told = record { faultless = refl; named = refl; given = (record { workers = refl; groups = refl }, refl, refl) };
+  asm_shown = record { faultless = refl; named = refl; given = (tt, refl, refl) };
   explain = record { faultless = refl; named = refl; given = refl };
   explain_code = record { faultless = refl; named = refl; given = refl };
 }

@@ -1,7 +1,7 @@
 use Rattle.std.proofs.Common.{map, ap}
 use Rattle.sessions.specs.Streams.{streams_of}
 use Rattle.sessions.proofs.Refusals.{refusal, no_begin, asked_session}
-use Rattle.sessions.proofs.session.run_with.Goals as goal
+use Rattle.sessions.proofs.session.run_noted.Goals as goal
 
 pub returns-in-Ok-clause-asked : goal.returns-in-Ok-clause-asked
 returns-in-Ok-clause-asked g c asked asks =

@@ -1,0 +1,64 @@
+//! Who is told how far a run is, and why an input is refused.
+
+use sim_time::Time;
+use std::fmt;
+
+/// How many nanoseconds a second has.
+const SECOND: u64 = 1_000_000_000;
+
+/// How far a run is. Its `Display` is `NN % of D s simulated, E events`, with D in seconds and no
+/// more decimals than it has.
+#[derive(Clone, Copy, Debug, Drop)]
+pub struct HowFar {
+    /// So many hundredths of its time are simulated.
+    pub percent: u64,
+    /// The moment by which it ends, in nanoseconds.
+    pub end: Time,
+    /// How many events are done.
+    pub events: u64,
+}
+
+impl fmt::Display for HowFar {
+    fn fmt<W: fmt::Write>(&self, f: &mut fmt::Formatter<W>) -> fmt::Result {
+        write!(f, "{} % of {}", self.percent, self.end / SECOND)?;
+        let mut rest = self.end % SECOND;
+        let mut worth = SECOND;
+        if rest != 0 {
+            f.write_str(".")?;
+        }
+        for _ in 0..9 {
+            if rest == 0 {
+                break;
+            }
+            worth = (worth / 10).max(1);
+            write!(f, "{}", rest / worth)?;
+            rest %= worth;
+        }
+        write!(f, " s simulated, {} events", self.events)
+    }
+}
+
+/// Is told how far a run is, while it goes on, and why an input is refused. What it does with that
+/// changes nothing of a session.
+pub trait Notes {
+    /// The run is so far.
+    fn progress(&mut self, far: &HowFar);
+
+    /// The run that it was told of has ended, whether done or not.
+    fn progress_ends(&mut self);
+
+    /// The input is refused, and this is to be shown behind the note: some lines.
+    fn refused(&mut self, why: String);
+}
+
+/// Tells nobody.
+#[derive(Clone, Copy)]
+pub struct NoNotes;
+
+impl Notes for NoNotes {
+    fn progress(&mut self, _far: &HowFar) {}
+
+    fn progress_ends(&mut self) {}
+
+    fn refused(&mut self, _why: String) {}
+}

@@ -1,0 +1,99 @@
+//! Why an input is refused, as a person is shown it.
+
+use crate::fault::SessionFault;
+use explanations::text_of;
+use scenario_asm::{Part, Place, fault_place};
+use std::alloc::{AllocError, Global};
+
+/// How many bytes of a line are shown at most, and how many of them before what is wrong.
+const SHOWN: usize = 200;
+
+const BEFORE: usize = 80;
+
+/// Adds bytes as they can be shown: each that is not printable as a question mark.
+fn push_shown(shown: &mut String, bytes: &[u8]) -> Result<(), AllocError> {
+    for byte in bytes {
+        let is_shown = *byte >= b' ' && *byte <= b'~';
+        shown.push(char::from(if is_shown { *byte } else { b'?' }))?;
+    }
+    Ok(())
+}
+
+/// Adds a character so many times.
+fn push_times(shown: &mut String, count: usize, it: char) -> Result<(), AllocError> {
+    for _ in 0..count {
+        shown.push(it)?;
+    }
+    Ok(())
+}
+
+/// Where what is wrong with a line begins in it, and how many bytes it has.
+fn faulty_part(place: &Place) -> (usize, usize) {
+    match place.part {
+        Part::Line => (0, place.bytes.len()),
+        Part::Byte(at) => (at, 1),
+        Part::Word { start, end, .. } => (start, end.saturating_sub(start)),
+    }
+}
+
+/// Adds the line that is refused, or the bytes of it around what is wrong, and a second line with
+/// carets under that.
+fn push_place(shown: &mut String, place: &Place) -> Result<(), AllocError> {
+    let (start, count) = faulty_part(place);
+    let first = start.saturating_sub(BEFORE).min(place.bytes.len());
+    let last = place.bytes.len().min(first.saturating_add(SHOWN));
+    push_shown(shown, &place.bytes[first..last])?;
+    shown.push('\n')?;
+    let before = start.saturating_sub(first);
+    push_times(shown, before, ' ')?;
+    let left = (last - first).saturating_sub(before);
+    push_times(shown, count.min(left).max(1), '^')?;
+    shown.push('\n')
+}
+
+/// Adds the first line of what a code means.
+fn push_meaning(shown: &mut String, code: &str) -> Result<(), AllocError> {
+    if let Some(text) = text_of(code) {
+        if let Some(line) = text.lines().next() {
+            shown.push_str(line)?;
+            shown.push('\n')?;
+        }
+    }
+    Ok(())
+}
+
+/// What is shown of a refused input behind its note: of a text's line the line, with carets under
+/// what is wrong; and what the code means. Nothing where the input is not refused.
+pub(crate) fn why(
+    alloc: Global,
+    input: &[u8],
+    fault: &SessionFault,
+) -> Result<Option<String>, AllocError> {
+    let mut shown = String::new(alloc);
+    match fault {
+        SessionFault::TooLong => push_meaning(&mut shown, "I1")?,
+        SessionFault::Refused { fault, .. } => {
+            if let Some(place) = fault_place(alloc, input)? {
+                push_place(&mut shown, &place)?;
+            }
+            push_meaning(&mut shown, fault.code())?;
+        }
+        SessionFault::RefusedImage(fault) => {
+            push_meaning(&mut shown, fault.to_string(alloc)?.as_str())?;
+        }
+        _ => return Ok(None),
+    }
+    Ok(Some(shown))
+}
+
+/// What is shown behind the note where these are no groups of so many nodes.
+pub(crate) fn why_groups(alloc: Global, groups: &str, nodes: usize) -> Result<String, AllocError> {
+    let mut shown = String::new(alloc);
+    shown.push_str("groups that are given: ")?;
+    shown.push_str(groups.split(',').count().to_string(alloc)?.as_str())?;
+    shown.push_str("; nodes: ")?;
+    shown.push_str(nodes.to_string(alloc)?.as_str())?;
+    shown.push('\n')?;
+    push_meaning(&mut shown, "groups")?;
+    Ok(shown)
+}

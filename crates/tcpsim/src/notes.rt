@@ -1,0 +1,34 @@
+//! What is told on standard error, beside the note.
+
+use sessions::notes::{HowFar, Notes};
+
+/// Tells on standard error how far a run is, on one line, and keeps why an input is refused. That it
+/// fails there is ignored.
+#[derive(Drop)]
+pub struct ErrorNotes<'r> {
+    /// The process.
+    rt: &'r HostRuntime,
+    /// Why the input is refused, to be shown behind the note.
+    pub why: Option<String>,
+}
+
+impl<'r> ErrorNotes<'r> {
+    /// On the standard error of this process.
+    pub fn new(rt: &'r HostRuntime) -> ErrorNotes<'r> {
+        ErrorNotes { rt, why: None }
+    }
+}
+
+impl<'r> Notes for ErrorNotes<'r> {
+    fn progress(&mut self, far: &HowFar) {
+        let _ = eprint!(self.rt; "\r{far}");
+    }
+
+    fn progress_ends(&mut self) {
+        let _ = eprint!(self.rt; "\n");
+    }
+
+    fn refused(&mut self, why: String) {
+        self.why = Some(why);
+    }
+}
