@@ -16,6 +16,7 @@ pub mod Read
 pub mod Progress
 pub mod OneMeaning
 pub mod OneAnswer
+pub mod Declaring
 pub mod Decimals
 pub mod SpeltLines
 pub mod Numbered

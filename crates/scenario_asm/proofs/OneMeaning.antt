@@ -112,12 +112,12 @@ none_faulty text n f said first read =
     omega (arith, ap length first.lines, length-append first.above (first.line ∷ first.below))
 
 -- all lines say one thing
-all_said : (lines : List (List ℕ)) (a b : List (Option Statement)) → AreRead lines a → AreRead lines b → a ≡ b
+pub all_said : (lines : List (List ℕ)) (a b : List (Option Statement)) → AreRead lines a → AreRead lines b → a ≡ b
 all_said lines a b ra rb =
     sym (whole_take a (length lines) ra.as_many)
     ∙ (same_said lines lines lines a b (front_all lines) (front_all lines) ra rb (length lines) (omega arith) (omega arith) ∙ whole_take b (length lines) rb.as_many)
 
-one_end : (statements : List Statement) (d e : ℕ) → HaveEnd statements d → HaveEnd statements e → d ≡ e
+pub one_end : (statements : List Statement) (d e : ℕ) → HaveEnd statements d → HaveEnd statements e → d ≡ e
 one_end statements d e hd he =
     let both : d ∷ [] ≡ e ∷ [] = sym hd.one_end ∙ he.one_end in
     cc

@@ -19,7 +19,7 @@ use Rattle.scenario_asm.specs.Numbers.{is_name, number, number_verdict}
 use Rattle.scenario_asm.specs.Names.{Known, item_number, item_kind, item_link, number_of, kind_of, is_taken, is_sender, is_receiver, is_router, is_end, is_from, is_full_router, lost_of, is_routed, used_verdict, new_name_verdict}
 use Rattle.scenario_asm.specs.Verdicts.{Verdict, first_fault, faulty_if, faulty_unless, unless, judged}
 use Rattle.scenario_asm.specs.Right.{IsRight, IsNodeRight, IsLinkRight}
-use Rattle.scenario_asm.specs.Statements.{nth, has_link_length, link_said, node_verdicts, link_verdicts, flow_verdicts, route_verdicts, lose_verdicts, sim_at, node_at, link_at, flow_at, route_at, lose_at, statement_at, as_said, line_at}
+use Rattle.scenario_asm.specs.Statements.{nth, has_link_length, has_flow_length, link_said, node_verdicts, link_verdicts, flow_verdicts, route_verdicts, lose_verdicts, sim_at, node_at, link_at, flow_at, route_at, lose_at, statement_at, as_said, line_at}
 
 -- a list of verdicts without a fault
 both_none : (a b : Verdict) → option_or a b ≡ None → (a ≡ None) × (b ≡ None)
@@ -43,10 +43,10 @@ if_false : (t : Bool) (fault : Fault) → faulty_if t fault ≡ None → t ≡ f
 if_false true fault none = absurd (let never : Some fault ≡ None = none in cc)
 if_false false fault none = refl
 
-ok_is : {A : Type 0} (value x : A) → ◌≡◌ {A = Result A Fault} (Ok value) (Ok x) → value ≡ x
+pub ok_is : {A : Type 0} (value x : A) → ◌≡◌ {A = Result A Fault} (Ok value) (Ok x) → value ≡ x
 ok_is value x is = cc
 
-err_not : {A : Type 0} (fault : Fault) (x : A) → ◌≡◌ {A = Result A Fault} (Err fault) (Ok x) → ⊥
+pub err_not : {A : Type 0} (fault : Fault) (x : A) → ◌≡◌ {A = Result A Fault} (Err fault) (Ok x) → ⊥
 err_not fault x is = cc
 
 unless_ok : {A : Type 0} (verdict : Verdict) (value x : A) → unless verdict value ≡ Ok x → (verdict ≡ None) × (value ≡ x)
@@ -54,7 +54,7 @@ unless_ok None value x is = (refl, ok_is value x is)
 unless_ok (Some fault) value x is = absurd (err_not fault x is)
 
 -- a line that says something has the right number of words, and no word of it has a fault
-judged_says : {A : Type 0} (counted : Bool) (verdicts : List Verdict) (full : Bool) (value x : A) → judged counted verdicts full value ≡ Ok x → AreNone (verdicts ++ faulty_if full E9 ∷ []) × (value ≡ x)
+pub judged_says : {A : Type 0} (counted : Bool) (verdicts : List Verdict) (full : Bool) (value x : A) → judged counted verdicts full value ≡ Ok x → AreNone (verdicts ++ faulty_if full E9 ∷ []) × (value ≡ x)
 judged_says true verdicts full value x is = let both = unless_ok (first_fault (verdicts ++ faulty_if full E9 ∷ [])) value x is in (all_none _ both.0, both.1)
 judged_says false verdicts full value x is = absurd (err_not E3 x is)
 
@@ -178,7 +178,7 @@ link_right known words s says =
 
 flow_right : (known : Known) (words : List Word) (s : Statement) → flow_at known words ≡ Ok s → IsRight known s
 flow_right known words s says =
-    let read = judged_says (length words == 9) (flow_verdicts known words) (nat_le MOST_FLOWS (length known.flows)) _ s says in
+    let read = judged_says (has_flow_length words) (flow_verdicts known words) (nat_le MOST_FLOWS (length known.flows)) _ s says in
     subst (IsRight known) read.1 (record {
       free = new_free known (nth words 1) read.0.0;
       kinds = record { sender = sender_there known.kinds _ (used_right (nth words 2) _ _ read.0.1.0); receiver = receiver_there known.kinds _ (used_right (nth words 3) _ _ read.0.1.1.0) };

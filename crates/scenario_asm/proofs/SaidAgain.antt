@@ -1,9 +1,11 @@
 -- A statement that is spelt by numbers says itself again.
 use Rattle.std.proofs.Common.{◌≡◌, ◌<◌, ◌≤◌, ℕ, ◌-◌, ◌^◌, ◌==◌, ◌||◌, nat_le, Bool, true, false, List, [], ◌∷◌, length, Option, Some, None, is_some, Result, Ok, ap, sym, ◌∙◌, refl, arith}
-use Rattle.std.specs.Prelude.{codes, decimal}
+use Rattle.std.specs.Prelude.{codes, decimal, unwrap_or}
 use Rattle.std.specs.List.{slice_get}
 use Rattle.std.proofs.lemmas.Bool.{and_from, or_from, ne_eqb, lt-leb, not_from_false}
 use Rattle.sim_time.specs.declared.rate.TheConstants.{LEAST_RATE, GREATEST_RATE}
+use Rattle.sim_time.specs.declared.variant.Iw.{Iw}
+use Rattle.sim_time.specs.declared.variant.Iw.TheVariants.{Iw3, Iw10}
 use Rattle.scenario_image.specs.declared.limits.TheConstants.{LATEST_END, LONGEST_DELAY, GREATEST_MSS, MOST_SEGMENTS, GREATEST_RWND, LONGEST_DELACK, MOST_LOSE, MOST_NODES, MOST_LINKS, MOST_FLOWS}
 use Rattle.scenario_image.specs.LinkLimits.{IsCodelInLimits, IsQueueInLimits, IsLinkInLimits}
 use Rattle.scenario_image.specs.FlowLimits.{IsFlowInLimits}
@@ -15,7 +17,7 @@ use Rattle.scenario_image.specs.declared.parts.LinkPart.{LinkPart}
 use Rattle.scenario_image.specs.declared.parts.FlowPart.{FlowPart}
 use Rattle.scenario_image.specs.declared.parts.RoutePart.{RoutePart}
 use Rattle.scenario_asm.specs.declared.fault.Fault.{Fault}
-use Rattle.scenario_asm.specs.declared.fault.Fault.TheVariants.{E6}
+use Rattle.scenario_asm.specs.declared.fault.Fault.TheVariants.{E4, E6}
 use Rattle.scenario_asm.specs.declared.table.Item.{Item}
 use Rattle.scenario_asm.specs.declared.statement.LinkLine.{LinkLine}
 use Rattle.scenario_asm.specs.declared.statement.LoseLine.{LoseLine}
@@ -24,10 +26,10 @@ use Rattle.scenario_asm.specs.declared.statement.Statement.TheVariants.{Sim, Nod
 use Rattle.scenario_asm.specs.Lines.{Word}
 use Rattle.scenario_asm.specs.Numbers.{is_name, number, number_verdict}
 use Rattle.scenario_asm.specs.Names.{Known, number_of, kind_of, link_of, is_sender, is_receiver, is_router, is_end, is_from, is_routed, is_full_router, lost_of, lose_list, last_of, least_above, used_verdict, new_name_verdict, node_verdict, other_node_verdict, destination_verdict}
-use Rattle.scenario_asm.specs.Statements.{statement_at, node_verdicts, link_verdicts, link_said, flow_verdicts, route_verdicts, lose_verdicts}
-use Rattle.scenario_asm.specs.Spelling.{node_label, link_label, flow_label, spelling}
+use Rattle.scenario_asm.specs.Statements.{statement_at, newreno_named, iw_named, node_verdicts, link_verdicts, link_said, flow_verdicts, route_verdicts, lose_verdicts}
+use Rattle.scenario_asm.specs.Spelling.{node_label, link_label, flow_label, newreno_word, iw_word, spelling}
 use Rattle.scenario_asm.specs.CanonicalText.{line_of_link}
-use Rattle.scenario_asm.specs.Verdicts.{Verdict, first_fault, faulty_if}
+use Rattle.scenario_asm.specs.Verdicts.{Verdict, first_fault, faulty_if, faulty_unless}
 use Rattle.scenario_asm.proofs.Right.{AreNone}
 use Rattle.scenario_asm.proofs.Verdicts.{judged_ok}
 use Rattle.scenario_asm.proofs.Decimals.{number_decimal, decimal_right, label_name}
@@ -172,6 +174,20 @@ link_says known kinds links flows routes link at limits few less apart room =
     queue_says known (link_label (length links)) link.from link.to link.rate link.delay link.capacity link.queue (line_fine known kinds links flows routes link at limits few less apart room) limits.queue_range
 
 -- `flow`
+newreno_again : (newreno : Bool) → newreno_named (newreno_word newreno) ≡ Some newreno
+newreno_again true = refl
+newreno_again false = refl
+
+iw_again : (iw : Iw) → iw_named (iw_word iw) ≡ Some iw
+iw_again Iw3 = refl
+iw_again Iw10 = refl
+
+newreno_none : (newreno : Bool) → faulty_unless (is_some (newreno_named (newreno_word newreno))) E4 ≡ None
+newreno_none newreno = ap (λ read. faulty_unless (is_some read) E4) (newreno_again newreno)
+
+iw_none : (iw : Iw) → faulty_unless (is_some (iw_named (iw_word iw))) E4 ≡ None
+iw_none iw = ap (λ read. faulty_unless (is_some read) E4) (iw_again iw)
+
 flow_verdicts_none : (known : Known) (kinds : List NodeKind) (links : List LinkPart) (flows : List FlowPart) (routes : List RoutePart) (end : ℕ) (flow : FlowPart) → IsNumbered known kinds links flows routes → IsFlowInLimits (length kinds) end flow → end ≤ 1000000000000000 → length kinds ≤ 256 → length flows < 128 → slice_get kinds flow.sender ≡ Some Sender → slice_get kinds flow.receiver ≡ Some Receiver → AreNone (flow_verdicts known (spelling (Flow (flow_label (length flows)) flow)))
 flow_verdicts_none known kinds links flows routes end flow at limits soon few less sender receiver = (
   new_none known (flow_label (length flows)) (label_name 102 (length flows) refl (omega arith)) (at.no_flow (length flows) (omega arith) (omega arith)),
@@ -187,7 +203,7 @@ flow_verdicts_none known kinds links flows routes end flow at limits soon few le
             decimal_right 0 (LATEST_END - 1) flow.start (omega (arith, limits.start_range)) (omega arith) (omega (arith, limits.start_range)),
             (
               decimal_right (number (decimal flow.mss)) GREATEST_RWND flow.rwnd (omega (arith, limits.rwnd_range.1)) (omega (arith, limits.rwnd_range.0, number_decimal flow.mss (omega (arith, limits.mss_range.1)))) limits.rwnd_range.1,
-              (decimal_right 0 LONGEST_DELACK flow.delack (omega (arith, limits.delack_range)) (omega arith) limits.delack_range, tt),
+              (decimal_right 0 LONGEST_DELACK flow.delack (omega (arith, limits.delack_range)) (omega arith) limits.delack_range, (newreno_none flow.variant.newreno, (iw_none flow.variant.iw, tt))),
             ),
           ),
         ),
@@ -196,7 +212,7 @@ flow_verdicts_none known kinds links flows routes end flow at limits soon few le
   ),
 )
 
-flow_same : (known : Known) (kinds : List NodeKind) (links : List LinkPart) (flows : List FlowPart) (routes : List RoutePart) (end : ℕ) (flow : FlowPart) → IsNumbered known kinds links flows routes → IsFlowInLimits (length kinds) end flow → end ≤ 1000000000000000 → ◌≡◌ {A = FlowPart} (record { sender = number_of known (node_label flow.sender); receiver = number_of known (node_label flow.receiver); mss = number (decimal flow.mss); segments = number (decimal flow.segments); start = number (decimal flow.start); rwnd = number (decimal flow.rwnd); delack = number (decimal flow.delack) }) flow
+flow_same : (known : Known) (kinds : List NodeKind) (links : List LinkPart) (flows : List FlowPart) (routes : List RoutePart) (end : ℕ) (flow : FlowPart) → IsNumbered known kinds links flows routes → IsFlowInLimits (length kinds) end flow → end ≤ 1000000000000000 → ◌≡◌ {A = FlowPart} (record { sender = number_of known (node_label flow.sender); receiver = number_of known (node_label flow.receiver); mss = number (decimal flow.mss); segments = number (decimal flow.segments); start = number (decimal flow.start); rwnd = number (decimal flow.rwnd); delack = number (decimal flow.delack); variant = record { newreno = unwrap_or (newreno_named (newreno_word flow.variant.newreno)) false; iw = unwrap_or (iw_named (iw_word flow.variant.iw)) Iw3 } }) flow
 flow_same known kinds links flows routes end flow at limits soon =
     let sender = node_number known kinds links flows routes at flow.sender limits.sender_node in
     let receiver = node_number known kinds links flows routes at flow.receiver limits.receiver_node in
@@ -205,7 +221,7 @@ flow_same known kinds links flows routes end flow at limits soon =
     let start = number_decimal flow.start (omega (arith, limits.start_range)) in
     let rwnd = number_decimal flow.rwnd (omega (arith, limits.rwnd_range.1)) in
     let delack = number_decimal flow.delack (omega (arith, limits.delack_range)) in
-    rw (sender, receiver, mss, segments, start, rwnd, delack) refl
+    rw (sender, receiver, mss, segments, start, rwnd, delack, newreno_again flow.variant.newreno, iw_again flow.variant.iw) refl
 
 pub flow_says : (known : Known) (kinds : List NodeKind) (links : List LinkPart) (flows : List FlowPart) (routes : List RoutePart) (end : ℕ) (flow : FlowPart) → IsNumbered known kinds links flows routes → IsFlowInLimits (length kinds) end flow → end ≤ 1000000000000000 → length kinds ≤ 256 → length flows < 128 → slice_get kinds flow.sender ≡ Some Sender → slice_get kinds flow.receiver ≡ Some Receiver → statement_at known (spelling (Flow (flow_label (length flows)) flow)) ≡ Ok (Flow (flow_label (length flows)) flow)
 flow_says known kinds links flows routes end flow at limits soon few less sender receiver =

@@ -1,9 +1,11 @@
 -- Each spelt statement is a line of plain words.
-use Rattle.std.proofs.Common.{◌≡◌, ◌<◌, ◌≤◌, ◌^◌, ℕ, true, List, [], ◌∷◌, length, refl, arith}
+use Rattle.std.proofs.Common.{◌≡◌, ◌<◌, ◌≤◌, ◌^◌, ℕ, Bool, true, false, List, [], ◌∷◌, length, refl, arith}
 use Rattle.std.specs.Prelude.{codes, decimal}
 use Rattle.std.specs.List.{join_by}
 use Rattle.std.proofs.lemmas.Bool.{and_from}
 use Rattle.std.proofs.lemmas.Fmt.{decimal_nonempty}
+use Rattle.sim_time.specs.declared.variant.Iw.{Iw}
+use Rattle.sim_time.specs.declared.variant.Iw.TheVariants.{Iw3, Iw10}
 use Rattle.scenario_image.specs.LinkLimits.{IsQueueInLimits, IsLinkInLimits}
 use Rattle.scenario_image.specs.FlowLimits.{IsFlowInLimits}
 use Rattle.scenario_image.specs.declared.parts.NodeKind.{NodeKind}
@@ -20,7 +22,7 @@ use Rattle.scenario_asm.specs.Lines.{Word}
 use Rattle.scenario_asm.specs.Numbers.{is_letter_or_digit}
 use Rattle.scenario_asm.specs.Names.{Known}
 use Rattle.scenario_asm.specs.Statements.{statement_at, as_said, line_at}
-use Rattle.scenario_asm.specs.Spelling.{node_label, link_label, flow_label, kind_word, queue_words, spelling, line_for}
+use Rattle.scenario_asm.specs.Spelling.{node_label, link_label, flow_label, kind_word, queue_words, newreno_word, iw_word, spelling, line_for}
 use Rattle.scenario_asm.specs.CanonicalText.{line_of_link}
 use Rattle.scenario_asm.proofs.Decimals.{decimal_fits}
 use Rattle.scenario_asm.proofs.SpeltLines.{IsPlain, ArePlain, is_free, joined_free, joined_says}
@@ -41,6 +43,14 @@ plain_kind : (kind : NodeKind) → IsPlain (kind_word kind)
 plain_kind Sender = record { some = omega arith; fits = refl }
 plain_kind Receiver = record { some = omega arith; fits = refl }
 plain_kind Router = record { some = omega arith; fits = refl }
+
+plain_newreno : (newreno : Bool) → IsPlain (newreno_word newreno)
+plain_newreno true = record { some = omega arith; fits = refl }
+plain_newreno false = record { some = omega arith; fits = refl }
+
+plain_iw : (iw : Iw) → IsPlain (iw_word iw)
+plain_iw Iw3 = record { some = omega arith; fits = refl }
+plain_iw Iw10 = record { some = omega arith; fits = refl }
 
 plain_queue : (capacity : ℕ) (queue : QueueKind) → capacity ≤ 65535 → IsQueueInLimits queue → ArePlain (queue_words capacity queue)
 plain_queue capacity DropTail few limits = (record { some = omega arith; fits = refl }, (plain_decimal capacity (omega arith), tt))
@@ -104,7 +114,7 @@ flow_spelt n node_count end flow few less soon limits =
                   plain_decimal flow.segments (omega (arith, limits.segments_range.1)),
                   (
                     plain_decimal flow.start (omega (arith, limits.start_range)),
-                    (plain_decimal flow.rwnd (omega (arith, limits.rwnd_range.1)), (plain_decimal flow.delack (omega (arith, limits.delack_range)), tt)),
+                    (plain_decimal flow.rwnd (omega (arith, limits.rwnd_range.1)), (plain_decimal flow.delack (omega (arith, limits.delack_range)), (plain_newreno flow.variant.newreno, (plain_iw flow.variant.iw, tt)))),
                   ),
                 ),
               ),

@@ -7,13 +7,13 @@ use Rattle.std.proofs.lemmas.Grind.{common_steps}
 use Rattle.std.proofs.lemmas.Bool.Decides.{nat_tests}
 use Rattle.std.proofs.lemmas.Bool.{cases_lt}
 use Rattle.std.proofs.lemmas.List.{take_at}
-use Rattle.scenario_image.specs.declared.limits.TheConstants.{LATEST_END, MOST_LINKS}
+use Rattle.scenario_image.specs.declared.limits.TheConstants.{LATEST_END, MOST_LINKS, MOST_FLOWS}
 use Rattle.scenario_asm.specs.declared.fault.Fault.TheVariants.{E2, E3}
-use Rattle.scenario_asm.specs.declared.statement.Statement.TheVariants.{Link}
+use Rattle.scenario_asm.specs.declared.statement.Statement.TheVariants.{Link, Flow}
 use Rattle.scenario_asm.specs.Lines.{Word, words_of, is_printable}
 use Rattle.scenario_asm.specs.Numbers.{number_verdict}
 use Rattle.scenario_asm.specs.Names.{Known, number_of, is_full_router}
-use Rattle.scenario_asm.specs.Statements.{nth, sim_at, node_at, is_drop_tail, is_codel, has_link_length, node_verdicts, codel_verdicts, link_first_verdicts, link_verdicts, flow_verdicts, route_verdicts, lose_verdicts, link_said, link_at, flow_at, route_at, lose_at, statement_at, as_said, line_at}
+use Rattle.scenario_asm.specs.Statements.{nth, sim_at, node_at, is_drop_tail, is_codel, has_link_length, has_flow_length, node_verdicts, codel_verdicts, link_first_verdicts, link_verdicts, flow_verdicts, route_verdicts, lose_verdicts, link_said, link_at, flow_said, flow_at, route_at, lose_at, statement_at, as_said, line_at}
 use Rattle.scenario_asm.specs.Places.{judged_word, statement_word, line_word}
 use Rattle.scenario_asm.specs.Verdicts.{Verdict, judged}
 
@@ -41,8 +41,11 @@ link_long known words many =
     let no_count : has_link_length words ≡ false = no_length (is_drop_tail words) (is_codel words) _ _ (not_many _ 8 many (omega arith)) (not_many _ 11 many (omega arith)) in
     ap (λ b. judged b (link_verdicts known words) (nat_le MOST_LINKS (length known.links) || is_full_router known (number_of known (nth words 2))) (Link (nth words 1) (link_said known words))) no_count
 
+no_flow_length : (words : List Word) → 12 ≤ length words → has_flow_length words ≡ false
+no_flow_length words many = no_length false false _ _ (not_many _ 9 many (omega arith)) (not_many _ 11 many (omega arith))
+
 flow_long : (known : Known) (words : List Word) → 12 ≤ length words → flow_at known words ≡ Err E3
-flow_long known words many = let no_count : (length words == 9) ≡ false = not_many _ 9 many (omega arith) in simp no_count
+flow_long known words many = ap (λ b. judged b (flow_verdicts known words) (nat_le MOST_FLOWS (length known.flows)) (Flow (nth words 1) (flow_said known words))) (no_flow_length words many)
 
 route_long : (known : Known) (words : List Word) → 12 ≤ length words → route_at known words ≡ Err E3
 route_long known words many = let no_count : (length words == 4) ≡ false = not_many _ 4 many (omega arith) in simp no_count
@@ -76,7 +79,7 @@ long_word known words many =
     long_answer None (Some 0) (bytes_eq (nth words 0) (codes "sim")) (bytes_eq (nth words 0) (codes "node")) (bytes_eq (nth words 0) (codes "link")) (bytes_eq (nth words 0) (codes "flow")) (bytes_eq (nth words 0) (codes "route")) (bytes_eq (nth words 0) (codes "lose")) _ _ _ _ _ _ (no_word _ (number_verdict 1 LATEST_END (nth words 1) ∷ []) (not_many _ 2 many (omega arith)))
     (no_word _ (node_verdicts known words) (not_many _ 3 many (omega arith)))
     (no_word _ (link_first_verdicts known words ++ codel_verdicts words) (no_length (is_drop_tail words) (is_codel words) _ _ (not_many _ 8 many (omega arith)) (not_many _ 11 many (omega arith))))
-    (no_word _ (flow_verdicts known words) (not_many _ 9 many (omega arith)))
+    (no_word _ (flow_verdicts known words) (no_flow_length words many))
     (no_word _ (route_verdicts known words) (not_many _ 4 many (omega arith)))
     (no_word _ (lose_verdicts known words) (not_many _ 3 many (omega arith)))
 

@@ -1,6 +1,7 @@
 pub mod Faults
 pub mod Verdicts
 pub mod Lines
+pub mod Bounds
 pub mod Numbers
 pub mod Names
 pub mod Statements
@@ -11,6 +12,7 @@ pub mod Right
 pub mod OneAnswer
 pub mod Draft
 pub mod Meaning
+pub mod Declarations
 pub mod Places
 pub mod Refusals
 pub mod Spelling

@@ -4,7 +4,7 @@ use Rattle.std.specs.List.{list_any, slice_get}
 use Rattle.std.specs.Map.{update}
 use Rattle.std.specs.Str.{bytes_eq}
 use Rattle.scenario_image.specs.Ends.{outgoing_count}
-use Rattle.scenario_image.specs.declared.limits.TheConstants.{MOST_ROUTER_LINKS}
+use Rattle.scenario_asm.specs.Bounds.{MOST_ROUTER_LINKS}
 use Rattle.scenario_image.specs.declared.parts.NodeKind.{NodeKind}
 use Rattle.scenario_image.specs.declared.parts.NodeKind.TheVariants.{Sender, Receiver, Router}
 use Rattle.scenario_image.specs.declared.parts.LinkPart.{LinkPart}

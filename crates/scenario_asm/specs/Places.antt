@@ -2,14 +2,14 @@
 use Rattle.std.specs.Prelude.{◌≡◌, ℕ, not, ◌==◌, List, [], ◌∷◌, ◌++◌, length, take, codes, Bool, Option, Some, None, if◌then◌else◌, is_some}
 use Rattle.std.specs.List.{list_all, position, position_from, slice_range}
 use Rattle.std.specs.Str.{bytes_eq}
-use Rattle.scenario_image.specs.declared.limits.TheConstants.{LATEST_END}
+use Rattle.scenario_asm.specs.Bounds.{LATEST_END}
 use Rattle.scenario_asm.specs.declared.place.Part.{Part}
 use Rattle.scenario_asm.specs.declared.place.Part.TheVariants.{Line, Byte, Word as word_part}
 use Rattle.scenario_asm.specs.declared.place.Place.{Place}
 use Rattle.scenario_asm.specs.Lines.{Word, words_of, is_printable}
 use Rattle.scenario_asm.specs.Names.{Known}
 use Rattle.scenario_asm.specs.Numbers.{number_verdict}
-use Rattle.scenario_asm.specs.Statements.{nth, has_link_length, node_verdicts, link_first_verdicts, codel_verdicts, flow_verdicts, route_verdicts, lose_verdicts}
+use Rattle.scenario_asm.specs.Statements.{nth, has_link_length, has_flow_length, node_verdicts, link_first_verdicts, codel_verdicts, flow_verdicts, route_verdicts, lose_verdicts}
 use Rattle.scenario_asm.specs.Text.{known_of}
 use Rattle.scenario_asm.specs.Meaning.{statements_of, IsLineFault}
 use Rattle.scenario_asm.specs.Verdicts.{Verdict}
@@ -33,7 +33,7 @@ abbrev pub link_word : Known → List Word → Option ℕ
 link_word known words = judged_word (has_link_length words) (link_first_verdicts known words ++ codel_verdicts words)
 
 abbrev pub flow_word : Known → List Word → Option ℕ
-flow_word known words = judged_word (length words == 9) (flow_verdicts known words)
+flow_word known words = judged_word (has_flow_length words) (flow_verdicts known words)
 
 abbrev pub route_word : Known → List Word → Option ℕ
 route_word known words = judged_word (length words == 4) (route_verdicts known words)

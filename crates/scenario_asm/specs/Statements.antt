@@ -1,13 +1,15 @@
 -- The statements: what a line says, or its first fault.
-use Rattle.std.specs.Prelude.{ℕ, ◌-◌, Bool, false, ◌||◌, ◌==◌, nat_le, List, [], ◌∷◌, ◌++◌, length, codes, Option, Some, None, Result, Ok, Err, if◌then◌else◌, unwrap_or, is_some}
-use Rattle.std.specs.List.{slice_index_or, list_all}
+use Rattle.std.specs.Prelude.{ℕ, ◌-◌, Bool, true, false, ◌||◌, ◌==◌, nat_le, List, [], ◌∷◌, ◌++◌, length, codes, Option, Some, None, Result, Ok, Err, if◌then◌else◌, unwrap_or, is_some}
+use Rattle.std.specs.List.{slice_get, slice_index_or, list_all}
 use Rattle.std.specs.Str.{bytes_eq}
-use Rattle.sim_time.specs.declared.rate.TheConstants.{LEAST_RATE, GREATEST_RATE}
-use Rattle.scenario_image.specs.declared.limits.TheConstants.{LATEST_END, LONGEST_DELAY, GREATEST_MSS, MOST_SEGMENTS, GREATEST_RWND, LONGEST_DELACK, MOST_LOSE, MOST_NODES, MOST_LINKS, MOST_FLOWS}
+use Rattle.sim_time.specs.declared.variant.Iw.{Iw}
+use Rattle.sim_time.specs.declared.variant.Iw.TheVariants.{Iw3, Iw10}
+use Rattle.scenario_asm.specs.Bounds.{LEAST_RATE, GREATEST_RATE, LATEST_END, LONGEST_DELAY, GREATEST_MSS, MOST_SEGMENTS, GREATEST_RWND, LONGEST_DELACK, MOST_LOSE, MOST_NODES, MOST_LINKS, MOST_FLOWS}
 use Rattle.scenario_image.specs.declared.parts.NodeKind.{NodeKind}
 use Rattle.scenario_image.specs.declared.parts.NodeKind.TheVariants.{Sender, Receiver, Router}
 use Rattle.scenario_image.specs.declared.parts.QueueKind.{QueueKind}
 use Rattle.scenario_image.specs.declared.parts.QueueKind.TheVariants.{DropTail, Codel}
+use Rattle.scenario_image.specs.declared.parts.FlowPart.{FlowPart}
 use Rattle.scenario_asm.specs.declared.fault.Fault.{Fault}
 use Rattle.scenario_asm.specs.declared.fault.Fault.TheVariants.{E1, E2, E4}
 use Rattle.scenario_asm.specs.declared.statement.LinkLine.{LinkLine}
@@ -94,6 +96,43 @@ abbrev pub link_at : Known → List Word → Result Statement Fault
 link_at known words =
     judged (has_link_length words) (link_verdicts known words) (nat_le MOST_LINKS (length known.links) || is_full_router known (number_of known (nth words 2))) (Link (nth words 1) (link_said known words))
 
+-- `flow` has nine words, or two more
+abbrev pub has_flow_length : List Word → Bool
+has_flow_length words = length words == 9 || length words == 11
+
+-- whether a word names NewReno
+abbrev pub newreno_named : Word → Option Bool
+newreno_named word = if bytes_eq word (codes "reno") then Some false else (if bytes_eq word (codes "newreno") then Some true else None)
+
+-- the initial window that a word names
+abbrev pub iw_named : Word → Option Iw
+iw_named word = if bytes_eq word (codes "iw3") then Some Iw3 else (if bytes_eq word (codes "iw10") then Some Iw10 else None)
+
+-- what a word names that may be left out, and then stands for a default
+abbrev pub named_or : {A : Type 0} → A → (Word → Option A) → Option Word → Option A
+named_or default named None = Some default
+named_or default named (Some word) = named word
+
+-- what the tenth word names; where it is left out, reno
+abbrev pub newreno_at : List Word → Option Bool
+newreno_at words = named_or false newreno_named (slice_get words 9)
+
+-- what the eleventh word names; where it is left out, the smaller initial window
+abbrev pub iw_at : List Word → Option Iw
+iw_at words = named_or Iw3 iw_named (slice_get words 10)
+
+abbrev pub newreno_verdict : List Word → Verdict
+newreno_verdict words = faulty_unless (is_some (newreno_at words)) E4
+
+abbrev pub iw_verdict : List Word → Verdict
+iw_verdict words = faulty_unless (is_some (iw_at words)) E4
+
+abbrev pub newreno_said : List Word → Bool
+newreno_said words = unwrap_or (newreno_at words) false
+
+abbrev pub iw_said : List Word → Iw
+iw_said words = unwrap_or (iw_at words) Iw3
+
 -- the verdicts on the words of `flow` after the first
 abbrev pub flow_verdicts : Known → List Word → List Verdict
 flow_verdicts known words =
@@ -105,12 +144,26 @@ flow_verdicts known words =
     ∷ number_verdict 0 (LATEST_END - 1) (nth words 6)
     ∷ number_verdict (number (nth words 4)) GREATEST_RWND (nth words 7)
     ∷ number_verdict 0 LONGEST_DELACK (nth words 8)
+    ∷ newreno_verdict words
+    ∷ iw_verdict words
     ∷ []
 
--- `flow NAME SENDER RECEIVER MSS SEGMENTS START RWND DELACK`
+-- the flow that the words say
+abbrev pub flow_said : Known → List Word → FlowPart
+flow_said known words = record {
+  sender = number_of known (nth words 2);
+  receiver = number_of known (nth words 3);
+  mss = number (nth words 4);
+  segments = number (nth words 5);
+  start = number (nth words 6);
+  rwnd = number (nth words 7);
+  delack = number (nth words 8);
+  variant = record { newreno = newreno_said words; iw = iw_said words };
+}
+
+-- `flow NAME SENDER RECEIVER MSS SEGMENTS START RWND DELACK`, and with both or neither of `reno` or `newreno` and `iw3` or `iw10` behind these
 abbrev pub flow_at : Known → List Word → Result Statement Fault
-flow_at known words =
-    judged (length words == 9) (flow_verdicts known words) (nat_le MOST_FLOWS (length known.flows)) (Flow (nth words 1) (record { sender = number_of known (nth words 2); receiver = number_of known (nth words 3); mss = number (nth words 4); segments = number (nth words 5); start = number (nth words 6); rwnd = number (nth words 7); delack = number (nth words 8) }))
+flow_at known words = judged (has_flow_length words) (flow_verdicts known words) (nat_le MOST_FLOWS (length known.flows)) (Flow (nth words 1) (flow_said known words))
 
 -- the verdicts on the words of `route` after the first
 abbrev pub route_verdicts : Known → List Word → List Verdict

@@ -89,6 +89,3 @@ pub fn disassemble(alloc: Global, scenario: &Scenario) -> Result<Vec<u8>, AllocE
 {
     text_of(alloc, scenario.parts())
 }
-
-#[cfg(test)]
-mod tests;

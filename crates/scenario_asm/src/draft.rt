@@ -1,17 +1,18 @@
 //! What the lines so far say together.
-ghost use Rattle.std.specs.Prelude.{◌≡◌, ◌≢◌, ℕ, List, [], ◌∷◌, ◌++◌, Option, OnOk};
+ghost use Rattle.std.specs.Prelude.{◌≡◌, ◌≢◌, ℕ, List, [], ◌∷◌, ◌++◌, Option, OnOk, IfOk};
 ghost use Rattle.std.specs.Option.{ForSome};
 ghost use Rattle.scenario_asm.specs.declared.statement.Statement.{Statement};
 ghost use Rattle.scenario_asm.specs.Meaning.{statements_of};
 ghost use Rattle.scenario_asm.specs.Text.{link_part};
 ghost use Rattle.scenario_asm.specs.Table.{known_in};
 ghost use Rattle.scenario_asm.specs.Right.{IsRight, AreOfKinds};
+ghost use Rattle.scenario_asm.specs.Declarations.{GiveParts};
 ghost use Rattle.scenario_asm.specs.Draft.{AreEnds, Holds, IsWholeAnswer, WholeGives};
 
 use crate::fault::{AsmFault, Fault};
 use crate::statement::{LinkLine, Statement};
 use crate::table::Table;
-use scenario_image::{LinkPart, LoadFault, Records, Scenario};
+use scenario_image::{LinkPart, LoadFault, Records, Scenario, ScenarioParts};
 use sim_time::Time;
 use std::alloc::{AllocError, Global};
 
@@ -114,6 +115,18 @@ impl<'a> Draft<'a> {
         match said {
             Some(statement) => self.add(alloc, statement),
             None => Ok(()),
+        }
+    }
+
+    /// The parts that the lines make, whether they are a scenario or not; `None` where they have not
+    /// exactly one end.
+    pub fn into_parts(self, alloc: Global) -> Result<Option<ScenarioParts>, AllocError>
+        ensures { (statements : List Statement) → Holds self.entry statements → IfOk result (GiveParts statements) }
+    {
+        let Draft { ends, table } = self;
+        match ends {
+            Ends::Set(end) => Ok(Some(table.into_parts(alloc, end)?)),
+            Ends::Unset | Ends::Repeated => Ok(None),
         }
     }
 

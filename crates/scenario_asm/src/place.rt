@@ -4,9 +4,6 @@ ghost use Rattle.scenario_asm.specs.declared.fault.Fault.{Fault};
 ghost use Rattle.scenario_asm.specs.Meaning.{IsLineFault};
 ghost use Rattle.scenario_asm.specs.Places.{IsPart, IsFaultPlace};
 
-#[cfg(test)]
-mod tests;
-
 use crate::draft::Draft;
 use crate::fault::Fault;
 use crate::lexer::{first_unprintable, word_range};

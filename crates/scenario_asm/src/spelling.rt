@@ -2,11 +2,11 @@
 ghost use Rattle.std.specs.Prelude.{◌≡◌, ◌++◌, ◌∷◌, [], codes, decimal, flat_map, OnOk};
 ghost use Rattle.scenario_asm.specs.declared.statement.Statement.TheVariants.{Sim, Node, Link, Flow, Route, Lose};
 ghost use Rattle.scenario_asm.specs.CanonicalText.{line_of_link};
-ghost use Rattle.scenario_asm.specs.Spelling.{node_label, link_label, flow_label, kind_word, queue_words, line_for};
+ghost use Rattle.scenario_asm.specs.Spelling.{node_label, link_label, flow_label, kind_word, queue_words, newreno_word, iw_word, line_for};
 
 use itoa::Buffer;
 use scenario_image::{Codel, FlowPart, LinkPart, NodeKind, QueueKind, RoutePart};
-use sim_time::Time;
+use sim_time::{Iw, Time, Variant};
 use std::alloc::AllocError;
 
 /// Appends some bytes and a number. After an `Err` the bytes may stand there alone.
@@ -90,8 +90,33 @@ fn put_flow_numbers(text: &mut Vec<u8>, flow: FlowPart) -> Result<(), AllocError
     put(text, b" ", u64::from(flow.delack))
 }
 
-/// Appends `flow NAME SENDER RECEIVER MSS SEGMENTS START RWND DELACK`. After an `Err` a part of it
-/// may stand there.
+/// The word for which sender a flow has, behind a space.
+fn newreno_part(newreno: bool) -> &'static [u8]
+    ensures { result.now ≡ codes " " ++ newreno_word newreno }
+{
+    if newreno { b" newreno" } else { b" reno" }
+}
+
+/// The word for how large its initial window is, behind a space, and the line's end.
+fn iw_end(iw: Iw) -> &'static [u8]
+    ensures { result.now ≡ codes " " ++ iw_word iw ++ codes "\n" }
+{
+    match iw {
+        Iw::Iw3 => b" iw3\n",
+        Iw::Iw10 => b" iw10\n",
+    }
+}
+
+/// Appends which sender a flow has, and ends the line. After an `Err` a part of it may stand there.
+fn put_variant(text: &mut Vec<u8>, variant: Variant) -> Result<(), AllocError>
+    ensures { OnOk result (text.new.items ≡ text.old.items ++ (flat_map (λ word. codes " " ++ word) (newreno_word variant.newreno ∷ iw_word variant.iw ∷ []) ++ codes "\n")) }
+{
+    text.extend_from_slice(newreno_part(variant.newreno))?;
+    text.extend_from_slice(iw_end(variant.iw))
+}
+
+/// Appends `flow NAME SENDER RECEIVER MSS SEGMENTS START RWND DELACK` and the words for the sender.
+/// After an `Err` a part of it may stand there.
 pub fn put_flow(text: &mut Vec<u8>, number: u64, flow: FlowPart) -> Result<(), AllocError>
     ensures { OnOk result (text.new.items ≡ text.old.items ++ (line_for (Flow (flow_label number) flow) ++ codes "\n")) }
 {
@@ -99,7 +124,7 @@ pub fn put_flow(text: &mut Vec<u8>, number: u64, flow: FlowPart) -> Result<(), A
     put(text, b" n", u64::from(flow.sender))?;
     put(text, b" n", u64::from(flow.receiver))?;
     put_flow_numbers(text, flow)?;
-    text.extend_from_slice(b"\n")
+    put_variant(text, flow.variant)
 }
 
 /// Appends `route ROUTER DEST LINK`. After an `Err` a part of it may stand there.

@@ -22,6 +22,7 @@ mod link;
 mod lose;
 mod node;
 mod route;
+mod variant;
 
 use crate::fault::Fault;
 use crate::lexer::{Word, is_clean};

@@ -1,5 +1,5 @@
 -- What is written is read again: the image of parts within limits, whatever follows it.
-use Rattle.std.proofs.Common.{◌≡◌, ℕ, suc, ◌+◌, ◌*◌, ◌%◌, ◌^◌, ◌<◌, ◌≤◌, List, [], ◌∷◌, ◌++◌, map, length, take, drop, Option, Some, arith, refl, ap, sym, ◌∙◌, append_assoc}
+use Rattle.std.proofs.Common.{◌≡◌, ℕ, suc, ◌+◌, ◌*◌, ◌%◌, ◌^◌, ◌<◌, ◌≤◌, Bool, true, false, List, [], ◌∷◌, ◌++◌, map, length, take, drop, Option, Some, All, arith, refl, ap, sym, ◌∙◌, append_assoc}
 use Rattle.std.specs.List.{flat_map, AllByRecursion}
 use Rattle.std.specs.Option.{option_map, option_and_then}
 use Rattle.std.proofs.lemmas.List.{drop-drop, length-append, take_at, drop_at}
@@ -10,9 +10,11 @@ use Rattle.scenario_image.specs.Limits.{IsInLimits}
 use Rattle.scenario_image.specs.LinkLimits.{IsQueueInLimits, IsLinkInLimits}
 use Rattle.scenario_image.specs.FlowLimits.{IsFlowInLimits}
 use Rattle.scenario_image.specs.RouteLimits.{IsRouteInLimits}
-use Rattle.scenario_image.specs.Image.{header_image, node_byte, link_image, flow_image, route_image, image}
-use Rattle.scenario_image.specs.Layout.{node_count, link_count, flow_count, route_count, link_size, links_size, layout_size}
-use Rattle.scenario_image.specs.Reading.{each_at, node_of_byte, nodes_at, link_at, links_at, flow_at, route_at, parts_with, parts_at}
+use Rattle.sim_time.specs.declared.variant.Iw.{Iw}
+use Rattle.sim_time.specs.declared.variant.Iw.TheVariants.{Iw3, Iw10}
+use Rattle.scenario_image.specs.Image.{magic, node_byte, link_image, newreno_bit, iw_bit, flow_image, route_image, image, MayStandIn}
+use Rattle.scenario_image.specs.Layout.{version_of, node_count, link_count, flow_count, route_count, link_size, links_size, flow_size, layout_size}
+use Rattle.scenario_image.specs.Reading.{each_at, node_of_byte, nodes_at, link_at, links_at, variant_of_byte, variant_at, flow_with, flow_at, flows_at, route_at, parts_with, parts_behind, parts_at}
 use Rattle.scenario_image.specs.declared.parts.NodeKind.{NodeKind}
 use Rattle.scenario_image.specs.declared.parts.NodeKind.TheVariants.{Sender, Receiver, Router}
 use Rattle.scenario_image.specs.declared.parts.QueueKind.{QueueKind}
@@ -21,7 +23,9 @@ use Rattle.scenario_image.specs.declared.parts.LinkPart.{LinkPart}
 use Rattle.scenario_image.specs.declared.parts.FlowPart.{FlowPart}
 use Rattle.scenario_image.specs.declared.parts.RoutePart.{RoutePart}
 use Rattle.scenario_image.specs.declared.parts.ScenarioParts.{ScenarioParts}
-use Rattle.scenario_image.proofs.Takes.{body, image_regroup, length_map}
+use Rattle.scenario_image.specs.declared.version.Version.{Version}
+use Rattle.scenario_image.specs.declared.version.Version.TheVariants.{One, Two}
+use Rattle.scenario_image.proofs.Takes.{body, behind_magic, image_regroup, length_map}
 
 two : (n : ℕ) → n < 65536 → big_number 2 (big_bytes 2 n ++ []) ≡ n
 two n fits = big_number-reads_back 2 n [] fits
@@ -33,7 +37,7 @@ eight : (n : ℕ) → n < 18446744073709551616 → big_number 8 (big_bytes 8 n +
 eight n fits = big_number-reads_back 8 n [] fits
 
 -- a flow whose numbers fit into their bytes
-record FlowFits (flow : FlowPart) : Type 0 where
+record FlowFits (version : Version) (flow : FlowPart) : Type 0 where
   sender : flow.sender < 65536
   receiver : flow.receiver < 65536
   mss : flow.mss < 65536
@@ -41,9 +45,20 @@ record FlowFits (flow : FlowPart) : Type 0 where
   start : flow.start < 18446744073709551616
   rwnd : flow.rwnd < 4294967296
   delack : flow.delack < 4294967296
+  stands : MayStandIn version flow
 
-flow_again : (flow : FlowPart) (rest : List ℕ) → FlowFits flow → flow_at (flow_image flow ++ rest) ≡ flow
-flow_again flow rest fits = λ i. record {
+bits_again : (newreno : Bool) (iw : Iw) → variant_of_byte ((newreno_bit newreno + iw_bit iw) % 256) ≡ Some (record { newreno = newreno; iw = iw })
+bits_again false Iw3 = refl
+bits_again true Iw3 = refl
+bits_again false Iw10 = refl
+bits_again true Iw10 = refl
+
+variant_again : (version : Version) (flow : FlowPart) (rest : List ℕ) → MayStandIn version flow → variant_at version (flow_image version flow ++ rest) ≡ Some flow.variant
+variant_again One flow rest stands = ap Some (sym stands)
+variant_again Two flow rest stands = bits_again flow.variant.newreno flow.variant.iw
+
+numbers_again : (version : Version) (flow : FlowPart) (rest : List ℕ) → FlowFits version flow → flow_with (flow_image version flow ++ rest) flow.variant ≡ flow
+numbers_again version flow rest fits = λ i. record {
   sender = two flow.sender fits.sender i;
   receiver = two flow.receiver fits.receiver i;
   mss = two flow.mss fits.mss i;
@@ -51,7 +66,16 @@ flow_again flow rest fits = λ i. record {
   start = eight flow.start fits.start i;
   rwnd = four flow.rwnd fits.rwnd i;
   delack = four flow.delack fits.delack i;
+  variant = flow.variant;
 }
+
+flow_again : (version : Version) (flow : FlowPart) (rest : List ℕ) → FlowFits version flow → flow_at version (flow_image version flow ++ rest) ≡ Some flow
+flow_again version flow rest fits = ap (option_map (flow_with (flow_image version flow ++ rest))) (variant_again version flow rest fits.stands) ∙ ap Some (numbers_again version flow rest fits)
+
+-- a flow takes its bytes
+flow_sized : (version : Version) (flow : FlowPart) → length (flow_image version flow) ≡ flow_size version
+flow_sized One flow = refl
+flow_sized Two flow = refl
 
 -- a route whose numbers fit into their bytes
 record RouteFits (route : RoutePart) : Type 0 where
@@ -164,10 +188,24 @@ links_again (link ∷ links) rest fits =
     ∙ ap (λ xs. read (Some link) xs) later
     ∙ ap (option_map (λ (others : List LinkPart × List ℕ). (link ∷ others.0, others.1))) (links_again links rest fits.1)
 
+-- ---- the flows
+
+flows_again : (version : Version) (flows : List FlowPart) (rest : List ℕ) → AllByRecursion (FlowFits version) flows → flows_at version (length flows) (flat_map (flow_image version) flows ++ rest) ≡ Some flows
+flows_again version [] rest fits = refl
+flows_again version (flow ∷ flows) rest fits =
+    let others : List ℕ = flat_map (flow_image version) flows ++ rest in
+    let grouped : flat_map (flow_image version) (flow ∷ flows) ++ rest ≡ flow_image version flow ++ others = append_assoc (flow_image version flow) (flat_map (flow_image version) flows) rest in
+    let later : drop (flow_size version) (flow_image version flow ++ others) ≡ others = drop_at (flow_image version flow) others (flow_size version) (flow_sized version flow) in
+    let read : Option FlowPart → List ℕ → Option (List FlowPart) = λ first behind. option_and_then (λ flow. option_map (λ others. flow ∷ others) (flows_at version (length flows) behind)) first in
+    ap (flows_at version (suc (length flows))) grouped
+    ∙ ap (λ first. read first (drop (flow_size version) (flow_image version flow ++ others))) (flow_again version flow others fits.0)
+    ∙ ap (λ xs. read (Some flow) xs) later
+    ∙ ap (option_map (λ (others : List FlowPart). flow ∷ others)) (flows_again version flows rest fits.1)
+
 -- ---- all parts
 
-flow_fits : (nodes end : ℕ) (flow : FlowPart) → nodes ≤ 256 → end ≤ 10 ^ 15 → IsFlowInLimits nodes end flow → FlowFits flow
-flow_fits nodes end flow few early limits = record {
+flow_fits : (version : Version) (nodes end : ℕ) (flow : FlowPart) → nodes ≤ 256 → end ≤ 10 ^ 15 → MayStandIn version flow → IsFlowInLimits nodes end flow → FlowFits version flow
+flow_fits version nodes end flow few early stands limits = record {
   sender = omega (arith, few, limits.sender_node);
   receiver = omega (arith, few, limits.receiver_node);
   mss = omega (arith, limits.mss_range.1);
@@ -175,6 +213,7 @@ flow_fits nodes end flow few early limits = record {
   start = omega (arith, early, limits.start_range);
   rwnd = omega (arith, limits.rwnd_range.1);
   delack = omega (arith, limits.delack_range);
+  stands = stands;
 }
 
 route_fits : (nodes links : ℕ) (route : RoutePart) → nodes ≤ 256 → links ≤ 1024 → IsRouteInLimits nodes links route → RouteFits route
@@ -197,47 +236,66 @@ link_fits nodes link few limits = record {
 }
 
 -- the numbers of parts within limits fit into their bytes
-record Fit (parts : ScenarioParts) : Type 0 where
+record Fit (version : Version) (parts : ScenarioParts) : Type 0 where
   end : parts.end < 18446744073709551616
   nodes : length parts.nodes < 65536
   links : length parts.links < 65536
   flows : length parts.flows < 65536
   routes : length parts.routes < 4294967296
   each_link : AllByRecursion LinkFits parts.links
-  each_flow : AllByRecursion FlowFits parts.flows
+  each_flow : AllByRecursion (FlowFits version) parts.flows
   each_route : AllByRecursion RouteFits parts.routes
 
-fit : (parts : ScenarioParts) → IsInLimits parts → Fit parts
-fit parts limits = record {
+fit : (version : Version) (parts : ScenarioParts) → IsInLimits parts → All (MayStandIn version) parts.flows → Fit version parts
+fit version parts limits stand = record {
   end = omega (arith, limits.end_range.1);
   nodes = omega (arith, limits.counts.node_count.1);
   links = omega (arith, limits.counts.link_count.1);
   flows = omega (arith, limits.counts.flow_count.1);
   routes = omega (arith, limits.counts.route_count);
   each_link = recursion_from_All LinkFits parts.links (λ k d below. link_fits (length parts.nodes) _ limits.counts.node_count.1 (limits.each_link k d below));
-  each_flow = recursion_from_All FlowFits parts.flows (λ k d below. flow_fits (length parts.nodes) parts.end _ limits.counts.node_count.1 limits.end_range.1 (limits.each_flow k d below));
+  each_flow = recursion_from_All (FlowFits version) parts.flows (λ k d below. flow_fits version (length parts.nodes) parts.end _ limits.counts.node_count.1 limits.end_range.1 (stand k d below) (limits.each_flow k d below));
   each_route = recursion_from_All RouteFits parts.routes (λ k d below. route_fits (length parts.nodes) (length parts.links) _ limits.counts.node_count.1 limits.counts.link_count.1 (limits.each_route k d below));
 }
 
--- what is read where parts are spelled and then a rest
-record Reads (parts : ScenarioParts) (rest bytes : List ℕ) : Type 0 where
-  parts_are : parts_at bytes ≡ Some (parts, rest)
-  sized : layout_size bytes ≡ length (image parts)
+-- the digit at the end of a magic
+abbrev digit : Version → ℕ
+digit One = 49
+digit Two = 50
 
-reads : (parts : ScenarioParts) (rest : List ℕ) → Fit parts → Reads parts rest (header_image parts ++ body parts rest)
-reads parts rest fits = record { parts_are = parts_are; sized = sized }
+abbrev start : Version → List ℕ
+start version = 84 ∷ 67 ∷ 66 ∷ digit version ∷ []
+
+start_is : (version : Version) → magic version ≡ start version
+start_is One = refl
+start_is Two = refl
+
+judged : (version : Version) (rest : List ℕ) → version_of (start version ++ rest) ≡ version
+judged One rest = refl
+judged Two rest = refl
+
+-- what is read where parts are spelled and then a rest
+record Reads (version : Version) (parts : ScenarioParts) (rest bytes : List ℕ) : Type 0 where
+  parts_are : parts_at bytes ≡ Some (parts, rest)
+  sized : layout_size bytes ≡ 22 + (length parts.nodes + (length (flat_map link_image parts.links) + (flow_size version * length parts.flows + 6 * length parts.routes)))
+
+reads : (version : Version) (parts : ScenarioParts) (rest : List ℕ) → Fit version parts → Reads version parts rest (behind_magic (start version) parts (body version parts rest))
+reads version parts rest fits = record { parts_are = parts_are; sized = sized }
   where
     bytes : List ℕ
-    bytes = header_image parts ++ body parts rest
+    bytes = behind_magic (start version) parts (body version parts rest)
 
     routes : List ℕ
     routes = flat_map route_image parts.routes ++ rest
 
     flows : List ℕ
-    flows = flat_map flow_image parts.flows ++ routes
+    flows = flat_map (flow_image version) parts.flows ++ routes
 
     links : List ℕ
     links = flat_map link_image parts.links ++ flows
+
+    version_is : version_of bytes ≡ version
+    version_is = judged version (drop 4 bytes)
 
     nodes_counted : node_count bytes ≡ length parts.nodes
     nodes_counted = two (length parts.nodes) fits.nodes
@@ -260,51 +318,61 @@ reads parts rest fits = record { parts_are = parts_are; sized = sized }
     cables : links_at (link_count bytes) (drop (22 + node_count bytes) bytes) ≡ Some (parts.links, flows)
     cables = ap (λ n. links_at n (drop (22 + node_count bytes) bytes)) links_counted ∙ ap (links_at (length parts.links)) behind_nodes ∙ links_again parts.links flows fits.each_link
 
-    flows_again : each_at 26 flow_at (flow_count bytes) flows ≡ parts.flows
-    flows_again = ap (λ n. each_at 26 flow_at n flows) flows_counted ∙ each_again 26 flow_at flow_image FlowFits (λ flow. refl) flow_again parts.flows routes fits.each_flow
+    streams : flows_at (version_of bytes) (flow_count bytes) flows ≡ Some parts.flows
+    streams = ap (λ v. flows_at v (flow_count bytes) flows) version_is ∙ ap (λ n. flows_at version n flows) flows_counted ∙ flows_again version parts.flows routes fits.each_flow
 
-    behind_flows : drop (26 * flow_count bytes) flows ≡ routes
-    behind_flows = ap (λ n. drop (26 * n) flows) flows_counted ∙ each_behind 26 flow_image (λ flow. refl) parts.flows routes
+    flows_take : flow_size (version_of bytes) * flow_count bytes ≡ flow_size version * length parts.flows
+    flows_take = ap (λ v. flow_size v * flow_count bytes) version_is ∙ ap (λ n. flow_size version * n) flows_counted
 
-    routes_again : each_at 6 route_at (route_count bytes) (drop (26 * flow_count bytes) flows) ≡ parts.routes
+    behind_flows : drop (flow_size (version_of bytes) * flow_count bytes) flows ≡ routes
+    behind_flows = ap (λ n. drop n flows) flows_take ∙ each_behind (flow_size version) (flow_image version) (flow_sized version) parts.flows routes
+
+    routes_again : each_at 6 route_at (route_count bytes) (drop (flow_size (version_of bytes) * flow_count bytes) flows) ≡ parts.routes
     routes_again =
         ap (λ xs. each_at 6 route_at (route_count bytes) xs) behind_flows ∙ ap (λ n. each_at 6 route_at n routes) routes_counted
         ∙ each_again 6 route_at route_image RouteFits (λ route. refl) route_again parts.routes rest fits.each_route
 
-    behind_routes : drop (6 * route_count bytes) (drop (26 * flow_count bytes) flows) ≡ rest
+    behind_routes : drop (6 * route_count bytes) (drop (flow_size (version_of bytes) * flow_count bytes) flows) ≡ rest
     behind_routes = ap (λ xs. drop (6 * route_count bytes) xs) behind_flows ∙ ap (λ n. drop (6 * n) routes) routes_counted ∙ each_behind 6 route_image (λ route. refl) parts.routes rest
 
-    read_parts : parts_with bytes parts.nodes (parts.links, flows) ≡ (parts, rest)
-    read_parts = λ i. (record { end = eight parts.end fits.end i; nodes = parts.nodes; links = parts.links; flows = flows_again i; routes = routes_again i }, behind_routes i)
+    read_parts : parts_with bytes parts.nodes (parts.links, flows) parts.flows ≡ (parts, rest)
+    read_parts = λ i. (record { end = eight parts.end fits.end i; nodes = parts.nodes; links = parts.links; flows = parts.flows; routes = routes_again i }, behind_routes i)
 
     parts_are : parts_at bytes ≡ Some (parts, rest)
     parts_are =
-        ap (λ read. option_and_then (λ nodes. option_map (parts_with bytes nodes) (links_at (link_count bytes) (drop (22 + node_count bytes) bytes))) read) kinds
-        ∙ ap (option_map (parts_with bytes parts.nodes)) cables ∙ ap Some read_parts
+        ap (λ read. option_and_then (λ nodes. option_and_then (parts_behind bytes nodes) (links_at (link_count bytes) (drop (22 + node_count bytes) bytes))) read) kinds
+        ∙ ap (option_and_then (parts_behind bytes parts.nodes)) cables
+        ∙ ap (option_map (parts_with bytes parts.nodes (parts.links, flows))) streams ∙ ap Some read_parts
 
     links_take : links_size (link_count bytes) (drop (22 + node_count bytes) bytes) ≡ length (flat_map link_image parts.links)
     links_take = ap (λ n. links_size n (drop (22 + node_count bytes) bytes)) links_counted ∙ ap (links_size (length parts.links)) behind_nodes ∙ links_sized parts.links flows fits.each_link
 
-    sized : layout_size bytes ≡ length (image parts)
-    sized =
-        omega (
-          arith,
-          nodes_counted,
-          flows_counted,
-          routes_counted,
-          links_take,
-          length_map node_byte parts.nodes,
-          flat_length 26 flow_image (λ flow. refl) parts.flows,
-          flat_length 6 route_image (λ route. refl) parts.routes,
-          length-append ((map node_byte parts.nodes ++ flat_map link_image parts.links) ++ flat_map flow_image parts.flows) (flat_map route_image parts.routes),
-          length-append (map node_byte parts.nodes ++ flat_map link_image parts.links) (flat_map flow_image parts.flows),
-          length-append (map node_byte parts.nodes) (flat_map link_image parts.links),
-        )
+    sized : layout_size bytes ≡ 22 + (length parts.nodes + (length (flat_map link_image parts.links) + (flow_size version * length parts.flows + 6 * length parts.routes)))
+    sized = omega (arith, nodes_counted, flows_take, routes_counted, links_take)
+
+-- an image, as its header and what is behind it
+spelled : (version : Version) (parts : ScenarioParts) (rest : List ℕ) → image version parts ++ rest ≡ behind_magic (start version) parts (body version parts rest)
+spelled version parts rest = image_regroup version parts rest ∙ ap (λ (xs : List ℕ). behind_magic xs parts (body version parts rest)) (start_is version)
+
+image_sized : (version : Version) (parts : ScenarioParts) → length (image version parts) ≡ 22 + (length parts.nodes + (length (flat_map link_image parts.links) + (flow_size version * length parts.flows + 6 * length parts.routes)))
+image_sized version parts =
+    omega (
+      arith,
+      length-append (image version parts) [],
+      ap length (spelled version parts []),
+      length-append (map node_byte parts.nodes) (flat_map link_image parts.links ++ (flat_map (flow_image version) parts.flows ++ (flat_map route_image parts.routes ++ []))),
+      length-append (flat_map link_image parts.links) (flat_map (flow_image version) parts.flows ++ (flat_map route_image parts.routes ++ [])),
+      length-append (flat_map (flow_image version) parts.flows) (flat_map route_image parts.routes ++ []),
+      length-append (flat_map route_image parts.routes) [],
+      length_map node_byte parts.nodes,
+      flat_length (flow_size version) (flow_image version) (flow_sized version) parts.flows,
+      flat_length 6 route_image (λ route. refl) parts.routes,
+    )
 
 -- an image is read again, whatever follows it
-pub parts_again : (parts : ScenarioParts) (rest : List ℕ) → IsInLimits parts → parts_at (image parts ++ rest) ≡ Some (parts, rest)
-parts_again parts rest limits = ap parts_at (image_regroup parts rest) ∙ (reads parts rest (fit parts limits)).parts_are
+pub parts_again : (version : Version) (parts : ScenarioParts) (rest : List ℕ) → IsInLimits parts → All (MayStandIn version) parts.flows → parts_at (image version parts ++ rest) ≡ Some (parts, rest)
+parts_again version parts rest limits stand = ap parts_at (spelled version parts rest) ∙ (reads version parts rest (fit version parts limits stand)).parts_are
 
 -- the layout of an image takes the image's bytes
-pub parts_sized : (parts : ScenarioParts) (rest : List ℕ) → IsInLimits parts → layout_size (image parts ++ rest) ≡ length (image parts)
-parts_sized parts rest limits = ap layout_size (image_regroup parts rest) ∙ (reads parts rest (fit parts limits)).sized
+pub parts_sized : (version : Version) (parts : ScenarioParts) (rest : List ℕ) → IsInLimits parts → All (MayStandIn version) parts.flows → layout_size (image version parts ++ rest) ≡ length (image version parts)
+parts_sized version parts rest limits stand = ap layout_size (spelled version parts rest) ∙ (reads version parts rest (fit version parts limits stand)).sized ∙ sym (image_sized version parts)

@@ -1,7 +1,7 @@
 -- What a walk along a way shows of the whole way.
 use Rattle.std.proofs.Common.{◌≡◌, ℕ, zero, suc, ◌+◌, ◌<◌, ◌≤◌, List, length, get_or, Option, Some, None, ⊎_elim, arith, refl, ap, sym, ◌∙◌, subst, All}
 use Rattle.std.proofs.lemmas.Bool.{cases_lt}
-use Rattle.std.proofs.lemmas.Option.{none-some, same_Some, option_and_then_some, slice_get_within, get_or_from_slice_get}
+use Rattle.std.proofs.lemmas.Option.{none-some, same_Some, option_and_then_some, slice_get_within, slice_get-get_or, get_or_from_slice_get}
 use Rattle.std.specs.List.{slice_get}
 use Rattle.std.specs.Option.{option_map, option_and_then, unwrap_or}
 use Rattle.scenario_image.proofs.Repeats.{HasRepeat, pigeonhole, none_later, some_earlier, no_new_place}
@@ -118,3 +118,8 @@ EachWayBefore parts count P = (number : ℕ) → number < count → (flow : Flow
 pub flow_at : (P : FlowPart → Type 0) (flows items : List FlowPart) (number : ℕ) (flow default : FlowPart) → items ≡ flows → slice_get flows number ≡ Some flow → P (get_or items number default) → P flow
 flow_at P flows items number flow default same found holds =
     subst P (ap (λ xs. get_or xs number default) same ∙ get_or_from_slice_get flows number flow default found) holds
+
+-- what holds of each flow holds of the one at a place
+pub at_place : (P : FlowPart → Type 0) (flows items : List FlowPart) (number : ℕ) (default : FlowPart) → items ≡ flows → number < length items → ((k : ℕ) (flow : FlowPart) → slice_get flows k ≡ Some flow → P flow) → P (get_or items number default)
+at_place P flows items number default same below each =
+    each number (get_or items number default) (ap (λ xs. slice_get xs number) (sym same) ∙ slice_get-get_or items number default below)

@@ -1,13 +1,15 @@
 -- What the loops that read keep: what is read so far, and what is left.
-use Rattle.std.proofs.Common.{◌≡◌, ℕ, suc, ◌+◌, ◌-◌, ◌*◌, ◌<◌, ◌≤◌, List, [], ◌∷◌, ◌++◌, length, drop, Option, Some, None, arith, refl, ap, sym, ◌∙◌, append_assoc}
+use Rattle.std.proofs.Common.{◌≡◌, ℕ, suc, ◌+◌, ◌-◌, ◌*◌, ◌<◌, ◌≤◌, List, [], ◌∷◌, ◌++◌, length, drop, Option, Some, None, Result, arith, refl, ap, sym, subst, ◌∙◌, append_assoc}
 use Rattle.std.specs.Option.{option_map, option_and_then}
 use Rattle.std.proofs.lemmas.List.{append-nil, length-drop}
-use Rattle.scenario_image.specs.Layout.{link_size, links_size}
-use Rattle.scenario_image.specs.Reading.{each_at, Fails, node_of_byte, nodes_at, link_at, links_at}
+use Rattle.scenario_image.specs.Layout.{link_size, links_size, flow_size}
+use Rattle.scenario_image.specs.Reading.{each_at, Fails, Gives, node_of_byte, nodes_at, link_at, links_at, flow_at, flows_at}
 use Rattle.scenario_image.specs.declared.fault.LoadFault.{LoadFault}
 use Rattle.scenario_image.specs.declared.fault.LoadFault.TheVariants.{L1, L2, L3, L4, L5, L6, L7, L8, NoMemory}
 use Rattle.scenario_image.specs.declared.parts.NodeKind.{NodeKind}
 use Rattle.scenario_image.specs.declared.parts.LinkPart.{LinkPart}
+use Rattle.scenario_image.specs.declared.parts.FlowPart.{FlowPart}
+use Rattle.scenario_image.specs.declared.version.Version.{Version}
 
 -- the first items are read, and the bytes of the others are there
 pub record IsReadSoFar {X : Type 0} (size : ℕ) (read : List ℕ → X) (count : ℕ) (bytes : List ℕ) (done : ℕ) (items : List X) (rest : List ℕ) : Type 0 where
@@ -93,6 +95,46 @@ pub links_done : (count : ℕ) (bytes : List ℕ) (done : ℕ) (front : List Lin
 links_done count bytes done front rest above so_far =
     sym so_far.all ∙ ap (λ n. links_before front (links_at n rest)) {x = count - done} {y = 0} (omega arith) ∙ ap (λ all. Some (all, rest)) (append-nil front)
 
+-- flows in front of those that are read
+abbrev pub flows_before : List FlowPart → Option (List FlowPart) → Option (List FlowPart)
+flows_before front read = option_map (λ flows. front ++ flows) read
+
+-- the first flows are read, and the bytes of the others are there
+pub record AreFlowsSoFar (version : Version) (count : ℕ) (bytes : List ℕ) (done : ℕ) (front : List FlowPart) (rest : List ℕ) : Type 0 where
+  pub all : flows_before front (flows_at version (count - done) rest) ≡ flows_at version count bytes
+  pub enough : flow_size version * (count - done) ≤ length rest
+
+-- the flows of the rest, by the first of them
+abbrev first_flow : Version → List ℕ → ℕ → Option FlowPart → Option (List FlowPart)
+first_flow version rest more first = option_and_then (λ flow. option_map (λ flows. flow ∷ flows) (flows_at version more (drop (flow_size version) rest))) first
+
+flows_regroup : (front : List FlowPart) (flow : FlowPart) (read : Option (List FlowPart)) → flows_before (front ++ flow ∷ []) read ≡ flows_before front (option_map (λ flows. flow ∷ flows) read)
+flows_regroup front flow None = refl
+flows_regroup front flow (Some flows) = ap Some (append_assoc front (flow ∷ []) flows)
+
+flows_split : (version : Version) (count done : ℕ) → done < count → flow_size version * (count - done) ≡ flow_size version + flow_size version * (count - (done + 1))
+flows_split version count done below = ap (λ (n : ℕ). flow_size version * n) (one_more count done below) ∙ omega arith
+
+pub flow_fits : (version : Version) (count : ℕ) (bytes : List ℕ) (done : ℕ) (front : List FlowPart) (rest : List ℕ) → done < count → AreFlowsSoFar version count bytes done front rest → flow_size version ≤ length rest
+flow_fits version count bytes done front rest below so_far = omega (arith, so_far.enough, flows_split version count done below)
+
+pub flow_next : (version : Version) (count : ℕ) (bytes : List ℕ) (done : ℕ) (front : List FlowPart) (rest : List ℕ) (flow : FlowPart) → done < count → flow_at version rest ≡ Some flow → AreFlowsSoFar version count bytes done front rest
+    → AreFlowsSoFar version count bytes (done + 1) (front ++ flow ∷ []) (drop (flow_size version) rest)
+flow_next version count bytes done front rest flow below is so_far = record {
+  all = flows_regroup front flow (flows_at version (count - (done + 1)) (drop (flow_size version) rest))
+      ∙ ap (λ first. flows_before front (first_flow version rest (count - (done + 1)) first)) (sym is)
+      ∙ ap (λ n. flows_before front (flows_at version n rest)) (sym (one_more count done below)) ∙ so_far.all;
+  enough = omega (arith, so_far.enough, flows_split version count done below, length-drop (flow_size version) rest);
+}
+
+pub no_flow : (version : Version) (count : ℕ) (bytes : List ℕ) (done : ℕ) (front : List FlowPart) (rest : List ℕ) → done < count → flow_at version rest ≡ None → AreFlowsSoFar version count bytes done front rest → flows_at version count bytes ≡ None
+no_flow version count bytes done front rest below is so_far =
+    sym so_far.all ∙ ap (λ n. flows_before front (flows_at version n rest)) (one_more count done below) ∙ ap (λ first. flows_before front (first_flow version rest (count - (done + 1)) first)) is
+
+pub flows_done : (version : Version) (count : ℕ) (bytes : List ℕ) (done : ℕ) (front : List FlowPart) (rest : List ℕ) → count ≤ done → AreFlowsSoFar version count bytes done front rest → flows_at version count bytes ≡ Some front
+flows_done version count bytes done front rest above so_far =
+    sym so_far.all ∙ ap (λ n. flows_before front (flows_at version n rest)) {x = count - done} {y = 0} (omega arith) ∙ ap Some (append-nil front)
+
 -- what is read of one link fails as what is read of all
 pub link_fails : (fault : LoadFault) (count : ℕ) (bytes : List ℕ) (done : ℕ) (front : List LinkPart) (rest : List ℕ) → done < count → Fails fault (link_at rest) → AreLinksSoFar count bytes done front rest → Fails fault (links_at count bytes)
 link_fails L1 count bytes done front rest below is so_far = absurd is
@@ -112,3 +154,7 @@ size_next count bytes done rest after size below is fits behind so_far =
     let all : links_size (count - done) rest ≡ link_size rest + links_size (count - (done + 1)) (drop (link_size rest) rest) = ap (λ n. links_size n rest) (one_more count done below) in
     let there : after ≡ drop (link_size rest) rest = behind ∙ ap (λ n. drop n rest) is in
     omega (arith, all, is, fits, so_far, ap length there, length-drop (link_size rest) rest, ap (λ xs. links_size (count - (done + 1)) xs) there)
+
+-- what is answered is what another reading gives, where the two are one
+pub gives_as : {X Y : Type 0} (view : X → Y) (answer : Result X LoadFault) (read other : Option Y) → read ≡ other → Gives view answer read → Gives view answer other
+gives_as view answer read other same gives = subst (Gives view answer) same gives

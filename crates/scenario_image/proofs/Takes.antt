@@ -1,14 +1,16 @@
 -- What is read from bytes, the bytes begin with.
 use Rattle.std.proofs.Common.{◌≡◌, ℕ, zero, suc, ◌+◌, ◌*◌, ◌≤◌, Bool, true, false, cond, ◌&&◌, eqb, List, [], ◌∷◌, ◌++◌, map, length, get_or, take, drop, Some, None, arith, refl, ap, sym, subst, ◌∙◌, append_assoc}
-use Rattle.std.specs.List.{flat_map}
+use Rattle.std.specs.List.{flat_map, AllByRecursion}
 use Rattle.std.specs.Option.{option_map, option_and_then}
 use Rattle.std.proofs.lemmas.Bool.{eqb-true}
 use Rattle.std.proofs.lemmas.List.{drop-drop, length-drop, length-take, take-append-drop}
 use Rattle.std.proofs.lemmas.Option.{none-some, same_Some, cond_some, option_and_then_some}
 use Rattle.byteorder.specs.Endian.{big_number, big_bytes}
-use Rattle.scenario_image.specs.Image.{magic, header_image, node_byte, queue_byte, codel_image, link_image, flow_image, route_image, image}
-use Rattle.scenario_image.specs.Layout.{node_count, link_count, flow_count, route_count, link_size, links_size, layout_size}
-use Rattle.scenario_image.specs.Reading.{each_at, node_of_byte, nodes_at, codel_at, queue_of_byte, link_with, link_at, links_at, flow_at, route_at, parts_with, parts_at}
+use Rattle.sim_time.specs.declared.variant.Iw.TheVariants.{Iw3, Iw10}
+use Rattle.sim_time.specs.declared.variant.Variant.{Variant}
+use Rattle.scenario_image.specs.Image.{magic, node_byte, queue_byte, codel_image, link_image, variant_byte, flow_image, route_image, image, reno_iw3, MayStandIn}
+use Rattle.scenario_image.specs.Layout.{version_of, node_count, link_count, flow_count, route_count, link_size, links_size, flow_size, layout_size}
+use Rattle.scenario_image.specs.Reading.{each_at, node_of_byte, nodes_at, codel_at, queue_of_byte, link_with, link_at, links_at, variant_of_byte, flow_with, flow_at, flows_at, route_at, parts_with, parts_behind, parts_at}
 use Rattle.scenario_image.proofs.Courses.{mapped_some}
 use Rattle.scenario_image.proofs.Numbers.{IsBytes, bytes_drop, one, two, four, eight}
 use Rattle.scenario_image.specs.declared.parts.NodeKind.{NodeKind}
@@ -17,12 +19,62 @@ use Rattle.scenario_image.specs.declared.parts.Codel.{Codel as CodelNumbers}
 use Rattle.scenario_image.specs.declared.parts.QueueKind.{QueueKind}
 use Rattle.scenario_image.specs.declared.parts.QueueKind.TheVariants.{DropTail, Codel}
 use Rattle.scenario_image.specs.declared.parts.LinkPart.{LinkPart}
+use Rattle.scenario_image.specs.declared.parts.FlowPart.{FlowPart}
 use Rattle.scenario_image.specs.declared.parts.ScenarioParts.{ScenarioParts}
+use Rattle.scenario_image.specs.declared.version.Version.{Version}
+use Rattle.scenario_image.specs.declared.version.Version.TheVariants.{One, Two}
 
-flow_takes : (bytes : List ℕ) → IsBytes bytes → 26 ≤ length bytes → bytes ≡ flow_image (flow_at bytes) ++ drop 26 bytes
-flow_takes bytes fits long =
+-- a flow's numbers, and then what is left
+numbers_take : (bytes tail : List ℕ) (variant : Variant) → IsBytes bytes → 26 ≤ length bytes → drop 26 bytes ≡ tail → bytes ≡ flow_image One (flow_with bytes variant) ++ tail
+numbers_take bytes tail variant fits long rest =
     two bytes fits 0 _ (omega (arith, long)) (two bytes fits 2 _ (omega (arith, long)) (two bytes fits 4 _ (omega (arith, long)) (four bytes fits 6 _ (omega (arith, long))
-    (eight bytes fits 10 _ (omega (arith, long)) (four bytes fits 18 _ (omega (arith, long)) (four bytes fits 22 _ (omega (arith, long)) refl))))))
+    (eight bytes fits 10 _ (omega (arith, long)) (four bytes fits 18 _ (omega (arith, long)) (four bytes fits 22 _ (omega (arith, long)) rest))))))
+
+variant_takes : (byte : ℕ) (variant : Variant) → variant_of_byte byte ≡ Some variant → byte ≡ variant_byte variant
+variant_takes zero variant is = ap variant_byte (same_Some reno_iw3 variant is)
+variant_takes (suc zero) variant is = let read : Variant = record { newreno = true; iw = Iw3 } in ap variant_byte (same_Some read variant is)
+variant_takes (suc (suc zero)) variant is = let read : Variant = record { newreno = false; iw = Iw10 } in ap variant_byte (same_Some read variant is)
+variant_takes (suc (suc (suc zero))) variant is = let read : Variant = record { newreno = true; iw = Iw10 } in ap variant_byte (same_Some read variant is)
+variant_takes (suc (suc (suc (suc byte)))) variant is = absurd (none-some variant is)
+
+-- a flow that bytes begin with
+record FlowTaken (version : Version) (bytes : List ℕ) (flow : FlowPart) : Type 0 where
+  spelled : bytes ≡ flow_image version flow ++ drop (flow_size version) bytes
+  stands : MayStandIn version flow
+
+flow_takes : (version : Version) (bytes : List ℕ) (flow : FlowPart) → IsBytes bytes → flow_size version ≤ length bytes → flow_at version bytes ≡ Some flow → FlowTaken version bytes flow
+flow_takes One bytes flow fits long is =
+    subst (FlowTaken One bytes) (same_Some (flow_with bytes reno_iw3) flow is) (record { spelled = numbers_take bytes (drop 26 bytes) reno_iw3 fits long refl; stands = refl })
+flow_takes Two bytes flow fits long is =
+    let (variant, read, same) = mapped_some (flow_with bytes) (variant_of_byte (get_or bytes 26 0)) flow is in
+    let byte : drop 26 bytes ≡ big_bytes 1 (variant_byte variant) ++ drop 27 bytes =
+    one bytes fits 26 _ (omega (arith, long)) refl ∙ ap (λ (n : ℕ). big_bytes 1 n ++ drop 27 bytes) (variant_takes (get_or bytes 26 0) variant read) in
+    subst (FlowTaken Two bytes) same (record { spelled = numbers_take bytes _ variant fits (omega (arith, long)) byte; stands = tt })
+
+-- so many flows that bytes begin with
+record FlowsTaken (version : Version) (count : ℕ) (bytes : List ℕ) (flows : List FlowPart) : Type 0 where
+  spelled : bytes ≡ flat_map (flow_image version) flows ++ drop (flow_size version * count) bytes
+  counted : length flows ≡ count
+  stand : AllByRecursion (MayStandIn version) flows
+
+flows_take : (version : Version) (count : ℕ) (bytes : List ℕ) (flows : List FlowPart) → IsBytes bytes → flow_size version * count ≤ length bytes → flows_at version count bytes ≡ Some flows → FlowsTaken version count bytes flows
+flows_take version zero bytes flows fits long is =
+    let none : List FlowPart = [] in
+    subst (FlowsTaken version 0 bytes) (same_Some none flows is) (record { spelled = ap (λ (n : ℕ). drop n bytes) {x = 0} {y = flow_size version * 0} (omega arith); counted = refl; stand = tt })
+flows_take version (suc more) bytes flows fits long is =
+    option_and_then_some (λ flow. option_map (λ others. flow ∷ others) (flows_at version more (drop (flow_size version) bytes))) (flow_at version bytes) flows is (λ flow at rest.
+    let size : ℕ = flow_size version in
+    let total : size * suc more ≡ size + size * more = omega arith in
+    let behind : drop (size * more) (drop size bytes) ≡ drop (size * suc more) bytes = drop-drop (size * more) size bytes ∙ ap (λ n. drop n bytes) (sym total) in
+    let (others, later, same) = mapped_some (λ (others : List FlowPart). flow ∷ others) (flows_at version more (drop size bytes)) flows rest in
+    let first : FlowTaken version bytes flow = flow_takes version bytes flow fits (omega (arith, long, total)) at in
+    let taken : FlowsTaken version more (drop size bytes) others = flows_take version more (drop size bytes) others (bytes_drop size bytes fits) (omega (arith, long, total, length-drop size bytes)) later in
+    subst (FlowsTaken version (suc more) bytes) same (record {
+      spelled = first.spelled ∙ ap (λ (xs : List ℕ). flow_image version flow ++ xs) (taken.spelled ∙ ap (λ xs. flat_map (flow_image version) others ++ xs) behind)
+          ∙ sym (append_assoc (flow_image version flow) (flat_map (flow_image version) others) (drop (size * suc more) bytes));
+      counted = ap suc taken.counted;
+      stand = (first.stands, taken.stand);
+    }))
 
 route_takes : (bytes : List ℕ) → IsBytes bytes → 6 ≤ length bytes → bytes ≡ route_image (route_at bytes) ++ drop 6 bytes
 route_takes bytes fits long = two bytes fits 0 _ (omega (arith, long)) (two bytes fits 2 _ (omega (arith, long)) (two bytes fits 4 _ (omega (arith, long)) refl))
@@ -146,7 +198,7 @@ links_take (suc more) bytes links fits long is =
     }))
 
 -- a header with these numbers
-abbrev raw_header : List ℕ → ℕ → ℕ → ℕ → ℕ → ℕ → List ℕ → List ℕ
+abbrev pub raw_header : List ℕ → ℕ → ℕ → ℕ → ℕ → ℕ → List ℕ → List ℕ
 raw_header start end nodes links flows routes tail = start ++ (big_bytes 8 end ++ (big_bytes 2 nodes ++ (big_bytes 2 links ++ (big_bytes 2 flows ++ (big_bytes 4 routes ++ tail)))))
 
 header_takes : (bytes : List ℕ) → IsBytes bytes → 22 ≤ length bytes → bytes ≡ raw_header (take 4 bytes) (big_number 8 (drop 4 bytes)) (node_count bytes) (link_count bytes) (flow_count bytes) (route_count bytes) (drop 22 bytes)
@@ -156,83 +208,118 @@ header_takes bytes fits long =
     (eight bytes fits 4 _ (omega (arith, long)) (two bytes fits 12 _ (omega (arith, long)) (two bytes fits 14 _ (omega (arith, long)) (two bytes fits 16 _ (omega (arith, long)) (four bytes fits 18 _ (omega (arith, long)) refl)))))
 
 -- what stands behind the header of parts
-abbrev pub body : ScenarioParts → List ℕ → List ℕ
-body parts rest = map node_byte parts.nodes ++ (flat_map link_image parts.links ++ (flat_map flow_image parts.flows ++ (flat_map route_image parts.routes ++ rest)))
+abbrev pub body : Version → ScenarioParts → List ℕ → List ℕ
+body version parts rest = map node_byte parts.nodes ++ (flat_map link_image parts.links ++ (flat_map (flow_image version) parts.flows ++ (flat_map route_image parts.routes ++ rest)))
 
 regroup : (a b c d rest : List ℕ) → (((a ++ b) ++ c) ++ d) ++ rest ≡ a ++ (b ++ (c ++ (d ++ rest)))
 regroup a b c d rest = append_assoc ((a ++ b) ++ c) d rest ∙ append_assoc (a ++ b) c (d ++ rest) ∙ append_assoc a b (c ++ (d ++ rest))
 
-pub image_regroup : (parts : ScenarioParts) (rest : List ℕ) → image parts ++ rest ≡ header_image parts ++ body parts rest
-image_regroup parts rest =
-    ap (λ (xs : List ℕ). header_image parts ++ xs) (regroup (map node_byte parts.nodes) (flat_map link_image parts.links) (flat_map flow_image parts.flows) (flat_map route_image parts.routes) rest)
+-- the header of parts, behind a magic, and what stands behind it
+abbrev pub behind_magic : List ℕ → ScenarioParts → List ℕ → List ℕ
+behind_magic start parts tail = raw_header start parts.end (length parts.nodes) (length parts.links) (length parts.flows) (length parts.routes) tail
+
+pub image_regroup : (version : Version) (parts : ScenarioParts) (rest : List ℕ) → image version parts ++ rest ≡ behind_magic (magic version) parts (body version parts rest)
+image_regroup One parts rest =
+    ap (λ (xs : List ℕ). behind_magic (magic One) parts xs) (regroup (map node_byte parts.nodes) (flat_map link_image parts.links) (flat_map (flow_image One) parts.flows) (flat_map route_image parts.routes) rest)
+image_regroup Two parts rest =
+    ap (λ (xs : List ℕ). behind_magic (magic Two) parts xs) (regroup (map node_byte parts.nodes) (flat_map link_image parts.links) (flat_map (flow_image Two) parts.flows) (flat_map route_image parts.routes) rest)
 
 pub length_map : {A B : Type 0} (f : A → B) (xs : List A) → length (map f xs) ≡ length xs
 length_map f [] = refl
 length_map f (x ∷ xs) = ap suc (length_map f xs)
 
--- the parts with these nodes and links
-with_parts : (bytes : List ℕ) (nodes : List NodeKind) (links : List LinkPart × List ℕ) → IsBytes bytes → layout_size bytes ≤ length bytes → take 4 bytes ≡ magic
-    → take (node_count bytes) (drop 22 bytes) ≡ map node_byte nodes → LinksTaken (link_count bytes) (drop (22 + node_count bytes) bytes) links
-    → bytes ≡ image (parts_with bytes nodes links).0 ++ (parts_with bytes nodes links).1
-with_parts bytes nodes links fits long start kinds taken =
+-- all links of bytes whose layout is there
+all_links : (bytes : List ℕ) (links : List LinkPart × List ℕ) → IsBytes bytes → layout_size bytes ≤ length bytes → links_at (link_count bytes) (drop (22 + node_count bytes) bytes) ≡ Some links
+    → LinksTaken (link_count bytes) (drop (22 + node_count bytes) bytes) links
+all_links bytes links fits long is =
+    links_take (link_count bytes) (drop (22 + node_count bytes) bytes) links (bytes_drop (22 + node_count bytes) bytes fits) (omega (arith, long, length-drop (22 + node_count bytes) bytes)) is
+
+links_bytes : (bytes : List ℕ) (links : List LinkPart × List ℕ) → IsBytes bytes → LinksTaken (link_count bytes) (drop (22 + node_count bytes) bytes) links → IsBytes links.1
+links_bytes bytes links fits taken =
+    subst IsBytes (sym taken.behind) (bytes_drop (links_size (link_count bytes) (drop (22 + node_count bytes) bytes)) (drop (22 + node_count bytes) bytes) (bytes_drop (22 + node_count bytes) bytes fits))
+
+links_long : (bytes : List ℕ) (links : List LinkPart × List ℕ) → layout_size bytes ≤ length bytes → LinksTaken (link_count bytes) (drop (22 + node_count bytes) bytes) links
+    → flow_size (version_of bytes) * flow_count bytes + 6 * route_count bytes ≤ length links.1
+links_long bytes links long taken =
+    omega (arith, long, ap length taken.behind, length-drop (links_size (link_count bytes) (drop (22 + node_count bytes) bytes)) (drop (22 + node_count bytes) bytes), length-drop (22 + node_count bytes) bytes)
+
+-- the parts with these nodes, links and flows
+with_parts : (version : Version) (bytes : List ℕ) (nodes : List NodeKind) (links : List LinkPart × List ℕ) (flows : List FlowPart) → IsBytes bytes → layout_size bytes ≤ length bytes → version_of bytes ≡ version → take 4 bytes ≡ magic version
+    → take (node_count bytes) (drop 22 bytes) ≡ map node_byte nodes → LinksTaken (link_count bytes) (drop (22 + node_count bytes) bytes) links → FlowsTaken (version_of bytes) (flow_count bytes) links.1 flows
+    → bytes ≡ image version (parts_with bytes nodes links flows).0 ++ (parts_with bytes nodes links flows).1
+with_parts version bytes nodes links flows fits long judged start kinds taken flows_taken =
     header_takes bytes fits (omega (arith, long))
     ∙ ap (λ (xs : List ℕ). raw_header xs (big_number 8 (drop 4 bytes)) (node_count bytes) (link_count bytes) (flow_count bytes) (route_count bytes) (drop 22 bytes)) start
-    ∙ ap (λ (n : ℕ). raw_header magic (big_number 8 (drop 4 bytes)) n (link_count bytes) (flow_count bytes) (route_count bytes) (drop 22 bytes)) nodes_counted
-    ∙ ap (λ (n : ℕ). raw_header magic (big_number 8 (drop 4 bytes)) (length nodes) n (flow_count bytes) (route_count bytes) (drop 22 bytes)) (sym taken.counted)
-    ∙ ap (λ (n : ℕ). raw_header magic (big_number 8 (drop 4 bytes)) (length nodes) (length links.0) n (route_count bytes) (drop 22 bytes)) (sym (each_counted 26 flow_at (flow_count bytes) links.1))
-    ∙ ap (λ (n : ℕ). raw_header magic (big_number 8 (drop 4 bytes)) (length nodes) (length links.0) (length parts.flows) n (drop 22 bytes)) (sym (each_counted 6 route_at (route_count bytes) routes))
-    ∙ ap (λ (xs : List ℕ). raw_header magic (big_number 8 (drop 4 bytes)) (length nodes) (length links.0) (length parts.flows) (length parts.routes) xs) behind
-    ∙ sym (image_regroup parts (parts_with bytes nodes links).1)
+    ∙ ap (λ (n : ℕ). raw_header (magic version) (big_number 8 (drop 4 bytes)) n (link_count bytes) (flow_count bytes) (route_count bytes) (drop 22 bytes)) nodes_counted
+    ∙ ap (λ (n : ℕ). raw_header (magic version) (big_number 8 (drop 4 bytes)) (length nodes) n (flow_count bytes) (route_count bytes) (drop 22 bytes)) (sym taken.counted)
+    ∙ ap (λ (n : ℕ). raw_header (magic version) (big_number 8 (drop 4 bytes)) (length nodes) (length links.0) n (route_count bytes) (drop 22 bytes)) (sym flows_taken.counted)
+    ∙ ap (λ (n : ℕ). raw_header (magic version) (big_number 8 (drop 4 bytes)) (length nodes) (length links.0) (length flows) n (drop 22 bytes)) (sym (each_counted 6 route_at (route_count bytes) routes))
+    ∙ ap (λ (xs : List ℕ). raw_header (magic version) (big_number 8 (drop 4 bytes)) (length nodes) (length links.0) (length flows) (length parts.routes) xs) behind
+    ∙ sym (image_regroup version parts rest)
   where
     parts : ScenarioParts
-    parts = (parts_with bytes nodes links).0
+    parts = (parts_with bytes nodes links flows).0
+
+    rest : List ℕ
+    rest = (parts_with bytes nodes links flows).1
 
     routes : List ℕ
-    routes = drop (26 * flow_count bytes) links.1
+    routes = drop (flow_size (version_of bytes) * flow_count bytes) links.1
 
     nodes_counted : node_count bytes ≡ length nodes
     nodes_counted = omega (arith, long, ap length kinds, length_map node_byte nodes, length-take (node_count bytes) (drop 22 bytes), length-drop 22 bytes)
 
     links_fit : IsBytes links.1
-    links_fit = subst IsBytes (sym taken.behind) (bytes_drop (links_size (link_count bytes) (drop (22 + node_count bytes) bytes)) (drop (22 + node_count bytes) bytes) (bytes_drop (22 + node_count bytes) bytes fits))
+    links_fit = links_bytes bytes links fits taken
 
-    enough : 26 * flow_count bytes + 6 * route_count bytes ≤ length links.1
-    enough = omega (arith, long, ap length taken.behind, length-drop (links_size (link_count bytes) (drop (22 + node_count bytes) bytes)) (drop (22 + node_count bytes) bytes), length-drop (22 + node_count bytes) bytes)
+    enough : flow_size (version_of bytes) * flow_count bytes + 6 * route_count bytes ≤ length links.1
+    enough = links_long bytes links long taken
 
-    flows_take : links.1 ≡ flat_map flow_image parts.flows ++ routes
-    flows_take = each_takes 26 flow_at flow_image flow_takes (flow_count bytes) links.1 links_fit (omega (arith, enough))
+    routes_take : routes ≡ flat_map route_image parts.routes ++ rest
+    routes_take =
+        each_takes 6 route_at route_image route_takes (route_count bytes) routes (bytes_drop (flow_size (version_of bytes) * flow_count bytes) links.1 links_fit)
+        (omega (arith, enough, length-drop (flow_size (version_of bytes) * flow_count bytes) links.1))
 
-    routes_take : routes ≡ flat_map route_image parts.routes ++ (parts_with bytes nodes links).1
-    routes_take = each_takes 6 route_at route_image route_takes (route_count bytes) routes (bytes_drop (26 * flow_count bytes) links.1 links_fit) (omega (arith, enough, length-drop (26 * flow_count bytes) links.1))
+    flows_spelled : links.1 ≡ flat_map (flow_image version) flows ++ routes
+    flows_spelled = flows_taken.spelled ∙ ap (λ (v : Version). flat_map (flow_image v) flows ++ routes) judged
 
-    behind : drop 22 bytes ≡ body parts (parts_with bytes nodes links).1
+    behind : drop 22 bytes ≡ body version parts rest
     behind =
         sym (take-append-drop (node_count bytes) (drop 22 bytes))
         ∙ ap (λ (xs : List ℕ). xs ++ drop (node_count bytes) (drop 22 bytes)) kinds
         ∙ ap (λ (xs : List ℕ). map node_byte nodes ++ xs) (drop-drop (node_count bytes) 22 bytes ∙ taken.spelled
-        ∙ ap (λ (xs : List ℕ). flat_map link_image links.0 ++ xs) (flows_take ∙ ap (λ (xs : List ℕ). flat_map flow_image parts.flows ++ xs) routes_take))
+        ∙ ap (λ (xs : List ℕ). flat_map link_image links.0 ++ xs) (flows_spelled ∙ ap (λ (xs : List ℕ). flat_map (flow_image version) flows ++ xs) routes_take))
 
--- bytes whose layout is there and that begin as an image does begin with the image of the parts that are read
-pub parts_take : (bytes : List ℕ) (parts : ScenarioParts × List ℕ) → IsBytes bytes → layout_size bytes ≤ length bytes → take 4 bytes ≡ magic → parts_at bytes ≡ Some parts → bytes ≡ image parts.0 ++ parts.1
-parts_take bytes parts fits long start is =
-    option_and_then_some (λ nodes. option_map (parts_with bytes nodes) (links_at (link_count bytes) (drop (22 + node_count bytes) bytes))) (nodes_at (take (node_count bytes) (drop 22 bytes))) parts is (λ nodes at rest.
-    let (links, later, same) = mapped_some (parts_with bytes nodes) (links_at (link_count bytes) (drop (22 + node_count bytes) bytes)) parts rest in
-    let taken = links_take (link_count bytes) (drop (22 + node_count bytes) bytes) links (bytes_drop (22 + node_count bytes) bytes fits) (omega (arith, long, length-drop (22 + node_count bytes) bytes)) later in
-    with_parts bytes nodes links fits long start (nodes_take (take (node_count bytes) (drop 22 bytes)) nodes at) taken ∙ ap (λ (p : ScenarioParts × List ℕ). image p.0 ++ p.1) same)
+-- parts that are read from bytes stand at their front, in the version that is judged
+pub record PartsTaken (version : Version) (bytes : List ℕ) (read : ScenarioParts × List ℕ) : Type 0 where
+  pub spelled : bytes ≡ image version read.0 ++ read.1
+  pub stand : AllByRecursion (MayStandIn version) read.0.flows
+
+-- bytes whose layout is there and that begin as an image does begin with an image of the parts that are read
+pub parts_take : (version : Version) (bytes : List ℕ) (read : ScenarioParts × List ℕ) → IsBytes bytes → layout_size bytes ≤ length bytes → version_of bytes ≡ version → take 4 bytes ≡ magic version → parts_at bytes ≡ Some read
+    → PartsTaken version bytes read
+parts_take version bytes read fits long judged start is =
+    option_and_then_some (λ nodes. option_and_then (parts_behind bytes nodes) (links_at (link_count bytes) (drop (22 + node_count bytes) bytes))) (nodes_at (take (node_count bytes) (drop 22 bytes))) read is (λ nodes kinds later.
+    option_and_then_some (parts_behind bytes nodes) (links_at (link_count bytes) (drop (22 + node_count bytes) bytes)) read later (λ links at behind.
+    let (flows, flows_read, same) = mapped_some (parts_with bytes nodes links) (flows_at (version_of bytes) (flow_count bytes) links.1) read behind in
+    let taken : LinksTaken (link_count bytes) (drop (22 + node_count bytes) bytes) links = all_links bytes links fits long at in
+    let flows_taken : FlowsTaken (version_of bytes) (flow_count bytes) links.1 flows =
+    flows_take (version_of bytes) (flow_count bytes) links.1 flows (links_bytes bytes links fits taken) (omega (arith, links_long bytes links long taken)) flows_read in
+    let spelled : bytes ≡ image version (parts_with bytes nodes links flows).0 ++ (parts_with bytes nodes links flows).1 =
+    with_parts version bytes nodes links flows fits long judged start (nodes_take (take (node_count bytes) (drop 22 bytes)) nodes kinds) taken flows_taken in
+    subst (PartsTaken version bytes) same (record { spelled = spelled; stand = subst (λ (v : Version). AllByRecursion (MayStandIn v) flows) judged flows_taken.stand })))
 
 -- the bytes of the flows and routes are there
 pub rest_long : (bytes : List ℕ) (links : List LinkPart × List ℕ) → IsBytes bytes → layout_size bytes ≤ length bytes → links_at (link_count bytes) (drop (22 + node_count bytes) bytes) ≡ Some links
-    → 26 * flow_count bytes + 6 * route_count bytes ≤ length links.1
-rest_long bytes links fits long is =
-    let taken = links_take (link_count bytes) (drop (22 + node_count bytes) bytes) links (bytes_drop (22 + node_count bytes) bytes fits) (omega (arith, long, length-drop (22 + node_count bytes) bytes)) is in
-    omega (arith, long, ap length taken.behind, length-drop (links_size (link_count bytes) (drop (22 + node_count bytes) bytes)) (drop (22 + node_count bytes) bytes), length-drop (22 + node_count bytes) bytes)
+    → flow_size (version_of bytes) * flow_count bytes + 6 * route_count bytes ≤ length links.1
+rest_long bytes links fits long is = links_long bytes links long (all_links bytes links fits long is)
 
 -- all parts, from the nodes and the links
-pub parts_made : (bytes : List ℕ) (nodes : List NodeKind) (links : List LinkPart × List ℕ) (parts : ScenarioParts × List ℕ) → nodes_at (take (node_count bytes) (drop 22 bytes)) ≡ Some nodes
-    → links_at (link_count bytes) (drop (22 + node_count bytes) bytes) ≡ Some links → parts ≡ parts_with bytes nodes links → parts_at bytes ≡ Some parts
-parts_made bytes nodes links parts kinds at made =
-    ap (λ read. option_and_then (λ nodes. option_map (parts_with bytes nodes) (links_at (link_count bytes) (drop (22 + node_count bytes) bytes))) read) kinds
-    ∙ ap (option_map (parts_with bytes nodes)) at ∙ ap Some (sym made)
+pub parts_made : (bytes : List ℕ) (nodes : List NodeKind) (links : List LinkPart × List ℕ) → nodes_at (take (node_count bytes) (drop 22 bytes)) ≡ Some nodes
+    → links_at (link_count bytes) (drop (22 + node_count bytes) bytes) ≡ Some links → parts_at bytes ≡ parts_behind bytes nodes links
+parts_made bytes nodes links kinds at =
+    ap (λ read. option_and_then (λ nodes. option_and_then (parts_behind bytes nodes) (links_at (link_count bytes) (drop (22 + node_count bytes) bytes))) read) kinds
+    ∙ ap (option_and_then (parts_behind bytes nodes)) at
 
 -- the links, from the counts and the bytes that were taken
 pub at_links : (bytes behind : List ℕ) (nodes count : ℕ) (links : List LinkPart × List ℕ) → nodes ≡ node_count bytes → count ≡ link_count bytes → behind ≡ drop (22 + nodes) bytes → links_at count behind ≡ Some links

@@ -1,7 +1,12 @@
--- The image of a scenario, version 1, field by field. Numbers stand with their highest byte first.
-use Rattle.std.specs.Prelude.{ℕ, List, ◌++◌, length, map, codes}
+-- The images of a scenario, in two versions, field by field. Numbers stand with their highest byte first.
+use Rattle.std.specs.Prelude.{◌≡◌, ℕ, ◌+◌, Bool, false, if◌then◌else◌, List, [], ◌++◌, length, map, codes, All}
 use Rattle.std.specs.List.{flat_map}
 use Rattle.byteorder.specs.Endian.{big_bytes}
+use Rattle.sim_time.specs.declared.variant.Iw.{Iw}
+use Rattle.sim_time.specs.declared.variant.Iw.TheVariants.{Iw3, Iw10}
+use Rattle.sim_time.specs.declared.variant.Variant.{Variant}
+use Rattle.scenario_image.specs.declared.version.Version.{Version}
+use Rattle.scenario_image.specs.declared.version.Version.TheVariants.{One, Two}
 use Rattle.scenario_image.specs.declared.parts.NodeKind.{NodeKind}
 use Rattle.scenario_image.specs.declared.parts.NodeKind.TheVariants.{Sender, Receiver, Router}
 use Rattle.scenario_image.specs.declared.parts.QueueKind.{QueueKind}
@@ -11,14 +16,15 @@ use Rattle.scenario_image.specs.declared.parts.FlowPart.{FlowPart}
 use Rattle.scenario_image.specs.declared.parts.RoutePart.{RoutePart}
 use Rattle.scenario_image.specs.declared.parts.ScenarioParts.{ScenarioParts}
 
--- how each image begins
-abbrev pub magic : List ℕ
-magic = codes "TCB1"
+-- how an image begins
+abbrev pub magic : Version → List ℕ
+magic One = codes "TCB1"
+magic Two = codes "TCB2"
 
 -- the header, 22 bytes: the magic, the end, and how many nodes, links, flows and routes follow
-abbrev pub header_image : ScenarioParts → List ℕ
-header_image parts =
-    magic
+abbrev pub header_image : Version → ScenarioParts → List ℕ
+header_image version parts =
+    magic version
     ++ big_bytes 8 parts.end
     ++ big_bytes 2 (length parts.nodes)
     ++ big_bytes 2 (length parts.links)
@@ -54,9 +60,26 @@ link_image link =
     ++ big_bytes 1 (length link.lose)
     ++ flat_map (big_bytes 4) link.lose
 
--- a flow, 26 bytes
-abbrev pub flow_image : FlowPart → List ℕ
-flow_image flow =
+-- the bit of NewReno in a flow's last byte, and that of the initial window of ten segments
+abbrev pub newreno_bit : Bool → ℕ
+newreno_bit newreno = if newreno then 1 else 0
+
+abbrev pub iw_bit : Iw → ℕ
+iw_bit Iw3 = 0
+iw_bit Iw10 = 2
+
+-- the byte of a flow's variant
+abbrev pub variant_byte : Variant → ℕ
+variant_byte variant = newreno_bit variant.newreno + iw_bit variant.iw
+
+-- what stands of a flow's variant: nothing in version 1, one byte in version 2
+abbrev pub variant_image : Version → Variant → List ℕ
+variant_image One variant = []
+variant_image Two variant = big_bytes 1 (variant_byte variant)
+
+-- a flow: 26 bytes in version 1, 27 in version 2
+abbrev pub flow_image : Version → FlowPart → List ℕ
+flow_image version flow =
     big_bytes 2 flow.sender
     ++ big_bytes 2 flow.receiver
     ++ big_bytes 2 flow.mss
@@ -64,16 +87,32 @@ flow_image flow =
     ++ big_bytes 8 flow.start
     ++ big_bytes 4 flow.rwnd
     ++ big_bytes 4 flow.delack
+    ++ variant_image version flow.variant
 
 -- a route, 6 bytes
 abbrev pub route_image : RoutePart → List ℕ
 route_image route = big_bytes 2 route.router ++ big_bytes 2 route.destination ++ big_bytes 2 route.link
 
 -- the header, then each node, each link, each flow and each route
-abbrev pub image : ScenarioParts → List ℕ
-image parts =
-    header_image parts
+abbrev pub image : Version → ScenarioParts → List ℕ
+image version parts =
+    header_image version parts
     ++ map node_byte parts.nodes
     ++ flat_map link_image parts.links
-    ++ flat_map flow_image parts.flows
+    ++ flat_map (flow_image version) parts.flows
     ++ flat_map route_image parts.routes
+
+-- the variant of each flow of version 1
+abbrev pub reno_iw3 : Variant
+reno_iw3 = record { newreno = false; iw = Iw3 }
+
+-- a flow may stand in an image of version 2, and in one of version 1 where it is reno with the smaller initial window
+abbrev pub MayStandIn : Version → FlowPart → Type 0
+MayStandIn One flow = flow.variant ≡ reno_iw3
+MayStandIn Two flow = Unit {0}
+
+-- bytes are an image of parts, of one version or the other
+pub record IsImage (bytes : List ℕ) (parts : ScenarioParts) : Type 0 where
+  pub version : Version
+  pub each_flow : All (MayStandIn version) parts.flows
+  pub spelled : bytes ≡ image version parts

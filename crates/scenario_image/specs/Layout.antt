@@ -1,6 +1,12 @@
 -- How many bytes the layout of an image takes, by the counts in the bytes as they stand. A byte that is not there counts as 0.
-use Rattle.std.specs.Prelude.{ℕ, zero, suc, ◌+◌, ◌*◌, List, drop, slice_index}
+use Rattle.std.specs.Prelude.{ℕ, zero, suc, ◌+◌, ◌*◌, ◌==◌, if◌then◌else◌, List, drop, slice_index}
 use Rattle.byteorder.specs.Endian.{big_number}
+use Rattle.scenario_image.specs.declared.version.Version.{Version}
+use Rattle.scenario_image.specs.declared.version.Version.TheVariants.{One, Two}
+
+-- the version whose layout is judged: the second exactly where the fourth byte is that of the digit `2`
+abbrev pub version_of : List ℕ → Version
+version_of bytes = if slice_index bytes 3 == 50 then Two else One
 
 -- the counts in the header
 abbrev pub node_count : List ℕ → ℕ
@@ -24,7 +30,12 @@ abbrev pub links_size : ℕ → List ℕ → ℕ
 links_size zero bytes = 0
 links_size (suc more) bytes = link_size bytes + links_size more (drop (link_size bytes) bytes)
 
--- the header's 22 bytes, 1 for each node, the links' bytes, 26 for each flow and 6 for each route
+-- the bytes that a flow takes
+abbrev pub flow_size : Version → ℕ
+flow_size One = 26
+flow_size Two = 27
+
+-- the header's 22 bytes, 1 for each node, the links' bytes, 26 or 27 for each flow and 6 for each route
 abbrev pub layout_size : List ℕ → ℕ
 layout_size bytes =
-    22 + node_count bytes + links_size (link_count bytes) (drop (22 + node_count bytes) bytes) + 26 * flow_count bytes + 6 * route_count bytes
+    22 + node_count bytes + links_size (link_count bytes) (drop (22 + node_count bytes) bytes) + flow_size (version_of bytes) * flow_count bytes + 6 * route_count bytes

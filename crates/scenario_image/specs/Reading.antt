@@ -1,8 +1,11 @@
 -- What the functions that read an image answer, part by part. No public contract cites these.
-use Rattle.std.specs.Prelude.{◌≡◌, ℕ, zero, suc, ◌+◌, ◌*◌, ◌==◌, ◌&&◌, if◌then◌else◌, List, [], ◌∷◌, take, drop, slice_index, Option, Some, None, Result, Ok, Err}
+use Rattle.std.specs.Prelude.{◌≡◌, ℕ, zero, suc, ◌+◌, ◌*◌, ◌==◌, ◌&&◌, if◌then◌else◌, true, false, List, [], ◌∷◌, take, drop, slice_index, Option, Some, None, Result, Ok, Err}
 use Rattle.std.specs.Option.{option_map, option_and_then}
 use Rattle.byteorder.specs.Endian.{big_number}
-use Rattle.scenario_image.specs.Layout.{node_count, link_count, flow_count, route_count, link_size}
+use Rattle.sim_time.specs.declared.variant.Iw.TheVariants.{Iw3, Iw10}
+use Rattle.sim_time.specs.declared.variant.Variant.{Variant}
+use Rattle.scenario_image.specs.Image.{reno_iw3}
+use Rattle.scenario_image.specs.Layout.{version_of, node_count, link_count, flow_count, route_count, link_size, flow_size}
 use Rattle.scenario_image.specs.declared.fault.LoadFault.{LoadFault}
 use Rattle.scenario_image.specs.declared.fault.LoadFault.TheVariants.{L1, L2, L3, L4, L5, L6, L7, L8, NoMemory}
 use Rattle.scenario_image.specs.declared.parts.NodeKind.{NodeKind}
@@ -14,6 +17,8 @@ use Rattle.scenario_image.specs.declared.parts.LinkPart.{LinkPart}
 use Rattle.scenario_image.specs.declared.parts.FlowPart.{FlowPart}
 use Rattle.scenario_image.specs.declared.parts.RoutePart.{RoutePart}
 use Rattle.scenario_image.specs.declared.parts.ScenarioParts.{ScenarioParts}
+use Rattle.scenario_image.specs.declared.version.Version.{Version}
+use Rattle.scenario_image.specs.declared.version.Version.TheVariants.{One, Two}
 
 -- so many items, one after the other, each of which takes so many bytes
 abbrev pub each_at : {X : Type 0} → ℕ → (List ℕ → X) → ℕ → List ℕ → List X
@@ -64,9 +69,22 @@ links_at zero bytes = Some ([], bytes)
 links_at (suc more) bytes =
     option_and_then (λ link. option_map (λ others. (link ∷ others.0, others.1)) (links_at more (drop (link_size bytes) bytes))) (link_at bytes)
 
--- the flow at the front
-abbrev pub flow_at : List ℕ → FlowPart
-flow_at bytes = record {
+-- the variant that a byte stands for
+abbrev pub variant_of_byte : ℕ → Option Variant
+variant_of_byte zero = Some reno_iw3
+variant_of_byte (suc zero) = Some (record { newreno = true; iw = Iw3 })
+variant_of_byte (suc (suc zero)) = Some (record { newreno = false; iw = Iw10 })
+variant_of_byte (suc (suc (suc zero))) = Some (record { newreno = true; iw = Iw10 })
+variant_of_byte (suc (suc (suc (suc byte)))) = None
+
+-- the variant of the flow at the front, of which version 1 says nothing
+abbrev pub variant_at : Version → List ℕ → Option Variant
+variant_at One bytes = Some reno_iw3
+variant_at Two bytes = variant_of_byte (slice_index bytes 26)
+
+-- the flow at the front, with its variant
+abbrev pub flow_with : List ℕ → Variant → FlowPart
+flow_with bytes variant = record {
   sender = big_number 2 bytes;
   receiver = big_number 2 (drop 2 bytes);
   mss = big_number 2 (drop 4 bytes);
@@ -74,30 +92,45 @@ flow_at bytes = record {
   start = big_number 8 (drop 10 bytes);
   rwnd = big_number 4 (drop 18 bytes);
   delack = big_number 4 (drop 22 bytes);
+  variant = variant;
 }
+
+-- the flow at the front
+abbrev pub flow_at : Version → List ℕ → Option FlowPart
+flow_at version bytes = option_map (flow_with bytes) (variant_at version bytes)
+
+-- so many flows
+abbrev pub flows_at : Version → ℕ → List ℕ → Option (List FlowPart)
+flows_at version zero bytes = Some []
+flows_at version (suc more) bytes =
+    option_and_then (λ flow. option_map (λ flows. flow ∷ flows) (flows_at version more (drop (flow_size version) bytes))) (flow_at version bytes)
 
 -- the route at the front
 abbrev pub route_at : List ℕ → RoutePart
 route_at bytes = record { router = big_number 2 bytes; destination = big_number 2 (drop 2 bytes); link = big_number 2 (drop 4 bytes) }
 
--- the parts that these are with the nodes and links, and the bytes behind them
-abbrev pub parts_with : List ℕ → List NodeKind → List LinkPart × List ℕ → ScenarioParts × List ℕ
-parts_with bytes nodes links =
-    let routes : List ℕ = drop (26 * flow_count bytes) links.1 in (
+-- the parts that these are with the nodes, the links and the bytes behind these, and the flows; and the bytes behind all
+abbrev pub parts_with : List ℕ → List NodeKind → List LinkPart × List ℕ → List FlowPart → ScenarioParts × List ℕ
+parts_with bytes nodes links flows =
+    let routes : List ℕ = drop (flow_size (version_of bytes) * flow_count bytes) links.1 in (
       record {
         end = big_number 8 (drop 4 bytes);
         nodes = nodes;
         links = links.0;
-        flows = each_at 26 flow_at (flow_count bytes) links.1;
+        flows = flows;
         routes = each_at 6 route_at (route_count bytes) routes;
       },
       drop (6 * route_count bytes) routes,
     )
 
+-- the parts that these are with the nodes and links, and the bytes behind all
+abbrev pub parts_behind : List ℕ → List NodeKind → List LinkPart × List ℕ → Option (ScenarioParts × List ℕ)
+parts_behind bytes nodes links = option_map (parts_with bytes nodes links) (flows_at (version_of bytes) (flow_count bytes) links.1)
+
 -- all parts, and the bytes behind them
 abbrev pub parts_at : List ℕ → Option (ScenarioParts × List ℕ)
 parts_at bytes =
-    option_and_then (λ nodes. option_map (parts_with bytes nodes) (links_at (link_count bytes) (drop (22 + node_count bytes) bytes)))
+    option_and_then (λ nodes. option_and_then (parts_behind bytes nodes) (links_at (link_count bytes) (drop (22 + node_count bytes) bytes)))
     (nodes_at (take (node_count bytes) (drop 22 bytes)))
 
 -- what a function answered, seen by view, is what reading gives, unless memory ran out

@@ -49,6 +49,3 @@ pub(crate) fn has_its_ends(parts: &ScenarioParts) -> bool
     }
     true
 }
-
-#[cfg(test)]
-mod tests;

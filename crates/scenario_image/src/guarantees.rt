@@ -1,7 +1,7 @@
 //! What is so of each scenario: laws over the definitions alone, each the contract of a function
 //! that does nothing.
 ghost use Rattle.scenario_image.specs.WayLaws.{WaysArrive, WaysBegin, WaysGoOnOrEnd, EndsHaveOneFlow};
-ghost use Rattle.scenario_image.specs.ImageFault.{ImagesDiffer, ImagesHaveNoFault, BytesHaveOneFault};
+ghost use Rattle.scenario_image.specs.ImageFault.{ImagesDiffer, SecondImagesAreOne, ImagesHaveNoFault, BytesHaveOneFault};
 
 /// Each way comes to its end after fewer hops than there are nodes, comes only where it may, is at
 /// no node twice, and goes no further.
@@ -25,12 +25,17 @@ pub fn ends_have_one_flow()
     ensures { EndsHaveOneFlow }
 {}
 
-/// No bytes are the image of two scenarios.
+/// No bytes are an image of two scenarios, be they of one version or of two.
 pub fn images_differ()
     ensures { ImagesDiffer }
 {}
 
-/// The image of a scenario has no fault: what is saved is loaded again.
+/// Each scenario has exactly one image of version 2, the one that is saved.
+pub fn second_images_are_one()
+    ensures { SecondImagesAreOne }
+{}
+
+/// No image of a scenario, of either version, has a fault: what is saved is loaded again.
 pub fn images_have_no_fault()
     ensures { ImagesHaveNoFault }
 {}

@@ -1,7 +1,8 @@
 //! How many bytes the layout of an image takes.
 ghost use Rattle.std.specs.Prelude.{◌≡◌, ◌↔◌, ◌≤◌, ◌<◌, ◌+◌, ◌*◌, ℕ, IsTrue, IfSome, IfNone, length, drop};
-ghost use Rattle.scenario_image.specs.Layout.{node_count as nodes_in, link_count as links_in, flow_count as flows_in, route_count as routes_in, link_size as size_of_link, links_size as size_of_links, layout_size};
+ghost use Rattle.scenario_image.specs.Layout.{node_count as nodes_in, link_count as links_in, flow_count as flows_in, route_count as routes_in, version_of as version_in, link_size as size_of_link, links_size as size_of_links, flow_size as size_of_flow, layout_size};
 
+use crate::version::Version;
 use byteorder::{BigEndian, ByteOrder};
 
 /// The bytes of the header.
@@ -13,8 +14,11 @@ pub(crate) const LINK: usize = 42;
 /// The bytes of the number of a lost packet.
 pub(crate) const LOST: usize = 4;
 
-/// The bytes of a flow.
+/// The bytes of a flow without its variant.
 pub(crate) const FLOW: usize = 26;
+
+/// The bytes of a flow's variant, in version 2.
+const VARIANT: usize = 1;
 
 /// The bytes of a route.
 pub(crate) const ROUTE: usize = 6;
@@ -25,6 +29,18 @@ pub(crate) fn behind(bytes: &[u8], first: usize) -> &[u8]
     ensures { result.now ≡ drop first bytes.now }
 {
     &bytes[first..]
+}
+
+/// The version whose layout is judged: the second exactly where the fourth byte is `2`.
+pub(crate) fn version_of(bytes: &[u8]) -> Version
+    requires { 22 ≤ length bytes.now }
+    ensures { result ≡ version_in bytes.now }
+{
+    if bytes[3] == b'2' {
+        Version::Two
+    } else {
+        Version::One
+    }
 }
 
 /// How many nodes an image has by its header.
@@ -72,6 +88,28 @@ pub(crate) fn link_size(bytes: &[u8]) -> usize
     LINK + LOST * usize::from(bytes[LINK - 1])
 }
 
+/// The bytes that a flow takes.
+pub(crate) fn flow_size(version: Version) -> usize
+    ensures { result ≡ size_of_flow version }
+{
+    match version {
+        Version::One => FLOW,
+        Version::Two => FLOW + VARIANT,
+    }
+}
+
+/// The bytes that so many flows take.
+pub(crate) fn flows_size(version: Version, count: usize) -> usize
+    requires { count < 65536 }
+    ensures value { result ≡ size_of_flow version * count }
+    ensures bound { result < 1769472 }
+{
+    match version {
+        Version::One => FLOW * count,
+        Version::Two => (FLOW + VARIANT) * count,
+    }
+}
+
 /// The bytes behind so many links, if there are enough bytes for these.
 fn after_links(count: usize, bytes: &[u8]) -> Option<&[u8]>
     ensures some { IfSome result (λ rest. size_of_links count bytes.now + length rest.now ≡ length bytes.now) }
@@ -103,7 +141,10 @@ pub(crate) fn has_its_layout(bytes: &[u8]) -> bool
         return false;
     }
     match after_links(link_count(bytes), behind(bytes, HEADER + nodes)) {
-        Some(rest) => FLOW * flow_count(bytes) + ROUTE * route_count(bytes) <= rest.len(),
+        Some(rest) => {
+            let flows = flows_size(version_of(bytes), flow_count(bytes));
+            flows + ROUTE * route_count(bytes) <= rest.len()
+        }
         None => false,
     }
 }

@@ -3,8 +3,6 @@
 
 mod ends;
 pub mod fault;
-#[cfg(test)]
-mod fixture;
 pub mod guarantees;
 mod kinds;
 mod layout;
@@ -16,6 +14,7 @@ pub mod records;
 pub mod routes;
 pub mod saving;
 pub mod scenario;
+pub mod version;
 pub mod ways;
 
 pub use fault::LoadFault;
@@ -25,4 +24,5 @@ pub use records::Records;
 pub use routes::route_link;
 pub use saving::save;
 pub use scenario::Scenario;
+pub use version::Version;
 pub use ways::Way;

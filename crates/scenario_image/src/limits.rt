@@ -202,6 +202,3 @@ pub(crate) fn is_in_limits(parts: &ScenarioParts) -> bool
         && routes_are_in_limits(parts)
         && routes_rise(parts)
 }
-
-#[cfg(test)]
-mod tests;

@@ -1,7 +1,7 @@
 //! What a scenario is made of.
 
 use crate::records::Records;
-use sim_time::Time;
+use sim_time::{Time, Variant};
 
 /// What a node does.
 #[derive(Clone, Copy, Debug, PartialEq, Eq)]
@@ -70,6 +70,8 @@ pub struct FlowPart {
     pub rwnd: u32,
     /// How long the receiver may delay an acknowledgement, in nanoseconds: 0 to 500,000,000.
     pub delack: u32,
+    /// Which sender the flow has.
+    pub variant: Variant,
 }
 
 /// Where a router sends packets for a destination.

@@ -1,17 +1,19 @@
 //! Reading the parts of an image, whose bytes are known to be there.
 ghost use Rattle.std.specs.Prelude.{◌≡◌, ◌≤◌, ◌*◌, ◌+◌, IfOk, length, take, drop, slice_index};
 ghost use Rattle.byteorder.specs.Endian.{big_number};
-ghost use Rattle.scenario_image.specs.Layout.{node_count as node_count_of, flow_count as flow_count_of, route_count as route_count_of, link_size as size_of_link, links_size, layout_size};
-ghost use Rattle.scenario_image.specs.Reading.{Gives, each_at, node_of_byte, nodes_at, codel_at, queue_of_byte, link_with, link_at, links_at, flow_at, route_at, parts_with, parts_at};
+ghost use Rattle.scenario_image.specs.Layout.{version_of as version_in, node_count as node_count_of, flow_count as flow_count_of, route_count as route_count_of, link_size as size_of_link, links_size, flow_size as size_of_flow, layout_size};
+ghost use Rattle.scenario_image.specs.Reading.{Gives, each_at, node_of_byte, nodes_at, codel_at, queue_of_byte, link_with, link_at, links_at, variant_of_byte, variant_at as variant_in, flow_with, flow_at, flows_at, route_at, parts_behind, parts_at};
 
 use crate::fault::LoadFault;
 use crate::layout::{
-    FLOW, HEADER, LINK, LOST, ROUTE, behind, flow_count, link_count, link_size, node_count,
-    route_count,
+    FLOW, HEADER, LINK, LOST, ROUTE, behind, flow_count, flow_size, flows_size, link_count,
+    link_size, node_count, route_count, version_of,
 };
 use crate::parts::{Codel, FlowPart, LinkPart, NodeKind, QueueKind, RoutePart, ScenarioParts};
 use crate::records::Records;
+use crate::version::Version;
 use byteorder::{BigEndian, ByteOrder};
+use sim_time::{Iw, Variant};
 use std::alloc::{AllocError, Global};
 
 /// The node that a byte stands for.
@@ -121,10 +123,35 @@ fn links_of(alloc: Global, count: usize, bytes: &[u8]) -> Result<(Vec<LinkPart>,
     Ok((links, rest))
 }
 
-/// The flow at the front.
-fn flow_of(bytes: &[u8]) -> FlowPart
+/// The variant that a byte stands for.
+fn variant_of(byte: u8) -> Option<Variant>
+    ensures { result ≡ variant_of_byte byte }
+{
+    let (newreno, iw) = match byte {
+        0 => (false, Iw::Iw3),
+        1 => (true, Iw::Iw3),
+        2 => (false, Iw::Iw10),
+        3 => (true, Iw::Iw10),
+        _ => return None,
+    };
+    Some(Variant { newreno, iw })
+}
+
+/// The variant of the flow at the front.
+fn variant_at(version: Version, bytes: &[u8]) -> Option<Variant>
+    requires { size_of_flow version ≤ length bytes.now }
+    ensures { result ≡ variant_in version bytes.now }
+{
+    match version {
+        Version::One => variant_of(0),
+        Version::Two => variant_of(bytes[FLOW]),
+    }
+}
+
+/// The flow at the front, with its variant.
+fn new_flow(bytes: &[u8], variant: Variant) -> FlowPart
     requires { 26 ≤ length bytes.now }
-    ensures { result ≡ flow_at bytes.now }
+    ensures { result ≡ flow_with bytes.now variant }
 {
     FlowPart {
         sender: BigEndian::read_u16(bytes),
@@ -134,19 +161,37 @@ fn flow_of(bytes: &[u8]) -> FlowPart
         start: BigEndian::read_u64(&bytes[10..]),
         rwnd: BigEndian::read_u32(&bytes[18..]),
         delack: BigEndian::read_u32(&bytes[22..]),
+        variant,
     }
 }
 
+/// The flow at the front.
+fn flow_of(version: Version, bytes: &[u8]) -> Option<FlowPart>
+    requires { size_of_flow version ≤ length bytes.now }
+    ensures { result ≡ flow_at version bytes.now }
+{
+    let variant = variant_at(version, bytes)?;
+    Some(new_flow(bytes, variant))
+}
+
 /// So many flows.
-fn flows_of(alloc: Global, count: usize, bytes: &[u8]) -> Result<Vec<FlowPart>, AllocError>
-    requires { 26 * count ≤ length bytes.now }
-    ensures { IfOk result (λ flows. flows.items ≡ each_at 26 flow_at count bytes.now) }
+fn flows_of(
+    alloc: Global,
+    version: Version,
+    count: usize,
+    bytes: &[u8],
+) -> Result<Vec<FlowPart>, LoadFault>
+    requires { size_of_flow version * count ≤ length bytes.now }
+    ensures { Gives (λ flows. flows.items) result (flows_at version count bytes.now) }
 {
     let mut flows = Vec::new(alloc);
     let mut rest = bytes;
     for _ in 0..count {
-        flows.push(flow_of(rest))?;
-        rest = behind(rest, FLOW);
+        let Some(flow) = flow_of(version, rest) else {
+            return Err(LoadFault::L3);
+        };
+        flows.push(flow)?;
+        rest = behind(rest, flow_size(version));
     }
     Ok(flows)
 }
@@ -195,13 +240,14 @@ fn parts_from<'a>(
     nodes: Records<NodeKind>,
     links: Records<LinkPart>,
     rest: &'a [u8],
-) -> Result<(ScenarioParts, &'a [u8]), AllocError>
+) -> Result<(ScenarioParts, &'a [u8]), LoadFault>
     requires header { 22 ≤ length bytes.now }
-    requires enough { 26 * flow_count_of bytes.now + 6 * route_count_of bytes.now ≤ length rest.now }
-    ensures { IfOk result (λ parts. (parts.0, parts.1.now) ≡ parts_with bytes.now nodes (links, rest.now)) }
+    requires enough { size_of_flow (version_in bytes.now) * flow_count_of bytes.now + 6 * route_count_of bytes.now ≤ length rest.now }
+    ensures { Gives (λ parts. (parts.0, parts.1.now)) result (parts_behind bytes.now nodes (links, rest.now)) }
 {
-    let flows = flows_of(alloc, flow_count(bytes), rest)?;
-    let rest = behind(rest, FLOW * flow_count(bytes));
+    let (version, count) = (version_of(bytes), flow_count(bytes));
+    let flows = flows_of(alloc, version, count, rest)?;
+    let rest = behind(rest, flows_size(version, count));
     let routes = routes_of(alloc, route_count(bytes), rest)?;
     let parts = ScenarioParts {
         end: BigEndian::read_u64(&bytes[4..]),
@@ -222,5 +268,5 @@ pub(crate) fn parts_of(alloc: Global, bytes: &[u8]) -> Result<(ScenarioParts, &[
     let link_bytes = behind(bytes, HEADER + node_count(bytes));
     let (links, rest) = links_of(alloc, link_count(bytes), link_bytes)?;
     let (nodes, links) = (Records::new(nodes), Records::new(links));
-    Ok(parts_from(alloc, bytes, nodes, links, rest)?)
+    parts_from(alloc, bytes, nodes, links, rest)
 }

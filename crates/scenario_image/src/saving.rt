@@ -1,13 +1,15 @@
-//! Writing the image of a scenario.
+//! Writing the image of a scenario, in version 2.
 ghost use Rattle.std.specs.Prelude.{◌≡◌, ◌++◌, ◌<◌, length, map, OnOk, IfOk, All};
 ghost use Rattle.std.specs.List.{flat_map};
 ghost use Rattle.byteorder.specs.Endian.{big_bytes};
 ghost use Rattle.scenario_image.specs.Limits.{AreCountsInLimits};
-ghost use Rattle.scenario_image.specs.Image.{header_image, node_byte, queue_byte as byte_of_queue, codel_image, link_image, flow_image, route_image, image};
+ghost use Rattle.scenario_image.specs.Image.{header_image, node_byte, queue_byte as byte_of_queue, codel_image, link_image, variant_byte as byte_of_variant, flow_image, route_image, image};
+ghost use Rattle.scenario_image.specs.declared.version.Version.TheVariants.{Two};
 
 use crate::parts::{FlowPart, LinkPart, NodeKind, QueueKind, RoutePart, ScenarioParts};
 use crate::scenario::Scenario;
 use byteorder::{BigEndian, ByteOrder};
+use sim_time::{Iw, Variant};
 use std::alloc::{AllocError, Global};
 
 /// Adds a number of one byte.
@@ -51,9 +53,9 @@ fn put_u64(out: &mut Vec<u8>, n: u64) -> Result<(), AllocError>
 /// Adds the header.
 fn put_header(out: &mut Vec<u8>, parts: &ScenarioParts) -> Result<(), AllocError>
     requires { AreCountsInLimits parts.now }
-    ensures { OnOk result (out.new.items ≡ out.old.items ++ header_image parts.now) }
+    ensures { OnOk result (out.new.items ≡ out.old.items ++ header_image Two parts.now) }
 {
-    out.extend_from_slice(b"TCB1")?;
+    out.extend_from_slice(b"TCB2")?;
     put_u64(out, parts.end)?;
     put_u16(out, parts.nodes.len() as u16)?;
     put_u16(out, parts.links.len() as u16)?;
@@ -139,9 +141,21 @@ fn put_links(out: &mut Vec<u8>, links: &[LinkPart]) -> Result<(), AllocError>
     Ok(())
 }
 
+/// The byte of a flow's variant: 1 for NewReno, 2 for the initial window of ten segments, summed.
+fn variant_byte(variant: Variant) -> u8
+    ensures { result ≡ byte_of_variant variant }
+{
+    let newreno = if variant.newreno { 1 } else { 0 };
+    let iw = match variant.iw {
+        Iw::Iw3 => 0,
+        Iw::Iw10 => 2,
+    };
+    newreno + iw
+}
+
 /// Adds a flow.
 fn put_flow(out: &mut Vec<u8>, flow: FlowPart) -> Result<(), AllocError>
-    ensures { OnOk result (out.new.items ≡ out.old.items ++ flow_image flow) }
+    ensures { OnOk result (out.new.items ≡ out.old.items ++ flow_image Two flow) }
 {
     put_u16(out, flow.sender)?;
     put_u16(out, flow.receiver)?;
@@ -150,12 +164,13 @@ fn put_flow(out: &mut Vec<u8>, flow: FlowPart) -> Result<(), AllocError>
     put_u64(out, flow.start)?;
     put_u32(out, flow.rwnd)?;
     put_u32(out, flow.delack)?;
+    put_u8(out, variant_byte(flow.variant))?;
     Ok(())
 }
 
 /// Adds each flow.
 fn put_flows(out: &mut Vec<u8>, flows: &[FlowPart]) -> Result<(), AllocError>
-    ensures { OnOk result (out.new.items ≡ out.old.items ++ flat_map flow_image flows.now) }
+    ensures { OnOk result (out.new.items ≡ out.old.items ++ flat_map (flow_image Two) flows.now) }
 {
     for flow in flows {
         put_flow(out, *flow)?;
@@ -175,9 +190,9 @@ fn put_routes(out: &mut Vec<u8>, routes: &[RoutePart]) -> Result<(), AllocError>
     Ok(())
 }
 
-/// The image of a scenario.
+/// The image of a scenario, in version 2.
 pub fn save(alloc: Global, scenario: &Scenario) -> Result<Vec<u8>, AllocError>
-    ensures { IfOk result (λ bytes. bytes.items ≡ image scenario.now) }
+    ensures { IfOk result (λ bytes. bytes.items ≡ image Two scenario.now) }
 {
     let parts = scenario.parts();
     let mut out = Vec::new(alloc);

@@ -73,6 +73,3 @@ impl Scenario {
         &self.parts
     }
 }
-
-#[cfg(test)]
-mod tests;

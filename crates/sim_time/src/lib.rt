@@ -8,11 +8,13 @@ pub mod control_law;
 pub mod key;
 pub mod rate;
 pub mod slow_start;
+pub mod variant;
 
 pub use control_law::{gap, gaps_shrink};
 pub use key::{Key, key_order};
 pub use rate::{Rate, serial_ns};
 pub use slow_start::initial_window;
+pub use variant::{Iw, Variant};
 
 /// A moment or a span: nanoseconds.
 pub type Time = u64;

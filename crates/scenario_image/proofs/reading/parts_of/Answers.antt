@@ -1,6 +1,7 @@
-use Rattle.std.proofs.Common.{◌∙◌, ap, sym, arith}
-use Rattle.scenario_image.specs.Reading.{nodes_at, parts_with}
+use Rattle.std.proofs.Common.{◌≡◌, ◌∙◌, ap, sym, arith}
+use Rattle.scenario_image.specs.Reading.{nodes_at, parts_behind, parts_at}
 use Rattle.scenario_image.proofs.Takes.{at_links, rest_long, parts_made}
+use Rattle.scenario_image.proofs.Loops.{gives_as}
 use Rattle.scenario_image.proofs.reading.parts_of.Goals as goal
 
 pub parts_from-requires-clause-enough : goal.parts_from-requires-clause-enough
@@ -10,8 +11,11 @@ parts_from-requires-clause-enough c =
 
 pub returns : goal.returns
 returns c =
-    parts_made c.args.bytes.now c.in_ok-nodes.nodes.items (c.in_ok-links.links.items, c.in_ok-links.rest.now) (c.in_ok-parts_from.field-0.0, c.in_ok-parts_from.field-0.1.now)
+    let made : parts_at c.args.bytes.now ≡ parts_behind c.args.bytes.now c.in_ok-nodes.nodes.items (c.in_ok-links.links.items, c.in_ok-links.rest.now) =
+    parts_made c.args.bytes.now c.in_ok-nodes.nodes.items (c.in_ok-links.links.items, c.in_ok-links.rest.now)
     (ap nodes_at (sym c.node_bytes.ensures) ∙ c.in_ok-nodes.ensures)
-    (at_links c.args.bytes.now c.behind-link_bytes.result.now c.node_count.result c.link_count.result (c.in_ok-links.links.items, c.in_ok-links.rest.now) c.node_count.ensures.value c.link_count.ensures.value c.behind-link_bytes.ensures c.in_ok-links.ensures)
-    (c.in_ok-parts_from.ensures ∙ ap (λ nodes. parts_with c.args.bytes.now nodes (c.new-links.result, c.in_ok-links.rest.now)) c.new-nodes.ensures
-    ∙ ap (λ links. parts_with c.args.bytes.now c.in_ok-nodes.nodes.items (links, c.in_ok-links.rest.now)) c.new-links.ensures)
+    (at_links c.args.bytes.now c.behind-link_bytes.result.now c.node_count.result c.link_count.result (c.in_ok-links.links.items, c.in_ok-links.rest.now) c.node_count.ensures.value c.link_count.ensures.value c.behind-link_bytes.ensures c.in_ok-links.ensures) in
+    let given : parts_behind c.args.bytes.now c.new-nodes.result (c.new-links.result, c.in_ok-links.rest.now) ≡ parts_behind c.args.bytes.now c.in_ok-nodes.nodes.items (c.in_ok-links.links.items, c.in_ok-links.rest.now) =
+    ap (λ nodes. parts_behind c.args.bytes.now nodes (c.new-links.result, c.in_ok-links.rest.now)) c.new-nodes.ensures
+    ∙ ap (λ links. parts_behind c.args.bytes.now c.in_ok-nodes.nodes.items (links, c.in_ok-links.rest.now)) c.new-links.ensures in
+    gives_as (λ parts. (parts.0, parts.1.now)) c.parts_from.result _ _ (given ∙ sym made) c.parts_from.ensures

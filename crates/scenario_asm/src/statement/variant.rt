@@ -1,0 +1,54 @@
+//! The two words of a `flow` statement that say which sender it has. Both may be left out.
+ghost use Rattle.std.specs.Prelude.{◌≡◌};
+ghost use Rattle.scenario_asm.specs.Statements.{newreno_named, iw_named, newreno_verdict, newreno_said, iw_verdict, iw_said};
+ghost use Rattle.scenario_asm.specs.Verdicts.{Judges};
+
+use crate::fault::Fault;
+use crate::lexer::Word;
+use sim_time::Iw;
+
+/// Whether a word names NewReno, if it names a sender.
+fn newreno_in(word: &Word<'_>) -> Option<bool>
+    ensures { result ≡ newreno_named word.now }
+{
+    if word.is(b"reno") {
+        Some(false)
+    } else if word.is(b"newreno") {
+        Some(true)
+    } else {
+        None
+    }
+}
+
+/// The initial window that a word names, if it names one.
+fn iw_in(word: &Word<'_>) -> Option<Iw>
+    ensures { result ≡ iw_named word.now }
+{
+    if word.is(b"iw3") {
+        Some(Iw::Iw3)
+    } else if word.is(b"iw10") {
+        Some(Iw::Iw10)
+    } else {
+        None
+    }
+}
+
+/// Whether the tenth word says NewReno: where it is left out, Reno is meant.
+pub(super) fn newreno(words: &[Word<'_>]) -> Result<bool, Fault>
+    ensures { Judges (newreno_verdict words.now) (newreno_said words.now) result }
+{
+    match words.get(9) {
+        Some(word) => newreno_in(word).ok_or(Fault::E4),
+        None => Ok(false),
+    }
+}
+
+/// The initial window that the eleventh word says: where it is left out, the smaller one is meant.
+pub(super) fn iw(words: &[Word<'_>]) -> Result<Iw, Fault>
+    ensures { Judges (iw_verdict words.now) (iw_said words.now) result }
+{
+    match words.get(10) {
+        Some(word) => iw_in(word).ok_or(Fault::E4),
+        None => Ok(Iw::Iw3),
+    }
+}
