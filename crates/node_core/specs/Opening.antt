@@ -1,7 +1,8 @@
 -- The nodes of a scenario, before anything is sent.
-use Rattle.std.specs.Prelude.{ℕ, ◌==◌, List, [], map, filter, find, slice_index_or, unwrap_or, Option, Some}
+use Rattle.std.specs.Prelude.{ℕ, false, ◌==◌, List, [], map, filter, find, slice_index_or, unwrap_or, Option, Some}
 use Rattle.std.specs.List.{enumerate_from, position}
 use Rattle.std.specs.Option.{option_and_then}
+use Rattle.sim_time.specs.declared.variant.Iw.TheVariants.{Iw3}
 use Rattle.scenario_image.specs.declared.parts.NodeKind.{NodeKind}
 use Rattle.scenario_image.specs.declared.parts.NodeKind.TheVariants.{Sender, Receiver, Router}
 use Rattle.scenario_image.specs.declared.parts.QueueKind.{QueueKind}
@@ -59,7 +60,7 @@ abbrev pub exits_of : ScenarioParts → ℕ → FlowPart → FlowExits
 exits_of p node flow = record { for_data = exit_to p node flow.receiver; for_acks = exit_to p node flow.sender }
 
 abbrev pub no_flow : ℕ × FlowPart
-no_flow = (0, record { sender = 0; receiver = 0; mss = 1; segments = 1; start = 0; rwnd = 1; delack = 0 })
+no_flow = (0, record { sender = 0; receiver = 0; mss = 1; segments = 1; start = 0; rwnd = 1; delack = 0; variant = record { newreno = false; iw = Iw3 } })
 
 -- the flow that a node sends, or receives, with its number
 abbrev pub flow_from : List FlowPart → ℕ → ℕ × FlowPart
@@ -69,7 +70,7 @@ abbrev pub flow_to : List FlowPart → ℕ → ℕ × FlowPart
 flow_to flows node = unwrap_or (find (λ (x : ℕ × FlowPart). x.1.receiver == node) (enumerate_from 0 flows)) no_flow
 
 abbrev pub sends : ℕ × FlowPart → Role
-sends numbered = Sends numbered.0 (opening_fields numbered.1.mss numbered.1.segments numbered.1.rwnd)
+sends numbered = Sends numbered.0 (opening_fields numbered.1.mss numbered.1.segments numbered.1.rwnd numbered.1.variant)
 
 abbrev pub receives : ℕ × FlowPart → Role
 receives numbered = Receives numbered.0 (opening_receiver numbered.1.mss numbered.1.delack)

@@ -57,7 +57,7 @@ pub(crate) fn run_plan(
     alloc: Global,
     flow: u16,
     sender: &mut Sender,
-    plan: Plan,
+    plan: &Plan,
     link: &mut Link,
     key: Key,
     agenda: &mut Agenda,
@@ -67,29 +67,29 @@ pub(crate) fn run_plan(
     requires moment { IsMoment key.time }
     requires due { next_key agenda.old.pending ≡ Some key }
     requires arrives { key.source ≢ 0 → (packet : Packet) × (least agenda.old.pending ≡ Some (key, Arrive packet)) }
-    requires made { IsPlanOf sender.old plan }
+    requires made { IsPlanOf sender.old plan.now }
     requires sent { link.old.port.sent < 1000000000000000 }
     requires offered { link.old.port.offered < 2 ^ 90 }
     requires chain { length out.old < 1000000000000000 }
     requires within { 3 < length agenda.old.alarms }
     requires alarm { slice_index_or (cleared key agenda.old.alarms) 3 None ≡ link.old.port.next_free }
     requires exit { slice_index_or agenda.old.owner.exits 0 0 ≡ link.old.port.link }
-    ensures sender { OnOk result (sender.new ≡ plan.fields) }
-    ensures link { OnOk result (link.new ≡ record link.old { port = (offered_all key.time link.old.port (map (data_packet flow plan.fields.mss) (sent_of plan))).port }) }
-    ensures agenda { OnOk result (agenda.new ≡ passed (moved_to (after_take agenda.old key) 1 plan.fields.deadline) 0 (offered_all key.time link.old.port (map (data_packet flow plan.fields.mss) (sent_of plan)))) }
-    ensures departed { OnOk result (out.new ≡ out.old ++ departed (offered_all key.time link.old.port (map (data_packet flow plan.fields.mss) (sent_of plan))).departure) }
-    ensures acts { OnOk result (acts.new.acts ≡ acts.old.acts ++ (offered_all key.time link.old.port (map (data_packet flow plan.fields.mss) (sent_of plan))).acts) }
-    ensures departs { IfOk result (λ departs. departs ≡ is_some (offered_all key.time link.old.port (map (data_packet flow plan.fields.mss) (sent_of plan))).departure) }
+    ensures sender { OnOk result (sender.new ≡ plan.now.fields) }
+    ensures link { OnOk result (link.new ≡ record link.old { port = (offered_all key.time link.old.port (map (data_packet flow plan.now.fields.mss) (sent_of plan.now))).port }) }
+    ensures agenda { OnOk result (agenda.new ≡ passed (moved_to (after_take agenda.old key) 1 plan.now.fields.deadline) 0 (offered_all key.time link.old.port (map (data_packet flow plan.now.fields.mss) (sent_of plan.now)))) }
+    ensures departed { OnOk result (out.new ≡ out.old ++ departed (offered_all key.time link.old.port (map (data_packet flow plan.now.fields.mss) (sent_of plan.now))).departure) }
+    ensures acts { OnOk result (acts.new.acts ≡ acts.old.acts ++ (offered_all key.time link.old.port (map (data_packet flow plan.now.fields.mss) (sent_of plan.now))).acts) }
+    ensures departs { IfOk result (λ departs. departs ≡ is_some (offered_all key.time link.old.port (map (data_packet flow plan.now.fields.mss) (sent_of plan.now))).departure) }
     ensures same_sender { OnErr result (sender.new ≡ sender.old) }
     ensures same_link { OnErr result (link.new ≡ link.old) }
     ensures same_agenda { OnErr result (agenda.new ≡ agenda.old) }
     ensures same_out { OnErr result (out.new ≡ out.old) }
 {
     acts.reserve(plan.count() as usize + 2)?;
-    let cells = take_cells(alloc, flow, &plan, key, agenda)?;
+    let cells = take_cells(alloc, flow, plan, key, agenda)?;
     agenda.set_alarm(Alarm::Retransmission, plan.as_fields().deadline);
     let departs = offer(link, 0, cells, agenda, key.time, acts, out);
-    sender.commit(plan);
+    sender.commit(*plan);
     Ok(departs)
 }
 

@@ -53,7 +53,7 @@ pub(crate) fn run_start(
     match role {
         Role::Sends(flow, sender) => {
             let plan = sender.start(key.time);
-            run_sender(alloc, *flow, sender, plan, links, key, agenda, acts, out)
+            run_sender(alloc, *flow, sender, &plan, links, key, agenda, acts, out)
         }
         Role::Receives(_, _) | Role::Routes(_) => {
             let _cell = agenda.take(key);
@@ -91,7 +91,7 @@ pub(crate) fn run_timeout(
     match role {
         Role::Sends(flow, sender) => {
             let plan = sender.on_rto(key.time);
-            run_sender(alloc, *flow, sender, plan, links, key, agenda, acts, out)
+            run_sender(alloc, *flow, sender, &plan, links, key, agenda, acts, out)
         }
         Role::Receives(_, _) | Role::Routes(_) => {
             let _cell = agenda.take(key);

@@ -36,7 +36,7 @@ pub(crate) fn run_sender(
     alloc: Global,
     flow: u16,
     sender: &mut Sender,
-    plan: Plan,
+    plan: &Plan,
     links: &mut Vec<Link>,
     key: Key,
     agenda: &mut Agenda,
@@ -48,14 +48,14 @@ pub(crate) fn run_sender(
     requires next { next_key agenda.old.pending ≡ Some key }
     requires at_node { key.node ≡ agenda.old.owner.node }
     requires timed { IsTimed agenda.old key 1 }
-    requires made { IsPlanOf sender.old plan }
+    requires made { IsPlanOf sender.old plan.now }
     requires arrives { key.source ≢ 0 → (packet : Packet) × (least agenda.old.pending ≡ Some (key, Arrive packet)) }
     requires can { AllByRecursion LinkCan links.old.items }
     requires chains { length links.old.items ≤ length out.old }
     requires room { All (λ chain. length chain < 1000000000000000) out.old }
-    ensures ran { OnOk result (HasRun key (sender_row (part (Sends flow sender.old) links.old.items) key flow sender.old (planned_of plan)) (Sends flow sender.new) links.new.items agenda.old agenda.new out.old out.new) }
-    ensures acts { OnOk result (acts.new.acts ≡ acts.old.acts ++ (sender_row (part (Sends flow sender.old) links.old.items) key flow sender.old (planned_of plan)).acts) }
-    ensures leaving { IfOk result (λ index. index ≡ option_map (λ (leaving : Leaving). leaving.index) (sender_row (part (Sends flow sender.old) links.old.items) key flow sender.old (planned_of plan)).leaving) }
+    ensures ran { OnOk result (HasRun key (sender_row (part (Sends flow sender.old) links.old.items) key flow sender.old (planned_of plan.now)) (Sends flow sender.new) links.new.items agenda.old agenda.new out.old out.new) }
+    ensures acts { OnOk result (acts.new.acts ≡ acts.old.acts ++ (sender_row (part (Sends flow sender.old) links.old.items) key flow sender.old (planned_of plan.now)).acts) }
+    ensures leaving { IfOk result (λ index. index ≡ option_map (λ (leaving : Leaving). leaving.index) (sender_row (part (Sends flow sender.old) links.old.items) key flow sender.old (planned_of plan.now)).leaving) }
     ensures same_sender { OnErr result (sender.new ≡ sender.old) }
     ensures same_links { OnErr result (links.new.items ≡ links.old.items) }
     ensures same_agenda { OnErr result (agenda.new ≡ agenda.old) }
@@ -100,5 +100,5 @@ pub(crate) fn run_ack(
     ensures same_out { OnErr result (out.new ≡ out.old) }
 {
     let plan = sender.on_ack(number, key.time);
-    run_sender(alloc, flow, sender, plan, links, key, agenda, acts, out)
+    run_sender(alloc, flow, sender, &plan, links, key, agenda, acts, out)
 }

@@ -179,7 +179,7 @@ pub fn opening_role(
         NodeKind::Sender => {
             let (number, flow) = flow_from(flows, node).unwrap();
             let (mss, segments) = (u64::from(flow.mss), u64::from(flow.segments));
-            let sender = Sender::new(mss, segments, u64::from(flow.rwnd));
+            let sender = Sender::new(mss, segments, u64::from(flow.rwnd), flow.variant);
             Ok(Role::Sends(number, sender))
         }
         NodeKind::Receiver => {

@@ -56,12 +56,12 @@ impl PacketBytes {
 /// A packet: a segment of a flow, or an acknowledgement of one.
 #[derive(Clone, Copy, Debug, PartialEq, Eq)]
 pub struct Packet {
-    /// The flow's number.
-    pub flow: u16,
-    /// Data or acknowledgement.
-    pub kind: Kind,
     /// The byte number or the acknowledgement number.
     pub number: u64,
+    /// The flow's number.
+    pub flow: u16,
     /// Its size on the wire.
     pub bytes: PacketBytes,
+    /// Data or acknowledgement.
+    pub kind: Kind,
 }

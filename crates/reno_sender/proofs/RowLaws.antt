@@ -1,34 +1,50 @@
 -- The laws of single rows: ssthresh, the timing and the rto.
-use Rattle.std.proofs.Common.{◌≡◌, ℕ, zero, suc, ◌+◌, ◌-◌, ◌*◌, ◌<◌, ◌≤◌, ◌⊎◌, inl, inr, Bool, true, false, cond, ◌||◌, ltb, leb, eqb, min, Option, Some, None, List, [], ◌∷◌, length, get_or, refl, sym, ◌∙◌, arith}
-use Rattle.std.specs.Prelude.{find, option_map, IfSome}
+use Rattle.std.proofs.Common.{◌≡◌, ℕ, zero, suc, ◌+◌, ◌-◌, ◌*◌, ◌<◌, ◌≤◌, ◌⊎◌, inl, inr, Bool, true, false, cond, ◌&&◌, ◌||◌, ltb, leb, eqb, min, Option, Some, None, List, [], ◌∷◌, length, get_or, refl, sym, ◌∙◌, arith}
+use Rattle.std.specs.Prelude.{find, option_map, IfSome, IsTrue}
 use Rattle.std.specs.List.{list_any}
-use Rattle.std.proofs.lemmas.Bool.{ltb-true, eqb-false, or_parts, or_left, or_right, lt-ltb, lt-leb, le-leb, cases_lt, false≢true}
+use Rattle.std.proofs.lemmas.Bool.{ltb-true, ltb-false, eqb-false, or_parts, or_left, or_right, and_parts, lt-ltb, le-ltb, lt-leb, le-leb, cases_lt, false≢true}
 use Rattle.reno_sender.specs.declared.fields.SenderFields.{SenderFields}
 use Rattle.reno_sender.specs.declared.fields.Timing.{Timing}
 use Rattle.reno_sender.specs.Fields.{flight_size}
 use Rattle.reno_sender.specs.Timer.{sampled, backed_off}
 use Rattle.reno_sender.specs.Sending.{Planned, sending, timing_of, spaced, fill_count}
-use Rattle.reno_sender.specs.Table.{started, acknowledged, timed_out, new_acknowledgement, nothing_sent, further_duplicate, third_duplicate, early_duplicate, may_send_new, measured_by, with_estimate, advanced, inflated, enlarged, one_more, halved}
-use Rattle.reno_sender.specs.Laws.{ThresholdAtRecovery, ThresholdAtTimeout, ThresholdAtFurtherTimeout, ThresholdStays, NeverTimesResent, StartNeverTimesResent, AcknowledgementNeverTimesResent, TimeoutNeverTimesResent, TimeoutDoublesRto, RtoStaysUntilSample}
+use Rattle.reno_sender.specs.Table.{started, acknowledged, timed_out, new_acknowledgement, nothing_sent, further_duplicate, enters, recover_at_loss, fast_retransmit, repeated_duplicate, early_duplicate, is_partial, is_below, partly, partial_acknowledgement, may_send_new, measured_by, with_estimate, advanced, inflated, enlarged, one_more, halved}
+use Rattle.reno_sender.specs.Laws.{ThresholdAtRecovery, ThresholdAtTimeout, ThresholdAtFurtherTimeout, ThresholdStays, NeverTimesResent, StartNeverTimesResent, AcknowledgementNeverTimesResent, TimeoutNeverTimesResent, TimeoutDoublesRto, RtoStaysUntilSample, LastsUntilRecover, RecoveryLasts}
+
+three_at_least : (dups : ℕ) → eqb dups 2 ≡ false → ltb dups 2 ≡ false → 3 ≤ dups
+three_at_least dups not_two not_few =
+    let apart : dups ≡ 2 → ⊥ = eqb-false dups 2 not_two in
+    let most : 2 ≤ dups = ltb-false dups 2 not_few in
+    omega arith
 
 -- what holds of each row that an acknowledgement may have
-rows_split : (P : Planned → Type 0) (a b c d : Bool) (f : SenderFields) (ack now : ℕ) →
-    a ≡ ltb f.una ack → b ≡ (ltb ack f.una || eqb f.una f.nxt) → c ≡ f.recovery → d ≡ eqb f.dups 2 →
-    (f.una < ack → P (new_acknowledgement f ack now)) → P (nothing_sent f) → (f.recovery ≡ true → P (further_duplicate f now)) →
-    ((f.una ≡ f.nxt → ⊥) → f.recovery ≡ false → P (third_duplicate f now)) → (f.recovery ≡ false → eqb f.dups 2 ≡ false → P (early_duplicate f now)) →
-    P (cond a (new_acknowledgement f ack now) (cond b (nothing_sent f) (cond c (further_duplicate f now) (cond d (third_duplicate f now) (early_duplicate f now)))))
-rows_split P true b c d f ack now ea eb ec ed new old further third early = new (ltb-true _ _ (sym ea))
-rows_split P false true c d f ack now ea eb ec ed new old further third early = old
-rows_split P false false true d f ack now ea eb ec ed new old further third early = further (sym ec)
-rows_split P false false false true f ack now ea eb ec ed new old further third early = third (eqb-false f.una f.nxt (or_parts _ _ (sym eb)).1) (sym ec)
-rows_split P false false false false f ack now ea eb ec ed new old further third early = early (sym ec) (sym ed)
+rows_split : (P : Planned → Type 0) (a p b c d t e : Bool) (f : SenderFields) (ack now : ℕ) →
+    a ≡ ltb f.una ack → p ≡ is_partial f ack → b ≡ (ltb ack f.una || eqb f.una f.nxt) → c ≡ f.recovery → d ≡ eqb f.dups 2 → t ≡ enters f → e ≡ ltb f.dups 2 →
+    (f.una < ack → is_partial f ack ≡ false → P (new_acknowledgement f ack now)) → (f.una < ack → is_partial f ack ≡ true → P (partial_acknowledgement f ack now)) →
+    P (nothing_sent f) → (f.recovery ≡ true → P (further_duplicate f now)) →
+    ((f.una ≡ f.nxt → ⊥) → f.recovery ≡ false → enters f ≡ true → P (fast_retransmit f now)) → (f.recovery ≡ false → enters f ≡ false → P (nothing_sent (record f { dups = 3 }))) →
+    (f.recovery ≡ false → f.dups < 2 → P (early_duplicate f now)) → (f.recovery ≡ false → 3 ≤ f.dups → P (repeated_duplicate f)) →
+    P (cond a (cond p (partial_acknowledgement f ack now) (new_acknowledgement f ack now))
+    (cond b (nothing_sent f) (cond c (further_duplicate f now)
+    (cond d (cond t (fast_retransmit f now) (nothing_sent (record f { dups = 3 }))) (cond e (early_duplicate f now) (repeated_duplicate f))))))
+rows_split P true true b c d t e f ack now ea ep eb ec ed et ee new part old further fast unentered early repeated = part (ltb-true _ _ (sym ea)) (sym ep)
+rows_split P true false b c d t e f ack now ea ep eb ec ed et ee new part old further fast unentered early repeated = new (ltb-true _ _ (sym ea)) (sym ep)
+rows_split P false p true c d t e f ack now ea ep eb ec ed et ee new part old further fast unentered early repeated = old
+rows_split P false p false true d t e f ack now ea ep eb ec ed et ee new part old further fast unentered early repeated = further (sym ec)
+rows_split P false p false false true true e f ack now ea ep eb ec ed et ee new part old further fast unentered early repeated = fast (eqb-false f.una f.nxt (or_parts _ _ (sym eb)).1) (sym ec) (sym et)
+rows_split P false p false false true false e f ack now ea ep eb ec ed et ee new part old further fast unentered early repeated = unentered (sym ec) (sym et)
+rows_split P false p false false false t true f ack now ea ep eb ec ed et ee new part old further fast unentered early repeated = early (sym ec) (ltb-true _ _ (sym ee))
+rows_split P false p false false false t false f ack now ea ep eb ec ed et ee new part old further fast unentered early repeated = repeated (sym ec) (three_at_least f.dups (sym ed) (sym ee))
 
 pub by_rows : (P : Planned → Type 0) (f : SenderFields) (ack now : ℕ) →
-    (f.una < ack → P (new_acknowledgement f ack now)) → P (nothing_sent f) → (f.recovery ≡ true → P (further_duplicate f now)) →
-    ((f.una ≡ f.nxt → ⊥) → f.recovery ≡ false → P (third_duplicate f now)) → (f.recovery ≡ false → eqb f.dups 2 ≡ false → P (early_duplicate f now)) →
+    (f.una < ack → is_partial f ack ≡ false → P (new_acknowledgement f ack now)) → (f.una < ack → is_partial f ack ≡ true → P (partial_acknowledgement f ack now)) →
+    P (nothing_sent f) → (f.recovery ≡ true → P (further_duplicate f now)) →
+    ((f.una ≡ f.nxt → ⊥) → f.recovery ≡ false → enters f ≡ true → P (fast_retransmit f now)) → (f.recovery ≡ false → enters f ≡ false → P (nothing_sent (record f { dups = 3 }))) →
+    (f.recovery ≡ false → f.dups < 2 → P (early_duplicate f now)) → (f.recovery ≡ false → 3 ≤ f.dups → P (repeated_duplicate f)) →
     P (acknowledged f ack now)
 unfolding acknowledged
-by_rows P f ack now = rows_split P (ltb f.una ack) (ltb ack f.una || eqb f.una f.nxt) f.recovery (eqb f.dups 2) f ack now refl refl refl refl
+by_rows P f ack now =
+    rows_split P (ltb f.una ack) (is_partial f ack) (ltb ack f.una || eqb f.una f.nxt) f.recovery (eqb f.dups 2) (enters f) (ltb f.dups 2) f ack now refl refl refl refl refl refl refl
 
 either_row : (P : Planned → Type 0) (b : Bool) (p q : Planned) → P p → P q → P (cond b p q)
 either_row P true p q x y = x
@@ -51,14 +67,21 @@ measured_rto : (o : Option Timing) (f : SenderFields) (ack now : ℕ) → IfSome
 measured_rto None f ack now l = refl
 measured_rto (Some t) f ack now l = rw (lt-leb t.number ack l) refl
 
+-- a partial acknowledgement is one in recovery
+partial_recovers : (f : SenderFields) (ack : ℕ) → is_partial f ack ≡ true → f.recovery ≡ true
+partial_recovers f ack e =
+    let inner : (f.recovery && is_below ack f.recover) ≡ true = (and_parts _ _ e).1 in
+    (and_parts _ _ inner).0
+
 -- ssthresh
 pub threshold_at_recovery : ThresholdAtRecovery
 threshold_at_recovery f ack now =
     by_rows (λ p. f.recovery ≡ false → p.fields.recovery ≡ true → 2 * f.mss ≤ p.fields.ssthresh) f ack now
-    (λ _ no yes. absurd (false≢true yes)) (λ no yes. absurd (false≢true (sym no ∙ yes)))
-    (λ was no yes. absurd (false≢true (sym no ∙ was))) (λ _ _ no yes. omega arith)
-    (λ _ _. either_row (λ p. f.recovery ≡ false → p.fields.recovery ≡ true → 2 * f.mss ≤ p.fields.ssthresh) _ _ _
-    (λ no yes. absurd (false≢true (sym no ∙ yes))) (λ no yes. absurd (false≢true (sym no ∙ yes))))
+    (λ _ _ no yes. absurd (false≢true yes)) (λ _ part no yes. absurd (false≢true (sym no ∙ partial_recovers f ack part)))
+    (λ no yes. absurd (false≢true (sym no ∙ yes))) (λ was no yes. absurd (false≢true (sym no ∙ was)))
+    (λ _ _ _ no yes. omega arith) (λ _ _ no yes. absurd (false≢true (sym no ∙ yes)))
+    (λ _ _. either_row (λ p. f.recovery ≡ false → p.fields.recovery ≡ true → 2 * f.mss ≤ p.fields.ssthresh) _ _ _ (λ no yes. absurd (false≢true (sym no ∙ yes))) (λ no yes. absurd (false≢true (sym no ∙ yes))))
+    (λ _ _ no yes. absurd (false≢true (sym no ∙ yes)))
 
 pub threshold_at_timeout : ThresholdAtTimeout
 unfolding timed_out
@@ -71,10 +94,12 @@ threshold_at_further_timeout f now again = rw again refl
 pub threshold_stays : ThresholdStays
 threshold_stays f ack now =
     by_rows (λ p. (f.recovery ≡ true) ⊎ (p.fields.recovery ≡ false) → p.fields.ssthresh ≡ f.ssthresh) f ack now
-    (λ _ _. measured_ssthresh f.timing f ack now) (λ _. refl)
+    (λ _ _ _. measured_ssthresh f.timing f ack now)
+    (λ _ _. either_row (λ p. (f.recovery ≡ true) ⊎ (p.fields.recovery ≡ false) → p.fields.ssthresh ≡ f.ssthresh) _ _ _ (λ _. measured_ssthresh f.timing f ack now) (λ _. measured_ssthresh f.timing f ack now))
+    (λ _. refl)
     (λ _. either_row (λ p. (f.recovery ≡ true) ⊎ (p.fields.recovery ≡ false) → p.fields.ssthresh ≡ f.ssthresh) _ _ _ (λ _. refl) (λ _. refl))
-    (λ _ no either. elim either [ inl on ↦ absurd (false≢true (sym no ∙ on)) | inr ended ↦ absurd (false≢true (sym ended)) ])
-    (λ _ _. either_row (λ p. (f.recovery ≡ true) ⊎ (p.fields.recovery ≡ false) → p.fields.ssthresh ≡ f.ssthresh) _ _ _ (λ _. refl) (λ _. refl))
+    (λ _ no _ either. elim either [ inl on ↦ absurd (false≢true (sym no ∙ on)) | inr ended ↦ absurd (false≢true (sym ended)) ]) (λ _ _ _. refl)
+    (λ _ _. either_row (λ p. (f.recovery ≡ true) ⊎ (p.fields.recovery ≡ false) → p.fields.ssthresh ≡ f.ssthresh) _ _ _ (λ _. refl) (λ _. refl)) (λ _ _ _. refl)
 
 -- Karn's algorithm
 any_from_contains : (high x : ℕ) (xs : List ℕ) (k : ℕ) → k < length xs → get_or xs k x ≡ x → x < high → list_any (λ y. ltb y high) xs ≡ true
@@ -115,10 +140,10 @@ early_is_fresh f now p =
     either_row (λ q. NeverTimesResent f q now) (may_send_new f (f.una + min (f.cwnd + 2 * f.mss) f.rwnd)) (sending sent (f.nxt ∷ []) (f.nxt + f.mss) now) (nothing_sent counted)
     (sending_is_fresh f sent (f.nxt ∷ []) (f.nxt + f.mss) now refl refl p) (nothing_is_fresh f counted now)
 
-third_is_fresh : (f : SenderFields) (now : ℕ) → 1 ≤ f.mss → NeverTimesResent f (third_duplicate f now) now
-third_is_fresh f now p =
+retransmit_is_fresh : (f : SenderFields) (now : ℕ) → 1 ≤ f.mss → NeverTimesResent f (fast_retransmit f now) now
+retransmit_is_fresh f now p =
     let threshold : ℕ = halved (flight_size f - f.lt) f.mss in
-    sending_is_fresh f (record f { dups = 3; ssthresh = threshold; cwnd = threshold + 3 * f.mss; recovery = true }) (f.una ∷ []) f.nxt now refl refl p
+    sending_is_fresh f (record f { dups = 3; ssthresh = threshold; cwnd = threshold + 3 * f.mss; recovery = true; recover = recover_at_loss f; partial = false }) (f.una ∷ []) f.nxt now refl refl p
 
 further_is_fresh : (f : SenderFields) (now : ℕ) → 1 ≤ f.mss → NeverTimesResent f (further_duplicate f now) now
 further_is_fresh f now p =
@@ -130,10 +155,19 @@ new_is_fresh f ack now p =
     let h : SenderFields = advanced f ack now in
     sending_is_fresh f h (spaced h.nxt h.mss (fill_count h)) (h.nxt + fill_count h * h.mss) now (measured_high f.timing f ack now) (measured_mss f.timing f ack now) p
 
+partial_is_fresh : (f : SenderFields) (ack now : ℕ) → 1 ≤ f.mss → NeverTimesResent f (partial_acknowledgement f ack now) now
+partial_is_fresh f ack now p =
+    let h : SenderFields = partly f ack now in
+    let high : h.high ≡ f.high = measured_high f.timing f ack now in
+    let mss : h.mss ≡ f.mss = measured_mss f.timing f ack now in
+    either_row (λ q. NeverTimesResent f q now) (may_send_new h (h.una + min h.cwnd h.rwnd)) (sending h (h.una ∷ h.nxt ∷ []) (h.nxt + h.mss) now) (sending h (h.una ∷ []) h.nxt now)
+    (sending_is_fresh f h (h.una ∷ h.nxt ∷ []) (h.nxt + h.mss) now high mss p) (sending_is_fresh f h (h.una ∷ []) h.nxt now high mss p)
+
 pub acknowledgement_never_times_resent : AcknowledgementNeverTimesResent
 acknowledgement_never_times_resent f ack now p =
-    by_rows (λ q. NeverTimesResent f q now) f ack now (λ _. new_is_fresh f ack now p) (nothing_is_fresh f f now)
-    (λ _. further_is_fresh f now p) (λ _ _. third_is_fresh f now p) (λ _ _. early_is_fresh f now p)
+    by_rows (λ q. NeverTimesResent f q now) f ack now (λ _ _. new_is_fresh f ack now p) (λ _ _. partial_is_fresh f ack now p) (nothing_is_fresh f f now)
+    (λ _. further_is_fresh f now p) (λ _ _ _. retransmit_is_fresh f now p) (λ _ _. nothing_is_fresh f (record f { dups = 3 }) now) (λ _ _. early_is_fresh f now p)
+    (λ _ _. nothing_is_fresh f (record f { dups = one_more f.dups }) now)
 
 pub timeout_never_times_resent : TimeoutNeverTimesResent
 unfolding timed_out
@@ -145,6 +179,7 @@ timeout_never_times_resent f now p =
       dups = 0;
       lt = 0;
       recovery = false;
+      recover = recover_at_loss f;
       resent = true;
       timing = None;
       deadline = Some (now + backed_off f.rto);
@@ -158,6 +193,38 @@ timeout_doubles_rto f now = refl
 pub rto_stays_until_sample : RtoStaysUntilSample
 rto_stays_until_sample f ack now none_ends =
     by_rows (λ p. p.fields.rto ≡ f.rto) f ack now
-    (λ _. measured_rto f.timing f ack now none_ends) refl
-    (λ _. either_row (λ p. p.fields.rto ≡ f.rto) _ _ _ refl refl) (λ _ _. refl)
-    (λ _ _. either_row (λ p. p.fields.rto ≡ f.rto) _ _ _ refl refl)
+    (λ _ _. measured_rto f.timing f ack now none_ends)
+    (λ _ _. either_row (λ p. p.fields.rto ≡ f.rto) _ _ _ (measured_rto f.timing f ack now none_ends) (measured_rto f.timing f ack now none_ends)) refl
+    (λ _. either_row (λ p. p.fields.rto ≡ f.rto) _ _ _ refl refl) (λ _ _ _. refl) (λ _ _. refl)
+    (λ _ _. either_row (λ p. p.fields.rto ≡ f.rto) _ _ _ refl refl) (λ _ _. refl)
+
+-- recovery with NewReno
+measured_recovery : (o : Option Timing) (f : SenderFields) (ack now : ℕ) → (measured_by o f ack now).recovery ≡ f.recovery
+measured_recovery None f ack now = refl
+measured_recovery (Some t) f ack now = elim (leb t.number ack) as (λ b. (cond b (with_estimate f (sampled f.srtt f.rttvar (now - t.sent_at))) f).recovery ≡ f.recovery) [ true ↦ refl | false ↦ refl ]
+
+partial_lasts : (f : SenderFields) (recover ack now : ℕ) → IsTrue f.recovery → ack < recover → LastsUntilRecover (partial_acknowledgement f ack now) recover ack
+partial_lasts f recover ack now on below =
+    let h : SenderFields = partly f ack now in
+    let still : IsTrue h.recovery = measured_recovery f.timing f ack now ∙ on in
+    either_row (λ p. LastsUntilRecover p recover ack) (may_send_new h (h.una + min h.cwnd h.rwnd)) (sending h (h.una ∷ h.nxt ∷ []) (h.nxt + h.mss) now) (sending h (h.una ∷ []) h.nxt now)
+    (record { lasts = (λ _. below, λ _. still); again = λ _. (0, omega arith, refl) })
+    (record { lasts = (λ _. below, λ _. still); again = λ _. (0, omega arith, refl) })
+
+new_ends_recovery : (f : SenderFields) (recover ack now : ℕ) → recover ≤ ack → LastsUntilRecover (new_acknowledgement f ack now) recover ack
+new_ends_recovery f recover ack now past = record { lasts = (λ on. absurd (false≢true on), λ below. absurd (omega arith)); again = λ below. absurd (omega arith) }
+
+not_below : (f : SenderFields) (recover ack : ℕ) → IsTrue f.variant.newreno → IsTrue f.recovery → f.recover ≡ Some recover → is_partial f ack ≡ ltb ack recover
+not_below f recover ack newreno on is = rw (newreno, on, is) refl
+
+new_row : (f : SenderFields) (ack now : ℕ) → f.una < ack → acknowledged f ack now ≡ cond (is_partial f ack) (partial_acknowledgement f ack now) (new_acknowledgement f ack now)
+unfolding acknowledged
+new_row f ack now l = rw (lt-ltb f.una ack l) refl
+
+pub recovery_lasts : RecoveryLasts
+recovery_lasts f recover ack now newreno on is new =
+    rw (new_row f ack now new, not_below f recover ack newreno on is)
+    (elim (cases_lt ack recover) [
+      | inl below ↦ rw (lt-ltb ack recover below) (partial_lasts f recover ack now on below)
+      | inr past ↦ rw (le-ltb ack recover past) (new_ends_recovery f recover ack now past)
+    ])

@@ -1,30 +1,31 @@
 -- Each row of the table keeps the facts on fields.
-use Rattle.std.proofs.Common.{◌≡◌, ℕ, ◌+◌, ◌-◌, ◌*◌, ◌<◌, ◌≤◌, ◌⊎◌, ◌↔◌, inl, inr, Bool, true, false, cond, ◌&&◌, ltb, leb, eqb, min, max, Option, Some, None, [], ◌∷◌, refl, ap, sym, ◌∙◌, subst, arith}
-use Rattle.std.specs.Prelude.{IfSome, IsSome, IsTrue}
+use Rattle.std.proofs.Common.{◌≡◌, ℕ, ◌+◌, ◌-◌, ◌*◌, ◌<◌, ◌≤◌, ◌⊎◌, ◌↔◌, inl, inr, Bool, true, false, cond, ◌&&◌, ◌||◌, ltb, leb, eqb, min, max, Option, Some, None, [], ◌∷◌, refl, ap, sym, ◌∙◌, subst, arith}
+use Rattle.std.specs.Prelude.{IfSome, IsSome, IsSomeAnd, IsTrue, IsFalse, find, option_map}
 use Rattle.std.specs.Option.{option_or}
-use Rattle.std.proofs.lemmas.Bool.{le-ltb, lt-ltb, ltb-true, leb-true, lt-leb, eqb-false, cases_lt, and_parts, false≢true}
+use Rattle.std.proofs.lemmas.Bool.{le-ltb, lt-ltb, ltb-true, leb-true, lt-leb, cases_lt, and_parts, false≢true}
 use Rattle.std.proofs.Math.Nat.{zero-mul, one-mul, mul-mod_left}
 use Rattle.reno_sender.specs.declared.fields.SenderFields.{SenderFields}
 use Rattle.reno_sender.specs.declared.fields.Timing.{Timing}
 use Rattle.reno_sender.specs.Fields.{IsSound, IsTimedWithin, IsMultiple, total, flight_size}
 use Rattle.reno_sender.specs.Timer.{backed_off}
-use Rattle.reno_sender.specs.Sending.{Planned, spaced, sending, timing_after, filling, fill_count, allowed_end}
-use Rattle.reno_sender.specs.Table.{timed_out, enlarged, one_more, halved, may_send_new, nothing_sent, early_duplicate, third_duplicate, further_duplicate, inflated}
+use Rattle.reno_sender.specs.Sending.{Planned, spaced, sending, timing_of, timing_after, filling, fill_count, allowed_end}
+use Rattle.reno_sender.specs.Table.{timed_out, enlarged, one_more, halved, may_send_new, nothing_sent, early_duplicate, is_past, enters, recover_at_loss, fast_retransmit, repeated_duplicate, further_duplicate, inflated}
 use Rattle.sim_time.specs.Moment.{IsMoment}
 use Rattle.reno_sender.specs.Laws.{RowKeeps, IsDeadlineSetAt}
-use Rattle.reno_sender.proofs.Multiples.{multiple_next, multiple_below, multiple_max, fits_count}
+use Rattle.reno_sender.proofs.Multiples.{multiple_next, multiple_below, fits_count}
 use Rattle.reno_sender.specs.PlanView.{IsWellMade}
 use Rattle.reno_sender.proofs.Runs.{length-spaced}
 use Rattle.reno_sender.proofs.Sends.{run_keeps}
 
 -- a change that sends nothing
-pub quiet_keeps : (f h : SenderFields) (now : ℕ) → IsSound h → h.mss ≡ f.mss → h.segments ≡ f.segments → h.rwnd ≡ f.rwnd → f.una ≤ h.una → f.high ≤ h.high →
+pub quiet_keeps : (f h : SenderFields) (now : ℕ) → IsSound h → h.mss ≡ f.mss → h.segments ≡ f.segments → h.rwnd ≡ f.rwnd → h.variant ≡ f.variant → f.una ≤ h.una → f.high ≤ h.high →
     ((h.timing ≡ f.timing) ⊎ IfSome h.timing (λ t. t.sent_at ≤ now)) → ((h.deadline ≡ None) ⊎ ((h.deadline ≡ f.deadline) ⊎ IsDeadlineSetAt now h.deadline)) → RowKeeps f h [] now
-quiet_keeps f h now s m g w u i t d = record {
+quiet_keeps f h now s m g w v u i t d = record {
   sound = s;
   mss_same = m;
   segments_same = g;
   rwnd_same = w;
+  variant_same = v;
   una_rises = u;
   high_rises = i;
   sends = tt;
@@ -33,12 +34,33 @@ quiet_keeps f h now s m g w u i t d = record {
   deadline = d;
 }
 
--- the facts where a row changes the windows, the counts and the timer
-windows_sound : (f : SenderFields) (cwnd ssthresh dups lt rto : ℕ) (recovery resent : Bool) (timing : Option Timing) (deadline : Option ℕ) → IsSound f →
-    lt ≤ flight_size f → (IsTrue recovery ↔ (3 ≤ dups)) → f.mss ≤ cwnd → cwnd ≤ 1099511627776 → f.mss ≤ ssthresh → ssthresh ≤ 1099511627776 →
+-- what a sender keeps of losses
+record IsOfLosses (f : SenderFields) (dups : ℕ) (recovery : Bool) (recover : Option ℕ) (partial : Bool) : Type 0 where
+  recovery_dups : IsTrue recovery → 3 ≤ dups
+  reno_recovery : IsFalse f.variant.newreno → 3 ≤ dups → IsTrue recovery
+  reno_recover : IsFalse f.variant.newreno → recover ≡ None
+  reno_partial : IsFalse f.variant.newreno → IsFalse partial
+  recover_most : IfSome recover (λ r. r ≤ f.high)
+  newreno_nxt : IsTrue f.variant.newreno → (f.nxt ≡ f.high) ⊎ (recover ≡ Some f.high)
+  newreno_recovery : IsTrue f.variant.newreno → IsTrue recovery → IsSomeAnd recover (λ r. f.una < r) × (f.nxt ≡ f.high)
+
+same_losses : (f : SenderFields) → IsSound f → IsOfLosses f f.dups f.recovery f.recover f.partial
+same_losses f s = record {
+  recovery_dups = s.recovery_dups;
+  reno_recovery = s.reno_recovery;
+  reno_recover = s.reno_recover;
+  reno_partial = s.reno_partial;
+  recover_most = s.recover_most;
+  newreno_nxt = s.newreno_nxt;
+  newreno_recovery = s.newreno_recovery;
+}
+
+-- the facts where a row changes the windows, the counts, the timer and what is kept of losses
+windows_sound : (f : SenderFields) (cwnd ssthresh dups lt rto : ℕ) (recovery resent : Bool) (timing : Option Timing) (deadline recover : Option ℕ) (partial : Bool) → IsSound f →
+    lt ≤ flight_size f → IsOfLosses f dups recovery recover partial → f.mss ≤ cwnd → cwnd ≤ 1099511627776 → f.mss ≤ ssthresh → ssthresh ≤ 1099511627776 →
     1000000000 ≤ rto → rto ≤ 60000000000 → (IsSome deadline ↔ (f.una < f.nxt)) → IfSome deadline (λ t. t ≤ 2000000000000000) → IfSome timing (IsTimedWithin f.una f.high) →
-    IsSound (record f { cwnd = cwnd; ssthresh = ssthresh; dups = dups; lt = lt; rto = rto; recovery = recovery; resent = resent; timing = timing; deadline = deadline })
-windows_sound f cwnd ssthresh dups lt rto recovery resent timing deadline s l r c c' t t' o o' d d' g = record {
+    IsSound (record f { cwnd = cwnd; ssthresh = ssthresh; dups = dups; lt = lt; rto = rto; recovery = recovery; resent = resent; timing = timing; deadline = deadline; recover = recover; partial = partial })
+windows_sound f cwnd ssthresh dups lt rto recovery resent timing deadline recover partial s l r c c' t t' o o' d d' g = record {
   mss_least = s.mss_least;
   mss_most = s.mss_most;
   segments_least = s.segments_least;
@@ -53,7 +75,13 @@ windows_sound f cwnd ssthresh dups lt rto recovery resent timing deadline s l r 
   high_multiple = s.high_multiple;
   in_window = s.in_window;
   lt_flight = l;
-  recovery_dups = r;
+  recovery_dups = r.recovery_dups;
+  reno_recovery = r.reno_recovery;
+  reno_recover = r.reno_recover;
+  reno_partial = r.reno_partial;
+  recover_most = r.recover_most;
+  newreno_nxt = r.newreno_nxt;
+  newreno_recovery = r.newreno_recovery;
   cwnd_least = c;
   cwnd_most = c';
   ssthresh_least = t;
@@ -69,7 +97,7 @@ windows_sound f cwnd ssthresh dups lt rto recovery resent timing deadline s l r 
 
 -- nothing changes
 pub same_keeps : (f : SenderFields) (now : ℕ) → IsSound f → RowKeeps f f [] now
-same_keeps f now s = quiet_keeps f f now s refl refl refl (omega arith) (omega arith) (inl refl) (inr (inl refl))
+same_keeps f now s = quiet_keeps f f now s refl refl refl refl (omega arith) (omega arith) (inl refl) (inr (inl refl))
 
 -- a row that leads to h leads further by filling the window there
 pub fill_keeps : (f h : SenderFields) (now : ℕ) → RowKeeps f h [] now → IsMoment now → RowKeeps f (filling h now).fields (filling h now).sent now
@@ -116,45 +144,83 @@ deadline_again : (d : Option ℕ) (t : ℕ) → IsSome d → option_or d (Some t
 deadline_again None t e = cc
 deadline_again (Some u) t e = refl
 
-pub resend_keeps : (f h : SenderFields) (nxt now : ℕ) → RowKeeps f h [] now → h.una < h.nxt → h.una < nxt → nxt ≤ h.nxt → IsMultiple h.mss nxt → h.lt ≤ nxt - h.una →
+-- nxt stays, or it goes back at the end of recovery, with recover as high
+abbrev WentBack : SenderFields → ℕ → Type 0
+WentBack h nxt = (nxt ≡ h.nxt) ⊎ (IsFalse h.recovery × (IsTrue h.variant.newreno → h.recover ≡ Some h.high))
+
+back_nxt : (h : SenderFields) (nxt : ℕ) → IsSound h → WentBack h nxt → IsTrue h.variant.newreno → (nxt ≡ h.high) ⊎ (h.recover ≡ Some h.high)
+back_nxt h nxt s went e =
+    elim went [
+      | inl stays ↦ elim (s.newreno_nxt e) [ inl all ↦ inl (stays ∙ all) | inr is ↦ inr is ]
+      | inr ended ↦ inr (ended.1 e)
+    ]
+
+back_recovery : (h : SenderFields) (nxt : ℕ) → IsSound h → WentBack h nxt → IsTrue h.variant.newreno → IsTrue h.recovery → IsSomeAnd h.recover (λ r. h.una < r) × (nxt ≡ h.high)
+back_recovery h nxt s went e on =
+    elim went [
+      | inl stays ↦ (let was : IsSomeAnd h.recover (λ r. h.una < r) × (h.nxt ≡ h.high) = s.newreno_recovery e on in (was.0, stays ∙ was.1))
+      | inr ended ↦ absurd (false≢true (sym ended.0 ∙ on))
+    ]
+
+again_sound : (h : SenderFields) (nxt : ℕ) → IsSound h → h.una < nxt → nxt ≤ h.nxt → IsMultiple h.mss nxt → h.lt ≤ nxt - h.una → WentBack h nxt → IsSound (record h { nxt = nxt; timing = None })
+again_sound h nxt s out back whole lt_flight went = record {
+  mss_least = s.mss_least;
+  mss_most = s.mss_most;
+  segments_least = s.segments_least;
+  segments_most = s.segments_most;
+  rwnd_least = s.rwnd_least;
+  rwnd_most = s.rwnd_most;
+  una_nxt = omega arith;
+  nxt_high = omega (arith, s.nxt_high);
+  high_total = s.high_total;
+  una_multiple = s.una_multiple;
+  nxt_multiple = whole;
+  high_multiple = s.high_multiple;
+  in_window = omega (arith, s.in_window);
+  lt_flight = lt_flight;
+  recovery_dups = s.recovery_dups;
+  reno_recovery = s.reno_recovery;
+  reno_recover = s.reno_recover;
+  reno_partial = s.reno_partial;
+  recover_most = s.recover_most;
+  newreno_nxt = back_nxt h nxt s went;
+  newreno_recovery = back_recovery h nxt s went;
+  cwnd_least = s.cwnd_least;
+  cwnd_most = s.cwnd_most;
+  ssthresh_least = s.ssthresh_least;
+  ssthresh_most = s.ssthresh_most;
+  rto_least = s.rto_least;
+  rto_most = s.rto_most;
+  deadline_flight = (λ _. out, λ _. s.deadline_flight.1 (omega arith));
+  deadline_most = s.deadline_most;
+  timed = tt;
+  srtt_most = s.srtt_most;
+  rttvar_most = s.rttvar_most;
+}
+
+pub resend_well_made : (h : SenderFields) (nxt : ℕ) → IsSound h → h.una < nxt → nxt ≤ h.nxt → IsMultiple h.mss nxt → h.lt ≤ nxt - h.una → WentBack h nxt →
+    IsWellMade (record { fields = record h { nxt = nxt; timing = None }; resent = Some h.una; first = nxt; count = 0 })
+resend_well_made h nxt s out back whole lt_flight went = record {
+  sound = again_sound h nxt s out back whole lt_flight went;
+  resends_una = refl;
+  run_ends = omega (arith, zero-mul h.mss);
+  few = omega arith;
+}
+
+pub resend_keeps : (f h : SenderFields) (nxt now : ℕ) → RowKeeps f h [] now → h.una < nxt → nxt ≤ h.nxt → IsMultiple h.mss nxt → h.lt ≤ nxt - h.una → WentBack h nxt →
     RowKeeps f (sending h (h.una ∷ []) nxt now).fields (h.una ∷ []) now
-resend_keeps f h nxt now k out out' back whole lt_flight =
+resend_keeps f h nxt now k out back whole lt_flight went =
     let s : IsSound h = k.sound in
+    let same : max h.high nxt ≡ h.high = omega (arith, s.nxt_high) in
     let untimed : timing_after h (h.una ∷ []) now ≡ None = timing_again h now (omega (arith, s.nxt_high)) in
-    let kept : option_or h.deadline (Some (now + h.rto)) ≡ h.deadline = deadline_again h.deadline (now + h.rto) (s.deadline_flight.1 out) in
-    let ends : h.una + h.mss ≤ nxt = multiple_below h.mss h.una nxt s.mss_least s.una_multiple whole out' in
+    let kept : option_or h.deadline (Some (now + h.rto)) ≡ h.deadline = deadline_again h.deadline (now + h.rto) (s.deadline_flight.1 (omega arith)) in
+    let ends : h.una + h.mss ≤ nxt = multiple_below h.mss h.una nxt s.mss_least s.una_multiple whole out in
     record {
-      sound = record {
-        mss_least = s.mss_least;
-        mss_most = s.mss_most;
-        segments_least = s.segments_least;
-        segments_most = s.segments_most;
-        rwnd_least = s.rwnd_least;
-        rwnd_most = s.rwnd_most;
-        una_nxt = omega arith;
-        nxt_high = omega arith;
-        high_total = omega (arith, s.high_total, s.nxt_high);
-        una_multiple = s.una_multiple;
-        nxt_multiple = whole;
-        high_multiple = multiple_max h.mss h.high nxt s.high_multiple whole;
-        in_window = omega (arith, s.in_window);
-        lt_flight = lt_flight;
-        recovery_dups = s.recovery_dups;
-        cwnd_least = s.cwnd_least;
-        cwnd_most = s.cwnd_most;
-        ssthresh_least = s.ssthresh_least;
-        ssthresh_most = s.ssthresh_most;
-        rto_least = s.rto_least;
-        rto_most = s.rto_most;
-        deadline_flight = (λ _. out', λ _. rw kept (s.deadline_flight.1 out));
-        deadline_most = subst (λ (o : Option ℕ). IfSome o (λ t. t ≤ 2000000000000000)) (sym kept) s.deadline_most;
-        timed = subst (λ (o : Option Timing). IfSome o (IsTimedWithin h.una (max h.high nxt))) (sym untimed) tt;
-        srtt_most = s.srtt_most;
-        rttvar_most = s.rttvar_most;
-      };
+      sound = rw (same, untimed, kept) (again_sound h nxt s out back whole lt_flight went);
       mss_same = k.mss_same;
       segments_same = k.segments_same;
       rwnd_same = k.rwnd_same;
+      variant_same = k.variant_same;
       una_rises = k.una_rises;
       high_rises = omega (arith, k.high_rises);
       sends = (record { multiple = s.una_multiple; by_high = omega (arith, s.nxt_high); by_total = omega (arith, s.nxt_high, s.high_total); in_window = omega (arith, s.rwnd_least) }, tt);
@@ -163,26 +229,94 @@ resend_keeps f h nxt now k out out' back whole lt_flight =
       deadline = subst (λ (o : Option ℕ). (o ≡ None) ⊎ ((o ≡ f.deadline) ⊎ IsDeadlineSetAt now o)) (sym kept) k.deadline;
     }
 
--- nobody is in recovery before the third duplicate
-not_three : (f : SenderFields) → IsSound f → f.recovery ≡ false → f.dups < 3
-not_three f s e =
-    elim (cases_lt f.dups 3) [
-      | inl l ↦ l
-      | inr l ↦ absurd (false≢true (sym e ∙ s.recovery_dups.1 l))
-    ]
+untimed_keeps : (f h : SenderFields) (now : ℕ) → RowKeeps f h [] now → RowKeeps f (record h { timing = None }) [] now
+untimed_keeps f h now k =
+    let s : IsSound h = k.sound in
+    let sound_u : IsSound (record h { timing = None }) = windows_sound h h.cwnd h.ssthresh h.dups h.lt h.rto h.recovery h.resent None h.deadline h.recover h.partial s
+    s.lt_flight (same_losses h s) s.cwnd_least s.cwnd_most s.ssthresh_least s.ssthresh_most
+    s.rto_least s.rto_most s.deadline_flight s.deadline_most tt in
+    quiet_keeps f (record h { timing = None }) now sound_u k.mss_same k.segments_same k.rwnd_same k.variant_same k.una_rises k.high_rises (inr tt) k.deadline
 
--- a row that changes only dups, lt stays
-pub counted_keeps : (f : SenderFields) (now : ℕ) → IsSound f → f.recovery ≡ false → (eqb f.dups 2) ≡ false → RowKeeps f (record f { dups = one_more f.dups }) [] now
-counted_keeps f now s e d =
-    let few_dups : f.dups < 3 = not_three f s e in
-    let not_two : f.dups ≡ 2 → ⊥ = eqb-false f.dups 2 d in
-    let below : f.dups < 4294967295 = omega arith in
-    let more : one_more f.dups ≡ f.dups + 1 = rw (lt-ltb f.dups 4294967295 below) refl in
-    let h : SenderFields = record f { dups = one_more f.dups } in
-    let sound_h : IsSound h = windows_sound f f.cwnd f.ssthresh (one_more f.dups) f.lt f.rto f.recovery f.resent f.timing f.deadline s
-    s.lt_flight (λ t. absurd (false≢true (sym e ∙ t)), λ l. absurd (omega (arith, more))) s.cwnd_least s.cwnd_most s.ssthresh_least s.ssthresh_most
+either_none : (b : Bool) (o : Option Timing) → option_or (cond b None None) o ≡ o
+either_none true o = refl
+either_none false o = refl
+
+-- the resending ends the timing, so the new segment is timed
+timing_again_and_next : (h : SenderFields) (now : ℕ) → h.una < h.high → timing_after (record h { timing = None }) (h.nxt ∷ []) now ≡ timing_after h (h.una ∷ h.nxt ∷ []) now
+timing_again_and_next h now l =
+    rw (lt-ltb h.una h.high l, lt-leb h.high h.una l)
+    (either_none (ltb h.nxt h.high || false) (option_map (λ x. timing_of (x + h.mss) now) (find (λ x. leb h.high x) (h.nxt ∷ []))))
+
+-- una is sent again, and one new segment after it
+pub again_and_next_keeps : (f h : SenderFields) (now : ℕ) → RowKeeps f h [] now → IsMoment now → h.una < h.nxt → h.nxt + h.mss ≤ total h → h.nxt + h.mss ≤ h.una + h.rwnd →
+    RowKeeps f (sending h (h.una ∷ h.nxt ∷ []) (h.nxt + h.mss) now).fields (h.una ∷ h.nxt ∷ []) now
+again_and_next_keeps f h now k moment out in_total in_window =
+    let g : SenderFields = (sending h (h.una ∷ h.nxt ∷ []) (h.nxt + h.mss) now).fields in
+    let s : IsSound h = k.sound in
+    let u : RowKeeps f (record h { timing = None }) [] now = untimed_keeps f h now k in
+    let one : RowKeeps f (record (sending (record h { timing = None }) (h.nxt ∷ []) (h.nxt + h.mss) now).fields { lt = h.lt }) (h.nxt ∷ []) now =
+    one_keeps f (record h { timing = None }) now h.lt u moment in_total in_window (omega (arith, s.lt_flight)) in
+    let same : timing_after (record h { timing = None }) (h.nxt ∷ []) now ≡ timing_after h (h.una ∷ h.nxt ∷ []) now = timing_again_and_next h now (omega (arith, s.nxt_high)) in
+    let kept : RowKeeps f g (h.nxt ∷ []) now =
+    subst (λ (t : Option Timing). RowKeeps f (record g { timing = t }) (h.nxt ∷ []) now) same one in
+    record {
+      sound = kept.sound;
+      mss_same = kept.mss_same;
+      segments_same = kept.segments_same;
+      rwnd_same = kept.rwnd_same;
+      variant_same = kept.variant_same;
+      una_rises = kept.una_rises;
+      high_rises = kept.high_rises;
+      sends = (record { multiple = s.una_multiple; by_high = omega (arith, s.nxt_high); by_total = omega (arith, s.nxt_high, s.high_total); in_window = omega (arith, s.rwnd_least) }, kept.sends);
+      few = omega arith;
+      timing = kept.timing;
+      deadline = kept.deadline;
+    }
+
+-- what a plan that sends both holds
+pub again_and_next_well_made : (h : SenderFields) (now : ℕ) → IsSound h → IsMoment now → h.nxt + h.mss ≤ total h → h.nxt + h.mss ≤ h.una + h.rwnd →
+    IsWellMade (record { fields = (sending (record h { timing = None }) (h.nxt ∷ []) (h.nxt + h.mss) now).fields; resent = Some h.una; first = h.nxt; count = 1 })
+again_and_next_well_made h now s moment in_total in_window =
+    let u : RowKeeps h (record h { timing = None }) [] now = untimed_keeps h h now (same_keeps h now s) in
+    let one : IsWellMade (record { fields = record (sending (record h { timing = None }) (h.nxt ∷ []) (h.nxt + h.mss) now).fields { lt = h.lt }; resent = None; first = h.nxt; count = 1 }) =
+    one_well_made (record h { timing = None }) now h.lt u.sound moment in_total in_window (omega (arith, s.lt_flight)) in
+    record { sound = one.sound; resends_una = refl; run_ends = one.run_ends; few = one.few }
+
+-- a duplicate outside recovery is counted
+counted_losses : (f : SenderFields) (dups : ℕ) → IsSound f → IsFalse f.recovery → (IsFalse f.variant.newreno → dups < 3) → IsOfLosses f dups f.recovery f.recover f.partial
+counted_losses f dups s e few = record {
+  recovery_dups = λ on. absurd (false≢true (sym e ∙ on));
+  reno_recovery = λ reno many. absurd (omega (arith, few reno));
+  reno_recover = s.reno_recover;
+  reno_partial = s.reno_partial;
+  recover_most = s.recover_most;
+  newreno_nxt = s.newreno_nxt;
+  newreno_recovery = s.newreno_recovery;
+}
+
+-- a row that changes only dups
+counted_keeps : (f : SenderFields) (dups now : ℕ) → IsSound f → IsFalse f.recovery → (IsFalse f.variant.newreno → dups < 3) → RowKeeps f (record f { dups = dups }) [] now
+counted_keeps f dups now s e few =
+    let h : SenderFields = record f { dups = dups } in
+    let sound_h : IsSound h = windows_sound f f.cwnd f.ssthresh dups f.lt f.rto f.recovery f.resent f.timing f.deadline f.recover f.partial s
+    s.lt_flight (counted_losses f dups s e few) s.cwnd_least s.cwnd_most s.ssthresh_least s.ssthresh_most
     s.rto_least s.rto_most s.deadline_flight s.deadline_most s.timed in
-    quiet_keeps f h now sound_h refl refl refl (omega arith) (omega arith) (inl refl) (inr (inl refl))
+    quiet_keeps f h now sound_h refl refl refl refl (omega arith) (omega arith) (inl refl) (inr (inl refl))
+
+one_more_few : (dups : ℕ) → dups < 2 → one_more dups < 3
+one_more_few dups l =
+    let below : dups < 4294967295 = omega arith in
+    rw (lt-ltb dups 4294967295 below) (omega arith)
+
+pub early_counted_keeps : (f : SenderFields) (now : ℕ) → IsSound f → IsFalse f.recovery → f.dups < 2 → RowKeeps f (record f { dups = one_more f.dups }) [] now
+early_counted_keeps f now s e few = counted_keeps f (one_more f.dups) now s e (λ _. one_more_few f.dups few)
+
+-- outside recovery Reno has counted two duplicates at most
+newreno_only : (f : SenderFields) → IsSound f → IsFalse f.recovery → 3 ≤ f.dups → IsFalse f.variant.newreno → ⊥
+newreno_only f s e many reno = false≢true (sym e ∙ s.reno_recovery reno many)
+
+pub repeated_duplicate_keeps : (f : SenderFields) (now : ℕ) → IsSound f → IsFalse f.recovery → 3 ≤ f.dups → RowKeeps f (repeated_duplicate f).fields (repeated_duplicate f).sent now
+repeated_duplicate_keeps f now s e many = counted_keeps f (one_more f.dups) now s e (λ reno. absurd (newreno_only f s e many reno))
 
 -- what the test for a new segment says
 pub new_ends : (f : SenderFields) (end : ℕ) → IsSound f → may_send_new f end ≡ true → (f.nxt + f.mss ≤ total f) × (f.nxt + f.mss ≤ end)
@@ -202,24 +336,55 @@ early_split true f now s k moment ends p e =
     (one_keeps f (record f { dups = one_more f.dups }) now (f.lt + f.mss) k moment within.0 (omega (arith, within.1)) (omega (arith, s.lt_flight, s.una_nxt)))
 early_split false f now s k moment ends p e = subst (λ (q : Planned). RowKeeps f q.fields q.sent now) (sym e) k
 
-pub early_duplicate_keeps : (f : SenderFields) (now : ℕ) → IsSound f → IsMoment now → f.recovery ≡ false → eqb f.dups 2 ≡ false →
+pub early_duplicate_keeps : (f : SenderFields) (now : ℕ) → IsSound f → IsMoment now → f.recovery ≡ false → f.dups < 2 →
     RowKeeps f (early_duplicate f now).fields (early_duplicate f now).sent now
 early_duplicate_keeps f now s moment e d =
     let h : SenderFields = record f { dups = one_more f.dups } in
-    let k : RowKeeps f h [] now = counted_keeps f now s e d in
+    let k : RowKeeps f h [] now = early_counted_keeps f now s e d in
     early_split (may_send_new f (f.una + min (f.cwnd + 2 * f.mss) f.rwnd)) f now s k moment (λ t. new_ends f (f.una + min (f.cwnd + 2 * f.mss) f.rwnd) s t) (early_duplicate f now) refl
 
-pub third_duplicate_keeps : (f : SenderFields) (now : ℕ) → IsSound f → IsMoment now → f.una < f.nxt →
-    RowKeeps f (third_duplicate f now).fields (third_duplicate f now).sent now
-third_duplicate_keeps f now s moment out =
+-- a loss is found with all sent once only
+enters_all_sent : (f : SenderFields) → IsSound f → enters f ≡ true → IsTrue f.variant.newreno → f.nxt ≡ f.high
+enters_all_sent f s e newreno =
+    let past : is_past f.recover f.una ≡ true = rw newreno at e in
+    elim (s.newreno_nxt newreno) [
+      | inl all ↦ all
+      | inr is ↦ (let beyond : f.high < f.una = ltb-true f.high f.una (rw is at past) in absurd (omega (arith, s.una_nxt, s.nxt_high)))
+    ]
+
+loss_most : (b : Bool) (f : SenderFields) → IsSound f → IfSome (cond b (Some f.high) f.recover) (λ r. r ≤ f.high)
+loss_most true f s = omega arith
+loss_most false f s = s.recover_most
+
+entered_losses : (f : SenderFields) → IsSound f → f.una < f.nxt → enters f ≡ true → IsOfLosses f 3 true (recover_at_loss f) false
+entered_losses f s out e = record {
+  recovery_dups = λ _. omega arith;
+  reno_recovery = λ _ _. refl;
+  reno_recover = λ reno. rw reno (s.reno_recover reno);
+  reno_partial = λ _. refl;
+  recover_most = loss_most f.variant.newreno f s;
+  newreno_nxt = λ newreno. inl (enters_all_sent f s e newreno);
+  newreno_recovery = λ newreno _. (rw newreno (omega (arith, s.nxt_high)), enters_all_sent f s e newreno);
+}
+
+pub fast_retransmit_keeps : (f : SenderFields) (now : ℕ) → IsSound f → IsMoment now → f.una < f.nxt → enters f ≡ true →
+    RowKeeps f (fast_retransmit f now).fields (fast_retransmit f now).sent now
+fast_retransmit_keeps f now s moment out e =
     let threshold : ℕ = halved (flight_size f - f.lt) f.mss in
-    let h : SenderFields = record f { dups = 3; ssthresh = threshold; cwnd = threshold + 3 * f.mss; recovery = true } in
+    let h : SenderFields = record f { dups = 3; ssthresh = threshold; cwnd = threshold + 3 * f.mss; recovery = true; recover = recover_at_loss f; partial = false } in
     let at_most : threshold ≤ 536870912 + 18000 = omega (arith, s.in_window, s.rwnd_most, s.mss_most) in
     let at_least : f.mss ≤ threshold = omega arith in
-    let sound_h : IsSound h = windows_sound f (threshold + 3 * f.mss) threshold 3 f.lt f.rto true f.resent f.timing f.deadline s
-    s.lt_flight (λ _. omega arith, λ _. refl) (omega arith) (omega (arith, s.mss_most)) at_least (omega arith)
+    let sound_h : IsSound h = windows_sound f (threshold + 3 * f.mss) threshold 3 f.lt f.rto true f.resent f.timing f.deadline (recover_at_loss f) false s
+    s.lt_flight (entered_losses f s out e) (omega arith) (omega (arith, s.mss_most)) at_least (omega arith)
     s.rto_least s.rto_most s.deadline_flight s.deadline_most s.timed in
-    resend_keeps f h f.nxt now (quiet_keeps f h now sound_h refl refl refl (omega arith) (omega arith) (inl refl) (inr (inl refl))) out out (omega arith) s.nxt_multiple s.lt_flight
+    resend_keeps f h f.nxt now (quiet_keeps f h now sound_h refl refl refl refl (omega arith) (omega arith) (inl refl) (inr (inl refl))) out (omega arith) s.nxt_multiple s.lt_flight (inl refl)
+
+-- a third duplicate that tells of no loss is NewReno's alone
+not_entered_newreno : (f : SenderFields) → enters f ≡ false → IsFalse f.variant.newreno → ⊥
+not_entered_newreno f e reno = false≢true (sym (rw reno at e))
+
+pub unentered_keeps : (f : SenderFields) (now : ℕ) → IsSound f → f.recovery ≡ false → enters f ≡ false → RowKeeps f (record f { dups = 3 }) [] now
+unentered_keeps f now s off e = counted_keeps f 3 now s off (λ reno. absurd (not_entered_newreno f e reno))
 
 at_least_three : (dups : ℕ) → 3 ≤ dups → 3 ≤ one_more dups
 at_least_three dups l =
@@ -228,12 +393,23 @@ at_least_three dups l =
       | inr m ↦ rw (le-ltb dups 4294967295 m) l
     ]
 
+inflated_losses : (f : SenderFields) → IsSound f → f.recovery ≡ true → 3 ≤ one_more f.dups → IsOfLosses f (one_more f.dups) f.recovery f.recover f.partial
+inflated_losses f s on still = record {
+  recovery_dups = λ _. still;
+  reno_recovery = λ _ _. on;
+  reno_recover = s.reno_recover;
+  reno_partial = s.reno_partial;
+  recover_most = s.recover_most;
+  newreno_nxt = s.newreno_nxt;
+  newreno_recovery = s.newreno_recovery;
+}
+
 pub inflated_sound : (f : SenderFields) → IsSound f → f.recovery ≡ true → IsSound (inflated f)
 inflated_sound f s e =
-    let three : 3 ≤ f.dups = s.recovery_dups.0 e in
+    let three : 3 ≤ f.dups = s.recovery_dups e in
     let still : 3 ≤ one_more f.dups = at_least_three f.dups three in
-    windows_sound f (enlarged f.cwnd f.mss) f.ssthresh (one_more f.dups) f.lt f.rto f.recovery f.resent f.timing f.deadline s
-    s.lt_flight (λ _. still, λ _. e) (omega (arith, s.cwnd_least, s.mss_most)) (omega arith) s.ssthresh_least s.ssthresh_most
+    windows_sound f (enlarged f.cwnd f.mss) f.ssthresh (one_more f.dups) f.lt f.rto f.recovery f.resent f.timing f.deadline f.recover f.partial s
+    s.lt_flight (inflated_losses f s e still) (omega (arith, s.cwnd_least, s.mss_most)) (omega arith) s.ssthresh_least s.ssthresh_most
     s.rto_least s.rto_most s.deadline_flight s.deadline_most s.timed
 
 further_split : (b : Bool) (f h : SenderFields) (now : ℕ) → RowKeeps f h [] now → IsMoment now →
@@ -250,13 +426,24 @@ pub further_duplicate_keeps : (f : SenderFields) (now : ℕ) → IsSound f → I
     RowKeeps f (further_duplicate f now).fields (further_duplicate f now).sent now
 further_duplicate_keeps f now s moment e =
     let h : SenderFields = inflated f in
-    let k : RowKeeps f h [] now = quiet_keeps f h now (inflated_sound f s e) refl refl refl (omega arith) (omega arith) (inl refl) (inr (inl refl)) in
+    let k : RowKeeps f h [] now = quiet_keeps f h now (inflated_sound f s e) refl refl refl refl (omega arith) (omega arith) (inl refl) (inr (inl refl)) in
     let end : ℕ = f.una + min (enlarged f.cwnd f.mss) f.rwnd in
     further_split (may_send_new f end) f h now k moment (λ t. new_ends f end s t) (further_duplicate f now) refl
 
 threshold_bounds : (f : SenderFields) → IsSound f → (b : Bool) → (f.mss ≤ cond b f.ssthresh (halved (flight_size f) f.mss)) × (cond b f.ssthresh (halved (flight_size f) f.mss) ≤ 1099511627776)
 threshold_bounds f s true = (s.ssthresh_least, s.ssthresh_most)
 threshold_bounds f s false = (omega arith, omega (arith, s.in_window, s.rwnd_most, s.mss_most))
+
+timed_out_losses : (f : SenderFields) → IsSound f → IsOfLosses f 0 false (recover_at_loss f) f.partial
+timed_out_losses f s = record {
+  recovery_dups = λ on. absurd (false≢true on);
+  reno_recovery = λ _ many. absurd (omega arith);
+  reno_recover = λ reno. rw reno (s.reno_recover reno);
+  reno_partial = s.reno_partial;
+  recover_most = loss_most f.variant.newreno f s;
+  newreno_nxt = λ newreno. inr (rw newreno refl);
+  newreno_recovery = λ _ on. absurd (false≢true on);
+}
 
 pub timed_out_row_keeps : (f : SenderFields) (now : ℕ) → IsSound f → IsMoment now → IsSome f.deadline →
     RowKeeps f (timed_out f now).fields (timed_out f now).sent now
@@ -265,13 +452,13 @@ timed_out_row_keeps f now s moment set =
     let out : f.una < f.nxt = s.deadline_flight.0 set in
     let threshold : ℕ = cond f.resent f.ssthresh (halved (flight_size f) f.mss) in
     let later : ℕ = backed_off f.rto in
-    let h : SenderFields = record f { ssthresh = threshold; cwnd = f.mss; rto = later; dups = 0; lt = 0; recovery = false; resent = true; timing = None; deadline = Some (now + later) } in
+    let h : SenderFields = record f { ssthresh = threshold; cwnd = f.mss; rto = later; dups = 0; lt = 0; recovery = false; recover = recover_at_loss f; resent = true; timing = None; deadline = Some (now + later) } in
     let bounds : (f.mss ≤ threshold) × (threshold ≤ 1099511627776) = threshold_bounds f s f.resent in
     let least : 1000000000 ≤ later = omega (arith, s.rto_least) in
     let most : later ≤ 60000000000 = omega arith in
-    let sound_h : IsSound h = windows_sound f f.mss threshold 0 0 later false true None (Some (now + later)) s
-    (omega arith) (λ t. absurd (false≢true t), λ l. absurd (omega arith)) (omega arith) (omega (arith, s.mss_most)) bounds.0 bounds.1
+    let sound_h : IsSound h = windows_sound f f.mss threshold 0 0 later false true None (Some (now + later)) (recover_at_loss f) f.partial s
+    (omega arith) (timed_out_losses f s) (omega arith) (omega (arith, s.mss_most)) bounds.0 bounds.1
     least most (λ _. out, λ _. refl) (omega arith) tt in
-    let k : RowKeeps f h [] now = quiet_keeps f h now sound_h refl refl refl (omega arith) (omega arith) (inr tt) (inr (inr (record { after = later; after_least = least; after_most = most; is_then = refl }))) in
-    resend_keeps f h (f.una + f.mss) now k out (omega (arith, s.mss_least)) (multiple_below f.mss f.una f.nxt s.mss_least s.una_multiple s.nxt_multiple out)
-    (multiple_next f.mss f.una s.una_multiple) (omega arith)
+    let k : RowKeeps f h [] now = quiet_keeps f h now sound_h refl refl refl refl (omega arith) (omega arith) (inr tt) (inr (inr (record { after = later; after_least = least; after_most = most; is_then = refl }))) in
+    resend_keeps f h (f.una + f.mss) now k (omega (arith, s.mss_least)) (multiple_below f.mss f.una f.nxt s.mss_least s.una_multiple s.nxt_multiple out)
+    (multiple_next f.mss f.una s.una_multiple) (omega arith) (inr (refl, λ newreno. rw newreno refl))

@@ -18,6 +18,18 @@ still_timed : (o : Option Timing) (una high high' : ℕ) → high ≤ high' → 
 still_timed None una high high' l h = tt
 still_timed (Some t) una high high' l h = record { above = h.above; most = omega (arith, h.most); sent_most = h.sent_most }
 
+pub still_below : (o : Option ℕ) (high high' : ℕ) → high ≤ high' → IfSome o (λ r. r ≤ high) → IfSome o (λ r. r ≤ high')
+still_below None high high' l h = tt
+still_below (Some r) high high' l h = omega arith
+
+-- where all was sent once only, or else recover is high, that stays while nxt rises
+recover_still : (o : Option ℕ) (nxt high nxt' : ℕ) → nxt ≤ nxt' → (nxt ≡ high) ⊎ (o ≡ Some high) → (nxt' ≡ max high nxt') ⊎ (o ≡ Some (max high nxt'))
+recover_still o nxt high nxt' l h =
+    elim (cases_lt nxt' high) [
+      | inl below ↦ elim h [ inl e ↦ absurd (omega arith) | inr e ↦ (let same : max high nxt' ≡ high = omega arith in inr (rw same e)) ]
+      | inr past ↦ inl (omega arith)
+    ]
+
 -- the first of a run is its least
 any_below-spaced : (high first m n : ℕ) → list_any (λ x. ltb x high) (spaced first m (suc n)) ≡ ltb first high
 any_below-spaced high first m n =
@@ -158,6 +170,12 @@ run_keeps f h n nxt now lt k moment at in_total in_window lt_flight =
         in_window = in_window;
         lt_flight = lt_flight;
         recovery_dups = s.recovery_dups;
+        reno_recovery = s.reno_recovery;
+        reno_recover = s.reno_recover;
+        reno_partial = s.reno_partial;
+        recover_most = still_below h.recover h.high (max h.high nxt) (omega arith) s.recover_most;
+        newreno_nxt = λ e. recover_still h.recover h.nxt h.high nxt further (s.newreno_nxt e);
+        newreno_recovery = λ e on. ((s.newreno_recovery e on).0, omega (arith, (s.newreno_recovery e on).1));
         cwnd_least = s.cwnd_least;
         cwnd_most = s.cwnd_most;
         ssthresh_least = s.ssthresh_least;
@@ -173,6 +191,7 @@ run_keeps f h n nxt now lt k moment at in_total in_window lt_flight =
       mss_same = k.mss_same;
       segments_same = k.segments_same;
       rwnd_same = k.rwnd_same;
+      variant_same = k.variant_same;
       una_rises = k.una_rises;
       high_rises = omega (arith, k.high_rises);
       sends = all-spaced (IsSegment (record (sending h (spaced h.nxt h.mss n) nxt now).fields { lt = lt })) h.mss nxt

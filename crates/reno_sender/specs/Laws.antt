@@ -1,7 +1,8 @@
 -- What every row of the table keeps, in the subject's own words.
-use Rattle.std.specs.Prelude.{◌≡◌, ◌≤◌, ◌<◌, ◌+◌, ◌*◌, ◌⊎◌, ◌↔◌, ℕ, true, false, min, List, length, Contains, Option, None, Some, IsSome, IfSome}
+use Rattle.std.specs.Prelude.{◌≡◌, ◌≤◌, ◌<◌, ◌+◌, ◌*◌, ◌⊎◌, ◌↔◌, ℕ, IsTrue, true, false, min, List, length, Contains, Option, None, Some, IsSome, IfSome}
 use Rattle.std.specs.List.{AllByRecursion}
 use Rattle.sim_time.specs.Moment.{IsMoment}
+use Rattle.sim_time.specs.declared.variant.Variant.{Variant}
 use Rattle.reno_sender.specs.declared.fields.SenderFields.{SenderFields}
 use Rattle.reno_sender.specs.Fields.{IsSound, IsMultiple, total}
 use Rattle.reno_sender.specs.Sending.{Planned, filling}
@@ -33,6 +34,7 @@ pub record RowKeeps (f g : SenderFields) (sent : List ℕ) (now : ℕ) : Type 0 
   pub mss_same : g.mss ≡ f.mss
   pub segments_same : g.segments ≡ f.segments
   pub rwnd_same : g.rwnd ≡ f.rwnd
+  pub variant_same : g.variant ≡ f.variant
   pub una_rises : f.una ≤ g.una
   pub high_rises : f.high ≤ g.high
   pub sends : AllByRecursion (IsSegment g) sent
@@ -63,17 +65,17 @@ pub record IsFlow (mss segments rwnd : ℕ) : Type 0 where
   pub rwnd_most : rwnd ≤ 1073741824
 
 abbrev pub OpeningIsSound : Type 0
-OpeningIsSound = (mss segments rwnd : ℕ) → IsFlow mss segments rwnd → IsSound (opening_fields mss segments rwnd)
+OpeningIsSound = (mss segments rwnd : ℕ) (variant : Variant) → IsFlow mss segments rwnd → IsSound (opening_fields mss segments rwnd variant)
 
 -- the states that events lead to from the opening of a flow
-pub data IsReachable (mss segments rwnd : ℕ) : SenderFields → Type 0 where
-  opening : {f : SenderFields} → f ≡ opening_fields mss segments rwnd → IsReachable mss segments rwnd f
-  by_start : {f g : SenderFields} (now : ℕ) → IsReachable mss segments rwnd f → IsMoment now → g ≡ (started f now).fields → IsReachable mss segments rwnd g
-  by_acknowledgement : {f g : SenderFields} (ack now : ℕ) → IsReachable mss segments rwnd f → IsMoment now → IsAckFor f ack now → g ≡ (acknowledged f ack now).fields → IsReachable mss segments rwnd g
-  by_timeout : {f g : SenderFields} (now : ℕ) → IsReachable mss segments rwnd f → IsMoment now → IsSome f.deadline → g ≡ (timed_out f now).fields → IsReachable mss segments rwnd g
+pub data IsReachable (mss segments rwnd : ℕ) (variant : Variant) : SenderFields → Type 0 where
+  opening : {f : SenderFields} → f ≡ opening_fields mss segments rwnd variant → IsReachable mss segments rwnd variant f
+  by_start : {f g : SenderFields} (now : ℕ) → IsReachable mss segments rwnd variant f → IsMoment now → g ≡ (started f now).fields → IsReachable mss segments rwnd variant g
+  by_acknowledgement : {f g : SenderFields} (ack now : ℕ) → IsReachable mss segments rwnd variant f → IsMoment now → IsAckFor f ack now → g ≡ (acknowledged f ack now).fields → IsReachable mss segments rwnd variant g
+  by_timeout : {f g : SenderFields} (now : ℕ) → IsReachable mss segments rwnd variant f → IsMoment now → IsSome f.deadline → g ≡ (timed_out f now).fields → IsReachable mss segments rwnd variant g
 
 abbrev pub ReachableIsSound : Type 0
-ReachableIsSound = (mss segments rwnd : ℕ) (f : SenderFields) → IsFlow mss segments rwnd → IsReachable mss segments rwnd f → IsSound f
+ReachableIsSound = (mss segments rwnd : ℕ) (variant : Variant) (f : SenderFields) → IsFlow mss segments rwnd → IsReachable mss segments rwnd variant f → IsSound f
 
 -- filling sends the segments from nxt on, before the flow's end, that end within both windows, and no others
 abbrev pub FillIsAllAllowed : Type 0
@@ -99,6 +101,16 @@ abbrev pub ThresholdStays : Type 0
 ThresholdStays =
     (f : SenderFields) (ack now : ℕ) → (f.recovery ≡ true) ⊎ ((acknowledged f ack now).fields.recovery ≡ false) →
     (acknowledged f ack now).fields.ssthresh ≡ f.ssthresh
+
+-- a new acknowledgement in NewReno's recovery: it goes on exactly where that is below recover, and the byte after it is then sent again (RFC 6582 section 3.2 step 3)
+pub record LastsUntilRecover (p : Planned) (recover ack : ℕ) : Type 0 where
+  pub lasts : IsTrue p.fields.recovery ↔ (ack < recover)
+  pub again : ack < recover → Contains p.sent ack
+
+abbrev pub RecoveryLasts : Type 0
+RecoveryLasts =
+    (f : SenderFields) (recover ack now : ℕ) → IsTrue f.variant.newreno → IsTrue f.recovery → f.recover ≡ Some recover → f.una < ack →
+    LastsUntilRecover (acknowledged f ack now) recover ack
 
 -- where a number that was sent before is sent again, nothing is timed afterwards but a new segment, sent now (RFC 6298 section 3, Karn's algorithm)
 pub record NeverTimesResent (f : SenderFields) (p : Planned) (now : ℕ) : Type 0 where

@@ -1,26 +1,30 @@
--- The sender's table (RFC 5681 sections 3.1 and 3.2, RFC 6298 section 5): one equation a row, from the fields, the event and the moment to the new fields and the whole list of byte numbers sent.
-use Rattle.std.specs.Prelude.{◌+◌, ◌-◌, ◌*◌, ◌/◌, ℕ, Bool, true, false, min, max, nat_lt, nat_le, ◌==◌, ◌&&◌, ◌||◌, if◌then◌else◌, [], ◌∷◌, Option, Some, None}
+-- The sender's table (RFC 5681 sections 3.1 and 3.2, RFC 6298 section 5, and with NewReno RFC 6582 section 3.2): one equation a row, from the fields, the event and the moment to the new fields and the whole list of byte numbers sent.
+use Rattle.std.specs.Prelude.{◌+◌, ◌-◌, ◌*◌, ◌/◌, ℕ, Bool, true, false, min, max, not, nat_lt, nat_le, ◌==◌, ◌&&◌, ◌||◌, if◌then◌else◌, [], ◌∷◌, Option, Some, None}
 use Rattle.reno_sender.specs.declared.fields.SenderFields.{SenderFields}
 use Rattle.reno_sender.specs.declared.fields.Timing.{Timing}
 use Rattle.reno_sender.specs.Fields.{total, flight_size}
 use Rattle.reno_sender.specs.Timer.{Estimate, sampled, backed_off}
 use Rattle.reno_sender.specs.Sending.{Planned, sending, filling}
 use Rattle.sim_time.specs.InitialWindow.{initial_window_of}
+use Rattle.sim_time.specs.declared.variant.Variant.{Variant}
 
 -- at first: nothing sent, the initial window, no round trip measured (RFC 5681 section 3.1, RFC 6298 section 2.1)
-abbrev pub opening_fields : ℕ → ℕ → ℕ → SenderFields
-opening_fields mss segments rwnd = record {
+abbrev pub opening_fields : ℕ → ℕ → ℕ → Variant → SenderFields
+opening_fields mss segments rwnd variant = record {
   mss = mss;
   segments = segments;
   rwnd = rwnd;
+  variant = variant;
   una = 0;
   nxt = 0;
   high = 0;
-  cwnd = initial_window_of mss;
+  cwnd = initial_window_of mss variant.iw;
   ssthresh = rwnd;
   dups = 0;
   lt = 0;
   recovery = false;
+  recover = None;
+  partial = false;
   timing = None;
   srtt = None;
   rttvar = 0;
@@ -59,11 +63,32 @@ early_duplicate f now =
     then sending (record f { dups = one_more f.dups; lt = f.lt + f.mss }) (f.nxt ∷ []) (f.nxt + f.mss) now
     else nothing_sent (record f { dups = one_more f.dups })
 
--- the third duplicate, fast retransmit (steps 2 and 3): what limited transmit sent doesn't count, the deadline stays
-abbrev pub third_duplicate : SenderFields → ℕ → Planned
-third_duplicate f now =
+-- una has passed recover, or no loss was found yet (RFC 6582 section 3.2 step 2)
+abbrev pub is_past : Option ℕ → ℕ → Bool
+is_past None una = true
+is_past (Some recover) una = nat_lt recover una
+
+-- Reno finds a loss at each third duplicate, NewReno only above recover
+abbrev pub enters : SenderFields → Bool
+enters f = not f.variant.newreno || is_past f.recover f.una
+
+-- a loss that is found sets recover with NewReno (RFC 6582 section 3.2 steps 2 and 4)
+abbrev pub recover_at_loss : SenderFields → Option ℕ
+recover_at_loss f = if f.variant.newreno then Some f.high else f.recover
+
+-- fast retransmit (steps 2 and 3): what limited transmit sent doesn't count, the deadline stays
+abbrev pub fast_retransmit : SenderFields → ℕ → Planned
+fast_retransmit f now =
     let threshold = halved (flight_size f - f.lt) f.mss in
-    sending (record f { dups = 3; ssthresh = threshold; cwnd = threshold + 3 * f.mss; recovery = true }) (f.una ∷ []) f.nxt now
+    sending (record f { dups = 3; ssthresh = threshold; cwnd = threshold + 3 * f.mss; recovery = true; recover = recover_at_loss f; partial = false }) (f.una ∷ []) f.nxt now
+
+-- the third duplicate
+abbrev pub third_duplicate : SenderFields → ℕ → Planned
+third_duplicate f now = if enters f then fast_retransmit f now else nothing_sent (record f { dups = 3 })
+
+-- a further duplicate where the third didn't enter recovery is counted alone
+abbrev pub repeated_duplicate : SenderFields → Planned
+repeated_duplicate f = nothing_sent (record f { dups = one_more f.dups })
 
 -- a further duplicate, fast recovery (steps 4 and 5): one segment has left the network
 abbrev pub inflated : SenderFields → SenderFields
@@ -112,16 +137,48 @@ advanced f ack now =
 abbrev pub new_acknowledgement : SenderFields → ℕ → ℕ → Planned
 new_acknowledgement f ack now = filling (advanced f ack now) now
 
+-- an acknowledgement below a number, where there is one
+abbrev pub is_below : ℕ → Option ℕ → Bool
+is_below ack None = false
+is_below ack (Some recover) = nat_lt ack recover
+
+-- in recovery NewReno takes a new acknowledgement below recover for a partial one (RFC 6582 section 3.2 step 3)
+abbrev pub is_partial : SenderFields → ℕ → Bool
+is_partial f ack = f.variant.newreno && (f.recovery && is_below ack f.recover)
+
+-- what it does before anything is sent: cwnd falls by what is acknowledged and rises by one segment, to one segment at least, and the first in a recovery starts the timer anew
+abbrev pub partly : SenderFields → ℕ → ℕ → SenderFields
+partly f ack now =
+    let g = measured_by f.timing f ack now in
+    record g {
+      una = ack;
+      nxt = max f.nxt ack;
+      cwnd = max (f.cwnd + f.mss - (ack - f.una)) f.mss;
+      lt = 0;
+      resent = false;
+      deadline = if f.partial then f.deadline else Some (now + g.rto);
+      partial = true;
+    }
+
+-- una is sent again, and then one new segment where the windows allow it; recovery goes on
+abbrev pub partial_acknowledgement : SenderFields → ℕ → ℕ → Planned
+partial_acknowledgement f ack now =
+    let h = partly f ack now in
+    if may_send_new h (h.una + min h.cwnd h.rwnd)
+    then sending h (h.una ∷ h.nxt ∷ []) (h.nxt + h.mss) now
+    else sending h (h.una ∷ []) h.nxt now
+
 -- an acknowledgement: new, old, or the first, second, third or a further duplicate
 unfoldable pub acknowledged : SenderFields → ℕ → ℕ → Planned
 acknowledged f ack now =
-    if nat_lt f.una ack then new_acknowledgement f ack now
+    if nat_lt f.una ack then (if is_partial f ack then partial_acknowledgement f ack now else new_acknowledgement f ack now)
     else (if nat_lt ack f.una || (f.una == f.nxt) then nothing_sent f
     else (if f.recovery then further_duplicate f now
     else (if f.dups == 2 then third_duplicate f now
-    else early_duplicate f now)))
+    else (if nat_lt f.dups 2 then early_duplicate f now
+    else repeated_duplicate f))))
 
--- the deadline has come (RFC 5681 section 3.1, RFC 6298 sections 5.4 to 5.6): the first timeout of a segment lowers ssthresh, each doubles the rto, and una is sent again
+-- the deadline has come (RFC 5681 section 3.1, RFC 6298 sections 5.4 to 5.6, RFC 6582 section 3.2 step 4): the first timeout of a segment lowers ssthresh, each doubles the rto, and una is sent again
 unfoldable pub timed_out : SenderFields → ℕ → Planned
 timed_out f now =
     sending (record f {
@@ -131,6 +188,7 @@ timed_out f now =
       dups = 0;
       lt = 0;
       recovery = false;
+      recover = recover_at_loss f;
       resent = true;
       timing = None;
       deadline = Some (now + backed_off f.rto);

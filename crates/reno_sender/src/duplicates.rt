@@ -1,10 +1,11 @@
 //! Duplicate acknowledgements: limited transmit, fast retransmit and fast recovery (RFC 5681
-//! section 3.2).
-ghost use Rattle.std.specs.Prelude.{◌≡◌, ◌≤◌, ◌<◌, ◌+◌, ◌^◌, Bool, true, false, ◌==◌};
+//! section 3.2), and when NewReno enters it (RFC 6582 section 3.2 step 2). Each row is a function of its own also
+//! in the program: else every acknowledgement would clear the places of all rows.
+ghost use Rattle.std.specs.Prelude.{◌≡◌, ◌≤◌, ◌<◌, ◌+◌, ◌^◌, Bool, true, false};
 ghost use Rattle.reno_sender.specs.Fields.{IsSound};
 ghost use Rattle.sim_time.specs.Moment.{IsMoment};
 ghost use Rattle.reno_sender.specs.PlanView.{planned_of};
-ghost use Rattle.reno_sender.specs.Table.{one_more, may_send_new, early_duplicate, third_duplicate, further_duplicate};
+ghost use Rattle.reno_sender.specs.Table.{one_more, may_send_new, early_duplicate, enters, recover_at_loss, fast_retransmit, third_duplicate, repeated_duplicate, further_duplicate};
 
 use crate::fields::SenderFields;
 use crate::plan::Plan;
@@ -26,7 +27,7 @@ fn one_more(dups: u64) -> u64
 }
 
 /// Whether a segment that was never sent may be sent now and ends within `end`.
-fn may_send_new(fields: &SenderFields, end: u64) -> bool
+pub(crate) fn may_send_new(fields: &SenderFields, end: u64) -> bool
     requires { IsSound fields.now }
     ensures { result ≡ may_send_new fields.now end }
 {
@@ -36,33 +37,61 @@ fn may_send_new(fields: &SenderFields, end: u64) -> bool
 }
 
 /// The first and the second duplicate: limited transmit (RFC 5681 section 3.2 step 1, RFC 3042).
-pub(crate) fn early_duplicate(fields: SenderFields, now: Time) -> Plan
-    requires sound { IsSound fields }
+#[inline(never)]
+pub(crate) fn early_duplicate(fields: &SenderFields, now: Time) -> Plan
+    requires sound { IsSound fields.now }
     requires moment { IsMoment now }
-    requires no_recovery { fields.recovery ≡ false }
-    requires not_third { (fields.dups == 2) ≡ false }
-    ensures { planned_of result ≡ early_duplicate fields now }
+    requires no_recovery { fields.now.recovery ≡ false }
+    requires few { fields.now.dups < 2 }
+    ensures { planned_of result ≡ early_duplicate fields.now now }
 {
     let end = fields.una + (fields.cwnd + 2 * fields.mss).min(fields.rwnd);
-    let sends = may_send_new(&fields, end);
+    let sends = may_send_new(fields, end);
     let lt = fields.lt;
     let counted = SenderFields {
         dups: one_more(fields.dups),
-        ..fields
+        ..*fields
     };
     if sends {
-        send_one(counted, lt + counted.mss, now)
+        send_one(&counted, lt + counted.mss, now)
     } else {
-        Plan::nothing(counted)
+        Plan::nothing(&counted)
     }
 }
 
-/// The third duplicate: fast retransmit (RFC 5681 section 3.2 steps 2 and 3).
-pub(crate) fn third_duplicate(fields: SenderFields, now: Time) -> Plan
-    requires sound { IsSound fields }
+/// Whether the third duplicate tells of a loss: with NewReno only where all that was sent when the last
+/// one was found is acknowledged (RFC 6582 section 3.2 step 2).
+fn enters(fields: &SenderFields) -> bool
+    ensures { result ≡ enters fields.now }
+{
+    if fields.variant.newreno {
+        match fields.recover {
+            Some(recover) => fields.una > recover,
+            None => true,
+        }
+    } else {
+        true
+    }
+}
+
+/// What `recover` is once a loss is found (RFC 6582 section 3.2 steps 2 and 4).
+pub(crate) fn recover_at_loss(fields: &SenderFields) -> Option<u64>
+    ensures { result ≡ recover_at_loss fields.now }
+{
+    if fields.variant.newreno {
+        Some(fields.high)
+    } else {
+        fields.recover
+    }
+}
+
+/// Fast retransmit, the beginning of fast recovery (RFC 5681 section 3.2 steps 2 and 3).
+fn fast_retransmit(fields: &SenderFields, now: Time) -> Plan
+    requires sound { IsSound fields.now }
     requires moment { IsMoment now }
-    requires outstanding { fields.una < fields.nxt }
-    ensures { planned_of result ≡ third_duplicate fields now }
+    requires outstanding { fields.now.una < fields.now.nxt }
+    requires enters { enters fields.now ≡ true }
+    ensures { planned_of result ≡ fast_retransmit fields.now now }
 {
     let threshold = halved(fields.nxt - fields.una - fields.lt, fields.mss);
     let retransmitting = SenderFields {
@@ -70,28 +99,62 @@ pub(crate) fn third_duplicate(fields: SenderFields, now: Time) -> Plan
         ssthresh: threshold,
         cwnd: threshold + 3 * fields.mss,
         recovery: true,
-        ..fields
+        recover: recover_at_loss(fields),
+        partial: false,
+        ..*fields
     };
-    resend(retransmitting, retransmitting.nxt)
+    resend(&retransmitting, retransmitting.nxt)
+}
+
+/// The third duplicate.
+#[inline(never)]
+pub(crate) fn third_duplicate(fields: &SenderFields, now: Time) -> Plan
+    requires sound { IsSound fields.now }
+    requires moment { IsMoment now }
+    requires outstanding { fields.now.una < fields.now.nxt }
+    requires no_recovery { fields.now.recovery ≡ false }
+    ensures { planned_of result ≡ third_duplicate fields.now now }
+{
+    if enters(fields) {
+        fast_retransmit(fields, now)
+    } else {
+        Plan::nothing(&SenderFields { dups: 3, ..*fields })
+    }
+}
+
+/// A further duplicate where the third told of no loss.
+#[inline(never)]
+pub(crate) fn repeated_duplicate(fields: &SenderFields) -> Plan
+    requires sound { IsSound fields.now }
+    requires no_recovery { fields.now.recovery ≡ false }
+    requires many { 3 ≤ fields.now.dups }
+    ensures { planned_of result ≡ repeated_duplicate fields.now }
+{
+    let counted = SenderFields {
+        dups: one_more(fields.dups),
+        ..*fields
+    };
+    Plan::nothing(&counted)
 }
 
 /// A further duplicate, in fast recovery (RFC 5681 section 3.2 steps 4 and 5).
-pub(crate) fn further_duplicate(fields: SenderFields, now: Time) -> Plan
-    requires sound { IsSound fields }
+#[inline(never)]
+pub(crate) fn further_duplicate(fields: &SenderFields, now: Time) -> Plan
+    requires sound { IsSound fields.now }
     requires moment { IsMoment now }
-    requires in_recovery { fields.recovery ≡ true }
-    ensures { planned_of result ≡ further_duplicate fields now }
+    requires in_recovery { fields.now.recovery ≡ true }
+    ensures { planned_of result ≡ further_duplicate fields.now now }
 {
     let cwnd = enlarged(fields.cwnd, fields.mss);
-    let sends = may_send_new(&fields, fields.una + cwnd.min(fields.rwnd));
+    let sends = may_send_new(fields, fields.una + cwnd.min(fields.rwnd));
     let inflated = SenderFields {
         dups: one_more(fields.dups),
         cwnd,
-        ..fields
+        ..*fields
     };
     if sends {
-        send_one(inflated, inflated.lt, now)
+        send_one(&inflated, inflated.lt, now)
     } else {
-        Plan::nothing(inflated)
+        Plan::nothing(&inflated)
     }
 }

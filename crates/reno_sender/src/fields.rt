@@ -1,6 +1,6 @@
 //! What a sender keeps.
 
-use sim_time::Time;
+use sim_time::{Time, Variant};
 
 /// The segment whose round trip is being timed (RFC 6298 section 3).
 #[derive(Clone, Copy, Debug, PartialEq, Eq)]
@@ -11,7 +11,8 @@ pub struct Timing {
     pub sent_at: Time,
 }
 
-/// All that a sender keeps of its flow. Byte numbers count from 0.
+/// All that a sender keeps of its flow. Byte numbers count from 0. What is small stands together at the end, so that
+/// no bytes between are copied with it.
 #[derive(Clone, Copy, Debug, PartialEq, Eq)]
 pub struct SenderFields {
     /// Bytes of data in a segment: 1 to 9,000.
@@ -35,8 +36,9 @@ pub struct SenderFields {
     /// Bytes sent by limited transmit since the last new acknowledgement (RFC 5681 section 3.2 step
     /// 1, RFC 3042).
     pub lt: u64,
-    /// Whether the sender is in fast recovery (RFC 5681 section 3.2).
-    pub recovery: bool,
+    /// What `high` was when the last loss was found: the byte number that ends recovery; none before the
+    /// first loss, and with Reno (RFC 6582 section 3.2).
+    pub recover: Option<u64>,
     /// The segment that is timed, if one is.
     pub timing: Option<Timing>,
     /// The smoothed round-trip time in nanoseconds; none before the first sample.
@@ -47,6 +49,13 @@ pub struct SenderFields {
     pub rto: u64,
     /// When the retransmission timer ends; none where it is off.
     pub deadline: Option<Time>,
+    /// Whether the sender is in fast recovery (RFC 5681 section 3.2).
+    pub recovery: bool,
+    /// Whether a partial acknowledgement has come in this recovery or, outside one, in the last; never with
+    /// Reno (RFC 6582 section 3.2 step 3).
+    pub partial: bool,
     /// Whether the timer resent the segment at `una`.
     pub resent: bool,
+    /// Which sender it is. It stays.
+    pub variant: Variant,
 }

@@ -21,12 +21,12 @@ fn segments_to_fill(fields: &SenderFields) -> u64
 }
 
 /// Sends all that the windows and the flow allow.
-pub(crate) fn fill(fields: SenderFields, now: Time) -> Plan
-    requires sound { IsSound fields }
+pub(crate) fn fill(fields: &SenderFields, now: Time) -> Plan
+    requires sound { IsSound fields.now }
     requires moment { IsMoment now }
-    ensures { planned_of result ≡ filling fields now }
+    ensures { planned_of result ≡ filling fields.now now }
 {
-    let count = segments_to_fill(&fields);
+    let count = segments_to_fill(fields);
     let first = fields.nxt;
     Plan::of(after_run(fields, count, now), None, first, count)
 }

@@ -1,5 +1,5 @@
 //! What every row of the sender's table keeps. Each function does nothing: its contract is the law.
-ghost use Rattle.reno_sender.specs.Laws.{AcknowledgementKeeps, AcknowledgementNeverTimesResent, FillIsAllAllowed, OpeningIsSound, ReachableIsSound, RtoStaysUntilSample, StartKeeps, StartNeverTimesResent, ThresholdAtFurtherTimeout, ThresholdAtRecovery, ThresholdAtTimeout, ThresholdStays, TimeoutDoublesRto, TimeoutKeeps, TimeoutNeverTimesResent};
+ghost use Rattle.reno_sender.specs.Laws.{AcknowledgementKeeps, AcknowledgementNeverTimesResent, FillIsAllAllowed, OpeningIsSound, ReachableIsSound, RecoveryLasts, RtoStaysUntilSample, StartKeeps, StartNeverTimesResent, ThresholdAtFurtherTimeout, ThresholdAtRecovery, ThresholdAtTimeout, ThresholdStays, TimeoutDoublesRto, TimeoutKeeps, TimeoutNeverTimesResent};
 
 /// The facts on fields hold in every state that a flow reaches.
 pub fn reachable_is_sound()
@@ -41,4 +41,10 @@ pub fn resent_is_never_timed()
 pub fn rto_backs_off()
     ensures doubles { TimeoutDoublesRto }
     ensures stays { RtoStaysUntilSample }
+{}
+
+/// In recovery a NewReno sender takes a new acknowledgement below `recover` for a partial one: recovery goes on
+/// exactly then, and the first byte that is not acknowledged is sent again (RFC 6582 section 3.2 step 3).
+pub fn recovery_lasts_until_recover()
+    ensures { RecoveryLasts }
 {}

@@ -1,4 +1,4 @@
-//! The Reno sender.
+//! The Reno and the NewReno sender.
 #![tactic(auto)]
 
 mod acknowledgement;
@@ -6,6 +6,7 @@ pub mod duplicates;
 pub mod fields;
 mod fill;
 pub mod guarantees;
+mod partial;
 pub mod plan;
 pub mod sender;
 mod sending;
@@ -17,4 +18,5 @@ pub mod window;
 pub use fields::{SenderFields, Timing};
 pub use plan::Plan;
 pub use sender::Sender;
+pub use sim_time::{Iw, Variant};
 pub use timer::after_sample;

@@ -43,11 +43,12 @@ impl Plan {
     }
 
     /// Sends nothing.
-    pub(crate) fn nothing(fields: SenderFields) -> Self
-        requires { IsSound fields }
-        ensures { planned_of result ≡ nothing_sent fields }
+    #[inline(never)]
+    pub(crate) fn nothing(fields: &SenderFields) -> Self
+        requires { IsSound fields.now }
+        ensures { planned_of result ≡ nothing_sent fields.now }
     {
-        Plan::of(fields, None, fields.nxt, 0)
+        Plan::of(*fields, None, fields.nxt, 0)
     }
 
     /// What the sender keeps once this is committed.

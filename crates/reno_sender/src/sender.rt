@@ -13,10 +13,10 @@ use crate::plan::Plan;
 use crate::soundness::is_sound;
 use crate::timeout::timed_out;
 use crate::timer::LEAST_RTO;
-use sim_time::{Time, initial_window};
+use sim_time::{Time, Variant, initial_window};
 use std::marker::Model;
 
-/// The Reno sender of one flow.
+/// The sender of one flow: Reno or NewReno.
 #[derive(Clone, Copy, Debug, PartialEq, Eq)]
 pub struct Sender {
     fields: SenderFields,
@@ -37,23 +37,26 @@ impl Model for Sender {
 
 impl Sender {
     /// A sender that has sent nothing yet (RFC 5681 section 3.1, RFC 6298 section 2.1).
-    pub fn new(mss: u64, segments: u64, rwnd: u64) -> Self
+    pub fn new(mss: u64, segments: u64, rwnd: u64, variant: Variant) -> Self
         requires { IsFlow mss segments rwnd }
-        ensures { result ≡ opening_fields mss segments rwnd }
+        ensures { result ≡ opening_fields mss segments rwnd variant }
     {
         Sender {
             fields: SenderFields {
                 mss,
                 segments,
                 rwnd,
+                variant,
                 una: 0,
                 nxt: 0,
                 high: 0,
-                cwnd: initial_window(mss),
+                cwnd: initial_window(mss, variant.iw),
                 ssthresh: rwnd,
                 dups: 0,
                 lt: 0,
                 recovery: false,
+                recover: None,
+                partial: false,
                 timing: None,
                 srtt: None,
                 rttvar: 0,
@@ -107,7 +110,7 @@ impl Sender {
         ensures made { IsPlanOf self.now result }
         ensures well_made { IsWellMade result }
     {
-        fill(self.fields, now)
+        fill(&self.fields, now)
     }
 
     /// An acknowledgement has come, up to but not with the byte `ack`.
@@ -118,7 +121,7 @@ impl Sender {
         ensures made { IsPlanOf self.now result }
         ensures well_made { IsWellMade result }
     {
-        acknowledged(self.fields, ack, now)
+        acknowledged(&self.fields, ack, now)
     }
 
     /// The deadline has come.
@@ -129,7 +132,7 @@ impl Sender {
         ensures made { IsPlanOf self.now result }
         ensures well_made { IsWellMade result }
     {
-        timed_out(self.fields, now)
+        timed_out(&self.fields, now)
     }
 
     /// Does what was planned.

@@ -1,5 +1,5 @@
 //! What sending does to a sender: `high`, the timed segment and the timer.
-ghost use Rattle.std.specs.Prelude.{◌≡◌, ◌≤◌, ◌<◌, ℕ, ◌+◌, ◌-◌, ◌*◌, [], ◌∷◌, ◌^◌, ◌&&◌, nat_lt, if◌then◌else◌};
+ghost use Rattle.std.specs.Prelude.{◌⊎◌, IsTrue, false, Some, ◌≡◌, ◌≤◌, ◌<◌, ℕ, ◌+◌, ◌-◌, ◌*◌, [], ◌∷◌, ◌^◌, ◌&&◌, nat_lt, if◌then◌else◌};
 ghost use Rattle.reno_sender.specs.Fields.{IsSound, IsMultiple, total};
 ghost use Rattle.sim_time.specs.Moment.{IsMoment};
 ghost use Rattle.reno_sender.specs.PlanView.{planned_of};
@@ -62,52 +62,70 @@ fn deadline_after_run(fields: &SenderFields, count: u64, now: Time) -> Option<Ti
 }
 
 /// The fields after `count` segments from `nxt` on are sent.
-pub(crate) fn after_run(fields: SenderFields, count: u64, now: Time) -> SenderFields
-    requires sound { IsSound fields }
+pub(crate) fn after_run(fields: &SenderFields, count: u64, now: Time) -> SenderFields
+    requires sound { IsSound fields.now }
     requires moment { IsMoment now }
-    requires in_total { fields.nxt + count * fields.mss ≤ total fields }
-    ensures { let sent = spaced fields.nxt fields.mss count in
-        result ≡ (sending fields sent (fields.nxt + count * fields.mss) now).fields }
+    requires in_total { fields.now.nxt + count * fields.now.mss ≤ total fields.now }
+    ensures { let sent = spaced fields.now.nxt fields.now.mss count in
+        result ≡ (sending fields.now sent (fields.now.nxt + count * fields.now.mss) now).fields }
 {
     let nxt = fields.nxt + count * fields.mss;
     SenderFields {
         nxt,
         high: fields.high.max(nxt),
-        timing: timing_after_run(&fields, count, now),
-        deadline: deadline_after_run(&fields, count, now),
-        ..fields
+        timing: timing_after_run(fields, count, now),
+        deadline: deadline_after_run(fields, count, now),
+        ..*fields
     }
 }
 
 /// Sends the one segment at `nxt`, with `lt` bytes sent by limited transmit then.
-pub(crate) fn send_one(fields: SenderFields, lt: u64, now: Time) -> Plan
-    requires sound { IsSound fields }
+pub(crate) fn send_one(fields: &SenderFields, lt: u64, now: Time) -> Plan
+    requires sound { IsSound fields.now }
     requires moment { IsMoment now }
-    requires in_total { fields.nxt + fields.mss ≤ total fields }
-    requires in_window { fields.nxt + fields.mss ≤ fields.una + fields.rwnd }
-    requires lt_flight { lt ≤ fields.nxt + fields.mss - fields.una }
-    ensures { let limited = record fields { lt = lt } in
-        planned_of result ≡ sending limited (fields.nxt ∷ []) (fields.nxt + fields.mss) now }
+    requires in_total { fields.now.nxt + fields.now.mss ≤ total fields.now }
+    requires in_window { fields.now.nxt + fields.now.mss ≤ fields.now.una + fields.now.rwnd }
+    requires lt_flight { lt ≤ fields.now.nxt + fields.now.mss - fields.now.una }
+    ensures { let limited = record fields.now { lt = lt } in
+        planned_of result ≡ sending limited (fields.now.nxt ∷ []) (fields.now.nxt + fields.now.mss) now }
 {
     let first = fields.nxt;
     let sent = after_run(fields, 1, now);
     Plan::of(SenderFields { lt, ..sent }, None, first, 1)
 }
 
-/// Sends the segment at `una` again, which ends the timing; `nxt` is then as given.
-pub(crate) fn resend(fields: SenderFields, nxt: u64) -> Plan
-    requires sound { IsSound fields }
-    requires above { fields.una < nxt }
-    requires back { nxt ≤ fields.nxt }
-    requires whole { IsMultiple fields.mss nxt }
-    requires lt_flight { fields.lt ≤ nxt - fields.una }
-    ensures { (now : ℕ) → planned_of result ≡ sending fields (fields.una ∷ []) nxt now }
+/// Sends the segment at `una` again, which ends the timing; `nxt` is then as given: what it was, or less, where
+/// recovery ends and all that was sent counts as lost.
+pub(crate) fn resend(fields: &SenderFields, nxt: u64) -> Plan
+    requires sound { IsSound fields.now }
+    requires above { fields.now.una < nxt }
+    requires back { nxt ≤ fields.now.nxt }
+    requires whole { IsMultiple fields.now.mss nxt }
+    requires lt_flight { fields.now.lt ≤ nxt - fields.now.una }
+    requires went_back { (nxt ≡ fields.now.nxt) ⊎ ((fields.now.recovery ≡ false) × (IsTrue fields.now.variant.newreno → fields.now.recover ≡ Some fields.now.high)) }
+    ensures { (now : ℕ) → planned_of result ≡ sending fields.now (fields.now.una ∷ []) nxt now }
 {
     let una = fields.una;
     let resent = SenderFields {
         nxt,
         timing: None,
-        ..fields
+        ..*fields
     };
     Plan::of(resent, Some(una), nxt, 0)
+}
+
+/// Sends the segment at `una` again, and then the one at `nxt`, which is new.
+pub(crate) fn resend_and_send(fields: &SenderFields, now: Time) -> Plan
+    requires sound { IsSound fields.now }
+    requires moment { IsMoment now }
+    requires outstanding { fields.now.una < fields.now.nxt }
+    requires in_total { fields.now.nxt + fields.now.mss ≤ total fields.now }
+    requires in_window { fields.now.nxt + fields.now.mss ≤ fields.now.una + fields.now.rwnd }
+    ensures { planned_of result ≡ sending fields.now (fields.now.una ∷ fields.now.nxt ∷ []) (fields.now.nxt + fields.now.mss) now }
+{
+    let una = fields.una;
+    let first = fields.nxt;
+    let mut untimed = *fields;
+    untimed.timing = None;
+    Plan::of(after_run(&untimed, 1, now), Some(una), first, 1)
 }

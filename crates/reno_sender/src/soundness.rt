@@ -1,5 +1,5 @@
 //! The facts that hold of a sender's fields in every reachable state, as tests.
-ghost use Rattle.std.specs.Prelude.{◌≡◌, ◌≤◌, ◌<◌, ◌-◌, ◌*◌, ◌↔◌, IsTrue, IsSome, IfSome};
+ghost use Rattle.std.specs.Prelude.{◌≡◌, ◌≤◌, ◌<◌, ◌-◌, ◌*◌, ◌⊎◌, ◌↔◌, IsTrue, IsFalse, Some, None, IsSome, IfSome, IsSomeAnd};
 ghost use Rattle.reno_sender.specs.Fields.{IsSound, IsMultiple, IsTimedWithin, total, flight_size};
 
 use crate::fields::SenderFields;
@@ -56,20 +56,48 @@ fn numbers_are_whole(fields: &SenderFields) -> bool
     fields.una % fields.mss == 0 && fields.nxt % fields.mss == 0 && fields.high % fields.mss == 0
 }
 
-/// The windows, and recovery from the third duplicate on.
+/// The windows.
 fn windows_are_sound(fields: &SenderFields) -> bool
     ensures { IsTrue result
-        ↔ ((IsTrue fields.now.recovery ↔ (3 ≤ fields.now.dups))
-        × (fields.now.mss ≤ fields.now.cwnd)
+        ↔ ((fields.now.mss ≤ fields.now.cwnd)
         × (fields.now.cwnd ≤ 1099511627776)
         × (fields.now.mss ≤ fields.now.ssthresh)
         × (fields.now.ssthresh ≤ 1099511627776)) }
 {
-    fields.recovery == (fields.dups >= 3)
-        && fields.mss <= fields.cwnd
+    fields.mss <= fields.cwnd
         && fields.cwnd <= MOST_CWND
         && fields.mss <= fields.ssthresh
         && fields.ssthresh <= MOST_CWND
+}
+
+/// Reno's recovery is from the third duplicate on, and it keeps nothing of NewReno's.
+fn reno_is_sound(fields: &SenderFields) -> bool
+    ensures { IsTrue result
+        ↔ ((IsTrue fields.now.recovery ↔ (3 ≤ fields.now.dups))
+        × (fields.now.recover ≡ None)
+        × IsFalse fields.now.partial) }
+{
+    fields.recovery == (fields.dups >= 3) && fields.recover.is_none() && !fields.partial
+}
+
+/// NewReno's recovery begins at a third duplicate at the earliest, with `recover` above `una`; `nxt` is behind
+/// `high` only after a timeout, which made `high` the value of `recover`.
+fn newreno_is_sound(fields: &SenderFields) -> bool
+    ensures { IsTrue result
+        ↔ ((IsTrue fields.now.recovery → 3 ≤ fields.now.dups)
+        × IfSome fields.now.recover (λ r. r ≤ fields.now.high)
+        × ((fields.now.nxt ≡ fields.now.high) ⊎ (fields.now.recover ≡ Some fields.now.high))
+        × (IsTrue fields.now.recovery → IsSomeAnd fields.now.recover (λ r. fields.now.una < r) × (fields.now.nxt ≡ fields.now.high))) }
+{
+    let all_sent = fields.nxt == fields.high;
+    match fields.recover {
+        Some(recover) => {
+            recover <= fields.high
+                && (all_sent || recover == fields.high)
+                && (!fields.recovery || fields.dups >= 3 && fields.una < recover && all_sent)
+        }
+        None => all_sent && !fields.recovery,
+    }
 }
 
 /// The timer runs while something is in flight.
@@ -115,6 +143,11 @@ pub(crate) fn is_sound(fields: &SenderFields) -> bool
         && numbers_are_ordered(fields)
         && numbers_are_whole(fields)
         && windows_are_sound(fields)
+        && (if fields.variant.newreno {
+            newreno_is_sound(fields)
+        } else {
+            reno_is_sound(fields)
+        })
         && deadline_is_sound(fields)
         && times_are_sound(fields)
 }

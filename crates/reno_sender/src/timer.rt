@@ -1,6 +1,13 @@
-//! The retransmission timer's estimates (RFC 6298 section 2).
+//! The retransmission timer's estimates (RFC 6298 sections 2 and 3).
 ghost use Rattle.std.specs.Prelude.{◌≡◌, ◌≤◌, IfSome};
+ghost use Rattle.reno_sender.specs.Fields.{IsSound};
+ghost use Rattle.sim_time.specs.Moment.{IsMoment};
+ghost use Rattle.reno_sender.specs.Laws.{IsAckFor};
 ghost use Rattle.reno_sender.specs.Timer.{sampled};
+ghost use Rattle.reno_sender.specs.Table.{measured_by};
+
+use crate::fields::SenderFields;
+use sim_time::Time;
 
 /// The least retransmission timeout, and the first: one second, in nanoseconds (RFC 6298 section 2).
 pub const LEAST_RTO: u64 = 1_000_000_000;
@@ -24,4 +31,22 @@ pub fn after_sample(srtt: Option<u64>, rttvar: u64, r: u64) -> (u64, u64, u64)
     };
     let timeout = smoothed + (4 * variation).max(1);
     (smoothed, variation, timeout.clamp(LEAST_RTO, GREATEST_RTO))
+}
+
+/// An acknowledgement at or past the timed number gives a sample and ends the timing.
+pub(crate) fn measure(fields: &mut SenderFields, ack: u64, now: Time)
+    requires sound { IsSound fields.old }
+    requires moment { IsMoment now }
+    requires ack { IsAckFor fields.old ack now }
+    ensures { fields.new ≡ measured_by fields.old.timing fields.old ack now }
+{
+    if let Some(timing) = fields.timing
+        && timing.number <= ack
+    {
+        let (srtt, rttvar, rto) = after_sample(fields.srtt, fields.rttvar, now - timing.sent_at);
+        fields.timing = None;
+        fields.srtt = Some(srtt);
+        fields.rttvar = rttvar;
+        fields.rto = rto;
+    }
 }

@@ -4,4 +4,4 @@ use Rattle.reno_sender.proofs.duplicates.early_duplicate.Goals as goal
 
 pub send_one-requires-clause-in_total : goal.send_one-requires-clause-in_total
 send_one-requires-clause-in_total c =
-    (new_ends c.args.fields (c.args.fields.una + c.min.result) c.requires.sound (sym c.may_send_new-sends.ensures ∙ c.if-sends.true)).0
+    (new_ends c.args.fields.now (c.args.fields.now.una + c.min.result) c.requires.sound (sym c.may_send_new-sends.ensures ∙ c.if-sends.true)).0

@@ -4,7 +4,7 @@ use Rattle.reno_sender.proofs.timeout.timed_out.Goals as goal
 pub resend-requires-clause-back : goal.resend-requires-clause-back
 resend-requires-clause-back c =
     let s = c.requires.sound in
-    multiple_below c.args.fields.mss c.args.fields.una c.args.fields.nxt s.mss_least s.una_multiple s.nxt_multiple (s.deadline_flight.0 c.requires.set)
+    multiple_below c.args.fields.now.mss c.args.fields.now.una c.args.fields.now.nxt s.mss_least s.una_multiple s.nxt_multiple (s.deadline_flight.0 c.requires.set)
 
 pub resend-requires-clause-whole : goal.resend-requires-clause-whole
-resend-requires-clause-whole c = multiple_next c.args.fields.mss c.args.fields.una c.requires.sound.una_multiple
+resend-requires-clause-whole c = multiple_next c.args.fields.now.mss c.args.fields.now.una c.requires.sound.una_multiple
