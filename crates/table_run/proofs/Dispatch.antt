@@ -1,9 +1,7 @@
 -- Each event that is due in a sound state has a row that keeps it sound.
 use Rattle.table_run.proofs.RowFlows.{timed_later}
-use Rattle.std.proofs.Common.{◌≡◌, ◌≢◌, ℕ, ◌+◌, ◌-◌, ◌*◌, ◌%◌, ◌<◌, ◌≤◌, List, length, map, refl, sym, ap, subst, ◌∙◌, Option, Some, IsSome, arith, ⊎_elim}
-use Rattle.std.proofs.lemmas.Option.{slice_get-map, slice_get_within}
-use Rattle.std.specs.List.{slice_get}
-use Rattle.std.specs.Option.{option_map, option_and_then, IfSome}
+use Rattle.std.proofs.Common.{◌≡◌, ◌≢◌, ℕ, ◌+◌, ◌-◌, ◌*◌, ◌%◌, ◌<◌, ◌≤◌, List, refl, sym, ap, subst, ◌∙◌, Option, Some, IsSome, arith, ⊎_elim}
+use Rattle.std.specs.Option.{IfSome}
 use Rattle.std.specs.FinMap as finmap
 use Rattle.sim_time.specs.declared.key.Key.{Key}
 use Rattle.packet_chain.specs.declared.packet.Packet.{Packet}
@@ -14,9 +12,7 @@ use Rattle.reno_sender.specs.Table.{started, acknowledged, timed_out}
 use Rattle.reno_sender.proofs.Laws.{started_keeps, acknowledged_keeps, timed_out_keeps}
 use Rattle.reno_receiver.specs.Received.{data_came, alarm_came, next_of}
 use Rattle.reno_receiver.proofs.Laws.{data_keeps, alarm_keeps, next_holds}
-use Rattle.scenario_image.specs.declared.parts.FlowPart.{FlowPart}
 use Rattle.scenario_image.specs.declared.parts.ScenarioParts.{ScenarioParts}
-use Rattle.scenario_image.specs.declared.ways.Way.{Way}
 use Rattle.scenario_image.specs.Scenario.{IsScenario}
 use Rattle.scenario_image.specs.Ways.{IsOnWay}
 use Rattle.scenario_image.specs.WayLaws.{GoesOn}
@@ -26,19 +22,16 @@ use Rattle.node_core.specs.declared.alarm.Alarm.TheVariants.{Retransmission, Fre
 use Rattle.node_core.specs.declared.event.Event.{Event}
 use Rattle.node_core.specs.declared.event.Event.TheVariants.{Start, Rto, DelAck, Free, Arrive}
 use Rattle.node_core.specs.declared.role.Role.{Role}
-use Rattle.node_core.specs.declared.role.Role.TheVariants.{Routes}
 use Rattle.node_core.specs.Alarms.{alarm_key}
-use Rattle.node_core.specs.Opening.{exits_of, exit_to}
 use Rattle.node_core.specs.Part.{link_at}
 use Rattle.node_core.specs.Row.{start_row, rto_row, delack_row, free_row, arrival_row, at_sender, at_receiver, passed_on}
-use Rattle.node_core.specs.RouteTable.{exit_of_kind, exit_for}
 use Rattle.node_core.specs.TraceLine.{TraceLine}
 use Rattle.table_run.specs.State.{State, part_at, effect_of, stepped}
 use Rattle.table_run.specs.Flow.{high_of, next_at, deadline_of, alarm_of, sent_high, received_next, way_of, IsSent, IsGiven, IsAnswerable, Carries, IsSoundFlow}
 use Rattle.table_run.specs.Sound.{Belongs, IsStart, IsTimeout, IsDelayed, IsFree, IsArrival, IsSoundAt}
 use Rattle.table_run.proofs.Due.{IsDue}
 use Rattle.table_run.proofs.EndFacts.{high_fits, some_flight, data_answer, alarm_answer, timeout_fresh, row_fresh, lower_source}
-use Rattle.table_run.proofs.Links.{exit_is}
+use Rattle.table_run.proofs.Exits.{has_exit, exit_by_table}
 use Rattle.table_run.proofs.Moved.{Shape, shaped}
 use Rattle.table_run.proofs.Rows.{IsRow}
 use Rattle.table_run.proofs.RowLinks.{flow_limits}
@@ -132,36 +125,14 @@ module _ (p : ScenarioParts) (is_scenario : IsScenario p) (lines : List TraceLin
     timed_before = timed_later now k.time F.fields.timing (S.not_past k (Arrive x) due.pending) F.timed_before;
   }
 
-  -- a router has an exit for a packet, over a link of the packet's way
-  pub record HasExit (x : Packet) (way : Way) : Type 0 where
-    pub index : ℕ
-    pub exit : exit_to p k.node way.end ≡ Some index
-    pub within : index < length (part_at s k.node).links
-    pub on_way : IsOnWay p way (link_at (part_at s k.node).links index).port.link
-    pub role_is : (part_at s k.node).role ≡ Routes (map (exits_of p k.node) p.flows)
-
-  pub has_exit : (x : Packet) (way : Way) → GoesOn p way k.node → HasExit x way
-  has_exit x way on =
-      let nodes = slice_get_within p.nodes k.node _ on.router in
-      let (index, exit, within, number) = exit_is p k.node (part_at s k.node).links (S.each_node k.node nodes).its_links way.end on.next on.route on.leaves_router in
-      record { index = index; exit = exit; within = within; on_way = subst (IsOnWay p way) (sym number) on.on_way; role_is = S.each_router k.node on.router }
-
-  -- the exit by the router's table
-  pub exit_by_table : (x : Packet) (flow : FlowPart) → slice_get p.flows x.flow ≡ Some flow → exit_for (map (exits_of p k.node) p.flows) x ≡ exit_of_kind x.kind (exits_of p k.node flow)
-  exit_by_table x flow its = ap (option_and_then (exit_of_kind x.kind)) (slice_get-map (exits_of p k.node) p.flows x.flow ∙ ap (option_map (exits_of p k.node)) its)
-
-  pub exit_to_end : (kind : Kind) (flow : FlowPart) → exit_of_kind kind (exits_of p k.node flow) ≡ exit_to p k.node (way_of kind flow).end
-  exit_to_end Data flow = refl
-  exit_to_end Ack flow = refl
-
   passes : (x : Packet) → IsDue s k (Arrive x) → (h : IsArrival p s now k x) → GoesOn p (way_of x.kind h.under_way.flow) k.node → HasRow p s k (Arrive x)
   passes x due h on =
       let U = h.under_way in
-      let e = has_exit x (way_of x.kind U.flow) on in
+      let e = has_exit p lines now s k S (way_of x.kind U.flow) on in
       let step = offered_one k.time (link_at (part_at s k.node).links e.index).port x in
       record {
         shape = link.shape p is_scenario lines now s k (Arrive x) S due e.index e.within step;
-        effect_is = ap (λ ρ. arrival_row (part_at s k.node) ρ k x) e.role_is ∙ ap (passed_on (part_at s k.node) k x) (exit_by_table x U.flow U.its_flow ∙ exit_to_end x.kind U.flow ∙ e.exit);
+        effect_is = ap (λ ρ. arrival_row (part_at s k.node) ρ k x) e.role_is ∙ ap (passed_on (part_at s k.node) k x) (exit_by_table p k.node x U.flow U.its_flow ∙ e.exit);
         row = pass_row_is p is_scenario lines now s k x S due e.index e.within (record { flow = U.flow; its_flow = U.its_flow; carries = U.carries; on_way = e.on_way }) h.number h.comes_over;
       }
 

@@ -15,6 +15,7 @@ pub mod SenderRow
 pub mod ReceiverRow
 pub mod LinkRow
 pub mod EndFacts
+pub mod Exits
 pub mod Dispatch
 pub mod Steps
 pub mod Opening

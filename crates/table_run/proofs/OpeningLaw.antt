@@ -84,7 +84,7 @@ module _ (p : ScenarioParts) (is_scenario : IsScenario p) where
       (find_only (λ (x : ℕ × FlowPart). x.1.receiver == flow.receiver) 0 p.flows number flow its (eq-eqb flow.receiver flow.receiver refl) (λ j y found passes. one_receiver number flow its j y found (eqb-true y.receiver flow.receiver passes)))
       ∙ ap (λ n. (n, flow)) zero_plus
 
-  sender_opens : (number : ℕ) (flow : FlowPart) → slice_get p.flows number ≡ Some flow → (part_at s flow.sender).role ≡ Sends number (opening_fields flow.mss flow.segments flow.rwnd)
+  sender_opens : (number : ℕ) (flow : FlowPart) → slice_get p.flows number ≡ Some flow → (part_at s flow.sender).role ≡ Sends number (opening_fields flow.mss flow.segments flow.rwnd flow.variant)
   sender_opens number flow its = ap (λ (x : PartState). x.role) (opened_part p flow.sender Sender (kinds number flow its).sender) ∙ ap sends (flow_from_is number flow its)
 
   receiver_opens : (number : ℕ) (flow : FlowPart) → slice_get p.flows number ≡ Some flow → (part_at s flow.receiver).role ≡ Receives number (opening_receiver flow.mss flow.delack)
@@ -95,11 +95,11 @@ module _ (p : ScenarioParts) (is_scenario : IsScenario p) where
       let limits = flow_limits p is_scenario number flow its in
       let opened = opening_holds flow.mss flow.delack limits.mss_range.0 limits.mss_range.1 limits.delack_range in
       record {
-        fields = opening_fields flow.mss flow.segments flow.rwnd;
+        fields = opening_fields flow.mss flow.segments flow.rwnd flow.variant;
         received = opening_receiver flow.mss flow.delack;
         sender_role = sender_opens number flow its;
         receiver_role = receiver_opens number flow its;
-        sound = opening_sound flow.mss flow.segments flow.rwnd record {
+        sound = opening_sound flow.mss flow.segments flow.rwnd flow.variant record {
           mss_least = limits.mss_range.0;
           mss_most = limits.mss_range.1;
           segments_least = limits.segments_range.0;
@@ -110,6 +110,7 @@ module _ (p : ScenarioParts) (is_scenario : IsScenario p) where
         its_mss = refl;
         its_segments = refl;
         its_rwnd = refl;
+        its_variant = refl;
         timed_before = tt;
         deadline_soon = tt;
         well_formed = opened.well_formed;

@@ -37,7 +37,8 @@ use Rattle.table_run.proofs.Moved.{Shape, IsMoved, AtChanged, AtOther, shaped, i
 use Rattle.table_run.proofs.Rows.{IsRow}
 use Rattle.table_run.proofs.KeptEvents.{its_part, leaves_with, behind, changed_here}
 use Rattle.table_run.proofs.EndFacts.{high_fits}
-use Rattle.table_run.proofs.Dispatch.{HasRow, has_row, ack_fits, has_exit, exit_by_table, exit_to_end}
+use Rattle.table_run.proofs.Dispatch.{HasRow, has_row, ack_fits}
+use Rattle.table_run.proofs.Exits.{has_exit, exit_by_table}
 use Rattle.table_run.proofs.Runs.{run_length}
 use Rattle.table_run.proofs.RunLaws.{sound_run, kept_by}
 
@@ -69,8 +70,8 @@ module _ (p : ScenarioParts) (is_scenario : IsScenario p) (lines : List TraceLin
   at_router : (x : Packet) (h : IsArrival p s now k x) → GoesOn p (way_of x.kind h.under_way.flow) k.node → Takes (part_at s k.node) (part_at s k.node).role k.time x
   at_router x h on =
       let U = h.under_way in
-      let e = has_exit p is_scenario lines now s k S moment x (way_of x.kind U.flow) on in
-      let exit : exit_for (map (exits_of p k.node) p.flows) x ≡ Some e.index = exit_by_table p is_scenario lines now s k S moment x U.flow U.its_flow ∙ exit_to_end p is_scenario lines now s k S moment x.kind U.flow ∙ e.exit in
+      let e = has_exit p lines now s k S (way_of x.kind U.flow) on in
+      let exit : exit_for (map (exits_of p k.node) p.flows) x ≡ Some e.index = exit_by_table p k.node x U.flow U.its_flow ∙ e.exit in
       subst (λ ρ. Takes (part_at s k.node) ρ k.time x) (sym e.role_is) (λ i is. subst (λ j. j < length (part_at s k.node).links) (same_some e.index i (sym exit ∙ is)) e.within)
 
   at_receiver_end : (x : Packet) (h : IsArrival p s now k x) → x.kind ≡ Data → k.node ≡ h.under_way.flow.receiver → Takes (part_at s k.node) (part_at s k.node).role k.time x

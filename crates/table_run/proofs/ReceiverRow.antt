@@ -144,6 +144,7 @@ module _ (p : ScenarioParts) (is_scenario : IsScenario p) (lines : List TraceLin
       its_mss = F.its_mss;
       its_segments = F.its_segments;
       its_rwnd = F.its_rwnd;
+      its_variant = F.its_variant;
       timed_before = timed_later now k.time F.fields.timing upto F.timed_before;
       deadline_soon = deadline_later now k.time F.fields.deadline upto F.deadline_soon;
       well_formed = keeps.well_formed;

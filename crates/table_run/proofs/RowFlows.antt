@@ -37,6 +37,7 @@ flow_stays s t now later number flow upto same_sender same_receiver h = record {
   its_mss = h.its_mss;
   its_segments = h.its_segments;
   its_rwnd = h.its_rwnd;
+  its_variant = h.its_variant;
   timed_before = timed_later now later h.fields.timing upto h.timed_before;
   deadline_soon = deadline_later now later h.fields.deadline upto h.deadline_soon;
   well_formed = h.well_formed;

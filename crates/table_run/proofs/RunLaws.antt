@@ -13,6 +13,7 @@ use Rattle.sim_time.proofs.Order.{keys_total, exact_keys, earlier_less}
 use Rattle.scenario_image.specs.declared.parts.ScenarioParts.{ScenarioParts}
 use Rattle.scenario_image.specs.Scenario.{IsScenario}
 use Rattle.node_core.specs.declared.event.Event.{Event}
+use Rattle.node_core.specs.declared.event.Event.TheVariants.{Arrive}
 use Rattle.node_core.specs.declared.role.Role.{Role}
 use Rattle.node_core.specs.declared.role.Role.TheVariants.{Sends, Receives, Routes}
 use Rattle.node_core.specs.Part.{PartState}
@@ -20,11 +21,12 @@ use Rattle.node_core.specs.Pending.{Change}
 use Rattle.node_core.specs.TraceLine.{TraceLine}
 use Rattle.ranking.proofs.Maps.{not_some, same_some}
 use Rattle.table_run.specs.State.{State, opening, part_at, no_part, due, effect_of, stepped, line_of, step, one_more, run}
-use Rattle.table_run.specs.Laws.{IsSoundRun, RunsAreSound, made_by, KeysRise, IsDueSoon, EffectsAreSoon, EffectsAreLocal, RoleRises, NumbersNeverFall}
+use Rattle.table_run.specs.Laws.{IsSoundRun, RunsAreSound, RoutersHaveRoutes, made_by, KeysRise, IsDueSoon, EffectsAreSoon, EffectsAreLocal, RoleRises, NumbersNeverFall}
 use Rattle.std.specs.List.{AllByRecursion}
 use Rattle.table_run.proofs.Lists.{all_append, all_map}
 use Rattle.table_run.proofs.Changes.{of_changed}
 use Rattle.table_run.proofs.Due.{is_due}
+use Rattle.table_run.proofs.Exits.{has_route}
 use Rattle.table_run.proofs.Opening.{each_applied}
 use Rattle.table_run.proofs.OpeningLaw.{opening_is_sound}
 use Rattle.table_run.proofs.RowFlows.{role_rises_itself}
@@ -53,6 +55,11 @@ sound_run p zero lines s is e = subst (λ (q : List TraceLine × State). IsSound
 sound_run p (suc n) lines s is e =
     option_and_then_some one_more (run (opening p) n) (lines, s) e (λ so_far was now.
     of_one_more so_far lines s now (λ line step_is lines_are. subst (λ ls. IsSoundRun p ls s) (sym lines_are) (sound_step p so_far.0 so_far.1 line s is (sound_run p n so_far.0 so_far.1 is was) step_is)))
+
+pub routers_have_routes : RoutersHaveRoutes
+routers_have_routes p n lines s is_scenario e k x there table routes =
+    let sound = sound_run p n lines s is_scenario e in
+    has_route p lines sound.moment s k sound.sound is_scenario x (sound.sound.belongs k (Arrive x) there) table routes
 
 -- of two keys neither less than the other, they are one
 decided : (a b : Key) → key_cmp b a ≢ Less → b ≢ a → key_cmp a b ≡ Less

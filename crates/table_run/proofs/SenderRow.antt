@@ -141,6 +141,7 @@ module _ (p : ScenarioParts) (is_scenario : IsScenario p) (lines : List TraceLin
       its_mss = keeps.mss_same ∙ F.its_mss;
       its_segments = keeps.segments_same ∙ F.its_segments;
       its_rwnd = keeps.rwnd_same ∙ F.its_rwnd;
+      its_variant = keeps.variant_same ∙ F.its_variant;
       timed_before = timed_on now k.time F.fields.timing planned.fields.timing upto keeps.timing F.timed_before;
       deadline_soon = bound;
       well_formed = F.well_formed;

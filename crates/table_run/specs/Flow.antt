@@ -89,6 +89,7 @@ pub record IsSoundFlow (s : State) (now number : ℕ) (flow : FlowPart) : Type 0
   pub its_mss : fields.mss ≡ flow.mss
   pub its_segments : fields.segments ≡ flow.segments
   pub its_rwnd : fields.rwnd ≡ flow.rwnd
+  pub its_variant : fields.variant ≡ flow.variant
   pub timed_before : IfSome fields.timing (λ t. t.sent_at ≤ now)
   pub deadline_soon : IfSome fields.deadline (λ t. t ≤ now + 60000000000)
   pub well_formed : IsWellFormed received

@@ -1,18 +1,23 @@
 -- What is said of every run of every scenario.
-use Rattle.std.specs.Prelude.{◌≡◌, ℕ, ◌+◌, ◌<◌, ◌≤◌, ◌⊎◌, List, ◌++◌, None, Some, IfSome}
+use Rattle.std.specs.Prelude.{◌≡◌, ℕ, ◌+◌, ◌<◌, ◌≤◌, ◌⊎◌, List, ◌++◌, length, None, Some, IfSome}
 use Rattle.std.specs.List.{slice_get, AllByRecursion}
+use Rattle.std.specs.FinMap as finmap
 use Rattle.std.specs.declared.cmp.Ordering.TheVariants.{Less}
 use Rattle.sim_time.specs.declared.key.Key.{Key}
 use Rattle.sim_time.specs.Keys.{key_cmp}
+use Rattle.packet_chain.specs.declared.packet.Packet.{Packet}
 use Rattle.scenario_image.specs.declared.parts.LinkPart.{LinkPart}
 use Rattle.scenario_image.specs.declared.parts.ScenarioParts.{ScenarioParts}
 use Rattle.scenario_image.specs.Scenario.{IsScenario}
 use Rattle.reno_sender.specs.declared.fields.SenderFields.{SenderFields}
 use Rattle.reno_receiver.specs.Received.{next_of}
 use Rattle.node_core.specs.declared.event.Event.{Event}
+use Rattle.node_core.specs.declared.event.Event.TheVariants.{Arrive}
 use Rattle.node_core.specs.declared.role.Role.{Role}
 use Rattle.node_core.specs.declared.role.Role.TheVariants.{Sends, Receives, Routes}
+use Rattle.node_core.specs.declared.routes.FlowExits.{FlowExits}
 use Rattle.node_core.specs.Pending.{Change}
+use Rattle.node_core.specs.RouteTable.{exit_for}
 use Rattle.node_core.specs.Row.{changes_of}
 use Rattle.node_core.specs.TraceLine.{TraceLine}
 use Rattle.table_run.specs.State.{State, opening, part_at, due, effect_of, stepped, run}
@@ -31,6 +36,17 @@ pub record IsSoundRun (p : ScenarioParts) (lines : List TraceLine) (s : State) :
 -- every state of every run of every scenario is sound
 abbrev pub RunsAreSound : Type 0
 RunsAreSound = (p : ScenarioParts) (n : ℕ) (lines : List TraceLine) (s : State) → IsScenario p → ComesTo p n lines s → IsSoundRun p lines s
+
+-- a router's table has a route for a packet, over a link that leaves the router
+pub record HasRoute (s : State) (node : ℕ) (table : List FlowExits) (x : Packet) : Type 0 where
+  pub index : ℕ
+  pub exit : exit_for table x ≡ Some index
+  pub within : index < length (part_at s node).links
+
+-- in every state of every run each router has a route for each packet that is on its way to it, so that none comes to a router without one
+abbrev pub RoutersHaveRoutes : Type 0
+RoutersHaveRoutes = (p : ScenarioParts) (n : ℕ) (lines : List TraceLine) (s : State) → IsScenario p → ComesTo p n lines s → (k : Key) (x : Packet) → finmap.get s.pending k ≡ Some (Arrive x)
+    → (table : List FlowExits) → (part_at s k.node).role ≡ Routes table → HasRoute s k.node table x
 
 -- P holds of each event that is due in a run, with the state before it
 abbrev pub AtEachEvent : (ScenarioParts → State → Key → Event → Type 0) → Type 0

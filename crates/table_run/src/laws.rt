@@ -1,6 +1,6 @@
 //! What holds of every run of every scenario. Each function is a law: its contract is the
 //! statement, and its body is empty.
-ghost use Rattle.table_run.specs.Laws.{RunsAreSound, KeysRise, EffectsAreSoon, EffectsAreLocal, NumbersNeverFall, RunsGoOn, RunsPart, RunsEnd};
+ghost use Rattle.table_run.specs.Laws.{RunsAreSound, RoutersHaveRoutes, KeysRise, EffectsAreSoon, EffectsAreLocal, NumbersNeverFall, RunsGoOn, RunsPart, RunsEnd};
 
 /// In every state of every run of every scenario each packet that waits or is under way is one of
 /// its flow's, on a link of its way; what a receiver has, its sender sent; an alarm is pending
@@ -9,6 +9,13 @@ ghost use Rattle.table_run.specs.Laws.{RunsAreSound, KeysRise, EffectsAreSoon, E
 /// bounded by the events run at it.
 pub fn every_run_is_sound()
     ensures { RunsAreSound }
+{}
+
+/// In every state of every run of every scenario each router has a route, over one of its own
+/// links, for each packet that is on its way to it: no router ever drops a packet for want of a
+/// route.
+pub fn routers_have_routes()
+    ensures { RoutersHaveRoutes }
 {}
 
 /// In every run of every scenario the keys of the events strictly rise.
