@@ -13,7 +13,7 @@ use Rattle.table_run.specs.Laws.{ComesTo}
 use Rattle.net_machine.specs.Run.{Reached, IsRun}
 use Rattle.window_core.specs.Batches.{BatchValue}
 use Rattle.window_core.specs.Window.{WindowValue, IsFrom, IsWindow, states_of}
-use Rattle.window_core.specs.Windows.{none_fired}
+use Rattle.window_core.specs.Windows.{AreBelow, none_fired}
 use Rattle.window_engine.specs.Edges.{IsAtEdge, edge_of, reached_in}
 use Rattle.window_engine.specs.Engines.{EngineValue, GoesOn, NoneBelow, Commits, window_end_by}
 use Rattle.window_engine.specs.declared.fault.EngineFault.TheVariants.{Failed}
@@ -52,6 +52,11 @@ pub left_below : (v w : WindowValue) (entries : List ℕ) (position until : ℕ)
     → NoneBelow (window_end_by (record { entries = entries; ahead = v.ahead; net = net_at v position; failed = false }) until) (edge_of w)
 left_below v w entries position until at is none = subst (λ (e : ℕ). NoneBelow (min e until) (edge_of w)) (end_is v at is) none
 
+-- and none of its lines is of an event past it
+pub early_below : (v : WindowValue) (entries : List ℕ) (position until : ℕ) (lines : List TraceLine) → IsAtEdge v → IsWindow v → AreBelow (min v.until until) lines
+    → AreBelow (window_end_by (record { entries = entries; ahead = v.ahead; net = net_at v position; failed = false }) until) lines
+early_below v entries position until lines at is early = subst (λ (e : ℕ). AreBelow (min e until) lines) (end_is v at is) early
+
 -- a window that was committed
 pub goes_on : (v w : WindowValue) (old new : ℕ) (batch : BatchValue) → old ≡ v.position → new ≡ w.position → GoesOn (reached_in v) batch (reached_in w) → GoesOn (net_at v old) batch (net_at w new)
 goes_on v w old new batch e f gone =
@@ -77,8 +82,8 @@ edge_given (Ok net) v position committed is at gives = edge_net v position net c
 edge_given (Err e) v position committed is at gives = tt
 
 -- a call on an engine that has failed commits nothing
-pub commits_none : {T : Type 0} (net : Reached) (known : Option (List ℕ)) → Commits {T = T} net (Err Failed) net known known
-commits_none net known = record { lines = []; state = net.state; is_run = refl; whole = whole_none net.state; position_is = omega arith; state_is = tt; takes = appends_nothing known }
+pub commits_none : {T : Type 0} (until : ℕ) (net : Reached) (known : Option (List ℕ)) → Commits {T = T} until net (Err Failed) net known known
+commits_none until net known = record { lines = []; state = net.state; is_run = refl; whole = whole_none net.state; early = tt; position_is = omega arith; state_is = tt; takes = appends_nothing known }
 
 -- an engine that begins with a scenario's net
 pub begun : {E : Type 0} (r : Result EngineValue E) (p : ScenarioParts) (entries : List ℕ) (net : Reached) → IsScenario p → net ≡ record { state = opening p; position = 0 }

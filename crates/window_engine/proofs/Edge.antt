@@ -134,7 +134,11 @@ module _ (v w u : WindowValue) (until : ℕ) (batch : BatchValue) (at : IsAtEdge
       let to : NoneBelow (min v.until until) after.state = subst (λ (e : ℕ). NoneBelow e after.state) by.end_is none in
       subst (NoneBelow (min v.until until)) (sym now_is) to
 
-  -- and went on by the turn's lines
+  -- the turn's lines are of events below it
+  pub turned_below : AreBelow (min v.until until) batch.lines
+  turned_below = subst (λ (e : ℕ). AreBelow e batch.lines) by.end_is below
+
+  -- and it went on by them
   pub went_on : GoesOn (reached_in v) batch (reached_in u)
   went_on = record {
     first = has.first ∙ ap (λ n. n + 1) by.position;
@@ -143,7 +147,7 @@ module _ (v w u : WindowValue) (until : ℕ) (batch : BatchValue) (at : IsAtEdge
         ∙ after.is_run
         ∙ ap (λ s. Some (batch.lines, s)) (sym now_is);
     position = has.position ∙ ap (λ n. n + length batch.lines) by.position;
-    whole = (min v.until until, record { early = subst (λ (e : ℕ). AreBelow e batch.lines) by.end_is below; none_left = left_none });
+    whole = (min v.until until, record { early = turned_below; none_left = left_none });
   }
 
 pub stays_both : (a b c : WindowValue) → StaysNet a b → StaysNet b c → StaysNet a c

@@ -84,6 +84,6 @@ pub workers_full : (at : Reached) (fault : EngineFault) → (fault ≡ CountFull
 unfolding told_by
 workers_full at fault full is = full (ap told_by is)
 
-pub told_full : (from to : Reached) (n written : ℕ) (a b : Option (List ℕ)) (fault : WriteFault) → Wrote from to n a b → to.position ≤ 1000000000000000 → (fault ≡ Workers CountFull → HasTooMany to) → told_as written fault ≡ CountFull → HasTooMany from
-told_full from to n written a b (Workers fault) w few full is = earlier_full from to w.lines w.is_run w.position_is few (full (ap (λ (f : EngineFault). Workers f) is))
-told_full from to n written a b (Failing count) w few full is = let x : ⊥ = cc in absurd x
+pub told_full : (until : ℕ) (from to : Reached) (n written : ℕ) (a b : Option (List ℕ)) (fault : WriteFault) → Wrote until from to n a b → to.position ≤ 1000000000000000 → (fault ≡ Workers CountFull → HasTooMany to) → told_as written fault ≡ CountFull → HasTooMany from
+told_full until from to n written a b (Workers fault) w few full is = earlier_full from to w.lines w.is_run w.position_is few (full (ap (λ (f : EngineFault). Workers f) is))
+told_full until from to n written a b (Failing count) w few full is = let x : ⊥ = cc in absurd x

@@ -23,8 +23,8 @@ module _ (net : Reached) (c : Course) (is : IsBehind net c) where
   all_committed position at = let p = is.gone.position in let q = is.committed in omega (arith, at, p, q)
 
   -- and written, up to the window's edge
-  pub wrote_to_edge : (position count : ℕ) (a b : Option (List ℕ)) → position ≡ c.position + length (merged c.sheaf).lines → Wrote net (reached_in c.window) count a b → WroteTo net position a b
-  wrote_to_edge position count a b at w = record { new = reached_in c.window; count = count; wrote = w; position_is = all_committed position at }
+  pub wrote_to_edge : (until position count : ℕ) (a b : Option (List ℕ)) → position ≡ c.position + length (merged c.sheaf).lines → Wrote until net (reached_in c.window) count a b → WroteTo until net position a b
+  wrote_to_edge until position count a b at w = record { new = reached_in c.window; count = count; wrote = w; position_is = all_committed position at }
 
   -- those that are committed can be counted
   pub few_before : net.position ≤ 1000000000000000

@@ -42,6 +42,15 @@ both_below : (a b : ℕ) (xs ys : List TraceLine) → a ≤ b → AreBelow a xs 
 both_below a b [] ys upto early more = more
 both_below a b (x ∷ xs) ys upto early more = (let first = early.0 in omega (arith, first, upto), both_below a b xs ys upto early.1 more)
 
+-- lines below a moment are below a later one
+pub below_later : (a b : ℕ) (xs : List TraceLine) → a ≤ b → AreBelow a xs → AreBelow b xs
+below_later a b [] upto early = early
+below_later a b (x ∷ xs) upto early = (let first = early.0 in omega (arith, first, upto), below_later a b xs upto early.1)
+
+-- and with more such lines
+pub below_more : (a : ℕ) (xs ys : List TraceLine) → AreBelow a xs → AreBelow a ys → AreBelow a (xs ++ ys)
+below_more a xs ys early more = both_below a a xs ys (omega arith) early more
+
 -- a window more
 pub whole_more : (s t : State) (xs ys : List TraceLine) → run s (length ys) ≡ Some (ys, t) → AreWhole xs s → AreWhole ys t → AreWhole (xs ++ ys) t
 whole_more s t xs [] e first more =

@@ -8,7 +8,8 @@ use Rattle.net_machine.specs.Run.{Reached}
 use Rattle.window_core.specs.Batches.{BatchValue}
 use Rattle.window_engine.specs.declared.fault.EngineFault.{EngineFault}
 use Rattle.window_engine.specs.declared.fault.EngineFault.TheVariants.{NoMemory, CountFull, NoWorker, Sink, Failed}
-use Rattle.window_engine.specs.Outcomes.{IsOfWorkers}
+use Rattle.window_core.specs.Windows.{AreBelow}
+use Rattle.window_engine.specs.Outcomes.{IsOfRun, IsOfWorkers}
 use Rattle.window_engine.specs.Puts.{TakesFirst}
 use Rattle.window_engine.specs.Text.{text_from}
 use Rattle.window_engine.specs.Engines.{GoesOn, Commits, Takes, sink_failures}
@@ -17,11 +18,11 @@ use Rattle.window_engine.specs.declared.course.WriteFault.TheVariants.{Workers, 
 use Rattle.window_engine.specs.Courses.{CanTell, Wrote, WroteFirst, WroteTo, Broke, told_as, fails_after}
 use Rattle.window_engine.proofs.Bytes.{appends_nothing, appends_more, take_past}
 use Rattle.window_engine.proofs.Numbered.{text_both}
-use Rattle.window_engine.proofs.Whole.{whole_none, whole_more}
+use Rattle.window_engine.proofs.Whole.{below_later, below_more, whole_none, whole_more}
 
 -- nothing was written yet
-pub wrote_none : (net : Reached) (known : Option (List ℕ)) → Wrote net net 0 known known
-wrote_none net known = record { lines = []; is_run = refl; whole = whole_none net.state; position_is = omega arith; takes = appends_nothing known; count_is = refl; short = omega arith }
+pub wrote_none : (until : ℕ) (net : Reached) (known : Option (List ℕ)) → Wrote until net net 0 known known
+wrote_none until net known = record { lines = []; early = tt; is_run = refl; whole = whole_none net.state; position_is = omega arith; takes = appends_nothing known; count_is = refl; short = omega arith }
 
 -- the text of a batch
 pub batch_text_is : (old new : Reached) (batch : BatchValue) (text : List ℕ) → GoesOn old batch new → text ≡ text_from batch.first batch.lines → text ≡ text_from (old.position + 1) batch.lines
@@ -32,12 +33,13 @@ short_text first [] text is small = let e : length text ≡ 0 = ap length is in 
 short_text first (l ∷ lines) text is small = omega (arith, small)
 
 -- a window's text was taken
-pub wrote_batch : (old new : Reached) (count : ℕ) (batch : BatchValue) (text : List ℕ) (a b : Option (List ℕ)) → GoesOn old batch new → text ≡ text_from batch.first batch.lines → count ≡ length text → count < 2 ^ 71 → Appends a b text
-    → Wrote old new count a b
-wrote_batch old new count batch text a b gone is many small took =
+pub wrote_batch : (until : ℕ) (old new : Reached) (count : ℕ) (batch : BatchValue) (text : List ℕ) (a b : Option (List ℕ)) → AreBelow until batch.lines → GoesOn old batch new → text ≡ text_from batch.first batch.lines → count ≡ length text → count < 2 ^ 71 → Appends a b text
+    → Wrote until old new count a b
+wrote_batch until old new count batch text a b early gone is many small took =
     let same = batch_text_is old new batch text gone is in
     record {
       lines = batch.lines;
+      early = early;
       is_run = gone.is_run;
       whole = gone.whole;
       position_is = gone.position;
@@ -47,12 +49,13 @@ wrote_batch old new count batch text a b gone is many small took =
     }
 
 -- the first bytes of a window's text were taken
-pub broke_batch : (old new : Reached) (position count : ℕ) (batch : BatchValue) (text : List ℕ) (a b : Option (List ℕ)) → GoesOn old batch new → position ≡ new.position → text ≡ text_from batch.first batch.lines
-    → TakesFirst count text a b → count < 2 ^ 71 → WroteFirst old position count a b
-broke_batch old new position count batch text a b gone at is took few =
+pub broke_batch : (until : ℕ) (old new : Reached) (position count : ℕ) (batch : BatchValue) (text : List ℕ) (a b : Option (List ℕ)) → AreBelow until batch.lines → GoesOn old batch new → position ≡ new.position → text ≡ text_from batch.first batch.lines
+    → TakesFirst count text a b → count < 2 ^ 71 → WroteFirst until old position count a b
+broke_batch until old new position count batch text a b early gone at is took few =
     let same = batch_text_is old new batch text gone is in
     record {
       lines = batch.lines;
+      early = early;
       state = new.state;
       is_run = gone.is_run;
       whole = gone.whole;
@@ -71,11 +74,12 @@ text_more from to xs ys e =
     text_both (from.position + 1) xs ys ∙ ap (λ k. text_from (from.position + 1) xs ++ text_from k ys) n
 
 -- a window more was written
-pub wrote_more : (from mid to : Reached) (n m : ℕ) (a b c : Option (List ℕ)) → Wrote from mid n a b → Wrote mid to m b c → Wrote from to (n + m) a c
-wrote_more from mid to n m a b c w x =
+pub wrote_more : (until : ℕ) (from mid to : Reached) (n m : ℕ) (a b c : Option (List ℕ)) → Wrote until from mid n a b → Wrote until mid to m b c → Wrote until from to (n + m) a c
+wrote_more until from mid to n m a b c w x =
     let text = text_more from mid w.lines x.lines w.position_is in
     record {
       lines = w.lines ++ x.lines;
+      early = below_more until w.lines x.lines w.early x.early;
       is_run = run_more from.state mid.state to.state w.lines x.lines w.is_run x.is_run;
       whole = whole_more mid.state to.state w.lines x.lines x.is_run w.whole x.whole;
       position_is = (let p = w.position_is in let q = x.position_is in omega (arith, p, q, length-append w.lines x.lines));
@@ -85,44 +89,48 @@ wrote_more from mid to n m a b c w x =
     }
 
 -- the windows so far, where the call ends with no fault
-pub committed : {T : Type 0} (from to new : Reached) (n : ℕ) (a b : Option (List ℕ)) (answer : T) → Wrote from to n a b → new.position ≡ to.position → new.state ≡ to.state → Commits {T = T} from (Ok answer) new a b
-committed from to new n a b answer w at same = record { lines = w.lines; state = to.state; is_run = w.is_run; whole = w.whole; position_is = at ∙ w.position_is; state_is = same; takes = w.takes }
+pub committed : {T : Type 0} (until : ℕ) (from to new : Reached) (n : ℕ) (a b : Option (List ℕ)) (answer : T) → Wrote until from to n a b → new.position ≡ to.position → new.state ≡ to.state
+    → Commits {T = T} until from (Ok answer) new a b
+committed until from to new n a b answer w at same = record { lines = w.lines; state = to.state; is_run = w.is_run; whole = w.whole; early = w.early; position_is = at ∙ w.position_is; state_is = same; takes = w.takes }
 
-takes_all : (T : Type 0) (fault : EngineFault) (text : List ℕ) (a b : Option (List ℕ)) → IsOfWorkers fault → Appends a b text → Takes {T = T} (Err fault) text a b
-takes_all T NoMemory text a b is took = took
-takes_all T CountFull text a b is took = took
-takes_all T NoWorker text a b is took = took
-takes_all T Failed text a b is took = took
-takes_all T (Sink written) text a b is took = absurd is
+takes_all : (T : Type 0) (workers : ℕ) (fault : EngineFault) (text : List ℕ) (a b : Option (List ℕ)) → IsOfWorkers workers fault → Appends a b text → Takes {T = T} (Err fault) text a b
+takes_all T workers NoMemory text a b is took = took
+takes_all T workers CountFull text a b is took = took
+takes_all T workers NoWorker text a b is took = took
+takes_all T workers Failed text a b is took = took
+takes_all T workers (Sink written) text a b is took = absurd is
 
 -- where workers failed after the windows so far, and after those that were written since
-pub stopped : {T : Type 0} (from to : Reached) (n : ℕ) (new : Reached) (a b c : Option (List ℕ)) (fault : EngineFault) → Wrote from to n a b → WroteTo to new.position b c → IsOfWorkers fault
-    → Commits {T = T} from (Err fault) new a c
-stopped {T} from to n new a b c fault w x is =
-    let all = wrote_more from to x.new n x.count a b c w x.wrote in
+pub stopped : {T : Type 0} (workers until : ℕ) (from to : Reached) (n : ℕ) (new : Reached) (a b c : Option (List ℕ)) (fault : EngineFault) → Wrote until from to n a b → WroteTo until to new.position b c → IsOfWorkers workers fault
+    → Commits {T = T} until from (Err fault) new a c
+stopped {T} workers until from to n new a b c fault w x is =
+    let all = wrote_more until from to x.new n x.count a b c w x.wrote in
     record {
       lines = all.lines;
       state = x.new.state;
       is_run = all.is_run;
       whole = all.whole;
+      early = all.early;
       position_is = x.position_is ∙ all.position_is;
       state_is = tt;
-      takes = takes_all T fault _ a c is all.takes;
+      takes = takes_all T workers fault _ a c is all.takes;
     }
 
 -- where workers failed, and nothing was written since
-pub wrote_no_more : (net : Reached) (position : ℕ) (a : Option (List ℕ)) → position ≡ net.position → WroteTo net position a a
-wrote_no_more net position a at = record { new = net; count = 0; wrote = wrote_none net a; position_is = at }
+pub wrote_no_more : (until : ℕ) (net : Reached) (position : ℕ) (a : Option (List ℕ)) → position ≡ net.position → WroteTo until net position a a
+wrote_no_more until net position a at = record { new = net; count = 0; wrote = wrote_none until net a; position_is = at }
 
 -- where the sink failed in the next window's text
-pub failed : {T : Type 0} (from to : Reached) (n count : ℕ) (new : Reached) (a b c : Option (List ℕ)) → Wrote from to n a b → WroteFirst to new.position count b c → Commits {T = T} from (Err (Sink (n + count))) new a c
-failed from to n count new a b c w x =
+pub failed : {T : Type 0} (until : ℕ) (from to : Reached) (n count : ℕ) (new : Reached) (a b c : Option (List ℕ)) → Wrote until from to n a b → WroteFirst until to new.position count b c
+    → Commits {T = T} until from (Err (Sink (n + count))) new a c
+failed until from to n count new a b c w x =
     let text = text_more from to w.lines x.lines w.position_is in
     let mine = text_from (from.position + 1) w.lines in
     let rest = text_from (to.position + 1) x.lines in
     record {
       lines = w.lines ++ x.lines;
       state = x.state;
+      early = below_more until w.lines x.lines w.early x.early;
       is_run = run_more from.state to.state x.state w.lines x.lines w.is_run x.is_run;
       whole = whole_more to.state x.state w.lines x.lines x.is_run w.whole x.whole;
       position_is = (let p = w.position_is in let q = x.position_is in omega (arith, p, q, length-append w.lines x.lines));
@@ -134,35 +142,69 @@ failed from to n count new a b c w x =
     }
 
 -- where the next window wasn't written
-pub ended : {T : Type 0} (from to : Reached) (n : ℕ) (new : Reached) (a b c : Option (List ℕ)) (fault : WriteFault) → Wrote from to n a b → Broke to new.position b c fault → Commits {T = T} from (Err (told_as n fault)) new a c
-ended {T} from to n new a b c (Workers fault) w broke = stopped {T = T} from to n new a b c fault w broke.0 broke.1
-ended {T} from to n new a b c (Failing count) w broke = failed {T = T} from to n count new a b c w broke
+pub ended : {T : Type 0} (workers until : ℕ) (from to : Reached) (n : ℕ) (new : Reached) (a b c : Option (List ℕ)) (fault : WriteFault) → Wrote until from to n a b → Broke workers until to new.position b c fault
+    → Commits {T = T} until from (Err (told_as n fault)) new a c
+ended {T} workers until from to n new a b c (Workers fault) w broke = stopped {T = T} workers until from to n new a b c fault w broke.0 broke.1
+ended {T} workers until from to n new a b c (Failing count) w broke = failed {T = T} until from to n count new a b c w broke
+
+-- what was written below a moment is below a later one
+pub wrote_later : (a b : ℕ) (old new : Reached) (n : ℕ) (x y : Option (List ℕ)) → a ≤ b → Wrote a old new n x y → Wrote b old new n x y
+wrote_later a b old new n x y upto w =
+    record { lines = w.lines; early = below_later a b w.lines upto w.early; is_run = w.is_run; whole = w.whole; position_is = w.position_is; takes = w.takes; count_is = w.count_is; short = w.short }
+
+-- a fault of some workers is one of more
+pub of_more : (v w : ℕ) (fault : EngineFault) → v ≤ w → IsOfWorkers v fault → IsOfWorkers w fault
+of_more v w NoMemory few is = tt
+of_more v w CountFull few is = tt
+of_more v w NoWorker few is = omega (arith, few, is)
+of_more v w Failed few is = omega (arith, few, is)
+of_more v w (Sink written) few is = is
+
+-- what a fault leaves below a moment, of some workers, is what it may leave below a later one, of more
+pub broke_later : (v w a b : ℕ) (from : Reached) (at : ℕ) (x y : Option (List ℕ)) (fault : WriteFault) → v ≤ w → a ≤ b → Broke v a from at x y fault → Broke w b from at x y fault
+broke_later v w a b from at x y (Workers fault) few upto broke =
+    let to = broke.0 in
+    (record { new = to.new; count = to.count; wrote = wrote_later a b from to.new to.count x y upto to.wrote; position_is = to.position_is }, of_more v w fault few broke.1)
+broke_later v w a b from at x y (Failing count) few upto broke =
+    record { lines = broke.lines; early = below_later a b broke.lines upto broke.early; state = broke.state; is_run = broke.is_run; whole = broke.whole; position_is = broke.position_is; takes = broke.takes; few = broke.few }
+
+of_run : (workers : ℕ) (fault : EngineFault) → IsOfWorkers workers fault → IsOfRun workers fault
+of_run workers NoMemory is = tt
+of_run workers CountFull is = tt
+of_run workers NoWorker is = is
+of_run workers Failed is = is
+of_run workers (Sink written) is = tt
+
+-- the fault that is told is of the workers or of the sink
+pub told_of : (workers until n : ℕ) (from : Reached) (at : ℕ) (x y : Option (List ℕ)) (fault : WriteFault) → Broke workers until from at x y fault → IsOfRun workers (told_as n fault)
+told_of workers until n from at x y (Workers fault) broke = of_run workers fault broke.1
+told_of workers until n from at x y (Failing count) broke = tt
 
 -- a failure is counted once
-pub fails_told : (T U : Type 0) (written n : ℕ) (fault : WriteFault) (old new : Option (List ℕ)) (from : Reached) (at : ℕ) → Broke from at old new fault
+pub fails_told : (T U : Type 0) (workers until written n : ℕ) (fault : WriteFault) (old new : Option (List ℕ)) (from : Reached) (at : ℕ) → Broke workers until from at old new fault
     → fails_after {T = U} (Err fault) n ≡ sink_failures {T = T} (Err (told_as written fault)) n
-fails_told T U written n (Workers NoMemory) old new from at broke = refl
-fails_told T U written n (Workers CountFull) old new from at broke = refl
-fails_told T U written n (Workers NoWorker) old new from at broke = refl
-fails_told T U written n (Workers Failed) old new from at broke = refl
-fails_told T U written n (Workers (Sink count)) old new from at broke = absurd broke.1
-fails_told T U written n (Failing count) old new from at broke = refl
+fails_told T U workers until written n (Workers NoMemory) old new from at broke = refl
+fails_told T U workers until written n (Workers CountFull) old new from at broke = refl
+fails_told T U workers until written n (Workers NoWorker) old new from at broke = refl
+fails_told T U workers until written n (Workers Failed) old new from at broke = refl
+fails_told T U workers until written n (Workers (Sink count)) old new from at broke = absurd broke.1
+fails_told T U workers until written n (Failing count) old new from at broke = refl
 
-can_tell_of : (from : Reached) (at n : ℕ) (fault : WriteFault) (old new : Option (List ℕ)) → Broke from at old new fault → n < 2 ^ 127 → CanTell n fault
-can_tell_of from at n (Workers fault) old new broke small = tt
-can_tell_of from at n (Failing count) old new broke small = let few = broke.few in omega (arith, few, small)
+can_tell_of : (workers until : ℕ) (from : Reached) (at n : ℕ) (fault : WriteFault) (old new : Option (List ℕ)) → Broke workers until from at old new fault → n < 2 ^ 127 → CanTell n fault
+can_tell_of workers until from at n (Workers fault) old new broke small = tt
+can_tell_of workers until from at n (Failing count) old new broke small = let few = broke.few in omega (arith, few, small)
 
 -- the bytes so far can be counted
-fits : (from to : Reached) (n : ℕ) (a b : Option (List ℕ)) → Wrote from to n a b → to.position ≤ 1000000000000000 → n < 2 ^ 127
-fits from to n a b w few =
+fits : (until : ℕ) (from to : Reached) (n : ℕ) (a b : Option (List ℕ)) → Wrote until from to n a b → to.position ≤ 1000000000000000 → n < 2 ^ 127
+fits until from to n a b w few =
     let p = w.position_is in let q = w.short in
     let lines : length w.lines ≤ 1000000000000000 = omega (arith, p, few) in
     omega (arith, q, lines)
 
 -- and with them those of a window that was not written whole
-pub can_tell : (from to : Reached) (n at : ℕ) (a b c : Option (List ℕ)) (fault : WriteFault) → Wrote from to n a b → to.position ≤ 1000000000000000 → Broke to at b c fault → CanTell n fault
-can_tell from to n at a b c fault w few broke = can_tell_of to at n fault b c broke (fits from to n a b w few)
+pub can_tell : (workers until : ℕ) (from to : Reached) (n at : ℕ) (a b c : Option (List ℕ)) (fault : WriteFault) → Wrote until from to n a b → to.position ≤ 1000000000000000 → Broke workers until to at b c fault → CanTell n fault
+can_tell workers until from to n at a b c fault w few broke = can_tell_of workers until to at n fault b c broke (fits until from to n a b w few)
 
 -- and with them those of a window more
-pub still_fits : (from to : Reached) (n m : ℕ) (a b c : Option (List ℕ)) (mid : Reached) → Wrote from mid n a b → mid.position ≤ 1000000000000000 → Wrote mid to m b c → to.position ≤ 1000000000000000 → n + m < 2 ^ 128
-still_fits from to n m a b c mid w few x later = let p = fits from mid n a b w few in let q = fits mid to m b c x later in omega (arith, p, q)
+pub still_fits : (until : ℕ) (from to : Reached) (n m : ℕ) (a b c : Option (List ℕ)) (mid : Reached) → Wrote until from mid n a b → mid.position ≤ 1000000000000000 → Wrote until mid to m b c → to.position ≤ 1000000000000000 → n + m < 2 ^ 128
+still_fits until from to n m a b c mid w few x later = let p = fits until from mid n a b w few in let q = fits until mid to m b c x later in omega (arith, p, q)

@@ -6,6 +6,7 @@ use Rattle.table_run.specs.State.{State, run}
 use Rattle.net_machine.specs.Run.{Reached}
 use Rattle.window_core.specs.Partition.{groups_of}
 use Rattle.window_core.specs.Sheaves.{merged}
+use Rattle.window_core.specs.Windows.{AreBelow}
 use Rattle.window_engine.specs.declared.course.Course.{Course}
 use Rattle.window_engine.specs.declared.course.WriteFault.{WriteFault}
 use Rattle.window_engine.specs.declared.course.WriteFault.TheVariants.{Workers, Sink}
@@ -35,9 +36,10 @@ pub record IsBehind (net : Reached) (c : Course) : Type 0 where
   pub end : c.end ≡ c.window.end
   pub groups : groups_of c.window.entries ≤ 64
 
--- lines of whole windows were committed, and the sink took all their text, so many bytes
-pub record Wrote (old new : Reached) (count : ℕ) (before after : Option (List ℕ)) : Type 0 where
+-- lines of whole windows were committed, each of an event below a moment, and the sink took all their text, so many bytes
+pub record Wrote (until : ℕ) (old new : Reached) (count : ℕ) (before after : Option (List ℕ)) : Type 0 where
   pub lines : List TraceLine
+  pub early : AreBelow until lines
   pub is_run : run old.state (length lines) ≡ Some (lines, new.state)
   pub whole : AreWhole lines new.state
   pub position_is : new.position ≡ old.position + length lines
@@ -45,9 +47,10 @@ pub record Wrote (old new : Reached) (count : ℕ) (before after : Option (List 
   pub count_is : count ≡ length (text_from (old.position + 1) lines)
   pub short : count ≤ length lines * 2 ^ 71
 
--- lines of whole windows were committed, and the sink took the first bytes of their text, so many
-pub record WroteFirst (old : Reached) (position count : ℕ) (before after : Option (List ℕ)) : Type 0 where
+-- the same, and the sink took the first bytes of their text, so many
+pub record WroteFirst (until : ℕ) (old : Reached) (position count : ℕ) (before after : Option (List ℕ)) : Type 0 where
   pub lines : List TraceLine
+  pub early : AreBelow until lines
   pub state : State
   pub is_run : run old.state (length lines) ≡ Some (lines, state)
   pub whole : AreWhole lines state
@@ -55,17 +58,17 @@ pub record WroteFirst (old : Reached) (position count : ℕ) (before after : Opt
   pub takes : TakesFirst count (text_from (old.position + 1) lines) before after
   pub few : count < 2 ^ 71
 
--- lines were committed, up to a position, and the sink took all their text
-pub record WroteTo (old : Reached) (position : ℕ) (before after : Option (List ℕ)) : Type 0 where
+-- such lines were committed, up to a position, and the sink took all their text
+pub record WroteTo (until : ℕ) (old : Reached) (position : ℕ) (before after : Option (List ℕ)) : Type 0 where
   pub new : Reached
   pub count : ℕ
-  pub wrote : Wrote old new count before after
+  pub wrote : Wrote until old new count before after
   pub position_is : position ≡ new.position
 
--- what a fault leaves: where workers failed, all lines that were committed were written
-abbrev pub Broke : Reached → ℕ → Option (List ℕ) → Option (List ℕ) → WriteFault → Type 0
-Broke old position before after (Workers fault) = WroteTo old position before after × IsOfWorkers fault
-Broke old position before after (Sink count) = WroteFirst old position count before after
+-- what a fault of so many workers leaves, or one of the sink: where workers failed, all lines that were committed were written
+abbrev pub Broke : ℕ → ℕ → Reached → ℕ → Option (List ℕ) → Option (List ℕ) → WriteFault → Type 0
+Broke workers until old position before after (Workers fault) = WroteTo until old position before after × IsOfWorkers workers fault
+Broke workers until old position before after (Sink count) = WroteFirst until old position count before after
 
 -- the sink's count of failures after a window
 abbrev pub fails_after : {T : Type 0} → Result T WriteFault → ℕ → ℕ

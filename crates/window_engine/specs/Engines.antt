@@ -60,12 +60,13 @@ abbrev pub Takes : {T : Type 0} → Result T EngineFault → List ℕ → Option
 Takes (Err (Sink written)) text old new = TakesFirst written text old new
 Takes _ text old new = Appends old new text
 
--- the next lines of the run from a net were committed, those of whole windows, and a sink took their text; where the call had no fault, the other net is the one after them
-pub record Commits {T : Type 0} (old : Reached) (r : Result T EngineFault) (new : Reached) (before after : Option (List ℕ)) : Type 0 where
+-- the next lines of the run from a net were committed, those of whole windows and each of an event below a moment, and a sink took their text; where the call had no fault, the other net is the one after them
+pub record Commits {T : Type 0} (until : ℕ) (old : Reached) (r : Result T EngineFault) (new : Reached) (before after : Option (List ℕ)) : Type 0 where
   pub lines : List TraceLine
   pub state : State
   pub is_run : run old.state (length lines) ≡ Some (lines, state)
   pub whole : AreWhole lines state
+  pub early : AreBelow until lines
   pub position_is : new.position ≡ old.position + length lines
   pub state_is : OnOk r (new.state ≡ state)
   pub takes : Takes r (text_from (old.position + 1) lines) before after

@@ -1,5 +1,5 @@
 -- What a window answers, by what became of its pieces.
-use Rattle.std.specs.Prelude.{◌≡◌, ◌⊎◌, ℕ, Bool, true, false, List, [], ◌∷◌, length, slice_get, Option, Some, None, option_map, if◌then◌else◌}
+use Rattle.std.specs.Prelude.{◌≡◌, ◌⊎◌, ◌<◌, ℕ, Bool, true, false, List, [], ◌∷◌, length, slice_get, Option, Some, None, option_map, if◌then◌else◌}
 use Rattle.std.specs.Option.{option_or}
 use Rattle.window_core.specs.declared.group.GroupFault.{GroupFault}
 use Rattle.window_core.specs.declared.group.GroupFault.TheVariants as group
@@ -86,7 +86,15 @@ pub record SomeLaidFull (laid : List PieceState) : Type 0 where
   pub began : Began laid place piece
   pub full : IsFull piece
 
--- the workers have it, and not the sink
-abbrev pub IsOfWorkers : EngineFault → Type 0
-IsOfWorkers (Sink written) = ⊥
-IsOfWorkers _ = Unit {0}
+-- so many workers have it, and not the sink: where one runs, no thread is to be started and no piece can stay out
+abbrev pub IsOfWorkers : ℕ → EngineFault → Type 0
+IsOfWorkers workers NoMemory = Unit {0}
+IsOfWorkers workers CountFull = Unit {0}
+IsOfWorkers workers NoWorker = 1 < workers
+IsOfWorkers workers Failed = 1 < workers
+IsOfWorkers workers (Sink written) = ⊥
+
+-- the workers have it, or the sink that takes their lines
+abbrev pub IsOfRun : ℕ → EngineFault → Type 0
+IsOfRun workers (Sink written) = Unit {0}
+IsOfRun workers fault = IsOfWorkers workers fault

@@ -1,11 +1,12 @@
 //! One window, run by workers.
-ghost use Rattle.std.specs.Prelude.{◌≡◌, ◌+◌, ◌<◌, ◌≤◌, ◌^◌, ℕ, All, List, length, map as each, min, true, false, IfOk, IfErr, OnOk};
-ghost use Rattle.table_run.specs.State.{State};
+ghost use Rattle.std.specs.Prelude.{◌≡◌, ◌+◌, ◌<◌, ◌≤◌, ◌^◌, ℕ, All, List, length, map as each, min, true, false, None, IfOk, IfErr, OnOk};
+ghost use Rattle.table_run.specs.State.{State, due};
 ghost use Rattle.window_core.specs.Full.{HasTooMany};
-ghost use Rattle.window_core.specs.Group.{GroupValue, AfterFirings};
+ghost use Rattle.window_core.specs.Group.{GroupValue, AfterFirings, state_of};
+ghost use Rattle.window_core.specs.Groups.{up_to};
 ghost use Rattle.window_core.specs.Partition.{groups_of};
 ghost use Rattle.window_core.specs.Sheaves.{merged};
-ghost use Rattle.window_core.specs.Window.{IsFrom, HasGoneOn, HasTurned, states_of};
+ghost use Rattle.window_core.specs.Window.{IsFrom, HasGoneOn, HasTurned, states_of, value_at};
 ghost use Rattle.window_core.specs.Windows.{AreBelow, all_done, all_lines};
 ghost use Rattle.work_board.specs.Pieces.{PieceState};
 ghost use Rattle.window_engine.specs.Edges.{IsAtEdge, StaysNet, edge_of, reached_in};
@@ -20,9 +21,10 @@ use crate::pieces::run_pieces;
 use crate::scribe::Scribe;
 use sim_time::Time;
 use std::alloc::{AllocError, Global};
+use std::snapshot::Snapshot;
 use std::sync::Wait;
 use std::thread::Threads;
-use window_core::{Batch, Group, Sheaf, TurnFault, Window};
+use window_core::{Batch, Group, GroupFault, Sheaf, TurnFault, Window};
 use work_board::Piece;
 
 /// A piece for each group.
@@ -49,19 +51,35 @@ fn groups_of(alloc: Global, pieces: Vec<Piece>) -> Result<Vec<Group>, AllocError
     Ok(groups)
 }
 
+/// Tells the gate of a group that has not run: it is as it was before all of them.
+fn enter<G: Gate>(gate: &G, _before: &Snapshot<Window>, _window: &Window, group: usize)
+    requires { value_at _window.now.groups group ≡ value_at _before.now.value.groups group }
+{
+    gate.enter(group as u64);
+}
+
+/// Tells the gate of a group that has run: it has no event left below the window's end, unless the
+/// group had a fault.
+fn leave<G: Gate>(gate: &G, _window: &Window, group: usize, _ran: &Result<(), GroupFault>)
+    requires { OnOk _ran.now (due (up_to _window.now.until (state_of (value_at _window.now.groups group))) ≡ None) }
+{
+    gate.leave(group as u64);
+}
+
 /// Runs the groups one after another on the calling thread, up to the window's end.
 fn run_in_turn<G: Gate>(gate: &G, window: &mut Window) -> Result<(), EngineFault>
     requires inside { window.old.out ≡ false }
     requires few { length window.old.groups ≤ 64 }
     ensures done { OnOk result (HasRun window.old window.new) }
     ensures stays { StaysNet window.old window.new }
-    ensures no_sink { IfErr result IsOfWorkers }
+    ensures fault { IfErr result (IsOfWorkers 1) }
     ensures full { IfErr result (λ fault. fault ≡ EngineFault.CountFull → HasFullGroup window.old) }
 {
+    let before = Snapshot::of(window);
     for i in 0..window.groups() {
-        gate.enter(i as u64);
+        enter(gate, &before, window, i);
         let ran = window.run_group(i);
-        gate.leave(i as u64);
+        leave(gate, window, i, &ran);
         if let Err(fault) = ran {
             return Err(group_fault(fault));
         }
@@ -84,12 +102,12 @@ fn run_apart<G: Gate, R: Threads + Wait + Sync>(
     requires least { 0 < length window.old.groups }
     requires few { length window.old.groups ≤ 64 }
     requires ends { All (λ (g : GroupValue). window.old.until ≤ g.until) window.old.groups }
-    requires workers { (0 < workers) × (workers ≤ 64) }
+    requires workers { (1 < workers) × (workers ≤ 64) }
     requires right { AreRight sheaf.now scribes.old.items }
     requires fits { sheaf.now.first + length (merged sheaf.now).lines < 2 ^ 63 }
     ensures done { OnOk result (HasRun window.old window.new) }
     ensures stays { StaysNet window.old window.new }
-    ensures no_sink { IfErr result IsOfWorkers }
+    ensures fault { IfErr result (IsOfWorkers workers) }
     ensures full { IfErr result (λ fault. fault ≡ EngineFault.CountFull → HasFullGroup window.old) }
     ensures right { AreRight sheaf.now scribes.new.items }
 {
@@ -120,7 +138,7 @@ pub(crate) fn run_groups<G: Gate, R: Threads + Wait + Sync>(
     requires fits { sheaf.now.first + length (merged sheaf.now).lines < 2 ^ 63 }
     ensures done { OnOk result (IsDoneBy until window.old window.new) }
     ensures stays { StaysNet window.old window.new }
-    ensures no_sink { IfErr result IsOfWorkers }
+    ensures fault { IfErr result (IsOfWorkers workers) }
     ensures full { IfErr result (λ fault. fault ≡ EngineFault.CountFull → HasTooMany (reached_in window.old)) }
     ensures right { AreRight sheaf.now scribes.new.items }
 {
@@ -148,7 +166,7 @@ fn run_groups_alone<G: Gate, R: Threads + Wait + Sync>(
     requires workers { (0 < workers) × (workers ≤ 64) }
     ensures done { OnOk result (IsDoneBy until window.old window.new) }
     ensures stays { StaysNet window.old window.new }
-    ensures no_sink { IfErr result IsOfWorkers }
+    ensures fault { IfErr result (IsOfWorkers workers) }
     ensures full { IfErr result (λ fault. fault ≡ EngineFault.CountFull → HasTooMany (reached_in window.old)) }
 {
     let none = Sheaf::new(alloc, 1);
@@ -173,8 +191,9 @@ pub(crate) fn advance<G: Gate, R: Threads + Wait + Sync>(
     ensures edge { OnOk result (IsAtEdge window.new) }
     ensures gone { OnOk result (GoesOn (reached_in window.old) batch.new (reached_in window.new)) }
     ensures none_left { OnOk result (NoneBelow (min window.old.until until) (edge_of window.new)) }
+    ensures early { OnOk result (AreBelow (min window.old.until until) batch.new.lines) }
     ensures stays { StaysNet window.old window.new }
-    ensures no_sink { IfErr result IsOfWorkers }
+    ensures fault { IfErr result (IsOfWorkers workers) }
     ensures full { IfErr result (λ fault. fault ≡ EngineFault.CountFull → HasTooMany (reached_in window.old)) }
 {
     let _began = window.position();
@@ -196,7 +215,7 @@ pub(crate) fn turn_done(window: &mut Window, sheaf: &mut Sheaf) -> Result<(), En
     ensures run { OnOk result ((edge : State) → IsFrom edge window.old → HasGoneOn edge (merged sheaf.new).lines window.new) }
     ensures below { OnOk result (AreBelow window.old.until (merged sheaf.new).lines) }
     ensures stays { StaysNet window.old window.new }
-    ensures no_sink { IfErr result IsOfWorkers }
+    ensures fault { IfErr result (IsOfWorkers 1) }
     ensures full { IfErr result (λ fault. fault ≡ EngineFault.CountFull → 1000000000000000 < window.old.position + length (all_lines (states_of window.old.groups))) }
 {
     match window.turn_apart(sheaf) {
@@ -223,8 +242,9 @@ pub(crate) fn advance_apart<G: Gate, R: Threads + Wait + Sync>(
     ensures edge { OnOk result (IsAtEdge window.new) }
     ensures gone { OnOk result (GoesOn (reached_in window.old) (merged sheaf.new) (reached_in window.new)) }
     ensures none_left { OnOk result (NoneBelow (min window.old.until until) (edge_of window.new)) }
+    ensures early { OnOk result (AreBelow (min window.old.until until) (merged sheaf.new).lines) }
     ensures stays { StaysNet window.old window.new }
-    ensures no_sink { IfErr result IsOfWorkers }
+    ensures fault { IfErr result (IsOfWorkers workers) }
     ensures full { IfErr result (λ fault. fault ≡ EngineFault.CountFull → HasTooMany (reached_in window.old)) }
 {
     let _began = window.position();

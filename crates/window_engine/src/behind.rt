@@ -1,10 +1,13 @@
 //! The text of a window is made while the next window's groups run: a worker that is done with its
 //! groups makes text, so that no processor waits for the longest group.
-ghost use Rattle.std.specs.Prelude.{◌≡◌, ◌<◌, ◌≤◌, IfOk, IfErr, OnOk};
+ghost use Rattle.std.specs.Prelude.{◌≡◌, ◌<◌, ◌≤◌, ℕ, IfOk, IfErr, OnOk};
 ghost use Rattle.window_core.specs.Full.{HasTooMany};
+ghost use Rattle.window_core.specs.Sheaves.{merged};
+ghost use Rattle.window_core.specs.Windows.{AreBelow};
 ghost use Rattle.window_engine.specs.Courses.{AtRest, IsBehind, Wrote, Broke, fails_after};
 ghost use Rattle.window_engine.specs.Edges.{StaysNet, edge_of, reached_in};
 ghost use Rattle.window_engine.specs.Engines.{Commits, IsStop, sink_failures};
+ghost use Rattle.window_engine.specs.Outcomes.{IsOfRun};
 
 use crate::advance::{run_groups, turn_done};
 use crate::course::{Course, WriteFault, told};
@@ -37,8 +40,9 @@ impl Course {
         requires behind { IsBehind (reached_in before.now.value) self.old }
         requires workers { (0 < workers) × (workers ≤ 64) }
         ensures behind { OnOk result (IsBehind (reached_in self.old.window) self.new) }
-        ensures wrote { IfOk result (λ bytes. Wrote (reached_in before.now.value) (reached_in self.old.window) bytes (S.contents sink.old) (S.contents sink.new)) }
-        ensures broke { IfErr result (Broke (reached_in before.now.value) self.new.position (S.contents sink.old) (S.contents sink.new)) }
+        ensures early { OnOk result (AreBelow until (merged self.new.sheaf).lines) }
+        ensures wrote { IfOk result (λ bytes. (last : ℕ) → AreBelow last (merged self.old.sheaf).lines → Wrote last (reached_in before.now.value) (reached_in self.old.window) bytes (S.contents sink.old) (S.contents sink.new)) }
+        ensures broke { IfErr result (λ fault. (last : ℕ) → AreBelow last (merged self.old.sheaf).lines → Broke workers last (reached_in before.now.value) self.new.position (S.contents sink.old) (S.contents sink.new) fault) }
         ensures full { IfErr result (λ fault. fault ≡ WriteFault.Workers EngineFault.CountFull → HasTooMany (reached_in before.now.value)) }
         ensures failures { S.failures sink.new ≡ fails_after result (S.failures sink.old) }
         ensures stays { StaysNet self.old.window self.new.window }
@@ -79,8 +83,8 @@ impl Course {
     ) -> Result<u128, WriteFault>
         requires behind { IsBehind (reached_in before.now.value) self.old }
         ensures rest { OnOk result (AtRest self.new) }
-        ensures wrote { IfOk result (λ bytes. Wrote (reached_in before.now.value) (reached_in self.new.window) bytes (S.contents sink.old) (S.contents sink.new)) }
-        ensures broke { IfErr result (Broke (reached_in before.now.value) self.new.position (S.contents sink.old) (S.contents sink.new)) }
+        ensures wrote { IfOk result (λ bytes. (last : ℕ) → AreBelow last (merged self.old.sheaf).lines → Wrote last (reached_in before.now.value) (reached_in self.new.window) bytes (S.contents sink.old) (S.contents sink.new)) }
+        ensures broke { IfErr result (λ fault. (last : ℕ) → AreBelow last (merged self.old.sheaf).lines → Broke 1 last (reached_in before.now.value) self.new.position (S.contents sink.old) (S.contents sink.new) fault) }
         ensures not_full { IfErr result (λ fault. fault ≡ WriteFault.Workers EngineFault.CountFull → ⊥) }
         ensures failures { S.failures sink.new ≡ fails_after result (S.failures sink.old) }
         ensures window { self.new.window ≡ self.old.window }
@@ -105,8 +109,9 @@ impl Course {
         requires rest { AtRest self.old }
         requires workers { (0 < workers) × (workers ≤ 64) }
         ensures rest { OnOk result (AtRest self.new) }
-        ensures commits { Commits (reached_in self.old.window) result (record { state = edge_of self.new.window; position = self.new.position }) (S.contents sink.old) (S.contents sink.new) }
+        ensures commits { Commits until (reached_in self.old.window) result (record { state = edge_of self.new.window; position = self.new.position }) (S.contents sink.old) (S.contents sink.new) }
         ensures stop { IfOk result (IsStop until (edge_of self.new.window)) }
+        ensures fault { IfErr result (IsOfRun workers) }
         ensures full { IfErr result (λ fault. fault ≡ EngineFault.CountFull → HasTooMany (reached_in self.old.window)) }
         ensures failures { S.failures sink.new ≡ sink_failures result (S.failures sink.old) }
         ensures stays { StaysNet self.old.window self.new.window }

@@ -1,13 +1,15 @@
 //! The net on its way, with what is used again from window to window. One worker runs a window,
 //! makes its text and writes it before the next window; of more workers' see `behind.rt`.
-ghost use Rattle.std.specs.Prelude.{◌≡◌, ◌+◌, ◌<◌, ◌≤◌, ◌^◌, length, Some, None, IfOk, IfErr, IfSome, OnOk};
+ghost use Rattle.std.specs.Prelude.{◌≡◌, ◌+◌, ◌<◌, ◌≤◌, ◌^◌, ℕ, length, Some, None, IfOk, IfErr, IfSome, OnOk};
 ghost use Rattle.table_run.specs.State.{due};
 ghost use Rattle.net_machine.specs.Run.{Reached};
 ghost use Rattle.window_core.specs.Full.{HasTooMany};
 ghost use Rattle.window_core.specs.Sheaves.{merged};
+ghost use Rattle.window_core.specs.Windows.{AreBelow};
 ghost use Rattle.window_engine.specs.Edges.{IsAtEdge, StaysNet, edge_of, reached_in};
 ghost use Rattle.window_engine.specs.Engines.{Commits, GoesOn, IsStop, next_time, sink_failures};
 ghost use Rattle.window_engine.specs.Courses.{AtRest, CanTell, Wrote, Broke, fails_after, told_as};
+ghost use Rattle.window_engine.specs.Outcomes.{IsOfRun};
 ghost use Rattle.window_engine.specs.Parts.{IsWhole};
 
 use crate::advance::advance_apart;
@@ -122,8 +124,8 @@ impl Course {
         requires fits { self.old.position + length (merged self.old.sheaf).lines < 2 ^ 63 }
         ensures position { OnOk result (self.new.position ≡ self.old.position + length (merged self.old.sheaf).lines) }
         ensures rest { self.new ≡ record self.old { position = self.new.position } }
-        ensures wrote { IfOk result (λ bytes. (from to : Reached) → GoesOn from (merged self.old.sheaf) to → Wrote from to bytes (S.contents sink.old) (S.contents sink.new)) }
-        ensures broke { IfErr result (λ fault. (from to : Reached) → GoesOn from (merged self.old.sheaf) to → self.old.position ≡ from.position → Broke from self.new.position (S.contents sink.old) (S.contents sink.new) fault) }
+        ensures wrote { IfOk result (λ bytes. (until : ℕ) (from to : Reached) → AreBelow until (merged self.old.sheaf).lines → GoesOn from (merged self.old.sheaf) to → Wrote until from to bytes (S.contents sink.old) (S.contents sink.new)) }
+        ensures broke { IfErr result (λ fault. (until : ℕ) (from to : Reached) → AreBelow until (merged self.old.sheaf).lines → GoesOn from (merged self.old.sheaf) to → self.old.position ≡ from.position → Broke 1 until from self.new.position (S.contents sink.old) (S.contents sink.new) fault) }
         ensures not_full { IfErr result (λ fault. fault ≡ WriteFault.Workers EngineFault.CountFull → ⊥) }
         ensures failures { S.failures sink.new ≡ fails_after result (S.failures sink.old) }
     {
@@ -152,8 +154,8 @@ impl Course {
         requires rest { AtRest self.old }
         requires workers { (0 < workers) × (workers ≤ 64) }
         ensures rest { OnOk result (AtRest self.new) }
-        ensures wrote { IfOk result (λ bytes. Wrote (reached_in self.old.window) (reached_in self.new.window) bytes (S.contents sink.old) (S.contents sink.new)) }
-        ensures broke { IfErr result (Broke (reached_in self.old.window) self.new.position (S.contents sink.old) (S.contents sink.new)) }
+        ensures wrote { IfOk result (λ bytes. Wrote until (reached_in self.old.window) (reached_in self.new.window) bytes (S.contents sink.old) (S.contents sink.new)) }
+        ensures broke { IfErr result (Broke workers until (reached_in self.old.window) self.new.position (S.contents sink.old) (S.contents sink.new)) }
         ensures full { IfErr result (λ fault. fault ≡ WriteFault.Workers EngineFault.CountFull → HasTooMany (reached_in self.old.window)) }
         ensures failures { S.failures sink.new ≡ fails_after result (S.failures sink.old) }
         ensures stays { StaysNet self.old.window self.new.window }
@@ -190,8 +192,9 @@ impl Course {
         requires rest { AtRest self.old }
         requires workers { (0 < workers) × (workers ≤ 64) }
         ensures rest { OnOk result (AtRest self.new) }
-        ensures commits { Commits (reached_in self.old.window) result (record { state = edge_of self.new.window; position = self.new.position }) (S.contents sink.old) (S.contents sink.new) }
+        ensures commits { Commits until (reached_in self.old.window) result (record { state = edge_of self.new.window; position = self.new.position }) (S.contents sink.old) (S.contents sink.new) }
         ensures stop { IfOk result (IsStop until (edge_of self.new.window)) }
+        ensures fault { IfErr result (IsOfRun workers) }
         ensures full { IfErr result (λ fault. fault ≡ EngineFault.CountFull → HasTooMany (reached_in self.old.window)) }
         ensures failures { S.failures sink.new ≡ sink_failures result (S.failures sink.old) }
         ensures stays { StaysNet self.old.window self.new.window }
@@ -228,8 +231,9 @@ impl Course {
         requires rest { AtRest self.old }
         requires workers { (0 < workers) × (workers ≤ 64) }
         ensures rest { OnOk result (AtRest self.new) }
-        ensures commits { Commits (reached_in self.old.window) result (record { state = edge_of self.new.window; position = self.new.position }) (S.contents sink.old) (S.contents sink.new) }
+        ensures commits { Commits until (reached_in self.old.window) result (record { state = edge_of self.new.window; position = self.new.position }) (S.contents sink.old) (S.contents sink.new) }
         ensures stop { IfOk result (IsStop until (edge_of self.new.window)) }
+        ensures fault { IfErr result (IsOfRun workers) }
         ensures full { IfErr result (λ fault. fault ≡ EngineFault.CountFull → HasTooMany (reached_in self.old.window)) }
         ensures failures { S.failures sink.new ≡ sink_failures result (S.failures sink.old) }
         ensures stays { StaysNet self.old.window self.new.window }

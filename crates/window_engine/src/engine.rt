@@ -9,7 +9,8 @@ ghost use Rattle.net_machine.specs.Run.{IsRun};
 ghost use Rattle.window_core.specs.Full.{HasTooMany};
 ghost use Rattle.window_core.specs.Lookahead.{lookahead};
 ghost use Rattle.window_core.specs.Partition.{group_in};
-ghost use Rattle.window_engine.specs.Outcomes.{IsOfWorkers};
+ghost use Rattle.window_core.specs.Windows.{AreBelow};
+ghost use Rattle.window_engine.specs.Outcomes.{IsOfRun, IsOfWorkers};
 ghost use Rattle.window_engine.specs.Engines.{GoesOn, NoneBelow, Commits, IsStop, next_time, window_end_by, sink_failures};
 
 use crate::advance::advance;
@@ -141,12 +142,14 @@ impl Engine {
     ) -> Result<Batch, EngineFault>
         requires workers { (0 < workers) × (workers ≤ 64) }
         ensures ok { IfOk result (λ batch. GoesOn self.old.net batch self.new.net) }
+        ensures early { IfOk result (λ batch. AreBelow (window_end_by self.old until) batch.lines) }
         ensures none_left { OnOk result (NoneBelow (window_end_by self.old until) self.new.net.state) }
         ensures err { OnErr result (self.new.net.position ≡ self.old.net.position) }
-        ensures no_sink { IfErr result IsOfWorkers }
+        ensures fault { self.old.failed ≡ false → IfErr result (IsOfWorkers workers) }
         ensures full { IfErr result (λ fault. fault ≡ EngineFault.CountFull → HasTooMany self.old.net) }
         ensures failed { self.new.failed ≡ is_err result }
         ensures failed_before { self.old.failed ≡ true → result ≡ Err EngineFault.Failed }
+        ensures nothing_more { self.old.failed ≡ true → self.new ≡ self.old }
         ensures entries { self.new.entries ≡ self.old.entries }
         ensures ahead { self.new.ahead ≡ self.old.ahead }
     {
@@ -188,11 +191,13 @@ impl Engine {
         sink: &mut S,
     ) -> Result<Stop, EngineFault>
         requires workers { (0 < workers) × (workers ≤ 64) }
-        ensures commits { Commits self.old.net result self.new.net (S.contents sink.old) (S.contents sink.new) }
+        ensures commits { Commits until self.old.net result self.new.net (S.contents sink.old) (S.contents sink.new) }
         ensures stop { IfOk result (IsStop until self.new.net.state) }
+        ensures fault { self.old.failed ≡ false → IfErr result (IsOfRun workers) }
         ensures full { IfErr result (λ fault. fault ≡ EngineFault.CountFull → HasTooMany self.old.net) }
         ensures failed { self.new.failed ≡ is_err result }
         ensures failed_before { self.old.failed ≡ true → result ≡ Err EngineFault.Failed }
+        ensures nothing_more { self.old.failed ≡ true → self.new ≡ self.old }
         ensures failures { S.failures sink.new ≡ sink_failures result (S.failures sink.old) }
         ensures entries { self.new.entries ≡ self.old.entries }
         ensures ahead { self.new.ahead ≡ self.old.ahead }

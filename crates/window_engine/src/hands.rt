@@ -16,7 +16,7 @@ pub(crate) fn hands(
     until: Time,
 ) -> usize
     requires workers { (0 < workers) × (workers ≤ 64) }
-    ensures { (0 < result) × (result ≤ 64) }
+    ensures { (0 < result) × (result ≤ workers) }
 {
     if worth == 0 {
         return workers;

@@ -1,7 +1,8 @@
 //! Workers that go over all pieces of a board, and then make text.
 ghost use Rattle.std.specs.Prelude.{◌≡◌, ◌+◌, ◌<◌, ◌^◌, All, IfOk, IfSome, length};
 ghost use Rattle.window_core.specs.Sheaves.{merged};
-ghost use Rattle.work_board.specs.Seats.{IsOf, HoldsNothing};
+ghost use Rattle.work_board.specs.Marks.{Has};
+ghost use Rattle.work_board.specs.Seats.{IsOf, HoldsAsLaid, HoldsNothing};
 ghost use Rattle.window_engine.specs.Parts.{AreRight, IsRight};
 ghost use Rattle.window_engine.specs.Sweeps.{IsSwept};
 
@@ -42,6 +43,20 @@ impl Promise<Shift> for Sweeps {
     ghost kept_by = { λ p s. IsOf p.0.value s.seat × IsSwept s.seat × IsRight p.1.value s.scribe };
 }
 
+/// Tells the gate of a piece that the seat has claimed: it is as it was laid.
+fn enter<G: Gate>(gate: &G, _seat: &Seat, piece: usize)
+    requires { HoldsAsLaid _seat.now piece }
+{
+    gate.enter(piece as u64);
+}
+
+/// Tells the gate of a piece that the seat has finished.
+fn leave<G: Gate>(gate: &G, _seat: &Seat, piece: usize)
+    requires { Has _seat.now.view.finished piece }
+{
+    gate.leave(piece as u64);
+}
+
 /// Tries every piece in turn, and runs those that it claimed.
 fn work<G: Gate>(board: &Board, seat: Seat, gate: &G) -> Seat
     requires board { IsOf board.now seat }
@@ -52,10 +67,10 @@ fn work<G: Gate>(board: &Board, seat: Seat, gate: &G) -> Seat
     let mut seat = seat;
     for i in 0..board.pieces() {
         if board.try_claim(&mut seat, i) {
-            gate.enter(i as u64);
+            enter(gate, &seat, i);
             seat.held(board, i).run();
             board.finish(&mut seat, i);
-            gate.leave(i as u64);
+            leave(gate, &seat, i);
         }
     }
     seat

@@ -1,4 +1,4 @@
-use Rattle.window_engine.proofs.Edge.{turned_edge, turned_stays, stays_both, went_on, left_none}
+use Rattle.window_engine.proofs.Edge.{turned_edge, turned_stays, stays_both, turned_below, went_on, left_none}
 use Rattle.std.proofs.Common.{ap, Err, ◌∙◌}
 use Rattle.window_core.specs.declared.window.turning.TurnFault.{TurnFault}
 use Rattle.window_engine.proofs.TooMany.{turn_full}
@@ -10,6 +10,11 @@ returns-in-Ok-clause-edge g c = turned_edge c.run_groups_alone.new.window c.turn
 pub returns-in-Ok-clause-gone : goal.returns-in-Ok-clause-gone
 returns-in-Ok-clause-gone g c =
     went_on c.args.window.now c.run_groups_alone.new.window c.turn_into.new.self c.args.until c.turn_into.new.batch c.requires.edge c.position-began.ensures.is_window c.in_ok-run_groups_alone.ensures.done
+    c.in-Ok.ensures.ok c.in-Ok.ensures.run c.in-Ok.ensures.below
+
+pub returns-in-Ok-clause-early : goal.returns-in-Ok-clause-early
+returns-in-Ok-clause-early g c =
+    turned_below c.args.window.now c.run_groups_alone.new.window c.turn_into.new.self c.args.until c.turn_into.new.batch c.requires.edge c.position-began.ensures.is_window c.in_ok-run_groups_alone.ensures.done
     c.in-Ok.ensures.ok c.in-Ok.ensures.run c.in-Ok.ensures.below
 
 pub returns-in-Ok-clause-none_left : goal.returns-in-Ok-clause-none_left

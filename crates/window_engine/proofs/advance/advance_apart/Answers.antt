@@ -1,4 +1,4 @@
-use Rattle.window_engine.proofs.Edge.{turned_edge, turned_stays, stays_both, went_on, left_none}
+use Rattle.window_engine.proofs.Edge.{turned_edge, turned_stays, stays_both, turned_below, went_on, left_none}
 use Rattle.std.proofs.lemmas.Result.{err_from_is_err_and}
 use Rattle.window_core.specs.Sheaves.{merged}
 use Rattle.window_engine.proofs.TooMany.{turn_full}
@@ -10,6 +10,11 @@ returns-clause-edge g c = turned_edge c.run_groups_alone.new.window c.turn_done.
 pub returns-clause-gone : goal.returns-clause-gone
 returns-clause-gone g c =
     went_on c.args.window.now c.run_groups_alone.new.window c.turn_done.new.window c.args.until (merged c.turn_done.new.sheaf) c.requires.edge c.position-began.ensures.is_window c.in_ok-run_groups_alone.ensures.done
+    c.in_ok-turn_done.ensures.turned c.in_ok-turn_done.ensures.run c.in_ok-turn_done.ensures.below
+
+pub returns-clause-early : goal.returns-clause-early
+returns-clause-early g c =
+    turned_below c.args.window.now c.run_groups_alone.new.window c.turn_done.new.window c.args.until (merged c.turn_done.new.sheaf) c.requires.edge c.position-began.ensures.is_window c.in_ok-run_groups_alone.ensures.done
     c.in_ok-turn_done.ensures.turned c.in_ok-turn_done.ensures.run c.in_ok-turn_done.ensures.below
 
 pub returns-clause-none_left : goal.returns-clause-none_left

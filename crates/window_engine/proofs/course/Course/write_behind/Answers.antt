@@ -1,19 +1,23 @@
-use Rattle.std.proofs.Common.{◌∙◌, refl}
+use Rattle.std.proofs.Common.{◌∙◌, ◌+◌, ℕ, arith, refl, sym}
+use Rattle.window_core.specs.Sheaves.{merged}
+use Rattle.window_engine.specs.declared.fault.Stop.{Stop}
 use Rattle.window_engine.specs.Edges.{reached_in}
 use Rattle.window_engine.proofs.Edge.{stays_both}
-use Rattle.window_engine.proofs.Writing.{committed, ended, wrote_more, wrote_none}
+use Rattle.window_engine.proofs.Writing.{broke_later, can_tell, committed, ended, fails_told, still_fits, told_of, wrote_more, wrote_none}
+use Rattle.window_engine.proofs.Whole.{below_later}
 use Rattle.window_engine.proofs.TooMany.{told_full}
-use Rattle.window_engine.proofs.Unwritten.{behind_by_none, few_before}
+use Rattle.window_engine.proofs.Unwritten.{behind_by_none, few_before, no_line}
 use Rattle.window_engine.proofs.course.Course.write_behind.Goals as goal
 
 pub loop-init : goal.loop-init
 loop-init g c =
     rw c.of-before.ensures (
       behind_by_none c.args.self.now c.new.result c.requires.rest c.new.ensures,
-      wrote_none (reached_in c.args.self.now.window) (g.S.Sink.contents c.args.sink.now),
+      wrote_none c.args.until (reached_in c.args.self.now.window) (g.S.Sink.contents c.args.sink.now),
       refl,
       record { entries = refl; ahead = refl; end = refl },
       refl,
+      rw (no_line c.new.result (c.args.self.now.position + 1) c.new.ensures) tt,
     )
 
 pub returns-in-Ok-write_rest-clause-commits : goal.returns-in-Ok-write_rest-clause-commits
@@ -23,21 +27,48 @@ returns-in-Ok-write_rest-clause-commits g c =
     let rest = c.in-Ok-write_rest.ensures in
     let from = reached_in c.args.self.now.window in
     let to = reached_in c.write_rest.new.self.window in
-    let wrote = wrote_more from (reached_in c.loop.before.value) to c.loop.written _ (contents c.args.sink.now) (contents c.loop.sink) (contents c.write_rest.new.sink) was.1 rest.wrote in
-    committed from to _ _ (contents c.args.sink.now) (contents c.write_rest.new.sink) _ wrote rest.rest.committed refl
+    let wrote = wrote_more c.args.until from (reached_in c.loop.before.value) to c.loop.written _ (contents c.args.sink.now) (contents c.loop.sink) (contents c.write_rest.new.sink) was.1 (rest.wrote c.args.until was.5) in
+    committed c.args.until from to _ _ (contents c.args.sink.now) (contents c.write_rest.new.sink) _ wrote rest.rest.committed refl
 
 pub returns-in-Err-write_rest-clause-commits : goal.returns-in-Err-write_rest-clause-commits
 returns-in-Err-write_rest-clause-commits g c =
     let contents = g.S.Sink.contents in
     let was = c.loop.invariant in
-    rw c.told.ensures (ended (reached_in c.args.self.now.window) (reached_in c.loop.before.value) c.loop.written _ (contents c.args.sink.now) (contents c.loop.sink) (contents c.write_rest.new.sink) c.in-Err-write_rest.fault was.1 c.in-Err-write_rest.ensures.broke)
+    let broke = broke_later 1 c.args.workers c.args.until c.args.until (reached_in c.loop.before.value) _ (contents c.loop.sink) (contents c.write_rest.new.sink) c.in-Err-write_rest.fault (let some = c.requires.workers.0 in omega (arith, some)) (omega arith)
+    (c.in-Err-write_rest.ensures.broke c.args.until was.5)
+    in
+    rw c.told.ensures
+    (ended c.args.workers c.args.until (reached_in c.args.self.now.window) (reached_in c.loop.before.value) c.loop.written _ (contents c.args.sink.now) (contents c.loop.sink) (contents c.write_rest.new.sink) c.in-Err-write_rest.fault was.1 broke)
+
+pub returns-in-Err-write_rest-clause-fault : goal.returns-in-Err-write_rest-clause-fault
+returns-in-Err-write_rest-clause-fault g c =
+    let contents = g.S.Sink.contents in
+    let was = c.loop.invariant in
+    let broke = broke_later 1 c.args.workers c.args.until c.args.until (reached_in c.loop.before.value) _ (contents c.loop.sink) (contents c.write_rest.new.sink) c.in-Err-write_rest.fault (let some = c.requires.workers.0 in omega (arith, some)) (omega arith)
+    (c.in-Err-write_rest.ensures.broke c.args.until was.5)
+    in
+    rw c.told.ensures (told_of c.args.workers c.args.until c.loop.written (reached_in c.loop.before.value) _ (contents c.loop.sink) (contents c.write_rest.new.sink) c.in-Err-write_rest.fault broke)
 
 pub returns-in-Err-write_and_run-clause-commits : goal.returns-in-Err-write_and_run-clause-commits
 returns-in-Err-write_and_run-clause-commits g c =
     let contents = g.S.Sink.contents in
     let was = c.loop.invariant in
+    let few = c.hands-hands.ensures.1 in
+    let broke = broke_later c.hands-hands.result c.args.workers c.args.until c.args.until (reached_in c.loop.before.value) _ (contents c.loop.sink) (contents c.write_and_run.new.sink) c.in-Err-write_and_run.fault (omega (arith, few)) (omega arith)
+    (c.in-Err-write_and_run.ensures.broke c.args.until was.5)
+    in
     rw c.told-in-Err-write_and_run.ensures
-    (ended (reached_in c.args.self.now.window) (reached_in c.loop.before.value) c.loop.written _ (contents c.args.sink.now) (contents c.loop.sink) (contents c.write_and_run.new.sink) c.in-Err-write_and_run.fault was.1 c.in-Err-write_and_run.ensures.broke)
+    (ended c.args.workers c.args.until (reached_in c.args.self.now.window) (reached_in c.loop.before.value) c.loop.written _ (contents c.args.sink.now) (contents c.loop.sink) (contents c.write_and_run.new.sink) c.in-Err-write_and_run.fault was.1 broke)
+
+pub returns-in-Err-write_and_run-clause-fault : goal.returns-in-Err-write_and_run-clause-fault
+returns-in-Err-write_and_run-clause-fault g c =
+    let contents = g.S.Sink.contents in
+    let was = c.loop.invariant in
+    let few = c.hands-hands.ensures.1 in
+    let broke = broke_later c.hands-hands.result c.args.workers c.args.until c.args.until (reached_in c.loop.before.value) _ (contents c.loop.sink) (contents c.write_and_run.new.sink) c.in-Err-write_and_run.fault (omega (arith, few)) (omega arith)
+    (c.in-Err-write_and_run.ensures.broke c.args.until was.5)
+    in
+    rw c.told-in-Err-write_and_run.ensures (told_of c.args.workers c.args.until c.loop.written (reached_in c.loop.before.value) _ (contents c.loop.sink) (contents c.write_and_run.new.sink) c.in-Err-write_and_run.fault broke)
 
 pub returns-in-Err-write_and_run-clause-full : goal.returns-in-Err-write_and_run-clause-full
 returns-in-Err-write_and_run-clause-full g c =
@@ -45,18 +76,71 @@ returns-in-Err-write_and_run-clause-full g c =
     let was = c.loop.invariant in
     let mid = reached_in c.loop.before.value in
     rw c.told-in-Err-write_and_run.ensures
-    (told_full (reached_in c.args.self.now.window) mid c.loop.written c.loop.written (contents c.args.sink.now) (contents c.loop.sink) c.in-Err-write_and_run.fault was.1 (few_before mid c.loop.self was.0) c.in-Err-write_and_run.ensures.full)
+    (told_full c.args.until (reached_in c.args.self.now.window) mid c.loop.written c.loop.written (contents c.args.sink.now) (contents c.loop.sink) c.in-Err-write_and_run.fault was.1 (few_before mid c.loop.self was.0) c.in-Err-write_and_run.ensures.full)
 
 pub loop-preserved : goal.loop-preserved
 loop-preserved g c =
     let contents = g.S.Sink.contents in
     let was = c.loop.invariant in
     let wrote = c.in-Ok-write_and_run.ensures in
-    let more = wrote_more (reached_in c.args.self.now.window) (reached_in c.loop.before.value) (reached_in c.loop.self.window) c.loop.written _ (contents c.args.sink.now) (contents c.loop.sink) (contents c.write_and_run.new.sink) was.1 wrote.wrote in
+    let more = wrote_more c.args.until (reached_in c.args.self.now.window) (reached_in c.loop.before.value) (reached_in c.loop.self.window) c.loop.written _ (contents c.args.sink.now) (contents c.loop.sink) (contents c.write_and_run.new.sink) was.1 (wrote.wrote c.args.until was.5) in
+    let upto = c.min-bound.ensures in
     rw c.of-now.ensures (
       wrote.behind,
       more,
       wrote.failures ∙ was.2,
       stays_both _ _ _ was.3 wrote.stays,
       wrote.end ∙ was.4,
+      below_later c.min-bound.result c.args.until (merged c.write_and_run.new.self.sheaf).lines (omega (arith, upto)) wrote.early,
     )
+
+pub told-requires : goal.told-requires
+told-requires g c =
+    let contents = g.S.Sink.contents in
+    let was = c.loop.invariant in
+    let broke = broke_later 1 c.args.workers c.args.until c.args.until (reached_in c.loop.before.value) _ (contents c.loop.sink) (contents c.write_rest.new.sink) c.in-Err-write_rest.fault (let some = c.requires.workers.0 in omega (arith, some)) (omega arith)
+    (c.in-Err-write_rest.ensures.broke c.args.until was.5)
+    in
+    can_tell c.args.workers c.args.until (reached_in c.args.self.now.window) (reached_in c.loop.before.value) c.loop.written _ (contents c.args.sink.now) (contents c.loop.sink) (contents c.write_rest.new.sink) c.in-Err-write_rest.fault was.1 (few_before (reached_in c.loop.before.value) c.loop.self was.0) broke
+
+pub returns-in-Err-write_rest-clause-failures : goal.returns-in-Err-write_rest-clause-failures
+returns-in-Err-write_rest-clause-failures g c =
+    let contents = g.S.Sink.contents in
+    let was = c.loop.invariant in
+    let broke = broke_later 1 c.args.workers c.args.until c.args.until (reached_in c.loop.before.value) _ (contents c.loop.sink) (contents c.write_rest.new.sink) c.in-Err-write_rest.fault (let some = c.requires.workers.0 in omega (arith, some)) (omega arith)
+    (c.in-Err-write_rest.ensures.broke c.args.until was.5)
+    in
+    rw (c.told.ensures, sym was.2)
+    (c.in-Err-write_rest.ensures.failures ∙ fails_told Stop ℕ c.args.workers c.args.until c.loop.written _ c.in-Err-write_rest.fault _ _ _ _ broke)
+
+pub told-requires-in-Err-write_and_run : goal.told-requires-in-Err-write_and_run
+told-requires-in-Err-write_and_run g c =
+    let contents = g.S.Sink.contents in
+    let was = c.loop.invariant in
+    let few = c.hands-hands.ensures.1 in
+    let broke = broke_later c.hands-hands.result c.args.workers c.args.until c.args.until (reached_in c.loop.before.value) _ (contents c.loop.sink) (contents c.write_and_run.new.sink) c.in-Err-write_and_run.fault (omega (arith, few)) (omega arith)
+    (c.in-Err-write_and_run.ensures.broke c.args.until was.5)
+    in
+    can_tell c.args.workers c.args.until (reached_in c.args.self.now.window) (reached_in c.loop.before.value) c.loop.written _ (contents c.args.sink.now) (contents c.loop.sink) (contents c.write_and_run.new.sink) c.in-Err-write_and_run.fault was.1 (few_before (reached_in c.loop.before.value) c.loop.self was.0) broke
+
+pub returns-in-Err-write_and_run-clause-failures : goal.returns-in-Err-write_and_run-clause-failures
+returns-in-Err-write_and_run-clause-failures g c =
+    let contents = g.S.Sink.contents in
+    let was = c.loop.invariant in
+    let few = c.hands-hands.ensures.1 in
+    let broke = broke_later c.hands-hands.result c.args.workers c.args.until c.args.until (reached_in c.loop.before.value) _ (contents c.loop.sink) (contents c.write_and_run.new.sink) c.in-Err-write_and_run.fault (omega (arith, few)) (omega arith)
+    (c.in-Err-write_and_run.ensures.broke c.args.until was.5)
+    in
+    rw (c.told-in-Err-write_and_run.ensures, sym was.2)
+    (c.in-Err-write_and_run.ensures.failures ∙ fails_told Stop ℕ c.args.workers c.args.until c.loop.written _ c.in-Err-write_and_run.fault _ _ _ _ broke)
+
+pub overflow_add-written : goal.overflow_add-written
+overflow_add-written g c =
+    let contents = g.S.Sink.contents in
+    let was = c.loop.invariant in
+    let wrote = c.in-Ok-write_and_run.ensures.wrote c.args.until was.5 in
+    let before = reached_in c.loop.before.value in
+    let small = still_fits c.args.until (reached_in c.args.self.now.window) (reached_in c.loop.self.window) c.loop.written c.in-Ok-write_and_run.bytes (contents c.args.sink.now) (contents c.loop.sink) (contents c.write_and_run.new.sink) before
+    was.1 (few_before before c.loop.self was.0) wrote was.0.few
+    in
+    omega (arith, small)

@@ -7,7 +7,7 @@ use Rattle.window_engine.proofs.course.Course.write_in_turn.Given as goal
 abbrev pub invariant-loop : goal.invariant-loop
 invariant-loop g l =
     AtRest l.self
-    × Wrote (reached_in l.fn.self.window) (reached_in l.self.window) l.written (g.S.Sink.contents l.fn.sink) (g.S.Sink.contents l.sink)
+    × Wrote l.fn.until (reached_in l.fn.self.window) (reached_in l.self.window) l.written (g.S.Sink.contents l.fn.sink) (g.S.Sink.contents l.sink)
     × (g.S.Sink.failures l.sink ≡ g.S.Sink.failures l.fn.sink)
     × StaysNet l.fn.self.window l.self.window
     × (l.self.end ≡ l.fn.self.end)

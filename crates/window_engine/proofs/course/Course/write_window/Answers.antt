@@ -1,26 +1,46 @@
-use Rattle.std.proofs.Common.{sym}
-use Rattle.std.proofs.lemmas.Result.{IfErr-weaker}
+use Rattle.std.proofs.Common.{ap, sym, min, arith}
+use Rattle.std.proofs.lemmas.Result.{IfErr-weaker, IfOk-weaker}
 use Rattle.window_core.specs.Sheaves.{merged}
-use Rattle.window_engine.specs.Courses.{Broke}
+use Rattle.window_engine.specs.declared.course.Course.{Course}
+use Rattle.window_engine.specs.Courses.{Broke, Wrote}
 use Rattle.window_engine.specs.Edges.{reached_in}
 use Rattle.window_engine.specs.Engines.{GoesOn}
 use Rattle.window_engine.proofs.TooMany.{workers_full}
-use Rattle.window_engine.proofs.Writing.{wrote_no_more}
+use Rattle.window_engine.proofs.Writing.{broke_later, wrote_no_more}
+use Rattle.window_engine.proofs.Whole.{below_later}
 use Rattle.window_engine.proofs.course.Course.write_window.Goals as goal
 
 pub returns-in-Err-clause-broke : goal.returns-in-Err-clause-broke
 returns-in-Err-clause-broke g c =
     let was = c.requires.rest in
-    (wrote_no_more (reached_in c.args.self.now.window) c.args.self.now.position (g.S.Sink.contents c.args.sink.now) was.committed, c.in-Err.ensures.no_sink)
+    (wrote_no_more c.args.until (reached_in c.args.self.now.window) c.args.self.now.position (g.S.Sink.contents c.args.sink.now) was.committed, c.in-Err.ensures.fault)
 
 pub returns-in-Err-clause-full : goal.returns-in-Err-clause-full
 returns-in-Err-clause-full g c = rw (sym c.reclaim.ensures.same) (workers_full (reached_in c.reclaim.new.self) c.in-Err.fault c.in-Err.ensures.full)
+
+pub returns-clause-wrote : goal.returns-clause-wrote
+returns-clause-wrote g c =
+    let contents = g.S.Sink.contents in
+    let net = reached_in c.args.self.now.window in
+    let to = reached_in c.advance_apart.new.window in
+    let lines = merged c.advance_apart.new.sheaf in
+    let gone : GoesOn net lines to = rw (sym c.reclaim.ensures.same) c.in-Ok.ensures.gone in
+    let early = below_later (min c.reclaim.new.self.until c.args.until) c.args.until lines.lines (omega arith) c.in-Ok.ensures.early in
+    let window = ap (λ (x : Course). x.window) c.put_made.ensures.rest in
+    IfOk-weaker c.put_made.result _ (λ bytes. Wrote c.args.until net (reached_in c.put_made.new.self.window) bytes (contents c.args.sink.now) (contents c.put_made.new.sink))
+    (λ bytes wrote. rw window (wrote c.args.until net to early gone)) c.put_made.ensures.wrote
 
 pub returns-clause-broke : goal.returns-clause-broke
 returns-clause-broke g c =
     let contents = g.S.Sink.contents in
     let was = c.requires.rest in
     let net = reached_in c.args.self.now.window in
-    let gone : GoesOn net (merged c.advance_apart.new.sheaf) (reached_in c.advance_apart.new.window) = rw (sym c.reclaim.ensures.same) c.in-Ok.ensures.gone in
-    IfErr-weaker c.put_made.result _ (Broke net c.put_made.new.self.position (contents c.args.sink.now) (contents c.put_made.new.sink))
-    (λ fault broke. broke net (reached_in c.advance_apart.new.window) gone was.committed) c.put_made.ensures.broke
+    let to = reached_in c.advance_apart.new.window in
+    let lines = merged c.advance_apart.new.sheaf in
+    let gone : GoesOn net lines to = rw (sym c.reclaim.ensures.same) c.in-Ok.ensures.gone in
+    let early = below_later (min c.reclaim.new.self.until c.args.until) c.args.until lines.lines (omega arith) c.in-Ok.ensures.early in
+    let some = c.requires.workers.0 in
+    IfErr-weaker c.put_made.result _ (Broke c.args.workers c.args.until net c.put_made.new.self.position (contents c.args.sink.now) (contents c.put_made.new.sink))
+    (λ fault broke.
+    broke_later 1 c.args.workers c.args.until c.args.until net c.put_made.new.self.position (contents c.args.sink.now) (contents c.put_made.new.sink) fault (omega (arith, some)) (omega arith)
+    (broke c.args.until net to early gone was.committed)) c.put_made.ensures.broke

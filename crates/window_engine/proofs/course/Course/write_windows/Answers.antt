@@ -9,4 +9,4 @@ returns-in_default-clause-commits g c =
     let now = c.args.self.now in
     let net = reached_in now.window in
     let known = g.S.Sink.contents c.args.sink.now in
-    ended net net 0 (record { state = edge_of now.window; position = now.position }) known known known (Workers NoMemory) (wrote_none net known) (wrote_no_more net now.position known c.requires.rest.committed, tt)
+    ended c.args.workers c.args.until net net 0 (record { state = edge_of now.window; position = now.position }) known known known (Workers NoMemory) (wrote_none c.args.until net known) (wrote_no_more c.args.until net now.position known c.requires.rest.committed, tt)

@@ -7,7 +7,7 @@ use Rattle.window_engine.proofs.Between.{commits_none, net_is}
 use Rattle.window_engine.proofs.engine.Engine.run.Goals as goal
 
 pub returns-then-self-clause-commits : goal.returns-then-self-clause-commits
-returns-then-self-clause-commits g c = commits_none c.args.self.now.net (g.S.Sink.contents c.args.sink.now)
+returns-then-self-clause-commits g c = commits_none c.args.until c.args.self.now.net (g.S.Sink.contents c.args.sink.now)
 
 pub returns-clause-full : goal.returns-clause-full
 returns-clause-full g c =
