@@ -1,7 +1,14 @@
-//! What each code of a refusal means: the rule, an example that is refused, and the same mended.
+//! What each code of a refusal means: the rule, an example that is refused, and the same mended; and
+//! what shows first that the parts of an input are refused for it.
 #![tactic(auto)]
 
 mod codes;
+mod image;
+mod telling;
 mod texts;
+pub mod witness;
 
 pub use codes::{list_codes, text_of};
+pub use image::image_parts;
+pub use telling::{Names, tell_witness};
+pub use witness::{Witness, first_witness};

@@ -52,7 +52,7 @@ Right is:
     "E3: the statement has another number of words
 
 With its first word, `sim` has 2 words, `node` 3, `link` 8 with droptail and 11 with codel, `flow` 9,
-`route` 4 and `lose` 3.
+or 11 with its sender's two words, `route` 4 and `lose` 3.
 
 Refused, with the note `refused E3 line 2`:
 
@@ -75,7 +75,8 @@ Right is:
     "E4: a word has the wrong form: it is no number, no name, or none of the fixed words, where one is asked
 
 A number is decimal digits without a leading zero; zero itself is 0. A name is a small letter and
-then up to 14 small letters or digits. Fixed words are sender, receiver, router, droptail and codel.
+then up to 14 small letters or digits. Fixed words are sender, receiver, router, droptail and codel, and
+the last two of a flow that has them: reno or newreno, then iw3 or iw10.
 
 Refused, with the note `refused E4 line 1`:
 
@@ -230,28 +231,30 @@ header is damaged. An input that begins with the bytes TCB is an image.
 
 Refused, with the note `refused L1`, where one.txt is the text that `tcpsim explain E2` ends with:
 
-    $ tcpsim asm one.txt | head -c 133 | tcpsim run
+    $ tcpsim asm one.txt | head -c 134 | tcpsim run
 
 Right is:
 
     $ tcpsim asm one.txt | tcpsim run
 ",
-    "L2: the first four bytes are not `TCB1`
+    "L2: the first four bytes are neither `TCB1` nor `TCB2`
 
-An input that begins with TCB is an image, and 1 is the one version that there is.
+An input that begins with TCB is an image, and then comes its version. `tcpsim asm` writes version 2; in
+version 1 no flow has a byte for its sender, and each is reno iw3.
 
 Refused, with the note `refused L2`, where one.txt is the text that `tcpsim explain E2` ends with:
 
-    $ { printf TCB2; tcpsim asm one.txt | tail -c +5; } | tcpsim run
+    $ { printf TCB3; tcpsim asm one.txt | tail -c +5; } | tcpsim run
 
 Right is:
 
-    $ { printf TCB1; tcpsim asm one.txt | tail -c +5; } | tcpsim run
+    $ { printf TCB2; tcpsim asm one.txt | tail -c +5; } | tcpsim run
 ",
     "L3: a flow starts at END or later; there are fewer than two nodes, no link, or no flow
 
 In a text these show when all lines are read, so the line is 0. In an image, whose numbers have no
-lines, L3 is every number out of its range, and a number of a node or link that there is not.
+lines, L3 is every number out of its range, a number of a node or link that there is not, and a flow's
+last byte above 3 in version 2.
 
 Refused, with the note `refused L3 line 0`:
 

@@ -1,0 +1,51 @@
+-- A walk along a way.
+use Rattle.std.proofs.lemmas.Option.{same_Some}
+use Rattle.std.proofs.Common.{◌≡◌, ◌⊎◌, inl, inr, length-append, add-one, ℕ, zero, suc, ◌+◌, List, [], ◌∷◌, ◌++◌, length, Some, arith, refl, ap, sym, ◌∙◌, subst}
+use Rattle.std.specs.List.{slice_get}
+use Rattle.std.specs.Option.{option_and_then}
+use Rattle.scenario_image.specs.Kinds.{link_target}
+use Rattle.scenario_image.specs.Ways.{hop_link, next_node, node_after}
+use Rattle.scenario_image.specs.declared.parts.ScenarioParts.{ScenarioParts}
+use Rattle.scenario_image.specs.declared.ways.Way.{Way}
+use Rattle.explanations.specs.Witness.{ArePassed}
+
+-- where the walk is after so many hops, and what it passed before
+pub record Walk (parts : ScenarioParts) (way : Way) (hops from : ℕ) (passed : List ℕ) : Type 0 where
+  pub at_from : node_after parts way hops ≡ Some from
+  pub count : length passed ≡ hops
+  pub nodes : ArePassed parts way passed
+
+-- before the first hop
+pub walk_none : (parts : ScenarioParts) (way : Way) (passed : List ℕ) → passed ≡ [] → Walk parts way 0 way.start passed
+walk_none parts way passed none =
+    record { at_from = refl; count = ap length none; nodes = λ hops node found. absurd (let P : List ℕ → Type 0 = λ l. slice_get l hops ≡ Some node in let there : slice_get [] hops ≡ Some node = subst P none found in cc) }
+
+-- a node at the end of a list
+last_or_before : {X : Type 0} (xs : List X) (x y : X) (k : ℕ) → slice_get (xs ++ x ∷ []) k ≡ Some y → (slice_get xs k ≡ Some y) ⊎ ((k ≡ length xs) × (x ≡ y))
+last_or_before [] x y zero found = inr (refl, same_Some x y found)
+last_or_before [] x y (suc k) found = inl found
+last_or_before (z ∷ xs) x y zero found = inl found
+last_or_before (z ∷ xs) x y (suc k) found =
+    elim (last_or_before xs x y k found) [
+      | inl before ↦ inl before
+      | inr last ↦ inr (let is = last.0 in omega arith, last.1)
+    ]
+
+-- with the node where it is
+pub passed_more : (parts : ScenarioParts) (way : Way) (hops from : ℕ) (passed new : List ℕ) → Walk parts way hops from passed → new ≡ passed ++ from ∷ [] → ArePassed parts way new
+passed_more parts way hops from passed new walk is k node found =
+    let P : List ℕ → Type 0 = λ l. slice_get l k ≡ Some node in
+    elim (last_or_before passed from node k (subst P is found)) [
+      | inl before ↦ walk.nodes k node before
+      | inr last ↦ (let Q : ℕ → Type 0 = λ n. node_after parts way n ≡ Some node in subst Q (sym (last.0 ∙ walk.count)) (walk.at_from ∙ ap (λ n. Some n) last.1))
+    ]
+
+-- after one more hop
+pub walk_more : (parts : ScenarioParts) (way : Way) (hops from link node : ℕ) (passed new : List ℕ) → Walk parts way hops from passed → new ≡ passed ++ from ∷ [] → hop_link parts way from ≡ Some link → link_target parts.links link ≡ Some node → Walk parts way (hops + 1) node new
+walk_more parts way hops from link node passed new walk is over comes =
+    let next : next_node parts way from ≡ Some node = ap (option_and_then (link_target parts.links)) over ∙ comes in
+    record {
+      at_from = ap (λ n. node_after parts way n) (add-one hops) ∙ (ap (option_and_then (next_node parts way)) walk.at_from ∙ next);
+      count = ap length is ∙ (length-append passed (from ∷ []) ∙ ap (λ n. n + 1) walk.count);
+      nodes = passed_more parts way hops from passed new walk is;
+    }

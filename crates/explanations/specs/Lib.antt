@@ -1,0 +1,2 @@
+pub mod Witness
+pub use Rattle.scenario_image.specs.Fault
