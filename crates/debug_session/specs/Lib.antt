@@ -4,3 +4,4 @@ pub mod Answers
 pub mod Sessions
 pub mod Taking
 pub mod Told
+pub mod Prompt

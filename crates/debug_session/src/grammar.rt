@@ -75,7 +75,7 @@ pub fn number_below(word: &[u8], bound: u64) -> Option<u64>
 }
 
 /// The only word of a line.
-fn one_word(line: &[u8]) -> Option<&[u8]>
+pub(crate) fn one_word(line: &[u8]) -> Option<&[u8]>
     ensures { MatchOption result (length (words_in line.now) ≢ 1) (λ word. words_in line.now ≡ word.now ∷ []) }
 {
     let (word, rest) = next_word(line)?;

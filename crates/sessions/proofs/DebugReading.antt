@@ -6,12 +6,14 @@ use Rattle.sessions.specs.declared.subcommand.Asked.{Asked}
 use Rattle.sessions.specs.declared.subcommand.Asked.TheVariants.{Session, Explanation}
 use Rattle.sessions.specs.declared.subcommand.Task.{Task}
 use Rattle.sessions.specs.declared.subcommand.Task.TheVariants.{Scenario, Debug}
-use Rattle.sessions.specs.Asked.{IsTaskOnFile, IsExplanation, IsNamedOn, IsAskedOn}
+use Rattle.sessions.specs.Asked.{IsTaskOnFile, IsOverFile, IsExplanation, IsNamedOn, IsAskedOn}
 use Rattle.sessions.specs.CommandLine.{IsExplained}
 use Rattle.sessions.specs.Debug.{IsDebugSession, IsDebugSessionOn, IsTaskOn}
 use Rattle.sessions.specs.Ended.{Ended, IsReadFault, reads_after, writes_after}
+use Rattle.sessions.specs.Prompt.{IsPromptOn}
 use Rattle.sessions.specs.Streams.{Streams, IsInputOf}
 use Rattle.sessions.proofs.DebugEnds.{unread_input}
+use Rattle.sessions.proofs.Prompting.{none_typed}
 use Rattle.sessions.proofs.Reading.{hindered_text, reads_stay, writes_stay, unread}
 use Rattle.window_engine.specs.Failures.{counted}
 use Rattle.window_engine.proofs.Bytes.{appends_nothing}
@@ -54,15 +56,26 @@ task_never_begun task known before after same =
 pub file_never_begun : (task : Task) (file : List ℕ) (known : Option (List ℕ)) (before after : Streams) → after ≡ before → IsTaskOnFile task file known (Err NoMemory) before after
 file_never_begun task file known before after same = record { ended = Err NoMemory; is_told = refl; session = task_never_begun task known before after same }
 
+-- or at a prompt
+prompt_never_begun : (groups file : List ℕ) (known : Option (List ℕ)) (before after : Streams) → after ≡ before → IsPromptOn groups file known (Err NoMemory) before after
+prompt_never_begun groups file known before after same =
+    let unread = hindered_text known NoMemory (λ text. tt) in
+    subst (λ streams. IsPromptOn groups file known (Err NoMemory) before streams) (sym same)
+    (record { input = unread.0; given = unread.1; ending = record { untyped = none_typed before.typed; unwritten = refl }; reads = refl; writes = refl })
+
+over_file_never_begun : (task : Task) (file : List ℕ) (known : Option (List ℕ)) (before after : Streams) → after ≡ before → IsOverFile task file known (Err NoMemory) before after
+over_file_never_begun (Scenario subcommand) file known before after same = file_never_begun (Scenario subcommand) file known before after same
+over_file_never_begun (Debug sharing) file known before after same = prompt_never_begun sharing.groups file known before after same
+
 -- and of all that may be asked for
 named_never_begun : (task : Task) (file : Option (List ℕ)) (known : Option (List ℕ)) (bytes_of : List ℕ → Option (List ℕ)) (before after : Streams) → after ≡ before
     → IsNamedOn task file known bytes_of (Err NoMemory) before after
 named_never_begun task None known bytes_of before after same = task_never_begun task known before after same
 named_never_begun task (Some file) known bytes_of before after same = go (bytes_eq file (codes "-"))
   where
-    go : (b : Bool) → MatchBool b (IsTaskOn task known (Err NoMemory) before after) (IsTaskOnFile task file (bytes_of file) (Err NoMemory) before after)
+    go : (b : Bool) → MatchBool b (IsTaskOn task known (Err NoMemory) before after) (IsOverFile task file (bytes_of file) (Err NoMemory) before after)
     go true = task_never_begun task known before after same
-    go false = file_never_begun task file (bytes_of file) before after same
+    go false = over_file_never_begun task file (bytes_of file) before after same
 
 pub asked_never_begun : (asked : Asked) (known : Option (List ℕ)) (bytes_of : List ℕ → Option (List ℕ)) (before after : Streams) → after ≡ before → IsAskedOn asked known bytes_of (Err NoMemory) before after
 asked_never_begun (Session task file wishes) known bytes_of before after same = named_never_begun task file known bytes_of before after same

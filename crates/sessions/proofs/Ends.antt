@@ -3,6 +3,7 @@ use Rattle.std.proofs.Common.{◌≡◌, ◌⊎◌, inl, inr, ℕ, zero, suc, �
 use Rattle.std.specs.Option.{option_map, option_and_then}
 use Rattle.scenario_image.specs.Image.{image}
 use Rattle.scenario_image.specs.declared.parts.ScenarioParts.{ScenarioParts}
+use Rattle.scenario_image.specs.declared.version.Version.TheVariants.{Two}
 use Rattle.scenario_asm.specs.CanonicalText.{canonical_text}
 use Rattle.table_run.specs.State.{State, opening, run, step, one_more}
 use Rattle.node_core.specs.TraceLine.{TraceLine}
@@ -109,7 +110,7 @@ one_shared groups parts ended other out out' free made due = one_shared_run grou
 
 one_output : (subcommand : Subcommand) (parts : ScenarioParts) (ended other : Ended) (out out' : List ℕ) → ¬ IsHindered other → IsOutput subcommand parts ended out → IsOutput subcommand parts other out'
     → (ended ≡ other) ⊎ IsHindered ended
-one_output Asm parts ended other out out' free made due = one_whole (image parts) ended other out out' free made due
+one_output Asm parts ended other out out' free made due = one_whole (image Two parts) ended other out out' free made due
 one_output Dis parts ended other out out' free made due = one_whole (canonical_text parts) ended other out out' free made due
 one_output (Run sharing) parts ended other out out' free made due = one_shared sharing.groups parts ended other out out' free made due
 
@@ -143,7 +144,7 @@ shared_end groups parts (Err NoMemory) out made = tt
 shared_end groups parts ended out made = run_end (opening parts) ended out made.1
 
 output_end : (subcommand : Subcommand) (parts : ScenarioParts) (ended : Ended) (out : List ℕ) → IsOutput subcommand parts ended out → IsOutputEnd ended
-output_end Asm parts ended out made = whole_end (image parts) ended out made
+output_end Asm parts ended out made = whole_end (image Two parts) ended out made
 output_end Dis parts ended out made = whole_end (canonical_text parts) ended out made
 output_end (Run sharing) parts ended out made = shared_end sharing.groups parts ended out made
 

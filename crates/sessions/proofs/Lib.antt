@@ -9,8 +9,11 @@ pub mod NoKinds
 pub mod OptionRows
 pub mod OptionWalk
 pub mod Naming
+pub mod Requests
 pub mod Readings
 pub mod Commands
 pub mod GroupTexts
 pub mod Worked
 pub mod Shared
+pub mod Prompting
+pub mod PromptEnds

@@ -77,7 +77,7 @@ inside words none =
 abbrev found_at : List Text → Option Shape → Option (Text × List Row)
 found_at rest = option_map (λ (s : Shape). rows_at s rest)
 
-abbrev fault_at : List Text → Option Shape → Kinds
+abbrev pub fault_at : List Text → Option Shape → Kinds
 fault_at rest found = option_map_or (λ (s : Shape). level_fault s [] nothing_held rest false []) found []
 
 -- what was found is a subcommand's

@@ -37,9 +37,9 @@ progress = filled progress_rule
 abbrev pub explain : Rule
 explain = filled explain_rule
 
--- the rules of a subcommand that takes the options only, and of one that takes a file and two flags too
+-- the rules of a subcommand that takes the options and a file, and of one that takes two flags too
 abbrev pub shared_rules : List Rule
-shared_rules = workers ∷ groups ∷ help ∷ []
+shared_rules = workers ∷ groups ∷ file ∷ help ∷ []
 
 abbrev pub run_rules : List Rule
 run_rules = workers ∷ groups ∷ file ∷ progress ∷ explain ∷ help ∷ []
@@ -170,13 +170,14 @@ abbrev pub AreUsable : List Rule → Type 0
 AreUsable rules = (test : Rule → Bool) → IfSome (find test rules) Usable
 
 pub shared_usable : AreUsable shared_rules
-shared_usable test = go (test workers) (test groups) (test help)
+shared_usable test = go (test workers) (test groups) (test file) (test help)
   where
-    go : (a b c : Bool) → IfSome (cond a (Some workers) (cond b (Some groups) (cond c (Some help) None))) Usable
-    go true b c = workers_usable
-    go false true c = groups_usable
-    go false false true = help_usable
-    go false false false = tt
+    go : (a b c d : Bool) → IfSome (cond a (Some workers) (cond b (Some groups) (cond c (Some file) (cond d (Some help) None)))) Usable
+    go true b c d = workers_usable
+    go false true c d = groups_usable
+    go false false true d = file_usable
+    go false false false true = help_usable
+    go false false false false = tt
 
 pub run_usable : AreUsable run_rules
 run_usable test = go (test workers) (test groups) (test file) (test progress) (test explain) (test help)
@@ -258,7 +259,9 @@ abbrev Both : List Row → Type 0
 Both rows = Has workers rows × Has groups rows
 
 pub shared_there : AreThere shared_rules
-shared_there rows fine = subst Both (sym (default_help (with_default (with_default rows workers) groups))) (both_first rows fine)
+shared_there rows fine =
+    let two : List Row = with_default (with_default rows workers) groups in
+    subst Both (sym (default_help (with_default two file))) (subst Both (sym (default_file two)) (both_first rows fine))
 
 -- a flag that was not used has a row of its default
 flag_default : (a : Rule) (rows : List Row) → Both rows → Both (if has_row a.id rows then rows else with_values a.id (reading_by a) DefaultValue (codes "false" ∷ []) rows)

@@ -3,7 +3,7 @@ use mathlib.Core.Bool.{false≢true}
 use Rattle.std.proofs.Common.{◌≡◌, ◌⊎◌, inl, inr, ℕ, Bool, true, false, MatchBool, List, [], ◌∷◌, Result, Ok, Err, IfOk, IfErr, IsErrOf, refl, sym, ◌∙◌, ap, subst}
 use Rattle.std.specs.Result.{is_ok, result_ok, result_err}
 use Rattle.scenario_image.specs.Fault.{IsFirstNotFree}
-use Rattle.scenario_image.specs.Image.{image}
+use Rattle.scenario_image.specs.Image.{IsImage}
 use Rattle.scenario_image.specs.ImageFault.{IsFirstByteFault, AreBytesFreeOf, judged_byte_faults}
 use Rattle.scenario_image.specs.Scenario.{IsScenario}
 use Rattle.scenario_image.specs.declared.fault.LoadFault.{LoadFault}
@@ -43,8 +43,8 @@ SameMade made other = made ≡ other
 
 -- what the loader says of bytes
 pub record Loads (bytes : List ℕ) (loaded : Result ScenarioParts LoadFault) : Type 0 where
-  pub ok : IfOk loaded (λ parts. bytes ≡ image parts)
-  pub only : (parts : ScenarioParts) → IsScenario parts → bytes ≡ image parts → IfOk loaded (λ other. other ≡ parts) × IfErr loaded (λ fault. fault ≡ image_NoMemory)
+  pub ok : IfOk loaded (IsImage bytes)
+  pub only : (parts : ScenarioParts) → IsScenario parts → IsImage bytes parts → IfOk loaded (λ other. other ≡ parts) × IfErr loaded (λ fault. fault ≡ image_NoMemory)
   pub fault : IfErr loaded (λ fault. (fault ≡ image_NoMemory) ⊎ IsFirstByteFault bytes fault)
   pub only_fault : (fault : LoadFault) → IsFirstByteFault bytes fault → IsErrOf loaded fault ⊎ IsErrOf loaded image_NoMemory
 

@@ -50,7 +50,7 @@ pub runs_nothing : (old : Reached) (known : Option (List ℕ)) → old.position 
 runs_nothing old known is = record { lines = []; state = old.state; is_run = refl; position_is = is; state_is = refl; takes = appends_nothing known }
 
 -- a call of the engine more
-pub runs_on : (s : State) (stop : Stop) (mid : Reached) (r : Result Stop EngineFault) (new : Reached) (a b c : Option (List ℕ)) → RunsTo s (Ok stop) mid a b → Commits mid r new b c → RunsTo s r new a c
+pub runs_on : {until : ℕ} (s : State) (stop : Stop) (mid : Reached) (r : Result Stop EngineFault) (new : Reached) (a b c : Option (List ℕ)) → RunsTo s (Ok stop) mid a b → Commits until mid r new b c → RunsTo s r new a c
 runs_on s stop mid r new a b c to commits =
     let n = length to.lines in
     let m = length commits.lines in
@@ -70,7 +70,7 @@ pub any_stop : (s : State) (one other : Stop) (new : Reached) (a b : Option (Lis
 any_stop s one other new a b to = record { lines = to.lines; state = to.state; is_run = to.is_run; position_is = to.position_is; state_is = to.state_is; takes = to.takes }
 
 -- a call of the engine from the beginning
-pub from_start : (old : Reached) (r : Result Stop EngineFault) (new : Reached) (a b : Option (List ℕ)) → old.position ≡ 0 → Commits old r new a b → RunsTo old.state r new a b
+pub from_start : {until : ℕ} (old : Reached) (r : Result Stop EngineFault) (new : Reached) (a b : Option (List ℕ)) → old.position ≡ 0 → Commits until old r new a b → RunsTo old.state r new a b
 from_start old r new a b is commits = runs_on old.state End old r new a a b (runs_nothing old a is) commits
 
 -- a run that has too many events from here has too many from its beginning

@@ -3,9 +3,11 @@ use Rattle.std.specs.Prelude.{◌≡◌, ℕ, List, MatchBool, codes, bytes_eq, 
 use Rattle.sessions.specs.declared.subcommand.Asked.{Asked}
 use Rattle.sessions.specs.declared.subcommand.Asked.TheVariants.{Session, Explanation}
 use Rattle.sessions.specs.declared.subcommand.Task.{Task}
+use Rattle.sessions.specs.declared.subcommand.Task.TheVariants.{Scenario, Debug}
 use Rattle.sessions.specs.CommandLine.{IsExplained}
 use Rattle.sessions.specs.Debug.{IsTaskOn}
 use Rattle.sessions.specs.Ended.{Ended, IsToldOf, writes_after}
+use Rattle.sessions.specs.Prompt.{IsPromptOn}
 use Rattle.sessions.specs.Streams.{Streams}
 use Rattle.sessions.specs.Written.{Writes}
 
@@ -14,6 +16,11 @@ pub record IsTaskOnFile (task : Task) (file : List ℕ) (known : Option (List �
   pub ended : Ended
   pub is_told : IsToldOf file ended told
   pub session : IsTaskOn task known ended before after
+
+-- a task over the file of this name: a debugging session takes its scenario from there, and its commands are typed
+abbrev pub IsOverFile : Task → List ℕ → Option (List ℕ) → Ended → Streams → Streams → Type 0
+IsOverFile (Scenario subcommand) file known told before after = IsTaskOnFile (Scenario subcommand) file known told before after
+IsOverFile (Debug sharing) file known told before after = IsPromptOn sharing.groups file known told before after
 
 -- a code was explained, or all were listed; nothing was read
 pub record IsExplanation (code : Option (List ℕ)) (ended : Ended) (before after : Streams) : Type 0 where
@@ -24,7 +31,7 @@ pub record IsExplanation (code : Option (List ℕ)) (ended : Ended) (before afte
 -- the session of a task over the input that is named: standard input, where none is or `-`, which gives the first bytes where they are known; or a file, of which a name tells them
 abbrev pub IsNamedOn : Task → Option (List ℕ) → Option (List ℕ) → (List ℕ → Option (List ℕ)) → Ended → Streams → Streams → Type 0
 IsNamedOn task None known bytes_of ended before after = IsTaskOn task known ended before after
-IsNamedOn task (Some file) known bytes_of ended before after = MatchBool (bytes_eq file (codes "-")) (IsTaskOn task known ended before after) (IsTaskOnFile task file (bytes_of file) ended before after)
+IsNamedOn task (Some file) known bytes_of ended before after = MatchBool (bytes_eq file (codes "-")) (IsTaskOn task known ended before after) (IsOverFile task file (bytes_of file) ended before after)
 
 -- what the words ask for was done and ended so
 abbrev pub IsAskedOn : Asked → Option (List ℕ) → (List ℕ → Option (List ℕ)) → Ended → Streams → Streams → Type 0

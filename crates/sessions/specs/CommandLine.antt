@@ -61,6 +61,10 @@ file_shape name = record (new_shape name) { rules = file_rule ∷ explain_rule �
 abbrev pub sharing_shape : List ℕ → Shape
 sharing_shape name = record (new_shape name) { rules = workers_rule ∷ groups_rule ∷ [] }
 
+-- a subcommand that takes both options and a file
+abbrev pub debug_shape : List ℕ → Shape
+debug_shape name = record (new_shape name) { rules = workers_rule ∷ groups_rule ∷ file_rule ∷ [] }
+
 -- a subcommand that takes both options, a file and both flags
 abbrev pub run_shape : List ℕ → Shape
 run_shape name = record (new_shape name) { rules = workers_rule ∷ groups_rule ∷ file_rule ∷ progress_rule ∷ explain_rule ∷ [] }
@@ -76,9 +80,9 @@ pub record IsBelow (shape : Shape) (command : Command) : Type 0 where
 
 -- the program without the subcommand that takes a code
 abbrev pub sessions_program : App
-sessions_program = with_subcommand (with_subcommand (with_subcommand (with_subcommand top_program (file_shape (codes "asm"))) (file_shape (codes "dis"))) (run_shape (codes "run"))) (sharing_shape (codes "debug"))
+sessions_program = with_subcommand (with_subcommand (with_subcommand (with_subcommand top_program (file_shape (codes "asm"))) (file_shape (codes "dis"))) (run_shape (codes "run"))) (debug_shape (codes "debug"))
 
--- the program with its subcommands: two that take a file, one that is shared out and told of as well, one that is shared out only, and one that takes a code
+-- the program with its subcommands: two that take a file, one that is shared out and told of as well, one that is shared out, and one that takes a code
 abbrev pub program : App
 program = with_subcommand sessions_program (code_shape (codes "explain"))
 
@@ -154,6 +158,8 @@ pub record WordsOfSubcommands : Type 0 where
   pub run_shared : AskFor (codes "tcpsim" ∷ codes "run" ∷ codes "--workers" ∷ codes "3" ∷ codes "--groups=0,1" ∷ []) (of_input (Scenario (Run shared)))
   pub debug : AskFor (codes "tcpsim" ∷ codes "debug" ∷ []) (of_input (Debug alone))
   pub debug_shared : AskFor (codes "tcpsim" ∷ codes "debug" ∷ codes "--groups" ∷ codes "0,1" ∷ codes "--workers=+3" ∷ []) (of_input (Debug shared))
+  pub debug_file : AskFor (codes "tcpsim" ∷ codes "debug" ∷ codes "a.txt" ∷ codes "--workers=3" ∷ codes "--groups=0,1" ∷ []) (Session (Debug shared) (Some (codes "a.txt")) no_wishes)
+  pub debug_dash : AskFor (codes "tcpsim" ∷ codes "debug" ∷ codes "-" ∷ []) (Session (Debug alone) (Some (codes "-")) no_wishes)
   pub asm_file : AskFor (codes "tcpsim" ∷ codes "asm" ∷ codes "a.txt" ∷ []) (Session (Scenario Asm) (Some (codes "a.txt")) no_wishes)
   pub dis_file : AskFor (codes "tcpsim" ∷ codes "dis" ∷ codes "-" ∷ []) (Session (Scenario Dis) (Some (codes "-")) no_wishes)
   pub run_file : AskFor (codes "tcpsim" ∷ codes "run" ∷ codes "--workers" ∷ codes "3" ∷ codes "a.txt" ∷ codes "--groups=0,1" ∷ []) (Session (Scenario (Run shared)) (Some (codes "a.txt")) no_wishes)
@@ -175,6 +181,17 @@ AskForText words = (kind : ErrorKind) × (word_faults words ≡ kind ∷ []) × 
 pub record AreMistaken (words : List (List ℕ)) : Type 0 where
   pub faulty : word_faults words ≢ []
   pub no_request : (kind : ErrorKind) → IsRequest kind → ¬ IsAmong kind (word_faults words)
+
+-- words ask for a subcommand, are mistaken or ask for a text, and are but one of these
+pub record HaveOneAnswer (words : List (List ℕ)) : Type 0 where
+  pub some : ((asked : Asked) × AskFor words asked) ⊎ (AreMistaken words ⊎ AskForText words)
+  pub not_mistaken : (asked : Asked) → AskFor words asked → ¬ AreMistaken words
+  pub not_shown : (asked : Asked) → AskFor words asked → ¬ AskForText words
+  pub no_request : AreMistaken words → ¬ AskForText words
+
+-- all words have one answer
+abbrev pub WordsHaveOneAnswer : Type 0
+WordsHaveOneAnswer = (words : List (List ℕ)) → HaveOneAnswer words
 
 -- mistaken words are refused for a fault that they have, or memory was refused
 abbrev pub IsRefusal : List (List ℕ) → Ended → Type 0
@@ -204,11 +221,11 @@ pub record WordsOfText : Type 0 where
   pub explain_help : AskForText (codes "tcpsim" ∷ codes "explain" ∷ codes "--help" ∷ [])
   pub version : AskForText (codes "tcpsim" ∷ codes "--version" ∷ [])
 
--- mistaken are the program's name alone, a second file, a file of `debug`, workers below 1 or above 64, an option of `asm`, the flag of a run behind `debug`, and a second code
+-- mistaken are the program's name alone, a second file, also one of `debug`, workers below 1 or above 64, an option of `asm`, the flag of a run behind `debug`, and a second code
 pub record WordsOfMistake : Type 0 where
   pub nothing_else : AreMistaken (codes "tcpsim" ∷ [])
   pub two_files : AreMistaken (codes "tcpsim" ∷ codes "run" ∷ codes "once" ∷ codes "twice" ∷ [])
-  pub debug_file : AreMistaken (codes "tcpsim" ∷ codes "debug" ∷ codes "a.txt" ∷ [])
+  pub debug_files : AreMistaken (codes "tcpsim" ∷ codes "debug" ∷ codes "a.txt" ∷ codes "b.txt" ∷ [])
   pub no_worker : AreMistaken (codes "tcpsim" ∷ codes "run" ∷ codes "--workers" ∷ codes "0" ∷ [])
   pub many_workers : AreMistaken (codes "tcpsim" ∷ codes "debug" ∷ codes "--workers" ∷ codes "65" ∷ [])
   pub asm_is_not_shared : AreMistaken (codes "tcpsim" ∷ codes "asm" ∷ codes "--groups" ∷ codes "one" ∷ [])

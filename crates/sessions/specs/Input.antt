@@ -1,7 +1,7 @@
 -- What an input means: it is an image or a text, and has a scenario or a fault.
 use Rattle.std.specs.Prelude.{◌≡◌, ◌⊎◌, ℕ, Bool, MatchBool, List, codes, nat_eq, Result, Ok, Err, IfOk, IfErr}
 use Rattle.std.specs.List.{starts_with}
-use Rattle.scenario_image.specs.Image.{image}
+use Rattle.scenario_image.specs.Image.{IsImage}
 use Rattle.scenario_image.specs.ImageFault.{IsFirstByteFault}
 use Rattle.scenario_image.specs.Scenario.{IsScenario}
 use Rattle.scenario_image.specs.declared.parts.ScenarioParts.{ScenarioParts}
@@ -13,9 +13,9 @@ use Rattle.sessions.specs.declared.fault.SessionFault.TheVariants.{Refused, Refu
 abbrev pub is_image : List ℕ → Bool
 is_image input = starts_with nat_eq input (codes "TCB")
 
--- the bytes are the image of a scenario
+-- the bytes are an image of a scenario, of one version or the other
 abbrev pub IsImageOf : List ℕ → ScenarioParts → Type 0
-IsImageOf bytes parts = IsScenario parts × (bytes ≡ image parts)
+IsImageOf bytes parts = IsScenario parts × IsImage bytes parts
 
 -- the scenario of an input: the one that the image has, or that the text means
 abbrev pub HasScenario : List ℕ → ScenarioParts → Type 0

@@ -1,6 +1,7 @@
 pub mod Written
 pub mod Streams
 pub mod Over
+pub mod Typed
 pub mod Faults
 pub mod Trace
 pub mod Ended
@@ -15,6 +16,8 @@ pub mod Input
 pub mod Output
 pub mod Session
 pub mod Debug
+pub mod Prompt
+pub mod Turns
 pub mod CommandLine
 pub mod Asked
 pub mod Given

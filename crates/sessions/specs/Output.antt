@@ -2,6 +2,7 @@
 use Rattle.std.specs.Prelude.{◌≡◌, ◌⊎◌, ℕ, List, [], Ok, Err}
 use Rattle.scenario_image.specs.Image.{image}
 use Rattle.scenario_image.specs.declared.parts.ScenarioParts.{ScenarioParts}
+use Rattle.scenario_image.specs.declared.version.Version.TheVariants.{Two}
 use Rattle.scenario_asm.specs.CanonicalText.{canonical_text}
 use Rattle.table_run.specs.State.{opening}
 use Rattle.sessions.specs.declared.fault.SessionFault.TheVariants.{WriteFailed, NoMemory, Groups}
@@ -24,8 +25,8 @@ IsSharedOutput groups parts (Err Groups) out = ¬ HasGroups groups parts × (out
 IsSharedOutput groups parts (Err NoMemory) out = (out ≡ []) ⊎ (HasGroups groups parts × IsRunOutput (opening parts) (Err NoMemory) out)
 IsSharedOutput groups parts ended out = HasGroups groups parts × IsRunOutput (opening parts) ended out
 
--- what a subcommand that ended so has written of a scenario: the image, the canonical text, or the trace of its run
+-- what a subcommand that ended so has written of a scenario: the image of version 2, the canonical text, or the trace of its run
 abbrev pub IsOutput : Subcommand → ScenarioParts → Ended → List ℕ → Type 0
-IsOutput Asm parts ended out = IsAllOrNothing (image parts) ended out
+IsOutput Asm parts ended out = IsAllOrNothing (image Two parts) ended out
 IsOutput Dis parts ended out = IsAllOrNothing (canonical_text parts) ended out
 IsOutput (Run sharing) parts ended out = IsSharedOutput sharing.groups parts ended out

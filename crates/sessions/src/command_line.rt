@@ -5,7 +5,7 @@ ghost use Rattle.clap.specs.declared.builder.command.Command.TheViews.{out-Comma
 ghost use Rattle.clap.specs.Kinds.{FailsBy};
 ghost use Rattle.clap.specs.Matches.{found_of};
 ghost use Rattle.clap.specs.Walk.{first_of, rule_of, rows_of};
-ghost use Rattle.sessions.specs.CommandLine.{program, top_program, workers_rule, groups_rule, file_rule, progress_rule, explain_rule, code_rule, file_shape, sharing_shape, run_shape, code_shape, IsBelow, word_faults, AskFor, WordsAskForOne, WordsOfSubcommands, WordsOfText, WordsOfMistake};
+ghost use Rattle.sessions.specs.CommandLine.{program, top_program, workers_rule, groups_rule, file_rule, progress_rule, explain_rule, code_rule, file_shape, sharing_shape, debug_shape, run_shape, code_shape, IsBelow, word_faults, AskFor, WordsAskForOne, WordsHaveOneAnswer, WordsOfSubcommands, WordsOfText, WordsOfMistake};
 ghost use Rattle.sessions.specs.Given.{AreOptions, AreOfTask, AreOfSubcommand, AreOfAsked, IsSharing};
 ghost use Rattle.sessions.specs.Wishes.{is_true, wishes_in};
 ghost use Rattle.sessions.specs.Subcommand.{word_of, asked_word, sharing_of as task_sharing};
@@ -38,6 +38,16 @@ fn file_word<'a>(alloc: Global) -> Arg<'a>
 {
     Arg::new(alloc, "file").value_name("FILE").help(
         "The scenario's file; without it, or where it is -, standard input",
+    )
+}
+
+/// The word for the file of a scenario over which commands are typed.
+fn session_file_word<'a>(alloc: Global) -> Arg<'a>
+    ensures rule { rule_of result ≡ file_rule }
+    ensures local { result.global ≡ false }
+{
+    Arg::new(alloc, "file").value_name("FILE").help(
+        "The scenario's file, and commands are typed; without it, or where it is -, standard input has both",
     )
 }
 
@@ -132,6 +142,17 @@ fn sharing_subcommand<'a>(
         .arg(groups_option(alloc))
 }
 
+/// A subcommand that takes these options and a scenario's file.
+fn debug_subcommand<'a>(
+    alloc: Global,
+    name: &'a str,
+    about: &'a str,
+) -> Result<Command<'a>, AllocError>
+    ensures { IfOk result (IsBelow (debug_shape name.entry.now)) }
+{
+    sharing_subcommand(alloc, name, about)?.arg(session_file_word(alloc))
+}
+
 /// A subcommand that takes these options, a scenario's file and two flags.
 fn run_subcommand<'a>(
     alloc: Global,
@@ -177,8 +198,8 @@ fn commands<'a>(alloc: Global) -> Result<Command<'a>, AllocError>
     let with_dis = with_below(with_asm, file_subcommand(alloc, "dis", dis))?;
     let run = "Run a scenario and print its trace";
     let with_run = with_below(with_dis, run_subcommand(alloc, "run", run))?;
-    let debug = "Answer the commands behind the scenario text on standard input";
-    let with_debug = with_below(with_run, sharing_subcommand(alloc, "debug", debug))?;
+    let debug = "Walk through a run by commands, forwards and backwards";
+    let with_debug = with_below(with_run, debug_subcommand(alloc, "debug", debug))?;
     let explain = "Say what a code means, with an example, or list all codes";
     with_below(with_debug, code_subcommand(alloc, "explain", explain))
 }
@@ -267,6 +288,11 @@ pub fn words_ask_for_one_subcommand()
     ensures { WordsAskForOne }
 {}
 
+/// All words ask for a subcommand, are mistaken or ask for a text, and are but one of these.
+pub fn words_have_one_answer()
+    ensures { WordsHaveOneAnswer }
+{}
+
 /// The words `tcpsim asm`, `tcpsim dis`, `tcpsim run`, `tcpsim debug` and `tcpsim explain` ask for
 /// their subcommands, with a file, options or a code, or without.
 pub fn subcommands_are_asked_for()
@@ -278,7 +304,7 @@ pub fn help_and_version_are_asked_for()
     ensures { WordsOfText }
 {}
 
-/// The program's name alone is mistaken, a second file, a file of `debug`, a number of workers that
+/// The program's name alone is mistaken, a second file, also one of `debug`, a number of workers that
 /// is not from 1 to 64, an option of `asm`, and a second code.
 pub fn other_words_are_mistaken()
     ensures { WordsOfMistake }

@@ -56,7 +56,7 @@ pub(crate) fn answer_reader<R: Source, W: Sink, G: Gate, H: Threads + Wait + Syn
     reader: &mut R,
     writer: &mut W,
 ) -> Result<(), SessionFault>
-    ensures { let seen = streams_of R.failures W.failures W.contents in IsDebugSessionOn sharing.now.groups (R.remaining reader.old) result (seen reader.old writer.old) (seen reader.new writer.new) }
+    ensures { let seen = streams_of R.failures R.typed W.failures W.contents in IsDebugSessionOn sharing.now.groups (R.remaining reader.old) result (seen reader.old writer.old) (seen reader.new writer.new) }
 {
     let input = read_input(alloc, reader)?;
     answer_commands(rt, alloc, sharing, gate, input.as_slice(), writer)
@@ -72,7 +72,7 @@ pub fn run_debug<R: Source, W: Sink, G: Gate, H: Threads + Wait + Sync>(
     reader: &mut R,
     writer: &mut W,
 ) -> Outcome
-    ensures { let seen = streams_of R.failures W.failures W.contents in Tells result (λ ended. IsDebugSessionOn sharing.now.groups (R.remaining reader.old) ended (seen reader.old writer.old) (seen reader.new writer.new)) }
+    ensures { let seen = streams_of R.failures R.typed W.failures W.contents in Tells result (λ ended. IsDebugSessionOn sharing.now.groups (R.remaining reader.old) ended (seen reader.old writer.old) (seen reader.new writer.new)) }
 {
     Outcome::from(answer_reader(rt, alloc, sharing, gate, reader, writer))
 }

@@ -20,6 +20,7 @@ pub(crate) fn read_input<R: Source>(alloc: Global, reader: &mut R) -> Result<Vec
     ensures input { IfOk result (λ input. IsInputOf (R.remaining reader.old) input.items) }
     ensures within { IfOk result (λ input. IsWithin input.items) }
     ensures faults { IfErr result (λ fault. (input : List ℕ) × IsInputOf (R.remaining reader.old) input × IsReadFault input fault) }
+    ensures typed { R.typed reader.new ≡ R.typed reader.old }
     ensures failures { R.failures reader.new ≡ reads_after result (R.failures reader.old) }
 {
     let mut room = room_for_piece(alloc)?;
@@ -49,6 +50,7 @@ fn read_piece<R: Source>(
     ensures piece { IfOk result (λ count. (piece : List ℕ) × (input.new.items ≡ input.old.items ++ piece) × (length piece ≡ count) × Consumes (R.remaining reader.old) (R.remaining reader.new) piece) }
     ensures end { IfOk result (λ count. count ≡ 0 → IsAtEnd (R.remaining reader.new)) }
     ensures faults { IfErr result (λ fault. (input : List ℕ) → IsReadFault input fault) }
+    ensures typed { R.typed reader.new ≡ R.typed reader.old }
     ensures failures { R.failures reader.new ≡ reads_after result (R.failures reader.old) }
 {
     let count = reader.get(room)?;

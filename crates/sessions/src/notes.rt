@@ -38,7 +38,8 @@ impl fmt::Display for HowFar {
     }
 }
 
-/// Is told how far a run is, while it goes on, and why an input is refused. What it does with that
+/// Is told how far a run is, while it goes on, why an input is refused, and at a prompt, when a line
+/// is asked for and that it is refused. What it does with that
 /// changes nothing of a session.
 pub trait Notes {
     /// The run is so far.
@@ -49,6 +50,12 @@ pub trait Notes {
 
     /// The input is refused, and this is to be shown behind the note: some lines.
     fn refused(&mut self, why: String);
+
+    /// A line is asked for.
+    fn prompt(&mut self);
+
+    /// The line that was typed is refused: this is the refusal, a line.
+    fn line_refused(&mut self, refusal: &[u8]);
 }
 
 /// Tells nobody.
@@ -61,4 +68,8 @@ impl Notes for NoNotes {
     fn progress_ends(&mut self) {}
 
     fn refused(&mut self, _why: String) {}
+
+    fn prompt(&mut self) {}
+
+    fn line_refused(&mut self, _refusal: &[u8]) {}
 }

@@ -3,7 +3,7 @@ ghost use Rattle.std.specs.Prelude.{◌≡◌, ◌≢◌, [], map, string_bytes,
 ghost use Rattle.clap.specs.Values.{kind_of};
 ghost use Rattle.clap.specs.declared.error.kind.ErrorKind.TheVariants.{OutOfMemory};
 ghost use Rattle.sessions.specs.declared.subcommand.Asked.{Asked};
-ghost use Rattle.sessions.specs.Asked.{IsTaskOnFile, IsNamedOn, IsAskedOn};
+ghost use Rattle.sessions.specs.Asked.{IsTaskOnFile, IsOverFile, IsNamedOn, IsAskedOn};
 ghost use Rattle.sessions.specs.CommandLine.{word_faults, AskFor, AreMistaken, AskForText, IsRefusal, IsRequest, IsAnswer};
 ghost use Rattle.sessions.specs.Debug.{IsTaskOn};
 ghost use Rattle.sessions.specs.Ended.{IsToldOf, writes_after};
@@ -22,6 +22,7 @@ use crate::means::Means;
 use crate::notes::{NoNotes, Notes};
 use crate::outcome::Outcome;
 use crate::output::put_all;
+use crate::prompt::answer_prompt;
 use crate::run::run_shared;
 use crate::scenario_input::read_scenario;
 use crate::source::Source;
@@ -92,7 +93,7 @@ fn answer_input<R: Source, W: Sink, G: Gate, H: Threads + Wait + Sync, N: Notes>
     writer: &mut W,
     notes: &mut N,
 ) -> Result<(), SessionFault>
-    ensures { let seen = streams_of R.failures W.failures W.contents in IsSessionOn subcommand.entry (R.remaining reader.old) result (seen reader.old writer.old) (seen reader.new writer.new) }
+    ensures { let seen = streams_of R.failures R.typed W.failures W.contents in IsSessionOn subcommand.entry (R.remaining reader.old) result (seen reader.old writer.old) (seen reader.new writer.new) }
 {
     let read = read_input(means.alloc, reader);
     if let Err(fault) = &read {
@@ -115,7 +116,7 @@ pub fn run_session<R: Source, W: Sink, G: Gate, H: Threads + Wait + Sync>(
     reader: &mut R,
     writer: &mut W,
 ) -> Outcome
-    ensures { let seen = streams_of R.failures W.failures W.contents in Tells result (λ ended. IsSessionOn subcommand.entry (R.remaining reader.old) ended (seen reader.old writer.old) (seen reader.new writer.new)) }
+    ensures { let seen = streams_of R.failures R.typed W.failures W.contents in Tells result (λ ended. IsSessionOn subcommand.entry (R.remaining reader.old) ended (seen reader.old writer.old) (seen reader.new writer.new)) }
 {
     let means = Means::plain(rt, alloc, gate);
     Outcome::from(answer_input(&means, subcommand, reader, writer, &mut NoNotes))
@@ -129,7 +130,7 @@ fn answer_task<R: Source, W: Sink, G: Gate, H: Threads + Wait + Sync, N: Notes>(
     writer: &mut W,
     notes: &mut N,
 ) -> Result<(), SessionFault>
-    ensures { let seen = streams_of R.failures W.failures W.contents in IsTaskOn task.entry (R.remaining reader.old) result (seen reader.old writer.old) (seen reader.new writer.new) }
+    ensures { let seen = streams_of R.failures R.typed W.failures W.contents in IsTaskOn task.entry (R.remaining reader.old) result (seen reader.old writer.old) (seen reader.new writer.new) }
 {
     match task {
         Task::Scenario(subcommand) => answer_input(means, subcommand, reader, writer, notes),
@@ -148,7 +149,7 @@ pub fn run_task<R: Source, W: Sink, G: Gate, H: Threads + Wait + Sync>(
     reader: &mut R,
     writer: &mut W,
 ) -> Outcome
-    ensures { let seen = streams_of R.failures W.failures W.contents in Tells result (λ ended. IsTaskOn task.entry (R.remaining reader.old) ended (seen reader.old writer.old) (seen reader.new writer.new)) }
+    ensures { let seen = streams_of R.failures R.typed W.failures W.contents in Tells result (λ ended. IsTaskOn task.entry (R.remaining reader.old) ended (seen reader.old writer.old) (seen reader.new writer.new)) }
 {
     let means = Means::plain(rt, alloc, gate);
     Outcome::from(answer_task(&means, task, reader, writer, &mut NoNotes))
@@ -163,7 +164,7 @@ fn answer_opened<R: Source, W: Sink, G: Gate, H: Threads + Wait + Sync, N: Notes
     writer: &mut W,
     notes: &mut N,
 ) -> Result<(), SessionFault>
-    ensures { let seen = streams_of R.failures W.failures W.contents in IsTaskOn task.entry (R.bytes_of reader.old file.now) result (seen reader.old writer.old) (seen reader.new writer.new) }
+    ensures { let seen = streams_of R.failures R.typed W.failures W.contents in IsTaskOn task.entry (R.bytes_of reader.old file.now) result (seen reader.old writer.old) (seen reader.new writer.new) }
 {
     reader.open(file)?;
     answer_task(means, task, reader, writer, notes)
@@ -188,11 +189,36 @@ fn answer_file<R: Source, W: Sink, G: Gate, H: Threads + Wait + Sync, N: Notes>(
     writer: &mut W,
     notes: &mut N,
 ) -> Result<(), SessionFault>
-    ensures { let seen = streams_of R.failures W.failures W.contents in IsTaskOnFile task.entry file.now (R.bytes_of reader.old file.now) result (seen reader.old writer.old) (seen reader.new writer.new) }
+    ensures { let seen = streams_of R.failures R.typed W.failures W.contents in IsTaskOnFile task.entry file.now (R.bytes_of reader.old file.now) result (seen reader.old writer.old) (seen reader.new writer.new) }
 {
     let name = String::from_str(means.alloc, file)?;
     let ended = answer_opened(means, task, file, reader, writer, notes);
     told_of_file(name, ended)
+}
+
+/// Does a task over a file: what makes something of a scenario takes it from there, and so does a
+/// debugging session, whose commands are typed.
+fn answer_over_file<R: Source, W: Sink, G: Gate, H: Threads + Wait + Sync, N: Notes>(
+    means: &Means<H, G>,
+    task: Task,
+    file: &str,
+    reader: &mut R,
+    writer: &mut W,
+    notes: &mut N,
+) -> Result<(), SessionFault>
+    ensures { let seen = streams_of R.failures R.typed W.failures W.contents in IsOverFile task.entry file.now (R.bytes_of reader.old file.now) result (seen reader.old writer.old) (seen reader.new writer.new) }
+{
+    match task {
+        Task::Scenario(subcommand) => answer_file(
+            means,
+            Task::Scenario(subcommand),
+            file,
+            reader,
+            writer,
+            notes,
+        ),
+        Task::Debug(sharing) => answer_prompt(means, &sharing, file, reader, writer, notes),
+    }
 }
 
 /// Does a task over the input that is named.
@@ -204,7 +230,7 @@ fn answer_named<R: Source, W: Sink, G: Gate, H: Threads + Wait + Sync, N: Notes>
     writer: &mut W,
     notes: &mut N,
 ) -> Result<(), SessionFault>
-    ensures { let seen = streams_of R.failures W.failures W.contents in IsNamedOn task.entry file.now (R.remaining reader.old) (R.bytes_of reader.old) result (seen reader.old writer.old) (seen reader.new writer.new) }
+    ensures { let seen = streams_of R.failures R.typed W.failures W.contents in IsNamedOn task.entry file.now (R.remaining reader.old) (R.bytes_of reader.old) result (seen reader.old writer.old) (seen reader.new writer.new) }
 {
     let Some(name) = file.get() else {
         return answer_task(means, task, reader, writer, notes);
@@ -212,7 +238,7 @@ fn answer_named<R: Source, W: Sink, G: Gate, H: Threads + Wait + Sync, N: Notes>
     if name == "-" {
         answer_task(means, task, reader, writer, notes)
     } else {
-        answer_file(means, task, name, reader, writer, notes)
+        answer_over_file(means, task, name, reader, writer, notes)
     }
 }
 
@@ -226,7 +252,7 @@ fn answer_asked<R: Source, W: Sink, G: Gate, H: Threads + Wait + Sync, N: Notes>
     writer: &mut W,
     notes: &mut N,
 ) -> Result<(), SessionFault>
-    ensures { let seen = streams_of R.failures W.failures W.contents in IsAskedOn asked.entry (R.remaining reader.old) (R.bytes_of reader.old) result (seen reader.old writer.old) (seen reader.new writer.new) }
+    ensures { let seen = streams_of R.failures R.typed W.failures W.contents in IsAskedOn asked.entry (R.remaining reader.old) (R.bytes_of reader.old) result (seen reader.old writer.old) (seen reader.new writer.new) }
 {
     match asked {
         Asked::Session(task, file, wishes) => {
@@ -280,7 +306,7 @@ pub fn run_noted<
     G: Gate,
     N: Notes,
 >(rt: &H, reader: &mut R, writer: &mut W, words: &[S], gate: &G, notes: &mut N) -> Outcome
-    ensures asked { let seen = streams_of R.failures W.failures W.contents in (asked : Asked) → AskFor (map S.text words.now) asked → Tells result (λ ended. IsAskedOn asked (R.remaining reader.old) (R.bytes_of reader.old) ended (seen reader.old writer.old) (seen reader.new writer.new)) }
+    ensures asked { let seen = streams_of R.failures R.typed W.failures W.contents in (asked : Asked) → AskFor (map S.text words.now) asked → Tells result (λ ended. IsAskedOn asked (R.remaining reader.old) (R.bytes_of reader.old) ended (seen reader.old writer.old) (seen reader.new writer.new)) }
     ensures mistake { AreMistaken (map S.text words.now) → Tells result (IsRefusal (map S.text words.now)) × (writer.new ≡ writer.old) }
     ensures request { AskForText (map S.text words.now) → Tells result (λ ended. Writes (IsAnswer ended) (W.contents writer.old) (W.contents writer.new) × (W.failures writer.new ≡ writes_after ended (W.failures writer.old))) }
     ensures unread { word_faults (map S.text words.now) ≢ [] → reader.new ≡ reader.old }
@@ -308,7 +334,7 @@ pub fn run_with<H: AllocGlobal + Threads + Wait + Sync, R: Source, W: Sink, S: A
     words: &[S],
     gate: &G,
 ) -> Outcome
-    ensures asked { let seen = streams_of R.failures W.failures W.contents in (asked : Asked) → AskFor (map S.text words.now) asked → Tells result (λ ended. IsAskedOn asked (R.remaining reader.old) (R.bytes_of reader.old) ended (seen reader.old writer.old) (seen reader.new writer.new)) }
+    ensures asked { let seen = streams_of R.failures R.typed W.failures W.contents in (asked : Asked) → AskFor (map S.text words.now) asked → Tells result (λ ended. IsAskedOn asked (R.remaining reader.old) (R.bytes_of reader.old) ended (seen reader.old writer.old) (seen reader.new writer.new)) }
     ensures mistake { AreMistaken (map S.text words.now) → Tells result (IsRefusal (map S.text words.now)) × (writer.new ≡ writer.old) }
     ensures request { AskForText (map S.text words.now) → Tells result (λ ended. Writes (IsAnswer ended) (W.contents writer.old) (W.contents writer.new) × (W.failures writer.new ≡ writes_after ended (W.failures writer.old))) }
     ensures unread { word_faults (map S.text words.now) ≢ [] → reader.new ≡ reader.old }
@@ -323,7 +349,7 @@ pub fn run_all<H: AllocGlobal + Threads + Wait + Sync, R: Source, W: Sink, S: As
     writer: &mut W,
     words: &[S],
 ) -> Outcome
-    ensures asked { let seen = streams_of R.failures W.failures W.contents in (asked : Asked) → AskFor (map S.text words.now) asked → Tells result (λ ended. IsAskedOn asked (R.remaining reader.old) (R.bytes_of reader.old) ended (seen reader.old writer.old) (seen reader.new writer.new)) }
+    ensures asked { let seen = streams_of R.failures R.typed W.failures W.contents in (asked : Asked) → AskFor (map S.text words.now) asked → Tells result (λ ended. IsAskedOn asked (R.remaining reader.old) (R.bytes_of reader.old) ended (seen reader.old writer.old) (seen reader.new writer.new)) }
     ensures mistake { AreMistaken (map S.text words.now) → Tells result (IsRefusal (map S.text words.now)) × (writer.new ≡ writer.old) }
     ensures request { AskForText (map S.text words.now) → Tells result (λ ended. Writes (IsAnswer ended) (W.contents writer.old) (W.contents writer.new) × (W.failures writer.new ≡ writes_after ended (W.failures writer.old))) }
     ensures unread { word_faults (map S.text words.now) ≢ [] → reader.new ≡ reader.old }

@@ -1,8 +1,8 @@
 //! Why an input is refused, as a person is shown it.
 
 use crate::fault::SessionFault;
-use explanations::text_of;
-use scenario_asm::{Part, Place, fault_place};
+use explanations::{Names, image_parts, tell_witness, text_of};
+use scenario_asm::{Part, Place, fault_place, parts_of_text};
 use std::alloc::{AllocError, Global};
 
 /// How many bytes of a line are shown at most, and how many of them before what is wrong.
@@ -62,8 +62,44 @@ fn push_meaning(shown: &mut String, code: &str) -> Result<(), AllocError> {
     Ok(())
 }
 
+/// Adds what shows first that a text in which no line is faulty has the fault of this code, by names.
+fn push_text_witness(
+    alloc: Global,
+    shown: &mut String,
+    text: &[u8],
+    code: &str,
+) -> Result<(), AllocError> {
+    if let Some(named) = parts_of_text(alloc, text)? {
+        let names = Names {
+            nodes: named.nodes.as_slice(),
+            links: named.links.as_slice(),
+            flows: named.flows.as_slice(),
+        };
+        if let Some(told) = tell_witness(alloc, code, &named.parts, &names)? {
+            shown.push_str(told.as_str())?;
+        }
+    }
+    Ok(())
+}
+
+/// Adds what shows first that an image has the fault of this code, by numbers.
+fn push_image_witness(
+    alloc: Global,
+    shown: &mut String,
+    image: &[u8],
+    code: &str,
+) -> Result<(), AllocError> {
+    if let Some(parts) = image_parts(alloc, image)? {
+        if let Some(told) = tell_witness(alloc, code, &parts, &Names::NONE)? {
+            shown.push_str(told.as_str())?;
+        }
+    }
+    Ok(())
+}
+
 /// What is shown of a refused input behind its note: of a text's line the line, with carets under
-/// what is wrong; and what the code means. Nothing where the input is not refused.
+/// what is wrong; of a fault of no line what shows it first, with a statement that would mend it; and
+/// what the code means. Nothing where the input is not refused.
 pub(crate) fn why(
     alloc: Global,
     input: &[u8],
@@ -73,13 +109,16 @@ pub(crate) fn why(
     match fault {
         SessionFault::TooLong => push_meaning(&mut shown, "I1")?,
         SessionFault::Refused { fault, .. } => {
-            if let Some(place) = fault_place(alloc, input)? {
-                push_place(&mut shown, &place)?;
+            match fault_place(alloc, input)? {
+                Some(place) => push_place(&mut shown, &place)?,
+                None => push_text_witness(alloc, &mut shown, input, fault.code())?,
             }
             push_meaning(&mut shown, fault.code())?;
         }
         SessionFault::RefusedImage(fault) => {
-            push_meaning(&mut shown, fault.to_string(alloc)?.as_str())?;
+            let code = fault.to_string(alloc)?;
+            push_image_witness(alloc, &mut shown, input, code.as_str())?;
+            push_meaning(&mut shown, code.as_str())?;
         }
         _ => return Ok(None),
     }

@@ -3,8 +3,10 @@ ghost use Rattle.window_engine.specs.Failures.{counted};
 ghost use Rattle.std.specs.Prelude.{◌≡◌};
 
 use sessions::source::{Source, SourceFail};
+use sessions::typed::read_line;
 use std::fs::{File, Files};
 use std::io::{self, Read};
+use window_engine::Sink;
 
 /// A reader, or a file that was opened in its place. Each error of either is a failure, an
 /// interruption too; nothing is tried again.
@@ -58,6 +60,18 @@ impl<'f, R: Read, F: Files> Source for Input<'f, R, F> {
         };
         match count {
             Ok(count) => Ok(count),
+            Err(_) => Err(self.fail()),
+        }
+    }
+
+    fn next_line<S: Sink>(
+        &mut self,
+        _shown: &S,
+        room: &mut [u8],
+    ) -> Result<Option<usize>, SourceFail> {
+        match read_line(&mut self.reader, room) {
+            Ok(Some(count)) => Ok(Some(count)),
+            Ok(None) => Ok(None),
             Err(_) => Err(self.fail()),
         }
     }

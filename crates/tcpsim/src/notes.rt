@@ -1,9 +1,10 @@
 //! What is told on standard error, beside the note.
 
 use sessions::notes::{HowFar, Notes};
+use std::io::Write;
 
-/// Tells on standard error how far a run is, on one line, and keeps why an input is refused. That it
-/// fails there is ignored.
+/// Tells on standard error how far a run is, on one line, and at a prompt, that a line is asked for
+/// and that one is refused; keeps why an input is refused. That it fails there is ignored.
 #[derive(Drop)]
 pub struct ErrorNotes<'r> {
     /// The process.
@@ -30,5 +31,13 @@ impl<'r> Notes for ErrorNotes<'r> {
 
     fn refused(&mut self, why: String) {
         self.why = Some(why);
+    }
+
+    fn prompt(&mut self) {
+        let _ = eprint!(self.rt; "(tcpsim) ");
+    }
+
+    fn line_refused(&mut self, refusal: &[u8]) {
+        let _ = self.rt.stderr().write_all(refusal);
     }
 }

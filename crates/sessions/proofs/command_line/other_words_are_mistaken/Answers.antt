@@ -1,30 +1,18 @@
 use mathlib.Core.Bool.{false≢true}
-use Rattle.std.proofs.Common.{◌≡◌, inl, inr, ℕ, Bool, true, false, List, [], ◌∷◌, codes, refl, sym, ◌∙◌, ap, subst}
-use Rattle.clap.specs.Kinds.{Kinds, IsAmong}
+use Rattle.std.proofs.Common.{◌≡◌, inl, inr, ℕ, false, List, [], ◌∷◌, codes, refl, sym, ◌∙◌, ap, subst}
+use Rattle.clap.specs.Kinds.{IsAmong}
 use Rattle.clap.proofs.OnLiterals.{clap_on_literals}
 use Rattle.clap.specs.declared.error.kind.ErrorKind.{ErrorKind}
-use Rattle.clap.specs.declared.error.kind.ErrorKind.TheVariants.{DisplayHelp, DisplayVersion, MissingSubcommand, UnknownArgument, ValueValidation}
-use Rattle.sessions.specs.CommandLine.{word_faults, IsRequest, AreMistaken, WordsOfMistake}
+use Rattle.clap.specs.declared.error.kind.ErrorKind.TheVariants.{MissingSubcommand, UnknownArgument, ValueValidation}
+use Rattle.sessions.specs.CommandLine.{word_faults, AreMistaken, WordsOfMistake}
+use Rattle.sessions.proofs.NoKinds.{some_kind}
+use Rattle.sessions.proofs.Requests.{is_request, asks}
 use Rattle.sessions.proofs.command_line.other_words_are_mistaken.Goals as goal
-
-is_request : ErrorKind → Bool
-is_request DisplayHelp = true
-is_request DisplayVersion = true
-is_request _ = false
-
-asks : (kind : ErrorKind) → IsRequest kind → is_request kind ≡ true
-unfolding is_request
-asks kind request = elim request [ inl is ↦ ap is_request is | inr is ↦ ap is_request is ]
-
-is_empty : Kinds → Bool
-is_empty [] = true
-is_empty (kind ∷ kinds) = false
 
 -- one fault, which asks for no text
 one_mistake : (words : List (List ℕ)) (kind : ErrorKind) → word_faults words ≡ kind ∷ [] → is_request kind ≡ false → AreMistaken words
-unfolding is_empty
 one_mistake words kind is other = record {
-  faulty = λ none. false≢true (ap is_empty (sym is ∙ none));
+  faulty = λ none. some_kind kind [] (sym is ∙ none);
   no_request = λ asked request among. elim (subst (λ kinds. IsAmong asked kinds) is among) [
     | inl same ↦ false≢true (sym other ∙ ap is_request (sym same) ∙ asks asked request)
     | inr nothing ↦ nothing
@@ -36,7 +24,7 @@ unfolding clap_on_literals is_request
 mistakes = record {
   nothing_else = one_mistake (codes "tcpsim" ∷ []) MissingSubcommand refl refl;
   two_files = one_mistake (codes "tcpsim" ∷ codes "run" ∷ codes "once" ∷ codes "twice" ∷ []) UnknownArgument refl refl;
-  debug_file = one_mistake (codes "tcpsim" ∷ codes "debug" ∷ codes "a.txt" ∷ []) UnknownArgument refl refl;
+  debug_files = one_mistake (codes "tcpsim" ∷ codes "debug" ∷ codes "a.txt" ∷ codes "b.txt" ∷ []) UnknownArgument refl refl;
   no_worker = one_mistake (codes "tcpsim" ∷ codes "run" ∷ codes "--workers" ∷ codes "0" ∷ []) ValueValidation refl refl;
   many_workers = one_mistake (codes "tcpsim" ∷ codes "debug" ∷ codes "--workers" ∷ codes "65" ∷ []) ValueValidation refl refl;
   asm_is_not_shared = one_mistake (codes "tcpsim" ∷ codes "asm" ∷ codes "--groups" ∷ codes "one" ∷ []) UnknownArgument refl refl;

@@ -12,6 +12,8 @@ subcommand_words = record {
   run_shared = record { faultless = refl; named = refl; given = (record { workers = refl; groups = refl }, refl, refl) };
   debug = record { faultless = refl; named = refl; given = (record { workers = refl; groups = refl }, refl, refl) };
   debug_shared = record { faultless = refl; named = refl; given = (record { workers = refl; groups = refl }, refl, refl) };
+  debug_file = record { faultless = refl; named = refl; given = (record { workers = refl; groups = refl }, refl, refl) };
+  debug_dash = record { faultless = refl; named = refl; given = (record { workers = refl; groups = refl }, refl, refl) };
   asm_file = record { faultless = refl; named = refl; given = (tt, refl, refl) };
   dis_file = record { faultless = refl; named = refl; given = (tt, refl, refl) };
   run_file = record { faultless = refl; named = refl; given = (record { workers = refl; groups = refl }, refl, refl) };

@@ -9,7 +9,7 @@ use Rattle.sessions.proofs.session.answer_opened.Goals as goal
 
 pub returns-in_err-open : goal.returns-in_err-open
 returns-in_err-open g c =
-    let seen = streams_of g.R.Source.failures g.W.Sink.failures g.W.Sink.contents in
+    let seen = streams_of g.R.Source.failures g.R.Source.typed g.W.Sink.failures g.W.Sink.contents in
     let before = seen c.args.reader.now c.args.writer.now in
     let after = seen c.open.new.self c.args.writer.now in
     let known = g.R.Source.bytes_of c.args.reader.now c.args.file.now in

@@ -1,0 +1,90 @@
+-- A session at a prompt: a line is answered before the next one is asked for.
+use Rattle.std.specs.Prelude.{◌≡◌, ◌⊎◌, ℕ, nat_lt, nat_eq, Bool, true, false, not, MatchBool, if◌then◌else◌, List, [], ◌∷◌, ◌++◌, length, map, codes, Option, None, Some}
+use Rattle.std.specs.List.{list_all, starts_with}
+use Rattle.std.specs.Str.{bytes_eq}
+use Rattle.table_run.specs.State.{State}
+use Rattle.debug_session.specs.declared.command.Limits.{Limits}
+use Rattle.debug_session.specs.declared.refusal.Refusal.TheVariants.{B2}
+use Rattle.debug_session.specs.Input.{words_in}
+use Rattle.debug_session.specs.Answers.{Standing, Stays, Answers, refusal_line}
+use Rattle.debug_session.specs.Taking.{Takes}
+
+-- more bytes than a line may have
+abbrev pub is_long : List ℕ → Bool
+is_long line = nat_lt 65536 (length line)
+
+-- the one word is `quit`
+abbrev pub quits : List (List ℕ) → Bool
+quits [] = false
+quits (word ∷ []) = bytes_eq word (codes "quit")
+quits (first ∷ second ∷ more) = false
+
+-- the line that ends a session
+abbrev pub is_quit : List ℕ → Bool
+is_quit line = if is_long line then false else quits (words_in line)
+
+-- how a line is answered: one that is too long has no command, `quit` is answered by nothing, and any other line as in a session whose lines are all there from the start
+abbrev pub TypedAnswers : Limits → State → List ℕ → Standing → Standing → List ℕ → Type 0
+TypedAnswers limits start line old new said =
+    MatchBool (is_long line) (Stays old new said (refusal_line B2)) (MatchBool (is_quit line) (Stays old new said []) (Answers limits start line old new said))
+
+-- the answer is that the line is refused
+abbrev pub is_refusal : List ℕ → Bool
+is_refusal said = starts_with nat_eq said (codes "refused ")
+
+-- what the output gets of an answer: all but a refusal, which is told beside it
+abbrev pub put_out : List ℕ → List ℕ
+put_out said = if is_refusal said then [] else said
+
+-- the lines are answered one after another, from where the session stands
+abbrev pub TypedRan : Limits → State → List (List ℕ) → Standing → Standing → List ℕ → Type 0
+TypedRan limits start [] old new out = Stays old new out []
+TypedRan limits start (line ∷ lines) old new out =
+    (between : Standing) × (said rest : List ℕ) × TypedAnswers limits start line old between said × TypedRan limits start lines between new rest × (out ≡ put_out said ++ rest)
+
+-- these lines give this output, wherever the session stands in the end
+abbrev pub TypedOutput : Limits → State → List (List ℕ) → Standing → List ℕ → Type 0
+TypedOutput limits start lines old out = (new : Standing) × TypedRan limits start lines old new out
+
+-- a sink that held the first bytes holds the answers to the lines so far beside them now, and nothing else
+abbrev pub IsSoFar : Limits → State → Standing → List (List ℕ) → Option (List ℕ) → Option (List ℕ) → Type 0
+IsSoFar limits start old lines first now = Takes (TypedOutput limits start lines old) first now
+
+-- a line that was asked for, and what the sink held at that moment, where that is known
+pub record Ask : Type 0 where
+  pub line : List ℕ
+  pub seen : Option (List ℕ)
+
+abbrev pub lines_in : List Ask → List (List ℕ)
+lines_in asks = map (λ (ask : Ask). ask.line) asks
+
+-- whenever a line was asked for, the lines before it were answered: `done`, and those of the asks before it
+abbrev pub AreInTime : Limits → State → Standing → Option (List ℕ) → List (List ℕ) → List Ask → Type 0
+AreInTime limits start old first done [] = Unit {0}
+AreInTime limits start old first done (ask ∷ asks) = IsSoFar limits start old done first ask.seen × AreInTime limits start old first (done ++ ask.line ∷ []) asks
+
+-- what is known of who types: the lines that were asked for, and those that are still to come
+pub record Typing : Type 0 where
+  pub asks : List Ask
+  pub rest : List (List ℕ)
+
+-- where it is known, these lines were asked for and no others
+abbrev pub Typed : Option Typing → Option Typing → List Ask → Type 0
+Typed None new asks = Unit {0}
+Typed (Some old) None asks = ⊥
+Typed (Some old) (Some new) asks = (new.asks ≡ old.asks ++ asks) × (old.rest ≡ lines_in asks ++ new.rest)
+
+-- and none is still to come
+abbrev pub IsTypedOut : Option Typing → Type 0
+IsTypedOut None = Unit {0}
+IsTypedOut (Some typing) = typing.rest ≡ []
+
+-- no line is `quit`
+abbrev pub none_quits : List (List ℕ) → Bool
+none_quits lines = list_all (λ line. not (is_quit line)) lines
+
+-- the lines go as far as the first `quit`, or as far as lines come
+abbrev pub IsToEnd : List (List ℕ) → Option Typing → Type 0
+IsToEnd lines after =
+    ((done : List (List ℕ)) × (last : List ℕ) × (lines ≡ done ++ last ∷ []) × (none_quits done ≡ true) × (is_quit last ≡ true))
+    ⊎ ((none_quits lines ≡ true) × IsTypedOut after)

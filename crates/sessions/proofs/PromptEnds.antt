@@ -1,0 +1,113 @@
+-- How a session at a prompt ends, over a scenario, an input and a file.
+use Rattle.std.proofs.Common.{◌≡◌, ◌∙◌, ◌⊎◌, ◌<◌, inl, inr, ℕ, Bool, true, false, MatchBool, List, [], Option, Result, Ok, Err, IfOk, IfErr, refl, sym, ap, subst, string_bytes}
+use Rattle.scenario_image.specs.declared.parts.ScenarioParts.{ScenarioParts}
+use Rattle.table_run.specs.State.{opening}
+use Rattle.debugger.specs.Debugging.{Debugging, opened}
+use Rattle.debug_session.specs.declared.command.Limits.{Limits}
+use Rattle.debug_session.specs.Answers.{standing}
+use Rattle.debug_session.specs.Sessions.{limits_of}
+use Rattle.debug_session.specs.Prompt.{Typing, Typed}
+use Rattle.sessions.specs.declared.fault.SessionFault.{SessionFault}
+use Rattle.sessions.specs.declared.fault.SessionFault.TheVariants.{TooLong, Refused, RefusedImage, Groups, ReadFailed, CannotRead, WriteFailed, NoMemory}
+use Rattle.sessions.specs.Ended.{Ended, reads_after, writes_after}
+use Rattle.sessions.specs.Input.{HasScenario, HasFault, Reads, is_image}
+use Rattle.sessions.specs.Nodes.{HasGroups, LacksGroups}
+use Rattle.sessions.specs.Prompt.{IsFileFault, IsOverScenario, IsPromptEnding, IsPromptOver, IsTypedSession, IsUnbegun, line_reads_after}
+use Rattle.sessions.specs.Session.{IsWithin}
+use Rattle.sessions.specs.Streams.{Streams}
+use Rattle.sessions.proofs.Prompting.{none_typed}
+
+pub unbegun : (streams : Streams) → IsUnbegun streams streams
+unbegun streams = record { untyped = none_typed streams.typed; unwritten = refl }
+
+-- lines were typed over a scenario
+pub over_scenario : (p : ScenarioParts) (ended : Ended) (before after : Streams) → IsTypedSession (limits_of p) (opening p) (standing (opened (opening p))) ended before after → IsOverScenario p ended before after
+over_scenario p (Err NoMemory) before after session = absurd session.ending
+over_scenario p _ before after session = session
+
+pub typed_over : (p : ScenarioParts) (d : Debugging) (limits : Limits) (ended : Ended) (before after : Streams) → d ≡ opened (opening p) → limits ≡ limits_of p → IsTypedSession limits d.start (standing d) ended before after
+    → IsOverScenario p ended before after
+typed_over p d limits ended before after is bounds session =
+    over_scenario p ended before after
+    (subst (λ (e : Debugging). IsTypedSession (limits_of p) e.start (standing e) ended before after) is (subst (λ (l : Limits). IsTypedSession l d.start (standing d) ended before after) bounds session))
+
+pub no_memory_over : (p : ScenarioParts) (ended : Ended) (streams : Streams) → ended ≡ Err NoMemory → IsOverScenario p ended streams streams
+no_memory_over p ended streams is = subst (λ (e : Ended). IsOverScenario p e streams streams) (sym is) (unbegun streams)
+
+-- the input has a scenario, over which a session ended so
+pub input_over : (groups input : List ℕ) (p : ScenarioParts) (ended : Ended) (before after : Streams) → IsWithin input → HasScenario input p → HasGroups groups p → IsOverScenario p ended before after
+    → IsPromptOver groups input ended before after
+input_over groups input p (Err NoMemory) before after within means has over = over
+input_over groups input p (Err (Refused line fault)) before after within means has over = absurd over.ending
+input_over groups input p (Err (RefusedImage fault)) before after within means has over = absurd over.ending
+input_over groups input p (Err Groups) before after within means has over = absurd over.ending
+input_over groups input p _ before after within means has over = (within, (p, means, has, over))
+
+-- a fault that no input has
+no_fault : (b : Bool) → ¬ MatchBool b ⊥ ⊥
+no_fault true has = has
+no_fault false has = has
+
+-- an input that has a fault is refused for it
+pub record IsRefused (groups input : List ℕ) (fault : SessionFault) (streams : Streams) : Type 0 where
+  pub over : IsPromptOver groups input (Err fault) streams streams
+  pub reads : (n : ℕ) → n ≡ reads_after {T = Unit {0}} (Err fault) n
+  pub writes : (n : ℕ) → n ≡ writes_after {T = Unit {0}} (Err fault) n
+
+short_refused : (groups input : List ℕ) (streams : Streams) → IsRefused groups input NoMemory streams
+short_refused groups input streams = record { over = unbegun streams; reads = λ n. refl; writes = λ n. refl }
+
+fault_refused : (groups input : List ℕ) (fault : SessionFault) (streams : Streams) → IsWithin input → HasFault input fault → IsRefused groups input fault streams
+fault_refused groups input (Refused line fault) streams within has = record { over = (within, has, unbegun streams); reads = λ n. refl; writes = λ n. refl }
+fault_refused groups input (RefusedImage fault) streams within has = record { over = (within, has, unbegun streams); reads = λ n. refl; writes = λ n. refl }
+fault_refused groups input _ streams within has = absurd (no_fault (is_image input) has)
+
+pub input_refused : (groups input : List ℕ) (fault : SessionFault) (read : Result ScenarioParts SessionFault) (streams : Streams) → IsWithin input → read ≡ Err fault → Reads (HasScenario input) (HasFault input) read
+    → IsRefused groups input fault streams
+input_refused groups input fault read streams within is says =
+    elim (subst (λ r. IfErr r (λ f. (f ≡ NoMemory) ⊎ HasFault input f)) is says.fault) [
+      | inl short ↦ subst (λ f. IsRefused groups input f streams) (sym short) (short_refused groups input streams)
+      | inr has ↦ fault_refused groups input fault streams within has
+    ]
+
+-- or the text names no groups for its nodes
+pub groups_refused : (groups input : List ℕ) (p : ScenarioParts) (fault : SessionFault) (streams : Streams) → IsWithin input → HasScenario input p → LacksGroups groups p fault → IsRefused groups input fault streams
+groups_refused groups input p NoMemory streams within means lacks = short_refused groups input streams
+groups_refused groups input p Groups streams within means lacks = record { over = ((within, (p, means, lacks)), unbegun streams); reads = λ n. refl; writes = λ n. refl }
+groups_refused groups input p _ streams within means lacks = absurd lacks
+
+pub scenario_of : (input : List ℕ) (read : Result ScenarioParts SessionFault) (p : ScenarioParts) → read ≡ Ok p → Reads (HasScenario input) (HasFault input) read → HasScenario input p
+scenario_of input read p is says = subst (λ r. IfOk r (HasScenario input)) is says.scenario
+
+-- the file was not read
+pub file_ending : (groups file input : List ℕ) (fault : SessionFault) (before after : Streams) → IsFileFault file input fault → IsUnbegun before after → IsPromptEnding groups file input (Err fault) before after
+file_ending groups file input TooLong before after long none = (long, none)
+file_ending groups file input (CannotRead name) before after is none = (is, none)
+file_ending groups file input NoMemory before after short none = none
+file_ending groups file input _ before after faulty none = absurd faulty
+
+file_reads : (T : Type 0) (fault : SessionFault) (n : ℕ) → line_reads_after {T = T} (Err fault) n ≡ line_reads_after {T = Unit {0}} (Err fault) n
+file_reads T ReadFailed n = refl
+file_reads T (CannotRead name) n = refl
+file_reads T _ n = refl
+
+pub file_counts : {T : Type 0} (result : Result T SessionFault) (fault : SessionFault) (n m : ℕ) → m ≡ line_reads_after result n → result ≡ Err fault → m ≡ line_reads_after {T = Unit {0}} (Err fault) n
+file_counts {T} result fault n m counts is = counts ∙ ap (λ (r : Result T SessionFault). line_reads_after r n) is ∙ file_reads T fault n
+
+pub file_writes : (file input : List ℕ) (fault : SessionFault) (n : ℕ) → IsFileFault file input fault → n ≡ writes_after {T = Unit {0}} (Err fault) n
+file_writes file input WriteFailed n faulty = absurd faulty
+file_writes file input _ n faulty = refl
+
+-- the file was read
+pub file_over : (groups file input : List ℕ) (ended : Ended) (before after : Streams) → IsPromptOver groups input ended before after → IsPromptEnding groups file input ended before after
+file_over groups file input (Err TooLong) before after over = absurd over.1.3.ending
+file_over groups file input (Err (CannotRead name)) before after over = absurd over.1.3.ending
+file_over groups file input _ before after over = over
+
+pub over_reads : (groups input : List ℕ) (ended : Ended) (before after : Streams) (n : ℕ) → IsPromptOver groups input ended before after → reads_after ended n ≡ line_reads_after ended n
+over_reads groups input (Err ReadFailed) before after n over = refl
+over_reads groups input (Err (CannotRead name)) before after n over = absurd over.1.3.ending
+over_reads groups input _ before after n over = refl
+
+pub same_typed : (old new : Option Typing) → new ≡ old → Typed old new []
+same_typed old new same = subst (λ (t : Option Typing). Typed old t []) (sym same) (none_typed old)

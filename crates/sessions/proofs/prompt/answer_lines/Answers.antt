@@ -1,0 +1,111 @@
+use Rattle.std.proofs.Common.{◌≡◌, ◌∙◌, ◌<◌, length, arith, Option, Result, Ok, Err, refl, sym, subst, ap, rules}
+use Rattle.std.proofs.lemmas.Bool.{false≢true}
+use Rattle.std.specs.Option.{IsSome}
+use Rattle.table_run.specs.State.{State}
+use Rattle.debug_session.specs.Answers.{standing}
+use Rattle.sessions.specs.declared.prompt.Turn.{Turn}
+use Rattle.sessions.specs.Ended.{Ended, reads_after, writes_after}
+use Rattle.sessions.specs.Prompt.{IsTypedSession}
+use Rattle.sessions.specs.Streams.{streams_of}
+use Rattle.sessions.specs.Turns.{IsTurn, IsAnswered}
+use Rattle.sessions.proofs.Prompting.{none_yet, one_more, has_quit, has_no_line, is_failed, same_reads, same_writes}
+use Rattle.sessions.proofs.prompt.answer_lines.Goals as goal
+
+pub loop-init : goal.loop-init
+loop-init g c =
+    let seen = streams_of g.R.Source.failures g.R.Source.typed g.W.Sink.failures g.W.Sink.contents in
+    record {
+      can_next = tt;
+      is_finite = tt;
+      so_far = none_yet c.args.limits c.args.debugger.now.start (standing c.args.debugger.now) (seen c.args.reader.now c.args.writer.now);
+      start = refl;
+      room = c.requires.room;
+      reads = refl;
+      writes = refl;
+    }
+
+pub take_turn-requires-clause-room : goal.take_turn-requires-clause-room
+take_turn-requires-clause-room g c κs within = c.loop.invariant.room
+
+pub returns-in_err-take_turn-clause-session : goal.returns-in_err-take_turn-clause-session
+returns-in_err-take_turn-clause-session g c =
+    let seen = streams_of g.R.Source.failures g.R.Source.typed g.W.Sink.failures g.W.Sink.contents in
+    let first = seen c.args.reader.now c.args.writer.now in
+    let before = seen c.loop.reader c.loop.writer in
+    let after = seen c.take_turn.new.reader c.take_turn.new.writer in
+    let fault = c.in_err-take_turn.field-0.0 in
+    let limits = c.args.limits in
+    let old = standing c.args.debugger.now in
+    let was = standing c.loop.debugger in
+    let now = standing c.take_turn.new.debugger in
+    let is : c.from_residual.result ≡ Err fault = search rules in
+    let turn = subst (λ (s : State). IsTurn limits s was now (Err fault) before after) c.loop.invariant.start c.in_err-take_turn.ensures.turn in
+    subst (λ (e : Ended). IsTypedSession limits c.args.debugger.now.start old e first after) (sym is)
+    (is_failed limits c.args.debugger.now.start old was first before c.loop.invariant.so_far fault now after turn)
+
+pub returns-in_err-take_turn-clause-reads : goal.returns-in_err-take_turn-clause-reads
+returns-in_err-take_turn-clause-reads g c =
+    let fault = c.in_err-take_turn.field-0.0 in
+    let is : c.from_residual.result ≡ Err fault = search rules in
+    let n = g.R.Source.failures c.args.reader.now in
+    c.in_err-take_turn.ensures.reads ∙ ap (reads_after {T = Turn} (Err fault)) c.loop.invariant.reads ∙ same_reads fault n ∙ ap (λ (e : Ended). reads_after e n) (sym is)
+
+pub returns-in_err-take_turn-clause-writes : goal.returns-in_err-take_turn-clause-writes
+returns-in_err-take_turn-clause-writes g c =
+    let fault = c.in_err-take_turn.field-0.0 in
+    let is : c.from_residual.result ≡ Err fault = search rules in
+    let n = g.W.Sink.failures c.args.writer.now in
+    c.in_err-take_turn.ensures.writes ∙ ap (writes_after {T = Turn} (Err fault)) c.loop.invariant.writes ∙ same_writes fault n ∙ ap (λ (e : Ended). writes_after e n) (sym is)
+
+pub loop-preserved : goal.loop-preserved
+loop-preserved g c =
+    let seen = streams_of g.R.Source.failures g.R.Source.typed g.W.Sink.failures g.W.Sink.contents in
+    let before = seen c.loop.reader c.loop.writer in
+    let after = seen c.take_turn.new.reader c.take_turn.new.writer in
+    let was = standing c.loop.debugger in
+    let now = standing c.take_turn.new.debugger in
+    let here = subst (λ (t : Turn). IsTurn c.args.limits c.loop.debugger.start was now (Ok t) before after) c.in-Answered.is c.in_ok-take_turn.ensures.turn in
+    let turn = subst (λ (s : State). IsAnswered c.args.limits s was now before after) c.loop.invariant.start here in
+    record {
+      can_next = tt;
+      is_finite = tt;
+      so_far = one_more c.args.limits c.args.debugger.now.start (standing c.args.debugger.now) was (seen c.args.reader.now c.args.writer.now) before c.loop.invariant.so_far now after turn;
+      start = c.take_turn.ensures.start ∙ c.loop.invariant.start;
+      room = omega (arith, c.loop.invariant.room, c.take_turn.ensures.room);
+      reads = c.in_ok-take_turn.ensures.reads ∙ c.loop.invariant.reads;
+      writes = c.in_ok-take_turn.ensures.writes ∙ c.loop.invariant.writes;
+    }
+
+pub returns-in-Quit : goal.returns-in-Quit
+returns-in-Quit g c =
+    let seen = streams_of g.R.Source.failures g.R.Source.typed g.W.Sink.failures g.W.Sink.contents in
+    let before = seen c.loop.reader c.loop.writer in
+    let after = seen c.take_turn.new.reader c.take_turn.new.writer in
+    let was = standing c.loop.debugger in
+    let now = standing c.take_turn.new.debugger in
+    let turn = subst (λ (t : Turn). IsTurn c.args.limits c.loop.debugger.start was now (Ok t) before after) c.in-Quit.is c.in_ok-take_turn.ensures.turn in
+    record {
+      session = has_quit c.args.limits c.args.debugger.now.start (standing c.args.debugger.now) was (seen c.args.reader.now c.args.writer.now) before c.loop.invariant.so_far now after turn;
+      reads = c.in_ok-take_turn.ensures.reads ∙ c.loop.invariant.reads;
+      writes = c.in_ok-take_turn.ensures.writes ∙ c.loop.invariant.writes;
+    }
+
+pub returns-in-NoLine : goal.returns-in-NoLine
+returns-in-NoLine g c =
+    let seen = streams_of g.R.Source.failures g.R.Source.typed g.W.Sink.failures g.W.Sink.contents in
+    let before = seen c.loop.reader c.loop.writer in
+    let after = seen c.take_turn.new.reader c.take_turn.new.writer in
+    let was = standing c.loop.debugger in
+    let now = standing c.take_turn.new.debugger in
+    let turn = subst (λ (t : Turn). IsTurn c.args.limits c.loop.debugger.start was now (Ok t) before after) c.in-NoLine.is c.in_ok-take_turn.ensures.turn in
+    record {
+      session = has_no_line c.args.limits c.args.debugger.now.start (standing c.args.debugger.now) was (seen c.args.reader.now c.args.writer.now) before c.loop.invariant.so_far now after turn.0 turn.1;
+      reads = c.in_ok-take_turn.ensures.reads ∙ c.loop.invariant.reads;
+      writes = c.in_ok-take_turn.ensures.writes ∙ c.loop.invariant.writes;
+    }
+
+pub unreachable-requires : goal.unreachable-requires
+unreachable-requires g c = false≢true (subst (λ (o : Option (Unit {0})). IsSome o) c.in-None.is c.next.ensures.steps)
+
+pub unreachable-unreachable : goal.unreachable-unreachable
+unreachable-unreachable g c = c.unreachable.result
