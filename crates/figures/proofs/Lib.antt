@@ -1,0 +1,16 @@
+pub mod ClassBounds
+pub mod Counts
+pub mod Values
+pub mod Near
+pub mod Sent
+pub mod Runs
+pub mod Turns
+pub mod Rows
+pub mod Steps
+pub mod Begun
+pub mod After
+pub mod Along
+pub mod OfLinks
+pub mod AllLinks
+pub mod Pushed
+pub mod Again

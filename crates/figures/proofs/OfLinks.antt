@@ -1,0 +1,154 @@
+-- The figures of a link, one event on.
+use Rattle.std.proofs.Common.{◌≡◌, ◌≢◌, ℕ, ◌+◌, ◌-◌, ◌*◌, ◌≤◌, Bool, true, false, cond, max, List, [], ◌∷◌, ◌++◌, length-append, map, refl, sym, ap, ◌∙◌, arith, eq-eqb, is_some}
+use Rattle.std.proofs.Math.Nat.{mul-add, zero-mul, one-mul, mul-zero}
+use Rattle.std.proofs.lemmas.List.{map-append}
+use Rattle.port.specs.declared.acts.DropReason.{DropReason}
+use Rattle.port.specs.declared.acts.DropReason.TheVariants.{Lost, Full, Codel}
+use Rattle.port.specs.Port.{PortState}
+use Rattle.node_core.specs.Part.{PartState, link_at}
+use Rattle.node_core.specs.TraceLine.{TraceLine}
+use Rattle.table_run.specs.State.{State, part_at}
+use Rattle.figures.specs.declared.link.LinkFigures.{LinkFigures}
+use Rattle.figures.specs.Classes.{greatest}
+use Rattle.figures.specs.Moments.{Moment}
+use Rattle.figures.specs.Links.{port_at, waiting_at, busy_at, acts_between, acts_at, dropped_in, bytes_in, dropped_of, bytes_of, last_from, summed_over, waited_of, busy_of, IsLinkBegun, AreOfLink, IsLinkAfter}
+use Rattle.figures.proofs.Counts.{greatest_more, test_no}
+use Rattle.figures.proofs.Turns.{sum_more}
+
+pub last_more : (since : ℕ) (ms : List Moment) (m : Moment) → last_from since (ms ++ m ∷ []) ≡ m.line.key.time
+last_more since [] m = refl
+last_more since (n ∷ ms) m = last_more n.line.key.time ms m
+
+summed_more : (value : State → ℕ) (since : ℕ) (ms : List Moment) (m : Moment) → summed_over value since (ms ++ m ∷ []) ≡ summed_over value since ms + value m.before * (m.line.key.time - last_from since ms)
+summed_more value since [] m = let x = value m.before * (m.line.key.time - since) in omega arith
+summed_more value since (n ∷ ms) m =
+    let rest = summed_more value n.line.key.time ms m in
+    let x = value n.before * (n.line.key.time - since) in
+    let y = value m.before * (m.line.key.time - last_from n.line.key.time ms) in
+    omega (arith, rest)
+
+-- so long a time is two, one after the other
+passed : (w a b c : ℕ) → a ≤ b → b ≤ c → w * (b - a) + w * (c - b) ≡ w * (c - a)
+passed w a b c first second = sym (mul-add w (b - a) (c - b)) ∙ ap (λ n. w * n) (omega (arith, first, second))
+
+passed_on : (x w a b c : ℕ) → a ≤ b → b ≤ c → x + w * (c - a) ≡ x + w * (b - a) + w * (c - b)
+passed_on x w a b c first second = let both = passed w a b c first second in omega (arith, both)
+
+chosen : (b : Bool) (n : ℕ) → cond b n 0 ≡ cond {A = ℕ} b 1 0 * n
+chosen true n = sym (one-mul n)
+chosen false n = sym (zero-mul n)
+
+greatest_before : (node index : ℕ) (ms : List Moment) (m : Moment) → greatest (map (λ (n : Moment). waiting_at (port_at n.before node index)) (ms ++ m ∷ [])) ≡ max (greatest (map (λ (n : Moment). waiting_at (port_at n.before node index)) ms)) (waiting_at (port_at m.before node index))
+greatest_before node index ms m =
+    ap greatest (map-append (λ (n : Moment). waiting_at (port_at n.before node index)) ms (m ∷ []))
+    ∙ greatest_more (map (λ (n : Moment). waiting_at (port_at n.before node index)) ms) (waiting_at (port_at m.before node index))
+
+-- the figures of a link before any event
+pub link_begun : (s : State) (node index : ℕ) (f : LinkFigures) → IsLinkBegun (port_at s node index) f → AreOfLink [] s node index f
+link_begun s node index f is = record {
+  offered = is.offered;
+  waiting = is.waiting;
+  busy = is.busy;
+  since = let at = is.since in omega (arith, at);
+  lost = is.lost;
+  full = is.full;
+  codel = is.codel;
+  bytes = is.bytes;
+  waited = let none = ap (λ n. f.waiting * (0 - n)) is.since in let zero_is = mul-zero f.waiting in let w = is.waited in omega (arith, none, zero_is, w);
+  busy_for = ap (λ n. n + cond f.busy (0 - f.since) 0) is.busy_for ∙ nothing f.busy f.since is.since;
+  longest = let long = is.longest in omega (arith, long);
+  turns = let none = is.turns in omega (arith, none);
+}
+  where
+    nothing : (b : Bool) (n : ℕ) → n ≡ 0 → 0 + cond b (0 - n) 0 ≡ 0
+    nothing true n e = omega (arith, e)
+    nothing false n e = omega arith
+
+module _ (ms : List Moment) (s : State) (line : TraceLine) (t : State) (node index : ℕ) (order : last_from 0 ms ≤ line.key.time) where
+  abbrev m : Moment
+  m = record { before = s; line = line; after = t }
+
+  -- the integrals of a link's numbers
+  waited_more : (f : LinkFigures) → AreOfLink ms s node index f → f.waited + f.waiting * (line.key.time - f.since) ≡ waited_of node index (ms ++ m ∷ [])
+  waited_more f is =
+      passed_on f.waited f.waiting f.since (last_from 0 ms) line.key.time is.since order
+      ∙ ap (λ n. n + f.waiting * (line.key.time - last_from 0 ms)) is.waited
+      ∙ ap (λ w. waited_of node index ms + w * (line.key.time - last_from 0 ms)) is.waiting
+      ∙ sym (summed_more (λ (u : State). waiting_at (port_at u node index)) 0 ms m)
+
+  busy_more : (f : LinkFigures) → AreOfLink ms s node index f → f.busy_for + cond f.busy (line.key.time - f.since) 0 ≡ busy_of node index (ms ++ m ∷ [])
+  busy_more f is =
+      ap (λ n. f.busy_for + n) (chosen f.busy (line.key.time - f.since))
+      ∙ passed_on f.busy_for (cond f.busy 1 0) f.since (last_from 0 ms) line.key.time is.since order
+      ∙ ap (λ n. f.busy_for + n + cond f.busy 1 0 * (line.key.time - last_from 0 ms)) (sym (chosen f.busy (last_from 0 ms - f.since)))
+      ∙ ap (λ n. n + cond f.busy 1 0 * (line.key.time - last_from 0 ms)) is.busy_for
+      ∙ ap (λ b. busy_of node index ms + cond b 1 0 * (line.key.time - last_from 0 ms)) is.busy
+      ∙ sym (summed_more (λ (u : State). busy_at (port_at u node index)) 0 ms m)
+
+  -- an event at the link's node
+  module _ (here : line.key.node ≡ node) (f g : LinkFigures) (is : AreOfLink ms s node index f) (after : IsLinkAfter f (port_at t node index) line g) where
+    acts : acts_at node index m ≡ acts_between f.offered (port_at t node index) line
+    acts = ap (λ b. cond b (acts_between (port_at s node index).offered (port_at t node index) line) []) (eq-eqb line.key.node node here) ∙ ap (λ n. acts_between n (port_at t node index) line) (sym is.offered)
+
+    dropped : (reason : DropReason) (was now : ℕ) → was ≡ dropped_of reason node index ms → now ≡ was + dropped_in reason (acts_between f.offered (port_at t node index) line) → now ≡ dropped_of reason node index (ms ++ m ∷ [])
+    dropped reason was now before after_is =
+        after_is ∙ ap (λ n. n + dropped_in reason (acts_between f.offered (port_at t node index) line)) before
+        ∙ ap (λ list. dropped_of reason node index ms + dropped_in reason list) (sym acts)
+        ∙ sym (sum_more (λ (n : Moment). dropped_in reason (acts_at node index n)) ms m)
+
+    nothing_since : g.since ≡ last_from 0 (ms ++ m ∷ [])
+    nothing_since = after.since ∙ sym (last_more 0 ms m)
+
+    pub link_here : AreOfLink (ms ++ m ∷ []) t node index g
+    link_here = record {
+      offered = after.offered;
+      waiting = after.waiting;
+      busy = after.busy;
+      since = let at = nothing_since in omega (arith, at);
+      lost = dropped Lost f.lost g.lost is.lost after.lost;
+      full = dropped Full f.full g.full is.full after.full;
+      codel = dropped Codel f.codel g.codel is.codel after.codel;
+      bytes = after.bytes ∙ ap (λ n. n + bytes_in (acts_between f.offered (port_at t node index) line)) is.bytes
+          ∙ ap (λ list. bytes_of node index ms + bytes_in list) (sym acts) ∙ sym (sum_more (λ (n : Moment). bytes_in (acts_at node index n)) ms m);
+      waited = ap (λ n. g.waited + g.waiting * n) {x = last_from 0 (ms ++ m ∷ []) - g.since} {y = 0} (let at = nothing_since in omega (arith, at)) ∙ ap (λ n. g.waited + n) (mul-zero g.waiting) ∙ plus_none g.waited ∙ after.waited ∙ waited_more f is;
+      busy_for = ap (λ n. g.busy_for + cond g.busy n 0) {x = last_from 0 (ms ++ m ∷ []) - g.since} {y = 0} (let at = nothing_since in omega (arith, at)) ∙ ap (λ n. g.busy_for + n) (either g.busy) ∙ plus_none g.busy_for ∙ after.busy_for ∙ busy_more f is;
+      longest = after.longest ∙ ap (λ n. max n (waiting_at (port_at t node index))) (is.longest ∙ sym (greatest_before node index ms m));
+      turns = let count = length-append ms (m ∷ []) in let before = is.turns in let more = after.turns in omega (arith, count, before, more);
+    }
+      where
+        plus_none : (n : ℕ) → n + 0 ≡ n
+        plus_none n = omega arith
+
+        either : (b : Bool) → cond {A = ℕ} b 0 0 ≡ 0
+        either true = refl
+        either false = refl
+
+  -- an event at another node
+  module _ (apart : node ≢ line.key.node) (same : part_at t node ≡ part_at s node) (f : LinkFigures) (is : AreOfLink ms s node index f) where
+    no_acts : acts_at node index m ≡ []
+    no_acts = ap (λ b. cond b (acts_between (port_at s node index).offered (port_at t node index) line) []) (test_no line.key.node node (λ e. apart (sym e)))
+
+    port_same : port_at t node index ≡ port_at s node index
+    port_same = ap (λ (p : PartState). (link_at p.links index).port) same
+
+    none_dropped : (reason : DropReason) (was : ℕ) → was ≡ dropped_of reason node index ms → was ≡ dropped_of reason node index (ms ++ m ∷ [])
+    none_dropped reason was before =
+        let more = sum_more (λ (n : Moment). dropped_in reason (acts_at node index n)) ms m in
+        let none : dropped_in reason (acts_at node index m) ≡ 0 = ap (dropped_in reason) no_acts in
+        omega (arith, before, more, none)
+
+    pub link_elsewhere : AreOfLink (ms ++ m ∷ []) t node index f
+    link_elsewhere = record {
+      offered = is.offered ∙ ap (λ (p : PortState). p.offered) (sym port_same);
+      waiting = is.waiting ∙ ap (λ (p : PortState). waiting_at p) (sym port_same);
+      busy = is.busy ∙ ap (λ (p : PortState). is_some p.next_free) (sym port_same);
+      since = let at = last_more 0 ms m in let before = is.since in omega (arith, at, before, order);
+      lost = none_dropped Lost f.lost is.lost;
+      full = none_dropped Full f.full is.full;
+      codel = none_dropped Codel f.codel is.codel;
+      bytes = (let more = sum_more (λ (n : Moment). bytes_in (acts_at node index n)) ms m in let none : bytes_in (acts_at node index m) ≡ 0 = ap bytes_in no_acts in let before = is.bytes in omega (arith, before, more, none));
+      waited = ap (λ n. f.waited + f.waiting * (n - f.since)) (last_more 0 ms m) ∙ waited_more f is;
+      busy_for = ap (λ n. f.busy_for + cond f.busy (n - f.since) 0) (last_more 0 ms m) ∙ busy_more f is;
+      longest = (let before = greatest_before node index ms m in let long = is.longest in let still : waiting_at (port_at t node index) ≡ waiting_at (port_at s node index) = ap (λ (p : PortState). waiting_at p) port_same in omega (arith, before, long, still));
+      turns = let count = length-append ms (m ∷ []) in let before = is.turns in omega (arith, count, before);
+    }

@@ -1,0 +1,64 @@
+use Rattle.std.proofs.Common.{◌≡◌, ◌<◌, refl, length, get_or, set, Some, None, sym, ap, subst, ◌∙◌, inl, inr, arith}
+use Rattle.node_core.specs.TraceLine.{shown}
+use Rattle.table_run.specs.State.{State}
+use Rattle.figures.specs.Figures.{IsOfNode}
+use Rattle.figures.specs.Moments.{cause_of}
+use Rattle.figures.proofs.Steps.{is_step, size_stays}
+use Rattle.figures.proofs.AllLinks.{links_counted, sizes_are}
+use Rattle.figures.proofs.After.{quiet, quiet_sender, planned_is, one_acted, told, within_parts}
+use Rattle.figures.proofs.figures.Figures.after.Goals as goal
+
+pub turn-requires-clause-planned : goal.turn-requires-clause-planned
+turn-requires-clause-planned c =
+    let R = c.requires.follows in
+    let line = shown c.args.line.now in
+    let t : State = c.args.net.now.state in
+    let cause : cause_of line.event ≡ Some c.in-Some.cause = sym c.cause_of.ensures ∙ c.in-Some.is in
+    let here = told c.nodes-in-Some.result.now t c.from-place.result line.key.node (Some c.in-Some-sender_at.sender.now) c.nodes-in-Some.ensures.parts c.from-place.ensures c.in-Some-sender_at.ensures in
+    let inside : line.key.node < length t.parts = within_parts t line.key.node c.in-Some-sender_at.sender.now here in
+    let old : IsOfNode R.so_far R.before line.key.node c.index_mut-counted.result.now =
+    subst (IsOfNode R.so_far R.before line.key.node) (sym (c.index_mut-counted.ensures.value ∙ ap (λ i. get_or c.args.self.now.senders.items i c.index_mut-counted.result.now) c.from-place.ensures))
+    (R.figures.senders.each line.key.node c.index_mut-counted.result.now (omega (arith, inside, size_stays R.before line t (is_step R.before line t R.next)))) in
+    planned_is R.so_far R.before line t R.next c.in-Some.cause c.in-Some-sender_at.sender.now cause here c.index_mut-counted.result.now old
+
+pub returns-in-Some-sender_at-clause-senders : goal.returns-in-Some-sender_at-clause-senders
+returns-in-Some-sender_at-clause-senders c = λ ms s is next.
+    let line = shown c.args.line.now in
+    let t : State = c.args.net.now.state in
+    let cause : cause_of line.event ≡ Some c.in-Some.cause = sym c.cause_of.ensures ∙ c.in-Some.is in
+    let here = told c.nodes-in-Some.result.now t c.from-place.result line.key.node (Some c.in-Some-sender_at.sender.now) c.nodes-in-Some.ensures.parts c.from-place.ensures c.in-Some-sender_at.ensures in
+    let inside : line.key.node < length t.parts = within_parts t line.key.node c.in-Some-sender_at.sender.now here in
+    one_acted ms s line t next c.in-Some.cause c.in-Some-sender_at.sender.now cause here c.args.self.now _ c.index_mut-counted.result.now c.turn.new.self
+    (omega (arith, inside, is.size, size_stays s line t (is_step s line t next)))
+    (c.index_mut-counted.ensures.value ∙ ap (λ i. get_or c.args.self.now.senders.items i c.index_mut-counted.result.now) c.from-place.ensures)
+    (ap (λ i. set c.args.self.now.senders.items i c.turn.new.self) c.from-place.ensures) c.turn.ensures.figures c.turn.ensures.kept is
+
+pub returns-in_default-sender_at-clause-senders : goal.returns-in_default-sender_at-clause-senders
+returns-in_default-sender_at-clause-senders c = λ ms s is next.
+    quiet ms s (shown c.args.line.now) c.args.net.now.state next c.args.self.now _ refl
+    (quiet_sender ms s (shown c.args.line.now) c.args.net.now.state next
+    (inr (told c.nodes-in-Some.result.now c.args.net.now.state c.from-place.result c.args.line.now.key.node None c.nodes-in-Some.ensures.parts c.from-place.ensures c.in_default-sender_at.ensures))) is
+
+pub returns-in_default-clause-senders : goal.returns-in_default-clause-senders
+returns-in_default-clause-senders c = λ ms s is next.
+    quiet ms s (shown c.args.line.now) c.args.net.now.state next c.args.self.now _ refl (inl (sym c.cause_of.ensures ∙ c.in_default.is)) is
+
+pub count_links-requires-clause-sizes : goal.count_links-requires-clause-sizes
+count_links-requires-clause-sizes c =
+    let R = c.requires.follows in
+    sizes_are R.so_far R.before (shown c.args.line.now) c.args.net.now.state R.next c.nodes.result.now c.nodes.ensures.parts c.args.self.now.links.items c.args.self.now.links.items refl R.figures.links
+
+pub returns-in-Some-sender_at-clause-links : goal.returns-in-Some-sender_at-clause-links
+returns-in-Some-sender_at-clause-links c = λ ms s is next.
+    links_counted ms s (shown c.args.line.now) c.args.net.now.state next (omega (arith, is.last, c.requires.order)) c.nodes.result.now c.nodes.ensures.parts c.args.self.now.links.items c.count_links.new.all.items c.args.self.now.links.items refl is.links
+    c.count_links.ensures.size c.count_links.ensures.sizes c.count_links.ensures.here c.count_links.ensures.elsewhere
+
+pub returns-in_default-sender_at-clause-links : goal.returns-in_default-sender_at-clause-links
+returns-in_default-sender_at-clause-links c = λ ms s is next.
+    links_counted ms s (shown c.args.line.now) c.args.net.now.state next (omega (arith, is.last, c.requires.order)) c.nodes.result.now c.nodes.ensures.parts c.args.self.now.links.items c.count_links.new.all.items c.args.self.now.links.items refl is.links
+    c.count_links.ensures.size c.count_links.ensures.sizes c.count_links.ensures.here c.count_links.ensures.elsewhere
+
+pub returns-in_default-clause-links : goal.returns-in_default-clause-links
+returns-in_default-clause-links c = λ ms s is next.
+    links_counted ms s (shown c.args.line.now) c.args.net.now.state next (omega (arith, is.last, c.requires.order)) c.nodes.result.now c.nodes.ensures.parts c.args.self.now.links.items c.count_links.new.all.items c.args.self.now.links.items refl is.links
+    c.count_links.ensures.size c.count_links.ensures.sizes c.count_links.ensures.here c.count_links.ensures.elsewhere

@@ -1,0 +1,146 @@
+-- What is counted of a link, over the events of a run.
+use Rattle.std.specs.Prelude.{◌≡◌, ◌+◌, ◌-◌, ◌*◌, ◌==◌, ◌||◌, ◌≤◌, ◌<◌, ℕ, Bool, true, false, not, max, if◌then◌else◌, List, [], ◌∷◌, length, map, count_by, is_some, slice_index_or}
+use Rattle.std.specs.List.{sum_by}
+use Rattle.aqm.specs.Queue.{waiting_in}
+use Rattle.port.specs.declared.acts.Act.{Act}
+use Rattle.port.specs.declared.acts.Act.TheVariants.{Tx, Dropped}
+use Rattle.port.specs.declared.acts.DropReason.{DropReason}
+use Rattle.port.specs.declared.acts.DropReason.TheVariants.{Lost, Full, Codel}
+use Rattle.port.specs.Port.{PortState}
+use Rattle.node_core.specs.declared.event.Event.{Event}
+use Rattle.node_core.specs.declared.event.Event.TheVariants.{Start, Rto, DelAck, Free, Arrive}
+use Rattle.node_core.specs.Part.{LinkState, link_at}
+use Rattle.node_core.specs.TraceLine.{TraceLine}
+use Rattle.table_run.specs.State.{State, part_at}
+use Rattle.figures.specs.Classes.{greatest}
+use Rattle.figures.specs.Moments.{Moment}
+use Rattle.figures.specs.declared.link.LinkFigures.{LinkFigures}
+
+-- the sending side of a link: the node that it leaves, and which of that node's outgoing links it is
+abbrev pub port_at : State → ℕ → ℕ → PortState
+port_at s node index = (link_at (part_at s node).links index).port
+
+-- how many packets wait at it, and one while it is busy
+abbrev pub waiting_at : PortState → ℕ
+waiting_at port = length (waiting_in port.queue)
+
+abbrev pub busy_at : PortState → ℕ
+busy_at port = if is_some port.next_free then 1 else 0
+
+-- the event is that the link of this number has sent a packet whole
+abbrev pub frees : ℕ → Event → Bool
+frees link (Start flow) = false
+frees link (Rto flow) = false
+frees link (DelAck flow) = false
+frees link (Free number) = number == link
+frees link (Arrive packet) = false
+
+-- an event's acts, where it offers packets to the link or frees it: they are then all at that link
+abbrev pub acts_between : ℕ → PortState → TraceLine → List Act
+acts_between offered after line = if frees after.link line.event || not (after.offered == offered) then line.acts else []
+
+abbrev pub acts_at : ℕ → ℕ → Moment → List Act
+acts_at node index m = if m.line.key.node == node then acts_between (port_at m.before node index).offered (port_at m.after node index) m.line else []
+
+abbrev pub is_for : DropReason → Act → Bool
+is_for Lost (Dropped Lost packet) = true
+is_for Full (Dropped Full packet) = true
+is_for Codel (Dropped Codel packet) = true
+is_for reason act = false
+
+-- the packets that are dropped for a reason, and the bytes of those that begin to be sent
+abbrev pub dropped_in : DropReason → List Act → ℕ
+dropped_in reason acts = count_by (is_for reason) acts
+
+abbrev pub bytes_by : Act → ℕ
+bytes_by (Tx link packet) = packet.bytes
+bytes_by (Dropped reason packet) = 0
+
+abbrev pub bytes_in : List Act → ℕ
+bytes_in acts = sum_by bytes_by acts
+
+abbrev pub dropped_of : DropReason → ℕ → ℕ → List Moment → ℕ
+dropped_of reason node index ms = sum_by (λ m. dropped_in reason (acts_at node index m)) ms
+
+abbrev pub bytes_of : ℕ → ℕ → List Moment → ℕ
+bytes_of node index ms = sum_by (λ m. bytes_in (acts_at node index m)) ms
+
+-- when the last event was run; an earlier moment before the first
+abbrev pub last_from : ℕ → List Moment → ℕ
+last_from since [] = since
+last_from since (m ∷ ms) = last_from m.line.key.time ms
+
+-- a number of each state, times the time to the next event, summed up to the last event
+abbrev pub summed_over : (State → ℕ) → ℕ → List Moment → ℕ
+summed_over value since [] = 0
+summed_over value since (m ∷ ms) = value m.before * (m.line.key.time - since) + summed_over value m.line.key.time ms
+
+-- how many packets waited, times how long; and how long the link was busy
+abbrev pub waited_of : ℕ → ℕ → List Moment → ℕ
+waited_of node index ms = summed_over (λ s. waiting_at (port_at s node index)) 0 ms
+
+abbrev pub busy_of : ℕ → ℕ → List Moment → ℕ
+busy_of node index ms = summed_over (λ s. busy_at (port_at s node index)) 0 ms
+
+-- the longest queue of any state up to the last, which is s
+abbrev pub longest_of : ℕ → ℕ → List Moment → State → ℕ
+longest_of node index ms s = max (greatest (map (λ m. waiting_at (port_at m.before node index)) ms)) (waiting_at (port_at s node index))
+
+-- nothing is counted yet of a link
+pub record IsLinkBegun (port : PortState) (f : LinkFigures) : Type 0 where
+  pub offered : f.offered ≡ port.offered
+  pub waiting : f.waiting ≡ waiting_at port
+  pub busy : f.busy ≡ is_some port.next_free
+  pub since : f.since ≡ 0
+  pub lost : f.lost ≡ 0
+  pub full : f.full ≡ 0
+  pub codel : f.codel ≡ 0
+  pub bytes : f.bytes ≡ 0
+  pub waited : f.waited ≡ 0
+  pub busy_for : f.busy_for ≡ 0
+  pub longest : f.longest ≡ waiting_at port
+  pub turns : f.turns ≡ 0
+
+-- the figures are those of a link after these events, the last state being s; what has passed since they were read last is added to the two that count time
+pub record AreOfLink (ms : List Moment) (s : State) (node index : ℕ) (f : LinkFigures) : Type 0 where
+  pub offered : f.offered ≡ (port_at s node index).offered
+  pub waiting : f.waiting ≡ waiting_at (port_at s node index)
+  pub busy : f.busy ≡ is_some (port_at s node index).next_free
+  pub since : f.since ≤ last_from 0 ms
+  pub lost : f.lost ≡ dropped_of Lost node index ms
+  pub full : f.full ≡ dropped_of Full node index ms
+  pub codel : f.codel ≡ dropped_of Codel node index ms
+  pub bytes : f.bytes ≡ bytes_of node index ms
+  pub waited : f.waited + f.waiting * (last_from 0 ms - f.since) ≡ waited_of node index ms
+  pub busy_for : f.busy_for + (if f.busy then last_from 0 ms - f.since else 0) ≡ busy_of node index ms
+  pub longest : f.longest ≡ longest_of node index ms s
+  pub turns : f.turns ≤ length ms
+
+-- what a link's figures are after an event at its node
+pub record IsLinkAfter (f : LinkFigures) (port : PortState) (line : TraceLine) (g : LinkFigures) : Type 0 where
+  pub offered : g.offered ≡ port.offered
+  pub waiting : g.waiting ≡ waiting_at port
+  pub busy : g.busy ≡ is_some port.next_free
+  pub since : g.since ≡ line.key.time
+  pub lost : g.lost ≡ f.lost + dropped_in Lost (acts_between f.offered port line)
+  pub full : g.full ≡ f.full + dropped_in Full (acts_between f.offered port line)
+  pub codel : g.codel ≡ f.codel + dropped_in Codel (acts_between f.offered port line)
+  pub bytes : g.bytes ≡ f.bytes + bytes_in (acts_between f.offered port line)
+  pub waited : g.waited ≡ f.waited + f.waiting * (line.key.time - f.since)
+  pub busy_for : g.busy_for ≡ f.busy_for + (if f.busy then line.key.time - f.since else 0)
+  pub longest : g.longest ≡ max f.longest (waiting_at port)
+  pub turns : g.turns ≡ f.turns + 1
+
+-- the links of a node, of each of which nothing is counted yet
+pub record AreLinksBegun (links : List LinkState) (fs : List LinkFigures) : Type 0 where
+  pub size : length fs ≡ length links
+  pub each : (i : ℕ) (other : LinkFigures) → i < length links → IsLinkBegun (link_at links i).port (slice_index_or fs i other)
+
+-- the links of a node, each after an event at it
+abbrev pub AreLinksAfter : List LinkFigures → List LinkState → TraceLine → List LinkFigures → Type 0
+AreLinksAfter old links line new = (i : ℕ) (other : LinkFigures) → i < length old → IsLinkAfter (slice_index_or old i other) (link_at links i).port line (slice_index_or new i other)
+
+-- the figures of all links of a node after these events
+pub record AreOfNode (ms : List Moment) (s : State) (node : ℕ) (fs : List LinkFigures) : Type 0 where
+  pub size : length fs ≡ length (part_at s node).links
+  pub each : (i : ℕ) (other : LinkFigures) → i < length fs → AreOfLink ms s node i (slice_index_or fs i other)

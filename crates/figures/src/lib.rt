@@ -1,0 +1,22 @@
+//! What is counted of a run: of each sender and each link, event by event, so that no trace is needed.
+#![tactic(auto)]
+
+pub mod classes;
+pub mod figures;
+pub mod guarantees;
+mod link;
+mod links;
+pub mod run;
+mod sender;
+pub mod tally;
+#[cfg(test)]
+mod tests;
+mod told;
+mod turn;
+
+pub use figures::Figures;
+pub use link::LinkFigures;
+pub use links::NodeLinks;
+pub use run::run_figures;
+pub use sender::SenderFigures;
+pub use tally::Tally;

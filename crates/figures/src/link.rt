@@ -1,0 +1,125 @@
+//! What is counted of a link.
+ghost use Rattle.std.specs.Prelude.{◌≡◌, ◌+◌, ◌-◌, ◌*◌, ◌<◌, ◌≤◌, ◌^◌, if◌then◌else◌};
+
+use crate::told::told_at;
+use node_core::Line;
+use port::Port;
+use sim_time::Time;
+
+/// What is counted of a link.
+#[derive(Clone, Copy, Debug, PartialEq, Eq)]
+pub struct LinkFigures {
+    /// How many packets were offered to it.
+    pub offered: u128,
+    /// How many packets wait at it.
+    pub waiting: usize,
+    /// Whether it is busy.
+    pub busy: bool,
+    /// When these were read last, in nanoseconds.
+    pub since: Time,
+    /// How many packets were dropped, as the list of lost packets names them.
+    pub lost: u128,
+    /// How many packets were dropped as the queue was full.
+    pub full: u128,
+    /// How many packets CoDel dropped.
+    pub codel: u128,
+    /// The bytes of the packets that began to be sent.
+    pub bytes: u128,
+    /// How many packets waited, times for how many nanoseconds, up to then.
+    pub waited: u128,
+    /// For how many nanoseconds it was busy, up to then.
+    pub busy_for: u128,
+    /// The longest queue so far, in packets.
+    pub longest: usize,
+    /// How many events were run at its node.
+    pub turns: u64,
+    ghost lost_most: { lost ≤ turns * 2 ^ 64 },
+    ghost full_most: { full ≤ turns * 2 ^ 64 },
+    ghost codel_most: { codel ≤ turns * 2 ^ 64 },
+    ghost bytes_most: { bytes ≤ turns * (2 ^ 64 * 9040) },
+    ghost waited_most: { waited ≤ since * 2 ^ 64 },
+    ghost busy_most: { busy_for ≤ since },
+}
+
+// For how long a link was busy of so many nanoseconds: for all of them, or not at all.
+fn busy_for(busy: bool, passed: Time) -> Time
+    ensures value { result ≡ (if busy then passed else 0) }
+    ensures most { result ≤ passed }
+{
+    if busy { passed } else { 0 }
+}
+
+// So many packets, times so many nanoseconds.
+fn area(waiting: usize, passed: Time) -> u128
+    ensures value { result ≡ waiting * passed }
+    ensures most { result ≤ passed * 2 ^ 64 }
+{
+    waiting as u128 * u128::from(passed)
+}
+
+impl LinkFigures {
+    ghost use Rattle.sim_time.specs.Moment.{IsMoment};
+    ghost use Rattle.node_core.specs.TraceLine.{shown};
+    ghost use Rattle.figures.specs.Links.{IsLinkBegun, IsLinkAfter};
+
+    /// Nothing is counted yet of a link.
+    pub fn new(port: &Port) -> LinkFigures
+        ensures { IsLinkBegun port.now result }
+    {
+        LinkFigures {
+            offered: port.offered(),
+            waiting: port.queue().len(),
+            busy: port.next_free().is_some(),
+            since: 0,
+            lost: 0,
+            full: 0,
+            codel: 0,
+            bytes: 0,
+            waited: 0,
+            busy_for: 0,
+            longest: port.queue().len(),
+            turns: 0,
+        }
+    }
+
+    /// An event was run at its node, of which the line tells, and it is `port` now.
+    pub fn after(&mut self, port: &Port, line: &Line)
+        requires few { self.old.turns < 1000000000000000 }
+        requires moment { IsMoment line.now.key.time }
+        requires order { self.old.since ≤ line.now.key.time }
+        ensures { IsLinkAfter self.old port.now (shown line.now) self.new }
+    {
+        let now = line.key.time;
+        let passed = now - self.since;
+        let told = told_at(self.offered, port, line);
+        self.turns += 1;
+        self.since = now;
+        self.waited += area(self.waiting, passed);
+        self.busy_for += u128::from(busy_for(self.busy, passed));
+        self.lost += u128::from(told.lost);
+        self.full += u128::from(told.full);
+        self.codel += u128::from(told.codel);
+        self.bytes += told.bytes;
+        self.offered = port.offered();
+        self.waiting = port.queue().len();
+        self.busy = port.next_free().is_some();
+        self.longest = self.longest.max(self.waiting);
+    }
+    /// How many packets waited, times for how many nanoseconds, up to a moment.
+    pub fn waited_by(&self, end: Time) -> u128
+        requires moment { IsMoment end }
+        requires order { self.now.since ≤ end }
+        ensures { result ≡ self.now.waited + self.now.waiting * (end - self.now.since) }
+    {
+        self.waited + area(self.waiting, end - self.since)
+    }
+
+    /// For how many nanoseconds it was busy, up to a moment.
+    pub fn busy_by(&self, end: Time) -> u128
+        requires moment { IsMoment end }
+        requires order { self.now.since ≤ end }
+        ensures { result ≡ self.now.busy_for + (if self.now.busy then end - self.now.since else 0) }
+    {
+        self.busy_for + u128::from(busy_for(self.busy, end - self.since))
+    }
+}

@@ -1,0 +1,66 @@
+//! What is counted of the links that leave a node.
+ghost use Rattle.std.specs.Prelude.{◌≡◌, ◌≢◌, ◌<◌, ◌≤◌, ℕ, length, slice_index_or, IfOk};
+ghost use Rattle.sim_time.specs.Moment.{IsMoment};
+ghost use Rattle.node_core.specs.Part.{link_at};
+ghost use Rattle.node_core.specs.TraceLine.{shown};
+ghost use Rattle.net_machine.specs.Nodes.{node_at};
+ghost use Rattle.figures.specs.declared.link.LinkFigures.{LinkFigures};
+ghost use Rattle.figures.specs.declared.links.NodeLinks.{NodeLinks};
+ghost use Rattle.figures.specs.Links.{AreLinksBegun, AreLinksAfter};
+
+use crate::link::LinkFigures;
+use node_core::link::Link;
+use node_core::{Line, Node};
+use std::alloc::{AllocError, Global};
+
+/// What is counted of the links that leave a node.
+#[derive(Drop)]
+pub struct NodeLinks {
+    /// Of each link, in rising number.
+    pub figures: Vec<LinkFigures>,
+}
+
+/// Nothing is counted yet of some links.
+pub fn links_begun(alloc: Global, links: &[Link]) -> Result<Vec<LinkFigures>, AllocError>
+    ensures { IfOk result (λ all. AreLinksBegun links.now all.items) }
+{
+    let mut all = Vec::new(alloc);
+    for link in links {
+        all.push(LinkFigures::new(link.port()))?;
+    }
+    Ok(all)
+}
+
+/// An event was run at the node of some links, of which the line tells, and they are so now.
+pub fn links_after(figures: &mut [LinkFigures], links: &[Link], line: &Line)
+    requires size { length figures.old ≡ length links.now }
+    requires few { (i : ℕ) (other : LinkFigures) → i < length figures.old → (slice_index_or figures.old i other).turns < 1000000000000000 }
+    requires moment { IsMoment line.now.key.time }
+    requires order { (i : ℕ) (other : LinkFigures) → i < length figures.old → (slice_index_or figures.old i other).since ≤ line.now.key.time }
+    ensures size_stays { length figures.new ≡ length figures.old }
+    ensures figures { AreLinksAfter figures.old links.now (shown line.now) figures.new }
+{
+    for i in 0..figures.len() {
+        let figures = &mut figures[i];
+        figures.after(links[i].port(), line);
+    }
+}
+
+/// An event was run, of which the line tells, and the nodes are so now.
+pub fn count_links(all: &mut Vec<NodeLinks>, nodes: &[Node], line: &Line)
+    requires size { length all.old.items ≡ length nodes.now }
+    requires sizes { (node : ℕ) (other : NodeLinks) → node < length all.old.items → length (slice_index_or all.old.items node other).figures.items ≡ length (node_at nodes.now node).part.links }
+    requires few { (node : ℕ) (other : NodeLinks) (i : ℕ) (link : LinkFigures) → node < length all.old.items → i < length (slice_index_or all.old.items node other).figures.items → (slice_index_or (slice_index_or all.old.items node other).figures.items i link).turns < 1000000000000000 }
+    requires moment { IsMoment line.now.key.time }
+    requires order { (node : ℕ) (other : NodeLinks) (i : ℕ) (link : LinkFigures) → node < length all.old.items → i < length (slice_index_or all.old.items node other).figures.items → (slice_index_or (slice_index_or all.old.items node other).figures.items i link).since ≤ line.now.key.time }
+    ensures size { length all.new.items ≡ length all.old.items }
+    ensures sizes { (other : NodeLinks) → length (slice_index_or all.new.items line.now.key.node other).figures.items ≡ length (slice_index_or all.old.items line.now.key.node other).figures.items }
+    ensures here { (other : NodeLinks) → line.now.key.node < length all.old.items → AreLinksAfter (slice_index_or all.old.items line.now.key.node other).figures.items (node_at nodes.now line.now.key.node).part.links (shown line.now) (slice_index_or all.new.items line.now.key.node other).figures.items }
+    ensures elsewhere { (node : ℕ) (other : NodeLinks) → node ≢ line.now.key.node → slice_index_or all.new.items node other ≡ slice_index_or all.old.items node other }
+{
+    let place = usize::from(line.key.node);
+    if place < all.len() {
+        let links = &mut all[place];
+        links_after(&mut links.figures, nodes[place].ports(), line);
+    }
+}

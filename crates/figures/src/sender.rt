@@ -1,0 +1,155 @@
+//! What is counted of a sender.
+ghost use Rattle.std.specs.Prelude.{◌≡◌, ◌+◌, ◌*◌, ◌<◌, ◌≤◌, ◌^◌, ◌++◌, ◌∷◌, [], ℕ, List, Option, Some, None, IfOk, IfSome, if◌then◌else◌};
+ghost use Rattle.std.specs.Option.{option_or};
+ghost use Rattle.figures.specs.Turns.{trip_of as trip_is, sample_by as sample_is, recovers as recovers_is, is_timeout as timeout_is, is_complete as complete_is};
+ghost use Rattle.reno_sender.specs.Fields.{IsSound};
+
+use crate::tally::Tally;
+use crate::turn::{Cause, sent_by};
+use reno_sender::{Sender, SenderFields, Timing};
+use sim_time::Time;
+use std::alloc::{AllocError, Global};
+
+/// What is counted of a sender.
+#[derive(Drop)]
+pub struct SenderFigures {
+    /// What it keeps.
+    pub kept: Sender,
+    /// When all bytes of its flow were acknowledged; none before.
+    pub completed: Option<Time>,
+    /// The segments that it has sent, new or again.
+    pub sent: u128,
+    /// Those that it has sent again in recovery: by fast retransmit (RFC 5681 section 3.2).
+    pub again_in_recovery: u128,
+    /// The others that it has sent again: by timeout.
+    pub again_otherwise: u128,
+    /// How often its retransmission timer ended.
+    pub timeouts: u64,
+    /// The samples of the round trip, in nanoseconds (RFC 6298 section 3).
+    pub trips: Tally,
+    /// How often it has acted.
+    pub turns: u64,
+    ghost sent_most: { sent ≤ turns * 2 ^ 64 },
+    ghost recovery_most: { again_in_recovery ≤ turns * 2 ^ 64 },
+    ghost otherwise_most: { again_otherwise ≤ turns * 2 ^ 64 },
+    ghost timeouts_most: { timeouts ≤ turns },
+    ghost trips_most: { trips.count ≤ turns },
+}
+
+// The sample that an acknowledgement gives, where it gives one.
+fn trip_of(timing: Option<Timing>, ack: u64, now: Time) -> Option<u64>
+    ensures value { result ≡ trip_is timing ack now }
+    ensures most { IfSome result (λ trip. trip ≤ now) }
+{
+    match timing {
+        Some(timing) if timing.number <= ack => Some(now.saturating_sub(timing.sent_at)),
+        _ => None,
+    }
+}
+
+// The sample that a sender takes where it acts.
+fn sample_by(old: &SenderFields, cause: Cause, now: Time) -> Option<u64>
+    ensures value { result ≡ sample_is old.now cause now }
+    ensures most { IfSome result (λ trip. trip ≤ now) }
+{
+    match cause {
+        Cause::Acknowledged(ack) => trip_of(old.timing, ack, now),
+        Cause::Starts | Cause::TimesOut => None,
+    }
+}
+
+// Whether a sender acts on an acknowledgement, and is in recovery then.
+fn recovers(new: &SenderFields, cause: Cause) -> bool
+    ensures { result ≡ recovers_is cause new.now }
+{
+    match cause {
+        Cause::Acknowledged(_) => new.recovery,
+        Cause::Starts | Cause::TimesOut => false,
+    }
+}
+
+// What is sent again in recovery, and otherwise.
+fn apart(again: u64, in_recovery: bool) -> (u64, u64)
+    ensures first { result.0 ≡ (if in_recovery then again else 0) }
+    ensures second { result.1 ≡ (if in_recovery then 0 else again) }
+{
+    if in_recovery { (again, 0) } else { (0, again) }
+}
+
+// One where a sender acts as its timer ends, else none.
+fn timeouts_in(cause: Cause) -> u64
+    ensures value { result ≡ (if timeout_is cause then 1 else 0) }
+    ensures most { result ≤ 1 }
+{
+    match cause {
+        Cause::TimesOut => 1,
+        Cause::Acknowledged(_) | Cause::Starts => 0,
+    }
+}
+
+// When all bytes of the flow were acknowledged, where they are now.
+fn completed_by(before: Option<Time>, complete: bool, now: Time) -> Option<Time>
+    ensures { result ≡ option_or before (if complete then Some now else None) }
+{
+    match before {
+        Some(time) => Some(time),
+        None if complete => Some(now),
+        None => None,
+    }
+}
+
+// Whether all bytes of the flow are acknowledged.
+fn is_complete(new: &SenderFields) -> bool
+    requires { IsSound new.now }
+    ensures { result ≡ complete_is new.now }
+{
+    new.una == new.segments * new.mss
+}
+
+impl SenderFigures {
+    ghost use Rattle.sim_time.specs.Moment.{IsMoment};
+    ghost use Rattle.figures.specs.Turns.{Turn, planned_by};
+    ghost use Rattle.figures.specs.Senders.{AreOfTurns};
+
+    /// Nothing is counted yet of a sender that keeps these fields.
+    pub fn new(alloc: Global, kept: &Sender) -> Result<SenderFigures, AllocError>
+        ensures figures { IfOk result (AreOfTurns []) }
+        ensures kept { IfOk result (λ f. f.kept ≡ kept.now) }
+        ensures turns { IfOk result (λ f. f.turns ≡ 0) }
+    {
+        Ok(SenderFigures {
+            kept: *kept,
+            completed: None,
+            sent: 0,
+            again_in_recovery: 0,
+            again_otherwise: 0,
+            timeouts: 0,
+            trips: Tally::new(alloc)?,
+            turns: 0,
+        })
+    }
+
+    /// The sender has acted, and keeps `new` from then on.
+    pub fn turn(&mut self, new: &Sender, cause: Cause, now: Time)
+        requires few { self.old.turns < 2 ^ 60 }
+        requires moment { IsMoment now }
+        requires planned { new.now ≡ (planned_by self.old.kept cause now).fields }
+        ensures figures { (ts : List Turn) → AreOfTurns ts self.old → AreOfTurns (ts ++ record { old = self.old.kept; cause = cause; now = now } ∷ []) self.new }
+        ensures kept { self.new.kept ≡ new.now }
+        ensures turns { self.new.turns ≡ self.old.turns + 1 }
+    {
+        let old = self.kept.as_fields();
+        let fields = new.as_fields();
+        let sent = sent_by(old, fields, cause, now);
+        let trip = sample_by(old, cause, now);
+        self.turns += 1;
+        self.trips.note_some(trip);
+        self.sent += u128::from(sent.segments);
+        let (in_recovery, otherwise) = apart(sent.again, recovers(fields, cause));
+        self.again_in_recovery += u128::from(in_recovery);
+        self.again_otherwise += u128::from(otherwise);
+        self.timeouts += timeouts_in(cause);
+        self.completed = completed_by(self.completed, is_complete(fields), now);
+        self.kept = *new;
+    }
+}

@@ -1,0 +1,71 @@
+//! What an event's acts tell of a link.
+ghost use Rattle.std.specs.Prelude.{◌≡◌, ◌*◌, ◌≤◌, ◌^◌, length};
+ghost use Rattle.port.specs.declared.acts.DropReason.TheVariants.{Lost, Full, Codel};
+ghost use Rattle.node_core.specs.TraceLine.{shown};
+ghost use Rattle.figures.specs.Links.{frees as frees_is, acts_between, dropped_in, bytes_in};
+
+use node_core::{Act, DropReason, Event, Line};
+use port::Port;
+
+/// What the acts at a link tell of it.
+#[derive(Clone, Copy, Debug, PartialEq, Eq)]
+pub struct Told {
+    /// How many packets were dropped, as the list of lost packets names them.
+    pub lost: u64,
+    /// How many packets were dropped as the queue was full.
+    pub full: u64,
+    /// How many packets CoDel dropped.
+    pub codel: u64,
+    /// The bytes of the packets that began to be sent.
+    pub bytes: u128,
+}
+
+// What some acts tell of the link that they are at.
+fn told_by(acts: &[Act]) -> Told
+    ensures lost { result.lost ≡ dropped_in Lost acts.now }
+    ensures full { result.full ≡ dropped_in Full acts.now }
+    ensures codel { result.codel ≡ dropped_in Codel acts.now }
+    ensures bytes { result.bytes ≡ bytes_in acts.now }
+    ensures most { result.bytes ≤ length acts.now * 9040 }
+{
+    let mut told = Told {
+        lost: 0,
+        full: 0,
+        codel: 0,
+        bytes: 0,
+    };
+    for act in acts {
+        match act {
+            Act::Tx(_, packet) => told.bytes += u128::from(packet.bytes.get()),
+            Act::Dropped(DropReason::Lost, _) => told.lost += 1,
+            Act::Dropped(DropReason::Full, _) => told.full += 1,
+            Act::Dropped(DropReason::Codel, _) => told.codel += 1,
+        }
+    }
+    told
+}
+
+// Whether an event is that the link of a number has sent a packet whole.
+fn frees(event: &Event, link: u16) -> bool
+    ensures { result ≡ frees_is link event.now }
+{
+    match event {
+        Event::Free(number) => *number == link,
+        Event::Start(_) | Event::Rto(_) | Event::DelAck(_) | Event::Arrive(_) => false,
+    }
+}
+
+/// What an event tells of a link of its node, of which so many packets were offered before.
+pub fn told_at(offered: u128, port: &Port, line: &Line) -> Told
+    ensures lost { result.lost ≡ dropped_in Lost (acts_between offered port.now (shown line.now)) }
+    ensures full { result.full ≡ dropped_in Full (acts_between offered port.now (shown line.now)) }
+    ensures codel { result.codel ≡ dropped_in Codel (acts_between offered port.now (shown line.now)) }
+    ensures bytes { result.bytes ≡ bytes_in (acts_between offered port.now (shown line.now)) }
+    ensures most { result.bytes ≤ 2 ^ 64 * 9040 }
+{
+    if frees(&line.event, port.link()) || port.offered() != offered {
+        told_by(line.acts.as_slice())
+    } else {
+        told_by(&[])
+    }
+}
