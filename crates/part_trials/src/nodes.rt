@@ -12,9 +12,15 @@ use reno_sender::SenderFields;
 use scenario_image::{
     Codel, FlowPart, LinkPart, NodeKind, QueueKind, Records, RoutePart, Scenario, ScenarioParts,
 };
-use sim_time::Key;
+use sim_time::{Iw, Key, Variant};
 use std::alloc::Global;
 use std::test::Fail;
+
+/// The sender of a flow that names none.
+pub(crate) const RENO: Variant = Variant {
+    newreno: false,
+    iw: Iw::Iw3,
+};
 
 // A link of a megabyte a second.
 fn link(alloc: Global, from: u16, to: u16) -> LinkPart {
@@ -60,6 +66,7 @@ fn flow(sender: u16, receiver: u16, start: u64) -> FlowPart {
         start,
         rwnd: 64_000,
         delack: 40_000_000,
+        variant: RENO,
     }
 }
 
@@ -141,6 +148,9 @@ fn a_sender_begins_with_its_flow(rt: HostRuntime) -> Result<(), Fail> {
         rto: 1_000_000_000,
         deadline: None,
         resent: false,
+        variant: RENO,
+        recover: None,
+        partial: false,
     };
     assert_eq!(rt; (flow, sender.fields()), (1, fields));
     assert!(rt; node.receiver().is_none());

@@ -1,16 +1,27 @@
 //! Worked rows, the caps, and the limits of fields.
 ghost use Rattle.sim_time.specs.Moment.{IsMoment};
 
-use reno_sender::{Plan, Sender, SenderFields, Timing, after_sample};
+use reno_sender::{Iw, Plan, Sender, SenderFields, Timing, Variant, after_sample};
 use sim_time::Time;
 use std::process::Abort;
 use std::test::Fail;
+
+const RENO: Variant = Variant {
+    newreno: false,
+    iw: Iw::Iw3,
+};
+
+const NEWRENO: Variant = Variant {
+    newreno: true,
+    iw: Iw::Iw3,
+};
 
 /// Ten segments of 1,000 bytes in flight.
 const TEN_OUT: SenderFields = SenderFields {
     mss: 1_000,
     segments: 1_000,
     rwnd: 64_000,
+    variant: RENO,
     una: 0,
     nxt: 10_000,
     high: 10_000,
@@ -19,6 +30,8 @@ const TEN_OUT: SenderFields = SenderFields {
     dups: 0,
     lt: 0,
     recovery: false,
+    recover: None,
+    partial: false,
     timing: None,
     srtt: None,
     rttvar: 0,
@@ -32,6 +45,7 @@ const AT_REST: SenderFields = SenderFields {
     mss: 1_000,
     segments: 20,
     rwnd: 64_000,
+    variant: RENO,
     una: 0,
     nxt: 0,
     high: 0,
@@ -40,12 +54,25 @@ const AT_REST: SenderFields = SenderFields {
     dups: 0,
     lt: 0,
     recovery: false,
+    recover: None,
+    partial: false,
     timing: None,
     srtt: None,
     rttvar: 0,
     rto: 1_000_000_000,
     deadline: None,
     resent: false,
+};
+
+/// The same, after a third duplicate with NewReno.
+const RECOVERING: SenderFields = SenderFields {
+    variant: NEWRENO,
+    cwnd: 8_000,
+    ssthresh: 5_000,
+    dups: 3,
+    recovery: true,
+    recover: Some(10_000),
+    ..TEN_OUT
 };
 
 /// The greatest congestion window and threshold.
@@ -77,6 +104,11 @@ fn time_out(rt: &impl Abort, sender: &mut Sender, now: Time) -> Plan
     plan
 }
 
+/// What is sent again, and the run of others.
+fn sent(plan: &Plan) -> (Option<u64>, u64, u64) {
+    (plan.resent(), plan.first(), plan.count())
+}
+
 #[test]
 fn samples_give_the_timeout(rt: HostRuntime) {
     assert_eq!(rt;
@@ -92,7 +124,7 @@ fn samples_give_the_timeout(rt: HostRuntime) {
 
 #[test]
 fn a_flow_starts_with_the_initial_window(rt: HostRuntime) {
-    let mut sender = Sender::new(1_000, 10, 64_000);
+    let mut sender = Sender::new(1_000, 10, 64_000, RENO);
     let plan = sender.start(0);
     assert_eq!(rt; (plan.resent(), plan.first(), plan.count()), (None, 0, 4));
     sender.commit(plan);
@@ -141,6 +173,175 @@ fn five_duplicates_and_the_end_of_recovery(rt: HostRuntime) -> Result<(), Fail> 
         (sender.fields().cwnd, sender.fields().recovery),
         (5_000, false)
     );
+    Ok(())
+}
+
+/// Five duplicates, a partial acknowledgement, two duplicates of that and the end of recovery.
+fn recovered(rt: &impl Abort) -> Result<Sender, Fail> {
+    let fields = SenderFields {
+        variant: NEWRENO,
+        ..TEN_OUT
+    };
+    let mut sender = Sender::of_fields(fields).ok_or("sound")?;
+    for now in 1..6 {
+        let _plan = acknowledge(rt, &mut sender, 0, now);
+    }
+    let fields = sender.fields();
+    assert_eq!(rt; (fields.cwnd, fields.recover), (10_000, Some(12_000)));
+    assert_eq!(rt;
+        (fields.deadline, fields.partial),
+        (Some(1_000_000_000), false)
+    );
+    // ack, now, what is sent, cwnd, deadline.
+    let rows = [
+        (6_000, 6, (Some(6_000), 12_000, 0), 5_000, 1_000_000_006),
+        (6_000, 7, (None, 12_000, 0), 6_000, 1_000_000_006),
+        (6_000, 8, (None, 12_000, 1), 7_000, 1_000_000_006),
+        (12_000, 9, (None, 13_000, 4), 5_000, 1_000_000_009),
+    ];
+    for (ack, now, numbers, cwnd, deadline) in rows {
+        let plan = acknowledge(rt, &mut sender, ack, now);
+        let fields = sender.fields();
+        assert_eq!(rt; sent(&plan), numbers);
+        assert_eq!(rt; (fields.una, fields.cwnd), (ack, cwnd));
+        assert_eq!(rt; fields.deadline, Some(deadline));
+        assert_eq!(rt; (fields.recovery, fields.partial), (ack < 12_000, true));
+        assert_eq!(rt; fields.recover, Some(12_000));
+    }
+    Ok(sender)
+}
+
+#[test]
+fn a_partial_acknowledgement_sends_one_segment_again(rt: HostRuntime) -> Result<(), Fail> {
+    let sender = recovered(&rt)?;
+    assert_eq!(rt; (sender.fields().nxt, sender.fields().dups), (17_000, 0));
+    Ok(())
+}
+
+#[test]
+fn duplicates_behind_recover_start_nothing(rt: HostRuntime) -> Result<(), Fail> {
+    let mut sender = recovered(&rt)?;
+    let rows = [
+        ((None, 17_000, 1), 1),
+        ((None, 18_000, 1), 2),
+        ((None, 19_000, 0), 3),
+        ((None, 19_000, 0), 4),
+    ];
+    for (numbers, dups) in rows {
+        let plan = acknowledge(&rt, &mut sender, 12_000, 10);
+        let fields = sender.fields();
+        assert_eq!(rt; sent(&plan), numbers);
+        assert_eq!(rt; (fields.dups, fields.cwnd), (dups, 5_000));
+        assert_eq!(rt; (fields.ssthresh, fields.recovery), (5_000, false));
+    }
+    // Above recover the third duplicate finds a loss again.
+    let plan = acknowledge(&rt, &mut sender, 13_000, 11);
+    assert_eq!(rt;
+        (sent(&plan), sender.fields().cwnd),
+        ((None, 19_000, 0), 5_200)
+    );
+    for numbers in [
+        (None, 19_000, 1),
+        (None, 20_000, 0),
+        (Some(13_000), 20_000, 0),
+    ] {
+        let plan = acknowledge(&rt, &mut sender, 13_000, 12);
+        assert_eq!(rt; sent(&plan), numbers);
+    }
+    let fields = sender.fields();
+    assert_eq!(rt; (fields.ssthresh, fields.cwnd), (3_000, 6_000));
+    assert_eq!(rt; (fields.recover, fields.partial), (Some(20_000), false));
+    Ok(())
+}
+
+#[test]
+fn a_new_segment_follows_the_one_sent_again(rt: HostRuntime) -> Result<(), Fail> {
+    // cwnd before, the segments of the flow, and how many new segments are sent.
+    for (cwnd, segments, count) in [(10_000, 1_000, 1), (9_000, 1_000, 0), (10_000, 10, 0)] {
+        let fields = SenderFields {
+            cwnd,
+            segments,
+            ..RECOVERING
+        };
+        let mut sender = Sender::of_fields(fields).ok_or("sound")?;
+        let plan = acknowledge(&rt, &mut sender, 1_000, 5);
+        assert_eq!(rt; sent(&plan), (Some(1_000), 10_000, count));
+        // Only the new segment is timed.
+        let timed = sender.fields().timing.map(|timing| timing.number);
+        assert_eq!(rt; timed, if count == 1 { Some(11_000) } else { None });
+    }
+    Ok(())
+}
+
+#[test]
+fn the_floor_of_a_deflated_window(rt: HostRuntime) -> Result<(), Fail> {
+    for (ack, cwnd) in [
+        (4_000, 5_000),
+        (7_000, 2_000),
+        (8_000, 1_000),
+        (9_000, 1_000),
+    ] {
+        let mut sender = Sender::of_fields(RECOVERING).ok_or("sound")?;
+        let plan = acknowledge(&rt, &mut sender, ack, 5);
+        assert_eq!(rt;
+            (sent(&plan), sender.fields().cwnd),
+            ((Some(ack), 10_000, 0), cwnd)
+        );
+        assert_eq!(rt;
+            (sender.fields().ssthresh, sender.fields().dups),
+            (5_000, 3)
+        );
+    }
+    Ok(())
+}
+
+#[test]
+fn a_later_partial_acknowledgement_leaves_the_timer(rt: HostRuntime) -> Result<(), Fail> {
+    let mut sender = Sender::of_fields(RECOVERING).ok_or("sound")?;
+    for (ack, now, count) in [(1_000, 5, 0), (2_000, 6, 0), (9_000, 7, 1)] {
+        let plan = acknowledge(&rt, &mut sender, ack, now);
+        assert_eq!(rt; sent(&plan), (Some(ack), 10_000, count));
+        assert_eq!(rt;
+            (sender.deadline(), sender.fields().partial),
+            (Some(1_000_000_005), true)
+        );
+    }
+    Ok(())
+}
+
+#[test]
+fn a_timeout_sets_recover(rt: HostRuntime) -> Result<(), Fail> {
+    for fields in [
+        RECOVERING,
+        SenderFields {
+            variant: NEWRENO,
+            ..TEN_OUT
+        },
+    ] {
+        let mut sender = Sender::of_fields(fields).ok_or("sound")?;
+        let plan = time_out(&rt, &mut sender, 1_000_000_000);
+        assert_eq!(rt; sent(&plan), (Some(0), 1_000, 0));
+        assert_eq!(rt;
+            (sender.fields().recover, sender.fields().recovery),
+            (Some(10_000), false)
+        );
+        // What comes of the segments before it starts no recovery, up to recover itself.
+        for _again in 0..4 {
+            let plan = acknowledge(&rt, &mut sender, 0, 1_000_000_001);
+            assert_eq!(rt; sent(&plan), (None, 1_000, 0));
+        }
+        assert_eq!(rt;
+            (sender.fields().dups, sender.fields().recovery),
+            (4, false)
+        );
+        assert_eq!(rt;
+            (sender.fields().cwnd, sender.fields().ssthresh),
+            (1_000, 5_000)
+        );
+    }
+    let mut sender = Sender::of_fields(TEN_OUT).ok_or("sound")?;
+    let _plan = time_out(&rt, &mut sender, 1_000_000_000);
+    assert_eq!(rt; sender.fields().recover, None);
     Ok(())
 }
 
@@ -322,6 +523,66 @@ fn byte_numbers_and_duplicates_have_limits(rt: HostRuntime) {
             ..AT_REST
         };
         assert_eq!(rt; Sender::of_fields(fields).is_some(), sound);
+    }
+}
+
+#[test]
+fn what_reno_keeps_of_losses_has_limits(rt: HostRuntime) {
+    // dups, recovery, recover, partial, and whether a sender can keep them.
+    let rows = [
+        (2, false, None, false, true),
+        (3, true, None, false, true),
+        (2, true, None, false, false),
+        (3, false, None, false, false),
+        (3, true, Some(10_000), false, false),
+        (2, false, Some(10_000), false, false),
+        (3, true, None, true, false),
+        (2, false, None, true, false),
+    ];
+    for (dups, recovery, recover, partial, sound) in rows {
+        let fields = SenderFields {
+            dups,
+            recovery,
+            recover,
+            partial,
+            ..TEN_OUT
+        };
+        assert_eq!(rt; Sender::of_fields(fields).is_some(), sound);
+    }
+}
+
+#[test]
+fn what_newreno_keeps_of_losses_has_limits(rt: HostRuntime) {
+    // una, nxt, dups, recovery, recover, and whether a sender can keep them with high 10,000.
+    let rows = [
+        (1_000, 10_000, 2, false, None, true),
+        (1_000, 10_000, 3, false, None, true),
+        (1_000, 10_000, 9, false, Some(10_000), true),
+        (1_000, 10_000, 2, false, Some(10_001), false),
+        (1_000, 10_000, 3, true, Some(10_001), false),
+        (1_000, 9_000, 2, false, None, false),
+        (1_000, 9_000, 2, false, Some(9_000), false),
+        (1_000, 9_000, 2, false, Some(10_000), true),
+        (1_000, 9_000, 3, true, Some(10_000), false),
+        (1_000, 10_000, 3, true, Some(10_000), true),
+        (1_000, 10_000, 3, true, Some(1_001), true),
+        (1_000, 10_000, 3, true, Some(1_000), false),
+        (1_000, 10_000, 3, true, None, false),
+        (1_000, 10_000, 2, true, Some(10_000), false),
+    ];
+    for (una, nxt, dups, recovery, recover, sound) in rows {
+        for partial in [false, true] {
+            let fields = SenderFields {
+                una,
+                nxt,
+                dups,
+                recovery,
+                recover,
+                partial,
+                ..RECOVERING
+            };
+            assert_eq!(rt; Sender::of_fields(fields).is_some(), sound);
+        }
     }
 }
 

@@ -16,7 +16,5 @@
 mod games;
 mod ranking;
 mod standing;
-#[cfg(test)]
-mod tests;
 
 pub use ranking::Ranking;

@@ -1,4 +1,6 @@
-use super::Ranking;
+//! The least key of some places.
+
+use ranking::Ranking;
 use sim_time::{Key, Time};
 use std::test::Fail;
 
