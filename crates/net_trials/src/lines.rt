@@ -1,5 +1,6 @@
 //! That the definitions say what a reader of a trace sees.
 
+use crate::nets::RENO;
 use node_core::{Act, Acts, After, DropReason, Event, Line};
 use packet_chain::{Kind, Packet, PacketBytes};
 use reno_sender::SenderFields;
@@ -36,6 +37,9 @@ fn sender(una: u64, nxt: u64, cwnd: u64, ssthresh: u64, recovery: bool) -> After
         rto: 1000000000,
         deadline: None,
         resent: false,
+        variant: RENO,
+        recover: None,
+        partial: false,
     })
 }
 

@@ -7,10 +7,16 @@ use net_machine::{LinkEnds, Net, Place};
 use scenario_image::{
     FlowPart, LinkPart, NodeKind, QueueKind, Records, RoutePart, Scenario, ScenarioParts,
 };
-use sim_time::Key;
+use sim_time::{Iw, Key, Variant};
 use std::alloc::Global;
 use std::process::Abort;
 use std::test::Fail;
+
+/// The sender of a flow that names none.
+pub(crate) const RENO: Variant = Variant {
+    newreno: false,
+    iw: Iw::Iw3,
+};
 
 // A link of 8 Mbit/s and a millisecond, with room for 10 packets.
 fn link(alloc: Global, from: u16, to: u16) -> LinkPart {
@@ -47,6 +53,7 @@ fn one_segment(alloc: Global) -> Result<Scenario, Fail> {
         start: 0,
         rwnd: 64_000,
         delack: 0,
+        variant: RENO,
     };
     let parts = ScenarioParts {
         end: 1_000_000_000,

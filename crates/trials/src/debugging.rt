@@ -1,6 +1,7 @@
 //! Sessions whose answers were worked out by hand from the tables, with several groups and workers.
 
 mod at_once;
+mod newreno;
 mod texts;
 
 use self::texts::{ONE_SEGMENT, TWO_FLOWS};

@@ -1,5 +1,7 @@
 ghost use Rattle.std.specs.Prelude.{◌≡◌, ◌<◌, ◌≤◌, length, IfOk};
 
+mod bounds;
+mod gates;
 mod nets;
 
 use self::nets::{EQUAL_TIMES, ONE_SEGMENT, equal_times, one_flow, text_of, two_flows};

@@ -1,6 +1,7 @@
 //! Whole sessions over memory, and what texts are refused for.
 
 mod broken;
+mod calls;
 mod cuts;
 mod debug;
 mod ends;
@@ -10,8 +11,10 @@ mod groups;
 mod images;
 mod networks;
 mod notes;
+mod prompt;
 mod texts;
 pub(crate) mod traces;
+mod witnesses;
 mod workers;
 
 use crate::hands::AllHands;
@@ -87,6 +90,15 @@ fn expect_run(
 #[test]
 fn one_segment_goes_and_its_acknowledgement_comes(rt: HostRuntime) -> Result<(), Fail> {
     expect_run(&rt, FIRST, 0, "", FIRST_TRACE)
+}
+
+/// The same flow with an initial window of ten segments.
+#[test]
+fn a_larger_window_opens_and_grows(rt: HostRuntime) -> Result<(), Fail> {
+    let text = FIRST.replace(rt.alloc(), "64000 0\n", "64000 0 reno iw10\n")?;
+    let opened = FIRST_TRACE.replace(rt.alloc(), "cwnd=4000", "cwnd=10000")?;
+    let trace = opened.replace(rt.alloc(), "cwnd=5000", "cwnd=11000")?;
+    expect_run(&rt, text.as_str(), 0, "", trace.as_str())
 }
 
 #[test]
@@ -195,7 +207,7 @@ fn mistaken_words_are_refused(rt: HostRuntime) -> Result<(), Fail> {
         ["tcpsim", "asm", "one", "two"].as_slice(),
         ["tcpsim", "help"].as_slice(),
         ["tcpsim", "run", "one", "two"].as_slice(),
-        ["tcpsim", "debug", "one"].as_slice(),
+        ["tcpsim", "debug", "one", "two"].as_slice(),
         ["tcpsim", "explain", "E1", "E2"].as_slice(),
         ["tcpsim", "run", "--workers", "0"].as_slice(),
         ["tcpsim", "run", "--workers=65"].as_slice(),
@@ -245,7 +257,7 @@ Commands:
   asm      Write the image of a scenario
   dis      Write the canonical text of a scenario
   run      Run a scenario and print its trace
-  debug    Answer the commands behind the scenario text on standard input
+  debug    Walk through a run by commands, forwards and backwards
   explain  Say what a code means, with an example, or list all codes
 
 Options:
@@ -292,9 +304,12 @@ Options:
   -h, --help         Print help
 ";
 
-const DEBUG_HELP: &str = "Answer the commands behind the scenario text on standard input
+const DEBUG_HELP: &str = "Walk through a run by commands, forwards and backwards
 
-Usage: tcpsim debug [OPTIONS]
+Usage: tcpsim debug [OPTIONS] [FILE]
+
+Arguments:
+  [FILE]  The scenario's file, and commands are typed; without it, or where it is -, standard input has both
 
 Options:
       --workers <N>  How many workers run the groups, 1 to 64; with --groups auto or yours [default: 1]

@@ -1,5 +1,5 @@
 //! A router with 256 incoming links.
-use crate::nets::{link, route};
+use crate::nets::{RENO, link, route};
 use net_machine::net::Net;
 use scenario_image::{FlowPart, LinkPart, NodeKind, Records, RoutePart, Scenario, ScenarioParts};
 use std::alloc::Global;
@@ -55,6 +55,7 @@ fn flows(alloc: Global) -> Result<Vec<FlowPart>, Fail> {
             start: 0,
             rwnd: 64_000,
             delack: 0,
+            variant: RENO,
         })?;
     }
     Ok(flows)

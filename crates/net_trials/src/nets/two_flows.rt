@@ -1,6 +1,6 @@
 //! Two flows over one router: every kind of event at every kind of node. With each request for memory
 //! refused in turn (scripts/refuse_tests.sh) it passes as well: what is refused is asked for again.
-use crate::nets::{link, route};
+use crate::nets::{RENO, link, route};
 use net_machine::net::{Net, StepFault};
 use node_core::{After, Line};
 use scenario_image::{
@@ -56,6 +56,7 @@ fn flow(sender: u16, receiver: u16, segments: u32, delack: u32) -> FlowPart {
         start: 0,
         rwnd: 64_000,
         delack,
+        variant: RENO,
     }
 }
 

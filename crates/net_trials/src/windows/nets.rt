@@ -3,6 +3,7 @@ ghost use Rattle.std.specs.Prelude.{◌≡◌, false, true};
 ghost use Rattle.window_core.specs.Window.{states_of};
 ghost use Rattle.window_core.specs.Windows.{none_fired};
 
+use crate::nets::RENO;
 use net_machine::Net;
 use scenario_image::{
     FlowPart, LinkPart, NodeKind, QueueKind, Records, RoutePart, Scenario, ScenarioParts,
@@ -43,6 +44,7 @@ fn flow(sender: u16, receiver: u16, segments: u32) -> FlowPart {
         start: 0,
         rwnd: 64_000,
         delack: 0,
+        variant: RENO,
     }
 }
 

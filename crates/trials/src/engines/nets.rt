@@ -2,9 +2,16 @@ use net_machine::Net;
 use scenario_image::{
     FlowPart, LinkPart, NodeKind, QueueKind, Records, RoutePart, Scenario, ScenarioParts,
 };
+use sim_time::{Iw, Variant};
 use std::alloc::{AllocError, Global};
 use std::test::Fail;
 use trace_text::line_text;
+
+/// The sender of a flow that names none.
+const RENO: Variant = Variant {
+    newreno: false,
+    iw: Iw::Iw3,
+};
 
 // Links of 8 Mbit/s and a millisecond, each with room for 10 packets, between these ends.
 fn links(alloc: Global, ends: &[(u16, u16)]) -> Result<Vec<LinkPart>, AllocError> {
@@ -39,6 +46,7 @@ fn flows_over(
             start: 0,
             rwnd: 64_000,
             delack: 0,
+            variant: RENO,
         })?;
     }
     Ok(flows)

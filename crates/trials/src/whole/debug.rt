@@ -47,7 +47,7 @@ fn a_session_has_no_image(rt: HostRuntime) -> Result<(), Fail> {
     expect_words(&rt, &["tcpsim", "debug"], b"TCB1\n---\n", 1, note, b"")
 }
 
-const SESSION: &str = "sim 1000000000
+pub(super) const SESSION: &str = "sim 1000000000
 node s sender
 node r receiver
 link a s r 8000000 1000000 droptail 10
@@ -60,7 +60,7 @@ back 9
 run
 ";
 
-const ANSWERS: &str = "at 3
+pub(super) const ANSWERS: &str = "at 3
 node 0 sender 0 una=0 nxt=1000 high=1000 cwnd=4000 ssthresh=64000 dups=0 lt=0 fr=0 timing=1000@0 srtt=- rttvar=0 rto=1000000000 resent=0
 node 1 receiver 0 next=1000 held=-
 link 0 offered=1 sent=1 queue=-

@@ -8,7 +8,7 @@ use std::process::Abort;
 use std::sync::Wait;
 use std::test::Fail;
 use std::thread::Threads;
-use window_engine::OverWrite;
+use window_engine::{OverWrite, Sink};
 
 /// The name of a file that opens and cannot be read.
 const BROKEN: &str = "broken";
@@ -66,6 +66,14 @@ impl Source for Folder {
         room[..count].copy_from_slice(&bytes[..count]);
         self.rest = "";
         Ok(count)
+    }
+
+    fn next_line<S: Sink>(
+        &mut self,
+        _shown: &S,
+        _room: &mut [u8],
+    ) -> Result<Option<usize>, SourceFail> {
+        Ok(None)
     }
 }
 

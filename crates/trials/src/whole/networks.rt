@@ -3,6 +3,7 @@
 
 mod codel;
 mod full_queue;
+mod newreno;
 
 use crate::whole::{FIRST_TRACE, expect_run};
 use sessions::session::run_all;
@@ -141,6 +142,11 @@ fn four_flows_share_a_bottleneck_with_codel(rt: HostRuntime) -> Result<(), Fail>
     let queue = "codel 20 3000000 10000000 1040";
     let text = dumbbell(rt.alloc(), 10_000_000_000, queue, 6)?;
     expect_run(&rt, text.as_str(), 0, "", codel::TRACE)
+}
+
+#[test]
+fn newreno_in_a_network(rt: HostRuntime) -> Result<(), Fail> {
+    expect_run(&rt, newreno::TEXT, 0, "", newreno::TRACE)
 }
 
 /// A number of 64 bits that all bytes decide in their order: the hash of Fowler, Noll and Vo in its

@@ -57,6 +57,10 @@ impl Notes for Kept {
     fn refused(&mut self, why: String) {
         self.why = Some(why);
     }
+
+    fn prompt(&mut self) {}
+
+    fn line_refused(&mut self, _refusal: &[u8]) {}
 }
 
 /// What a session with these words over an input is told, where it ends with this status.
@@ -156,7 +160,7 @@ fn seconds_have_the_decimals_that_they_need(rt: HostRuntime) -> Result<(), Fail>
 
 /// An input that is refused is shown so behind the note: these lines, and the first of the text of the
 /// code.
-fn expect_why(
+pub(super) fn expect_why(
     rt: &(impl Abort + AllocGlobal + Threads + Wait + Sync),
     words: &[&str],
     (input, status): (&[u8], u8),
@@ -201,7 +205,11 @@ fn a_refused_line_is_shown_with_carets_under_what_is_wrong(rt: HostRuntime) -> R
             "node  s receiver\n      ^\n",
             "E6",
         ),
-        ("sim 5\nnode s sender\n", "", "L3"),
+        (
+            "sim 5\nnode s sender\n",
+            "L3: nodes that are declared: 1; wanted: 2 at least\nnode NAME KIND\n",
+            "L3",
+        ),
         ("", "", "E10"),
         ("TCB", "", "L1"),
     ] {

@@ -2,6 +2,7 @@
 
 use super::networks::{EQUAL_TIMES, EQUAL_TIMES_TRACE};
 use super::{FIRST, FIRST_TRACE, expect_words};
+use crate::crowd::Crowd;
 use sessions::session::{run_all, run_with};
 use sessions::source::OverRead;
 use std::io;
@@ -192,5 +193,53 @@ fn two_workers_are_at_their_pieces_at_once(rt: HostRuntime) -> Result<(), Fail> 
     assert_eq!(rt; gate.missed(), 0);
     let (zero, one) = gate.entered();
     assert!(rt; zero >= 3 && one >= 3, "{zero} and {one}");
+    Ok(())
+}
+
+/// A session with these words, whose windows have so many pieces: all of them are at work at once, and
+/// each that was entered is left.
+fn expect_crowd(
+    rt: &(impl Abort + AllocGlobal + Threads + Wait + Sync),
+    words: &[&str],
+    input: &str,
+    pieces: u64,
+) -> Result<Vec<u8>, Fail> {
+    let gate = Crowd::of(pieces);
+    let mut out = Vec::new(rt.alloc());
+    let mut reader = OverRead::new(input.as_bytes());
+    let outcome = run_with(rt, &mut reader, &mut OverWrite::new(&mut out), words, &gate);
+    assert_eq!(rt; outcome.status, 0);
+    assert!(rt; outcome.note.is_none());
+    assert_eq!(rt; gate.missed(), 0);
+    assert_eq!(rt; gate.entered(), gate.left());
+    let (entered, _) = gate.entered();
+    assert!(rt; entered >= pieces.saturating_mul(3), "{entered}");
+    Ok(out)
+}
+
+/// The first node and the last one are in one group.
+#[test]
+fn four_workers_are_at_their_pieces_at_once(rt: HostRuntime) -> Result<(), Fail> {
+    let words = ["tcpsim", "run", "--workers", "4", "--groups", "0,1,2,3,0"];
+    let out = expect_crowd(&rt, &words, EQUAL_TIMES, 4)?;
+    assert_eq!(rt; out.as_slice(), EQUAL_TIMES_TRACE.as_bytes());
+    Ok(())
+}
+
+/// A move to a breakpoint that is not there, and one to a moment.
+#[test]
+fn all_workers_are_at_a_move_s_pieces_at_once(rt: HostRuntime) -> Result<(), Fail> {
+    for (workers, groups, pieces) in [
+        ("2", "0,0,1,1,0", 2),
+        ("5", "each", 5),
+        ("64", "4,3,2,1,0", 5),
+    ] {
+        let words = ["tcpsim", "debug", "--workers", workers, "--groups", groups];
+        for moves in ["run\n", "until 2040001\n"] {
+            let input = format!(in rt.alloc(); "{EQUAL_TIMES}---\n{moves}")?;
+            let out = expect_crowd(&rt, &words, input.as_str(), pieces)?;
+            assert!(rt; out.as_slice().starts_with(b"at 6\n"));
+        }
+    }
     Ok(())
 }

@@ -32,13 +32,13 @@ const COUNTS: [([u16; 3], u32, &str); 14] = [
 const LINK: &str =
     "00000000007a1200 00000000000f4240 00 000a 0000000000000000 0000000000000000 0000 00";
 
-const FLOW: &str = "03e8 00000001 0000000000000000 0000fa00 00000000";
+const FLOW: &str = "03e8 00000001 0000000000000000 0000fa00 00000000 00";
 
 /// The same at their greatest, the link's with 64 lost packets.
 const GREATEST_LINK: &str =
     "000000e8d4a51000 00000002540be400 01 ffff 00000002540be400 00000002540be400 ffff 40";
 
-const GREATEST_FLOW: &str = "2328 3b9aca00 00038d7ea4c67fff 40000000 1dcd6500";
+const GREATEST_FLOW: &str = "2328 3b9aca00 00038d7ea4c67fff 40000000 1dcd6500 03";
 
 /// Adds numbers of two bytes.
 fn push_all(image: &mut Vec<u8>, numbers: &[u16]) -> Result<(), AllocError> {
@@ -50,7 +50,7 @@ fn push_all(image: &mut Vec<u8>, numbers: &[u16]) -> Result<(), AllocError> {
 
 /// The header of an image.
 fn header(alloc: Global, end: u64, counts: &[u16], routes: u32) -> Result<Vec<u8>, AllocError> {
-    let mut image = Vec::from_slice(alloc, b"TCB1")?;
+    let mut image = Vec::from_slice(alloc, b"TCB2")?;
     image.extend_from_slice(&end.to_be_bytes())?;
     push_all(&mut image, counts)?;
     image.extend_from_slice(&routes.to_be_bytes())?;

@@ -76,15 +76,24 @@ const CODEL: &str = "link a s r 1000 1 codel 1 1 1 1";
 /// The fault and the line of the text with so many more words in its link's line.
 const MORE: [(usize, &str, u64); 3] = [(0, RIGHT, 0), (1, "E3", 4), (2, "E3", 4)];
 
-/// Eleven words, twelve and thirteen, which only a link with CoDel can have, and it eleven alone.
+/// Ten words, eleven, twelve and thirteen, of which a flow can have eleven, whose first is no name here.
+const WORDS: [(usize, &str); 4] = [(9, "E3"), (10, "E4"), (11, "E3"), (12, "E3")];
+
+/// Ten words or more, of which a flow and a link with CoDel alone can have eleven.
 #[test]
 fn lines_of_many_words_have_their_faults(rt: HostRuntime) -> Result<(), Fail> {
-    for more in 10..=12usize {
+    for (more, of_flow) in WORDS {
         let words = " 1".repeat(rt.alloc(), more)?;
-        for first in ["sim", "node", "flow", "route", "lose"] {
+        for (first, code) in [
+            ("sim", "E3"),
+            ("node", "E3"),
+            ("flow", of_flow),
+            ("route", "E3"),
+            ("lose", "E3"),
+        ] {
             let line = format!(in rt.alloc(); "{first}{words}")?;
             let text = text_with(rt.alloc(), &LINES, LOSSES, 7, line.as_str())?;
-            expect(&rt, rt.alloc(), text.as_str(), "E3", 7);
+            expect(&rt, rt.alloc(), text.as_str(), code, 7);
         }
     }
     for (more, code, at) in MORE {

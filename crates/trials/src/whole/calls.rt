@@ -1,0 +1,114 @@
+//! The public calls of a session that the program does not make itself, and what they write.
+
+use super::debug::{ANSWERS, SESSION};
+use super::{FIRST, FIRST_TRACE, expect_words};
+use crate::hands::AllHands;
+use explanations::list_codes;
+use sessions::debug::run_debug;
+use sessions::outcome::Outcome;
+use sessions::session::{run_session, run_task};
+use sessions::sharing::Sharing;
+use sessions::source::OverRead;
+use sessions::subcommand::{Subcommand, Task};
+use std::process::Abort;
+use std::sync::Wait;
+use std::test::Fail;
+use std::thread::Threads;
+use window_engine::OverWrite;
+
+/// How many bytes the image of the first text has.
+const IMAGE_SIZE: usize = 135;
+
+/// A session is done.
+fn expect_done(rt: &impl Abort, outcome: &Outcome) {
+    assert_eq!(rt; outcome.status, 0);
+    assert!(rt; outcome.note.is_none());
+}
+
+/// What the session of a subcommand writes over the first text.
+fn written(
+    rt: &(impl Abort + AllocGlobal + Threads + Wait + Sync),
+    subcommand: Subcommand<'_>,
+) -> Vec<u8> {
+    let mut out = Vec::new(rt.alloc());
+    let mut reader = OverRead::new(FIRST.as_bytes());
+    let mut writer = OverWrite::new(&mut out);
+    let outcome = run_session(
+        rt,
+        rt.alloc(),
+        subcommand,
+        &AllHands,
+        &mut reader,
+        &mut writer,
+    );
+    expect_done(rt, &outcome);
+    out
+}
+
+/// What the session of a task writes over an input.
+fn written_by_task(
+    rt: &(impl Abort + AllocGlobal + Threads + Wait + Sync),
+    task: Task<'_>,
+    input: &str,
+) -> Vec<u8> {
+    let mut out = Vec::new(rt.alloc());
+    let mut reader = OverRead::new(input.as_bytes());
+    let mut writer = OverWrite::new(&mut out);
+    let outcome = run_task(rt, rt.alloc(), task, &AllHands, &mut reader, &mut writer);
+    expect_done(rt, &outcome);
+    out
+}
+
+#[test]
+fn a_subcommand_s_session_writes_what_its_words_have_written(rt: HostRuntime) -> Result<(), Fail> {
+    let image = written(&rt, Subcommand::Asm);
+    assert_eq!(rt; image.len(), IMAGE_SIZE);
+    let image = image.as_slice();
+    expect_words(&rt, &["tcpsim", "asm"], FIRST.as_bytes(), 0, "", image)?;
+    let text = written(&rt, Subcommand::Dis);
+    let text = text.as_slice();
+    expect_words(&rt, &["tcpsim", "dis"], FIRST.as_bytes(), 0, "", text)?;
+    let one = written(&rt, Subcommand::Run(Sharing::new(1, "one")));
+    let two = written(&rt, Subcommand::Run(Sharing::new(2, "each")));
+    assert_eq!(rt; one.as_slice(), FIRST_TRACE.as_bytes());
+    assert_eq!(rt; two.as_slice(), FIRST_TRACE.as_bytes());
+    Ok(())
+}
+
+#[test]
+fn a_task_s_session_writes_what_its_words_have_written(rt: HostRuntime) -> Result<(), Fail> {
+    let run = Subcommand::Run(Sharing::new(1, "one"));
+    let trace = written_by_task(&rt, Task::Scenario(run), FIRST);
+    assert_eq!(rt; trace.as_slice(), FIRST_TRACE.as_bytes());
+    let answers = written_by_task(&rt, Task::Debug(Sharing::new(2, "each")), SESSION);
+    assert_eq!(rt; answers.as_slice(), ANSWERS.as_bytes());
+    Ok(())
+}
+
+#[test]
+fn a_debugging_session_writes_its_answers(rt: HostRuntime) -> Result<(), Fail> {
+    let mut out = Vec::new(rt.alloc());
+    let mut reader = OverRead::new(SESSION.as_bytes());
+    let mut writer = OverWrite::new(&mut out);
+    let sharing = Sharing::new(1, "one");
+    let outcome = run_debug(
+        &rt,
+        rt.alloc(),
+        &sharing,
+        &AllHands,
+        &mut reader,
+        &mut writer,
+    );
+    expect_done(&rt, &outcome);
+    assert_eq!(rt; out.as_slice(), ANSWERS.as_bytes());
+    Ok(())
+}
+
+#[test]
+fn all_codes_are_listed(rt: HostRuntime) -> Result<(), Fail> {
+    let list = list_codes(rt.alloc())?;
+    let lines = list.as_slice().iter().filter(|byte| **byte == b'\n');
+    assert_eq!(rt; lines.count(), 25);
+    assert!(rt; list.as_slice().starts_with(b"E1: "));
+    expect_words(&rt, &["tcpsim", "explain"], b"", 0, "", list.as_slice())
+}
