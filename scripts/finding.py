@@ -2,7 +2,9 @@
 one on PATH, else the one that is built in the clone. Nothing but Python's standard library.
 """
 import os
+import re
 import shutil
+import subprocess
 import sys
 
 NAME = 'tcpsim'
@@ -16,6 +18,12 @@ class NoProgram(Exception):
 
 def is_program(path):
     return os.path.isfile(path) and os.access(path, os.X_OK)
+
+
+def knows(path, command):
+    """Whether the help of the program lists a command."""
+    done = subprocess.run([path, '--help'], stdin=subprocess.DEVNULL, capture_output=True, check=False)
+    return re.search(rb'^  %s\b' % command.encode(), done.stdout, re.M) is not None
 
 
 def beside():
