@@ -6,7 +6,7 @@ the third on exactly one of them holds of a stall, whatever their order.
 """
 from collections import namedtuple
 
-from lives import DROPPED, THIRD_DUPLICATE
+from lives import DROPPED, PARTIAL, THIRD_DUPLICATE
 
 Found = namedtuple('Found', 'words lines')
 
@@ -37,8 +37,9 @@ def is_lost(stall):
 
 
 def is_left_to_the_timer(stall):
-    """Whether the segment at una was lost, and no third duplicate was the first to send it again."""
-    return is_lost(stall) and not (stall.resent and stall.resent[0].why is THIRD_DUPLICATE)
+    """Whether the segment at una was lost, and neither a third duplicate nor a partial acknowledgement was
+    the first to send it again."""
+    return is_lost(stall) and not (stall.resent and stall.resent[0].why in (THIRD_DUPLICATE, PARTIAL))
 
 
 def matters(stall, added):
@@ -89,7 +90,10 @@ def is_delayed(stall):
 
 
 def why_so_few(stall):
-    """Why fewer than three duplicates came: segments behind the lost one, and what became of them."""
+    """Why fewer than three duplicates came: segments behind the lost one, and what became of them. Or why
+    three began nothing."""
+    if stall.duplicates >= 3:
+        return f'none begins a recovery up to {stall.recover}, as far as was sent when the last loss was noticed', []
     until = stall.resent[0].offered if stall.resent else stall.end
     behind = [packet for packet in stall.behind() if packet.offered <= until]
     lost = [packet for packet in behind if is_dropped(packet)]
@@ -136,7 +140,8 @@ def its_packets_waited_in_one_queue(stall):
 
 def a_loss_was_left_to_the_timer(stall):
     """Every copy of the segment at una that was sent up to the span's beginning was dropped, and fewer
-    than three duplicates came before the timer ended (or before the run did)."""
+    than three duplicates came before the timer ended (or before the run did), or three came to a NewReno
+    sender that had no more acknowledged than was sent when it last noticed a loss."""
     if not is_left_to_the_timer(stall):
         return None
     lost = stall.copies[-1]
@@ -149,8 +154,8 @@ def a_loss_was_left_to_the_timer(stall):
 
 
 def a_retransmission_was_lost(stall):
-    """What was sent again in the span was dropped: of a segment that the third duplicate sent again, or
-    of one whose acknowledgement was lost."""
+    """What was sent again in the span was dropped: of a segment that the third duplicate or a partial
+    acknowledgement sent again, or of one whose acknowledgement was lost."""
     if not is_lost_again(stall):
         return None
     again = [packet for packet in stall.resent if is_dropped(packet)]
@@ -198,15 +203,17 @@ def a_delayed_acknowledgement_was_waited_for(stall):
 
 
 def fast_retransmit_took_a_round_trip(stall):
-    """The segment at una was lost, the third duplicate sent it again, and that was neither lost nor was
-    its acknowledgement: the span is the time to the third duplicate and a round trip more."""
+    """The segment at una was lost, the third duplicate or a partial acknowledgement sent it again, and that
+    was neither lost nor was its acknowledgement: the span is the time to the third duplicate (none where it
+    began with the partial acknowledgement) and a round trip more."""
     if not is_lost(stall) or is_left_to_the_timer(stall) or is_lost_again(stall) or \
             lost_acknowledgement(stall) is not None:
         return None
     lost, again = stall.copies[-1], stall.resent[0]
-    return Found(f'segment {stall.una} was dropped ({lost.fate}); the third duplicate came after '
-                 f'{seconds(again.offered - stall.begin)}, and {seconds(stall.end - again.offered)} went by after it',
-                 [lost.ended_line, again.line])
+    came = 'a partial acknowledgement sent it again at once' if again.why is PARTIAL else \
+        f'the third duplicate came after {seconds(again.offered - stall.begin)}'
+    return Found(f'segment {stall.una} was dropped ({lost.fate}); {came}, and {seconds(stall.end - again.offered)} '
+                 'went by after it', [lost.ended_line, again.line])
 
 
 def the_way_is_longer(stall):

@@ -1,13 +1,15 @@
 #!/usr/bin/env python3
 """Compares the built program with the model of scripts/model on many inputs: status, output, note.
 
-Usage: scripts/compare.py [--kind texts,runs,images,debug] [--seed S] [--count N] [--jobs J]
+Usage: scripts/compare.py [--kind texts,runs,images,debug,auto] [--seed S] [--count N] [--jobs J]
                           [--program PATH] [--options] [--systematic | --random]
 
   texts    mutated and systematic texts, most of them refused     (tcpsim run)
   runs     random scenarios: one flow, dumbbells, chains, trees   (tcpsim run)
   images   images whole, cut, changed                             (tcpsim run, dis, asm)
   debug    random commands on random scenarios                    (tcpsim debug)
+  auto     the examples and random scenarios by 1, 2, 4 and 64 workers, many of which are worth sharing
+                                                                  (tcpsim run --groups auto)
 
 --options gives random --groups and --workers besides.
 
@@ -15,6 +17,8 @@ What differs is printed, the smallest case first, each made smaller by leaving o
 The status is 1 where anything differs.
 """
 import argparse
+import functools
+import glob
 import itertools
 import multiprocessing
 import os
@@ -39,9 +43,10 @@ from text import assemble, disassemble, lines_of  # noqa: E402
 SHOWN = 12              # differences that are printed
 SHRINKING = 20          # seconds for making a case smaller
 LONGEST = 60            # seconds that the program may take
-MOST_BYTES = 1_000_000  # of an output, that are compared; the program is then stopped
+MOST_BYTES = 2_000_000  # of an output, that are compared; the program is then stopped
 MOST_SHRUNK = 100_000   # the same while a case is made smaller
 PROGRAM = os.path.join(TOP, 'crates', 'tcpsim', 'out', 'tcpsim')
+CREWS = ('1', '2', '4', '64')
 
 
 class Enough(Exception):
@@ -69,6 +74,14 @@ def program_answers(path, words, data, most):
 
 
 def model_answers(words, data, most):
+    """Status, output and note. How many workers there are, where there may be so many, changes none."""
+    if words[-2:-1] == ('--workers',) and words[-1] in CREWS:
+        words = words[:-2]
+    return model_answers_kept(words, data, most)
+
+
+@functools.lru_cache(maxsize=1)     # of cases that differ by their workers, which stand side by side
+def model_answers_kept(words, data, most):
     written, left = [], most
 
     def write(piece):
@@ -161,7 +174,7 @@ def systematic_texts():
 
 def short_scenario(pick):
     """One that runs a short time, for texts and sessions."""
-    return (nets.one_flow(pick, ('droptail', 'codel'), 20)
+    return (nets.one_flow(pick, ('droptail', 'codel'), pick.choice((20, 20, 60)))
             if pick.random() < 0.4 else nets.many_flows(pick, most_segments=10))
 
 
@@ -196,6 +209,19 @@ def runs(pick, args):
         yield ('run', *options(pick, args, len(scenario.nodes))), spelling.spelt(scenario, pick)
 
 
+def auto(pick, args):
+    """Groups that the program finds, by each crew."""
+    texts_ = []
+    if args.systematic:
+        for path in sorted(glob.glob(os.path.join(TOP, 'examples', '*.txt'))):
+            with open(path, 'rb') as file:
+                texts_.append(file.read())
+    random_ = (spelling.spelt(pick.choice((long_scenario, nets.islands))(pick), pick)
+               for _ in range(args.count if args.random else 0))
+    for text in itertools.chain(texts_, random_):
+        yield from ((('run', '--groups', 'auto', '--workers', crew), text) for crew in CREWS)
+
+
 def options(pick, args, nodes):
     if not args.options:
         return ()
@@ -210,12 +236,17 @@ def options(pick, args, nodes):
 
 
 def changed_image(pick, data):
-    """Cut, stretched, with bytes changed, or with a field at a bound."""
-    change = pick.randrange(6)
+    """Cut, stretched, of another version, with bytes changed, or with a field at a bound."""
+    change = pick.randrange(8)
     if change == 0:
         return data[:pick.randrange(len(data))]
     if change == 1:
         return data + pick.randbytes(pick.choice((1, 1, 2, 30)))
+    if change == 6:
+        return data[:3] + pick.choice((b'1', b'2', b'3', b'\0')) + data[4:] + pick.choice((b'', b'', b'\0', b'\4'))
+    if change == 7:
+        at = pick.choice([at for at, size in image.places(data) if size == 1])
+        return data[:at] + bytes((pick.choice((0, 1, 2, 3, 4, 7, 8, 128, 255)),)) + data[at + 1:]
     data = bytearray(data)
     for _ in range(pick.choice((1, 1, 2))):
         at = pick.randrange(len(data))
@@ -230,24 +261,25 @@ def changed_image(pick, data):
 
 
 def images(pick, args):
-    small = image.save(assemble(spelling.SMALL))
-    for data in (small, image.save(assemble(spelling.FULL))):
+    for text, version in itertools.product((spelling.SMALL, spelling.FULL), (1, 2)):
+        data = image.save(assemble(text), version)
         for size in range(len(data) + 1 if args.systematic else 0):
             yield ('run',), data[:size]
         for at in range(len(data) if args.systematic else 0):
             for byte in {0, 1, 2, 3, 255, data[at] + 1 & 255, data[at] - 1 & 255, data[at] ^ 128}:
                 yield ('dis',), data[:at] + bytes((byte,)) + data[at + 1:]
         yield from ((('dis',), other) for other in (spelling.other_numbers(data) if args.systematic else ()))
-    yield from ((('asm',), data) for data in (spelling.images_at_limits() if args.systematic else ()))
+    for version in ((1, 2) if args.systematic else ()):
+        yield from ((('asm',), data) for data in spelling.images_at_limits(version))
     for _ in range(args.count if args.random else 0):
         scenario = short_scenario(pick)
-        data = image.save(scenario)
+        data = image.save(scenario, pick.choice((1, 2, 2)))
         yield ('asm',), spelling.spelt(scenario, pick)
         yield (pick.choice(('dis', 'asm', 'run')),), data
         yield ('dis',), disassemble(scenario)
         for _ in range(3):
             yield (pick.choice(('dis', 'asm', 'run')),), changed_image(pick, data)
-        yield ('run',), image.save(nets.broken(nets.many_flows(pick, most_segments=5), pick))
+        yield ('run',), image.save(nets.broken(nets.many_flows(pick, most_segments=5), pick), pick.choice((1, 2)))
 
 
 def moments(scenario):
@@ -286,7 +318,7 @@ def debug(pick, args):
         yield ('debug', *options(pick, args, len(scenario.nodes))), text + session.encode()
 
 
-KINDS = {'texts': texts, 'runs': runs, 'images': images, 'debug': debug}
+KINDS = {'texts': texts, 'runs': runs, 'images': images, 'debug': debug, 'auto': auto}
 
 
 # What is printed.

@@ -24,7 +24,8 @@ from units import Words, as_type, count, refuse, to_standard_output
 
 WAITED, SERIALIZED, UNDER_WAY, STOOD = 'waited', 'serialized', 'under way', 'stood still'
 WHY_AGAIN = {'third duplicate': 'the third duplicate', 'timeout': 'the timeout',
-             'after a timeout': 'a timeout had made the sender begin again'}
+             'after a timeout': 'a timeout had made the sender begin again',
+             'partial acknowledgement': 'a partial acknowledgement in recovery'}
 # Of the rows of one line: a packet arrives, then its end takes it, then packets are offered.
 RANKS = {'arrives': 0, 'held': 1, 'answer waits': 1, 'not new': 1, 'duplicate': 1, 'acknowledged': 1}
 

@@ -20,6 +20,7 @@ STATE_WORDS = {'sender': 5, 'receiver': 1, 'router': 0}     # of a line's state,
 
 # Why a segment is sent.
 FIRST, THIRD_DUPLICATE, TIMEOUT, AFTER_TIMEOUT = 'first', 'third duplicate', 'timeout', 'after a timeout'
+PARTIAL = 'partial acknowledgement'
 # How an acknowledgement came to be.
 AT_ONCE, ALARM = 'at once', 'by the alarm'
 # What became of a packet.
@@ -102,6 +103,8 @@ class FlowState:
         # the sender
         self.una = self.nxt = self.high = self.dups = 0
         self.recovering = False
+        self.recover = None             # NewReno's: the greatest nxt when it last noticed a loss; None before
+        self.partial = False            # this recovery had a partial acknowledgement
         self.timing = self.srtt = self.deadline = None
         self.rttvar, self.rto = 0, SECOND
         self.doubled = False            # the timer was doubled and not measured since
@@ -122,16 +125,25 @@ class FlowState:
             return None if self.waits is None else self.waits_since + self.flow.delack
         return self.flow.start if kind == 'start' else self.deadline
 
-    def acknowledge(self, ack, time):
-        """The sender gets a new acknowledgement."""
+    def acknowledge(self, ack, time, partial):
+        """The sender gets a new acknowledgement. Of the partial ones of a recovery the first sets the timer anew."""
         if self.timing is not None and ack >= self.timing[0]:
             self.sample(time - self.timing[1])
             self.timing = None
         self.una, self.dups = ack, 0
-        self.deadline = time + self.rto if ack < self.nxt else None
+        if not (partial and self.partial):
+            self.deadline = time + self.rto if ack < self.nxt else None
+        self.partial = partial
+
+    def notice_loss(self):
+        """A recovery begins, or the timer ends."""
+        self.partial = False
+        if self.flow.newreno:
+            self.recover = self.high
 
     def expire(self, time):
         """The timer ends; answers how long it ran, and whether it had been doubled."""
+        self.notice_loss()
         expired = self.rto, self.doubled
         self.dups, self.timing = 0, None
         self.rto, self.doubled = min(2 * self.rto, MOST_RTO), True
@@ -365,7 +377,10 @@ class Walk:
     def _sends(self, flow, kind, packet, una, nxt, recovering):
         """The segments that a sender's line sends, and why."""
         if una > flow.una:
-            flow.acknowledge(una, self.time)
+            partial = recovering and flow.recovering
+            flow.acknowledge(una, self.time, partial)
+            if partial:
+                return self._partly(flow, una, nxt), PARTIAL
             return range(max(flow.nxt, una), nxt, flow.mss), FIRST
         if kind == 'rto':
             self.expired = flow.expire(self.time)
@@ -373,8 +388,16 @@ class Walk:
         if packet is not None and packet.number == una < flow.nxt:
             flow.dups += 1
         if recovering and not flow.recovering:
+            flow.notice_loss()
             return (una,), THIRD_DUPLICATE
         return range(flow.nxt, nxt, flow.mss), FIRST
+
+    @staticmethod
+    def _partly(flow, una, nxt):
+        """What a partial acknowledgement sends: the next hole again, and at most one new segment."""
+        if not flow.flow.newreno or nxt not in (flow.nxt, flow.nxt + flow.mss):
+            raise ValueError('a recovery goes on as that of no NewReno sender')
+        return (una,) if nxt == flow.nxt else (una, flow.nxt)
 
     def _segment(self, flow, number, why):
         """A segment that the sender sends now."""
@@ -383,6 +406,7 @@ class Walk:
             if why is FIRST:
                 why = AFTER_TIMEOUT
         else:
+            why = FIRST
             flow.high = number + flow.mss
             if flow.timing is None:
                 flow.timing = flow.high, self.time

@@ -30,6 +30,14 @@ PICTURES['drop_tail_and_codel'] = [
     '--flow', 'g', '--log', '--names', 'drop-tail,CoDel', '--title',
     '700 kB fill a link of 1 Mbit/s, and 10 kB follow at 3 s: behind a queue of 1,000 packets, and with CoDel']
 
+PICTURES['a_larger_initial_window'] = [
+    *run_of('a_larger_initial_window'), '--panels', 'window,sequence', '--longer', '400ms', '--title',
+    'Thirty segments over a round trip of 320 ms, with an initial window of three and of ten']
+PICTURES['reno_and_newreno'] = [
+    *run_of('three_losses_in_a_window'), '--beside', *run_of('three_losses_in_a_window_with_newreno'),
+    '--panels', 'window,sequence', '--names', 'Reno,NewReno', '--title',
+    '150 kB over a round trip of 81 ms, of which three segments of one window are lost']
+
 
 def file_of(name):
     return os.path.join(FOLDER, name + '.svg')

@@ -78,14 +78,16 @@ class FlowNow:
         self.recovering = self.answer_waits = False
         self.above = set()
         self.words = self.next_word = None      # as they stood on the last line of each end
-        self.cwnd, self.ssthresh = self.first_window(flow.mss), flow.rwnd
+        self.cwnd, self.ssthresh = self.first_window(flow.mss, flow.iw10), flow.rwnd
         self.mss, self.size = flow.mss, flow.mss + HEADER_BYTES
-        self.delack, self.start = flow.delack, flow.start
+        self.delack, self.start, self.newreno = flow.delack, flow.start, flow.newreno
         self.since = None               # when it started, or when una last rose
 
     @staticmethod
-    def first_window(mss):
-        """RFC 5681 section 3.1."""
+    def first_window(mss, iw10):
+        """RFC 5681 section 3.1, or RFC 6928 section 2."""
+        if iw10:
+            return min(10 * mss, max(2 * mss, 14_600))
         return (2 if mss > 2190 else 3 if mss > 1095 else 4) * mss
 
     def kept(self):
@@ -201,6 +203,12 @@ class Reader:
         elif kind == 'ack' and ack <= flow.una and recovering and not flow.recovering:
             flow.dups += 1
             at = self._offer(link, (name, DATA, una), True, words, at, time)
+        elif kind == 'ack' and ack > flow.una and recovering and flow.recovering:     # a partial acknowledgement
+            if not flow.newreno or nxt not in (before, before + mss):
+                raise ValueError('a recovery goes on as that of no NewReno sender')
+            at = self._offer(link, (name, DATA, una), True, words, at, time)
+            if nxt > before:
+                at = self._offer(link, (name, DATA, before), False, words, at, time)
         else:
             if kind == 'ack':
                 if ack > flow.una:

@@ -13,7 +13,7 @@ import sys
 from collections import namedtuple
 
 from causes import CAUSES, cause_of, name_of, rule_of, seconds
-from lives import ACK, CODEL, DATA, Walk, Watch, flow_named, opened
+from lives import ACK, CODEL, DATA, PARTIAL, Walk, Watch, flow_named, opened
 from trace_reader import Unreadable
 from units import Words, as_type, refuse, time, to_standard_output
 
@@ -123,7 +123,12 @@ class Span:
 
     def __init__(self, flow, begin, line):
         self.begin, self.line, self.una, self.nxt = begin, line, flow.una, flow.nxt
-        self.full, self.timers, self.duplicates = is_full(flow), [], 0
+        self.full, self.timers, self.duplicates, self.recover = is_full(flow), [], 0, flow.recover
+
+
+def is_again(packet, span):
+    """Whether a segment was sent in the span, or by the acknowledgement with which it began since that was partial."""
+    return packet.line > span.line or packet.line == span.line and packet.why is PARTIAL
 
 
 def is_full(flow):
@@ -133,7 +138,8 @@ def is_full(flow):
 class Stall:
     """A span of a flow without a new acknowledgement, as things are at its end.
 
-    `copies` are the sendings of the segment at una up to the span's beginning, `resent` those after it;
+    `copies` are the sendings of the segment at una up to the span's beginning, `resent` those after it and the
+    one by the partial acknowledgement with which the span began, if there was one;
     `acks_dropped` are acknowledgements of una or above; `ack` is the one that ended the span, or None;
     `waits_since` says since when an answer waits that the run's end cut off; `queued` is that of `Watched`."""
 
@@ -143,10 +149,11 @@ class Stall:
         self.begin, self.begin_line, self.end, self.end_line = span.begin, span.line, walk.time, walk.line
         self.length, self.longer, self.ack = self.end - self.begin, walk.longer, ack
         self.waits_since = flow.waits_since if ack is None else None
-        self.copies = [packet for packet in watched.copies[span.una] if packet.line <= span.line]
-        self.resent = [packet for packet in watched.copies[span.una] if packet.line > span.line]
+        self.copies = [packet for packet in watched.copies[span.una] if not is_again(packet, span)]
+        self.resent = [packet for packet in watched.copies[span.una] if is_again(packet, span)]
         self.acks_dropped = [packet for packet in watched.acks_dropped if packet.number >= span.una]
         self.timers, self.duplicates, self.queued = span.timers, span.duplicates, watched.queued
+        self.recover = span.recover     # NewReno's, when the span began
         self.rto, self.doubled, self.sendings = flow.rto, flow.doubled, watched.copies
 
     def behind(self):

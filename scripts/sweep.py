@@ -122,7 +122,7 @@ def losses(word):
 def greatest_packet(lines):
     """Bytes of the greatest packet of any flow, as far as the lines have flows."""
     sizes = [int(words[4]) for words in (line.partition('#')[0].split() for line in lines)
-             if len(words) == 9 and words[0] == 'flow' and re.fullmatch('[0-9]{1,9}', words[4])]
+             if len(words) in (9, 11) and words[0] == 'flow' and re.fullmatch('[0-9]{1,9}', words[4])]
     return max(sizes, default=1460) + HEADER_BYTES
 
 

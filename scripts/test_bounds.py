@@ -49,13 +49,15 @@ node n0 sender
 node n1 receiver
 link l0 n0 n1 8000000 1000000 droptail 10
 link l1 n1 n0 8000000 1000000 droptail 10
-flow f0 n0 n1 1000 1 0 64000 0
+flow f0 n0 n1 1000 1 0 64000 0 reno iw3
 '''
 IMAGE = bytes.fromhex(
-    '54434231 000000003b9aca00 0002 0002 0001 00000000 00 01'
+    '54434232 000000003b9aca00 0002 0002 0001 00000000 00 01'
     '0000 0001 00000000007a1200 00000000000f4240 00 000a 0000000000000000 0000000000000000 0000 00'
     '0001 0000 00000000007a1200 00000000000f4240 00 000a 0000000000000000 0000000000000000 0000 00'
-    '0000 0001 03e8 00000001 0000000000000000 0000fa00 00000000')
+    '0000 0001 03e8 00000001 0000000000000000 0000fa00 00000000 00')
+# Of version 1, which says nothing of a flow's variant.
+OLD_IMAGE = b'TCB1' + IMAGE[4:-1]
 # With routers, CoDel, routes and lost packets.
 FULL = b'''sim 1000000000
 node s sender
@@ -65,7 +67,7 @@ link a s p 8000000 1000000 droptail 10
 link b p r 8000000 1000000 codel 10 5000000 100000000 1500
 link c r p 8000000 1000000 droptail 10
 link d p s 8000000 1000000 droptail 10
-flow f s r 1000 4 5 64000 40000000
+flow f s r 1000 4 5 64000 40000000 newreno iw10
 route p r b
 route p s d
 lose a 2
@@ -168,14 +170,14 @@ class Cut(Case):
             for at in range(len(FIRST)) for byte in (b'\0', b'\t', b'\r', b'\x7f', b'\x80', b'\xff'))
 
     def test_a_cut_image_has_too_few_bytes(self):
-        for data in (IMAGE, image_of(FULL)):
+        for data in (IMAGE, OLD_IMAGE, image_of(FULL)):
             self.all_expected(
                 (size, ('run',), data[:size],
                  refused('E10 line 0' if size == 0 else 'E2 line 1' if size < 3 else 'L1'))
                 for size in range(len(data)))
 
     def test_bytes_left_over(self):
-        for data in (IMAGE, image_of(FULL)):
+        for data in (IMAGE, OLD_IMAGE, image_of(FULL)):
             self.all_expected((more, (words,), data + more, refused('L4'))
                               for more in (b'\0', b'\n', data) for words in ('asm', 'dis', 'run'))
 
@@ -195,11 +197,11 @@ PLACES = {
     'TARGET': (4, 'link l0 n0 n1 8000000 1000000 codel 10 {} 100000000 1500'),
     'INTERVAL': (4, 'link l0 n0 n1 8000000 1000000 codel 10 5000000 {} 1500'),
     'MAXPACKET': (4, 'link l0 n0 n1 8000000 1000000 codel 10 5000000 100000000 {}'),
-    'MSS': (6, 'flow f0 n0 n1 {} 1 0 64000 0'),
-    'SEGMENTS': (6, 'flow f0 n0 n1 1000 {} 0 64000 0'),
-    'START': (6, 'flow f0 n0 n1 1000 1 {} 64000 0'),
-    'RWND': (6, 'flow f0 n0 n1 1000 1 0 {} 0'),
-    'DELACK': (6, 'flow f0 n0 n1 1000 1 0 64000 {}'),
+    'MSS': (6, 'flow f0 n0 n1 {} 1 0 64000 0 reno iw3'),
+    'SEGMENTS': (6, 'flow f0 n0 n1 1000 {} 0 64000 0 reno iw3'),
+    'START': (6, 'flow f0 n0 n1 1000 1 {} 64000 0 reno iw3'),
+    'RWND': (6, 'flow f0 n0 n1 1000 1 0 {} 0 reno iw3'),
+    'DELACK': (6, 'flow f0 n0 n1 1000 1 0 64000 {} reno iw3'),
     'NUMBER': (7, 'lose l0 {}'),
 }
 # Where the numbers stand in the image of a text whose first link has CoDel, and their bytes.
@@ -261,8 +263,7 @@ class Numbers(Case):
     def test_each_number_of_an_image_stretched(self):
         """Each number, the counts too, at the ends of its bytes, one beside what it was, and doubled."""
         cases = []
-        for text in (FIRST, FULL):
-            data = image_of(text)
+        for data in (IMAGE, OLD_IMAGE, image_of(FULL)):
             self.assertEqual(sum(size for _, size in places(data)), len(data) - len(b'TCB1'))
             for at, size in places(data):
                 was = int.from_bytes(data[at:at + size], 'big')
@@ -288,6 +289,21 @@ class Numbers(Case):
             cases.append(((at, spelt), ('asm',), data, Answer(0, data, '') if code == RIGHT else refused(code)))
         self.all_expected(cases)
 
+    def test_versions_of_images(self):
+        cases = []
+        for fourth, more, code in VERSIONS:
+            data = OLD_IMAGE[:3] + fourth + OLD_IMAGE[4:] + more
+            wanted = Answer(0, IMAGE[:-1] + code, '') if isinstance(code, bytes) else refused(code)
+            cases.append(((fourth, more), ('asm',), data, wanted))
+        self.all_expected(cases)
+
+    def test_variants_of_texts(self):
+        for bits, words in enumerate(('reno iw3', 'newreno iw3', 'reno iw10', 'newreno iw10')):
+            text = CANONICAL.replace(b'reno iw3', words.encode())
+            data = IMAGE[:-1] + bytes((bits,))
+            self.all_expected((((words, 'asm'), ('asm',), text, Answer(0, data, '')),
+                               ((words, 'dis'), ('dis',), data, Answer(0, text, ''))))
+
     def test_lost_packets_of_images(self):
         cases = []
         for numbers, code in LOST:
@@ -311,7 +327,9 @@ LINES = (
     (4, 'link a s r 1000 1 codel 1 1 1 1 1 1', 'E3 line 4'),
     (7, 'sim 1' + ' 1' * 9, 'E3 line 7'),
     (7, 'node' + ' a' * 10, 'E3 line 7'),
-    (7, 'flow' + ' a' * 10, 'E3 line 7'),
+    (7, 'flow' + ' a' * 9, 'E3 line 7'),
+    (7, 'flow' + ' a' * 10, 'E6 line 7'),
+    (7, 'flow' + ' a' * 11, 'E3 line 7'),
     (7, 'route' + ' a' * 10, 'E3 line 7'),
     (7, 'lose' + ' a' * 10, 'E3 line 7'),
     (7, 'node abcdefghijklmno router', 'L5 line 0'),
@@ -322,6 +340,17 @@ LINES = (
     (7, 'link c abcdefghijklmnop r 1000 1 droptail 1', 'E4 line 7'),
     (7, 'link c s abcdefghijklmno 1000 1 droptail 1', 'E7 line 7'),
     (7, 'link c s abcdefghijklmnop 1000 1 droptail 1', 'E4 line 7'),
+    (6, 'flow f s r 1000 1 0 64000 0 reno', 'E3 line 6'),
+    (6, 'flow f s r 1000 1 0 64000 0 reno iw3 1', 'E3 line 6'),
+    (6, 'flow f s r 1000 1 0 64000 reno iw3', 'E3 line 6'),
+    (6, 'flow f s r 1000 1 0 64000 0 reno iw3', RIGHT),
+    (6, 'flow f s r 1000 1 0 64000 0 newreno iw10', RIGHT),
+    (6, 'flow f s r 1000 1 0 64000 0 reno iw5', 'E4 line 6'),
+    (6, 'flow f s r 1000 1 0 64000 0 iw3 reno', 'E4 line 6'),
+    (6, 'flow f s r 1000 1 0 64000 0 Reno iw3', 'E4 line 6'),
+    (6, 'flow f s r 1000 1 0 64000 0 new iw10', 'E4 line 6'),
+    (6, 'flow f s r 1000 1 0 64000 500000001 tahoe iw3', 'E5 line 6'),
+    (6, 'flow f s r 1000 1 0 64000 x tahoe iw3', 'E4 line 6'),
     (6, 'flow abcdefghijklmno s r 1000 1 0 64000 0', RIGHT),
     (6, 'flow abcdefghijklmnop s r 1000 1 0 64000 0', 'E4 line 6'),
     (6, 'flow f abcdefghijklmno r 1000 1 0 64000 0', 'E7 line 6'),
@@ -367,6 +396,15 @@ CHANGED = (
     (118, '0000000000000001', RIGHT),
 )
 
+# The fourth byte of an image, what stands behind its 134 bytes of version 1, and what it then comes to: the
+# variant of its flow, or a fault.
+VERSIONS = (
+    (b'1', b'', b'\0'), (b'1', b'\0', 'L4'), (b'2', b'', 'L1'), (b'2', b'\0', b'\0'), (b'2', b'\1', b'\1'),
+    (b'2', b'\2', b'\2'), (b'2', b'\3', b'\3'), (b'2', b'\4', 'L3'), (b'2', b'\4\0', 'L3'), (b'2', b'\x80', 'L3'),
+    (b'2', b'\xff', 'L3'), (b'2', b'\0\0', 'L4'), (b'3', b'', 'L2'), (b'3', b'\0', 'L2'), (b'3', b'\4\0', 'L2'),
+    (b'\0', b'', 'L2'), (b'X', b'', 'L2'), (b'\2', b'', 'L2'),
+)
+
 # The lost packets of the image's first link.
 LOST = (
     ((0,), 'L3'), ((1,), RIGHT), ((10**9,), RIGHT), ((10**9 + 1,), 'L3'), ((2**32 - 1,), 'L3'),
@@ -379,10 +417,10 @@ LOST = (
 
 def image_with(nodes, links, flows, routes=(), end=10**9):
     """An image of these records: kinds of nodes, ends of links with their lost packets, ends of flows, routes."""
-    parts = [struct.pack('>4sQHHHI', b'TCB1', end, len(nodes), len(links), len(flows), len(routes)), bytes(nodes)]
+    parts = [struct.pack('>4sQHHHI', b'TCB2', end, len(nodes), len(links), len(flows), len(routes)), bytes(nodes)]
     for source, to, *lost in links:
         parts.append(struct.pack(f'>HHQQBHQQHB{len(lost)}I', source, to, 10**6, 1, 0, 10, 0, 0, 0, len(lost), *lost))
-    parts += [struct.pack('>HHHIQII', *ends, 1000, 1, 0, 64000, 0) for ends in flows]
+    parts += [struct.pack('>HHHIQIIB', *ends, 1000, 1, 0, 64000, 0, 0) for ends in flows]
     return b''.join(parts + [struct.pack('>HHH', *route) for route in routes])
 
 
@@ -436,6 +474,9 @@ class Counts(Case):
             text = model(('dis',), data)
             self.all_expected([('image', ('dis',), data, text), ('text', ('dis',), text.out, text),
                                ('text', ('asm',), text.out, Answer(0, data, ''))])
+            trace = model(('run',), data)
+            self.assertEqual(trace.status, 0)
+            self.all_expected((groups, ('run', '--groups', groups, '--workers', '2'), data, trace) for groups in ('one', 'each'))
 
     def test_counts_of_texts(self):
         def several(form, count):
@@ -460,10 +501,54 @@ class Counts(Case):
             ('256 nodes', nodes(256), 'L3 line 0'), ('257 nodes', nodes(257), 'E9 line 258'),
             ('1,024 links', links(1024), 'L3 line 0'), ('1,025 links', links(1025), 'E9 line 1282'),
             ('128 flows', flows(128), 'L5 line 0'), ('129 flows', flows(129), 'E9 line 134'),
+            ('129 flows, with a variant', flows(128) + b'flow g s r 1 1 0 1 0 reno iw10\n', 'E9 line 134'),
+            ('129 flows, with none that there is', flows(128) + b'flow g s r 1 1 0 1 0 reno iw5\n', 'E4 line 134'),
             ('16 links of a router', exits(16), 'L3 line 0'), ('17 links of a router', exits(17), 'E9 line 20'),
             ('65 losses', losses(65), 'E9 line 71')))
         self.all_expected([('64 losses', ('asm',), losses(64), model(('asm',), losses(64)))])
         self.assertEqual(model(('asm',), losses(64)).status, 0)
+
+
+# ---- great sessions
+
+def flow_of(segments, *commands):
+    """A session over a flow of so many segments of 1,000 bytes."""
+    return FIRST.replace(b' 1000 1 0 ', b' 1000 %d 0 ' % segments).replace(
+        b'sim 1000000000', b'sim 1000000000000000') + b'---\n' + b''.join(it.encode() + b'\n' for it in commands)
+
+
+class Sessions(Case):
+    """Debugging sessions at the greatest of what may be asked: nothing is refused for want of memory."""
+
+    def test_as_many_breakpoints_as_there_may_be(self):
+        text = model(('dis',), greatest_without_routers()).out
+        commands = b''.join(b'break node %d\n' % n for n in range(192, 257)) + b'run\nrun\n'
+        self.like_the_model([('breakpoints', ('debug',), text + b'---\n' + commands)])
+        found = run(('debug',), text + b'---\n' + commands).out
+        self.assertEqual([line for line in found.splitlines() if line.startswith((b'break', b'refused'))],
+                         [b'break %d' % n for n in range(1, 65)] + [b'refused B3'])
+
+    def test_a_dump_at_each_position(self):
+        forwards, backwards = ['step 1'] * 1000, ['back 1'] * 1000
+        self.like_the_model([('forwards', ('debug',), flow_of(300, *forwards)),
+                             ('backwards', ('debug',), flow_of(300, 'step 1000', *backwards))])
+
+    def test_moves_of_many_sizes(self):
+        sizes = (99, 100, 101, 777, 1000, 1001, 9999, 10000, 10001)
+        self.like_the_model([('moves', ('debug',), flow_of(4000, *itertools.chain.from_iterable(
+            (f'step {n}', f'back {n}') for n in sizes)))])
+
+    def test_moves_of_a_million_events(self):
+        moves = ('step 1000000', 'back 1', 'back 999998', 'step 999999', 'back 1000000', 'until 999999999999999',
+                 'back 1000000')
+        for words in (('debug',), ('debug', '--groups', 'each', '--workers', '2')):
+            found = run(words, flow_of(260_000, *moves))
+            self.assertEqual((found.status, found.note), (0, ''))
+            places = [int(line[3:]) for line in found.out.splitlines() if line.startswith(b'at ')]
+            end = places[5]
+            self.assertGreater(end, 1_000_000)
+            self.assertEqual(places, [1_000_000, 999_999, 1, 1_000_000, 0, end, end - 1_000_000])
+            self.assertNotIn(b'refused', found.out)
 
 
 # ---- great inputs
@@ -486,12 +571,12 @@ def many(before, form):
 
 
 def header(links, routes, nodes=2):
-    return struct.pack('>4sQHHHI', b'TCB1', 10**9, nodes, links, 1, routes) + bytes([0, 1] + [0] * (nodes - 2))
+    return struct.pack('>4sQHHHI', b'TCB2', 10**9, nodes, links, 1, routes) + bytes([0, 1] + [0] * (nodes - 2))
 
 
 def hostile():
     """Inputs that claim much or are great, and what they come to."""
-    link, flow = IMAGE[24:65], IMAGE[108:134]
+    link, flow = IMAGE[24:65], IMAGE[108:135]
     lost = struct.pack('>50I', *range(1, 51))
     all_lost = struct.pack('>255I', *range(1, 256))
     every = b''.join(struct.pack('>HHH', router, end, 0) for router in range(256) for end in range(256))
@@ -565,6 +650,7 @@ class Ends(Case):
             (('run', '--groups', 'each', '--workers', '1'), FIRST, trace),
             (('run', '--groups', 'each', '--workers', '2'), FIRST, trace),
             (('run',), IMAGE, trace),
+            (('run',), OLD_IMAGE, trace),
             (('asm',), FIRST, IMAGE),
             (('dis',), IMAGE, CANONICAL),
             (('debug',), FIRST + COMMANDS, model(('debug',), FIRST + COMMANDS).out),

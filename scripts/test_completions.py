@@ -1,6 +1,7 @@
 #!/usr/bin/env python3
-"""Tests of the shells' completions: scripts/test_completions.py. bash is asked by `compgen` through the
-functions, and bash and zsh by a terminal of their own in which a line is typed; fish by `complete -C`. A
+"""Tests of the shells' completions and of the man pages: scripts/test_completions.py. bash is asked by
+`compgen` through the functions, and bash and zsh by a terminal of their own in which a line is typed; fish by
+`complete -C`. The words of each subcommand are those of its `--help`, in each shell and in the man page. A
 shell that is not there is left out, which is said. The last line is `N passed, M failed`.
 """
 import io
@@ -17,10 +18,13 @@ import time
 import unittest
 
 HERE = os.path.dirname(os.path.abspath(__file__))
-COMPLETIONS = os.path.join(os.path.dirname(HERE), 'completions')
+TOP = os.path.dirname(HERE)
+COMPLETIONS = os.path.join(TOP, 'completions')
+PROGRAM = os.path.join(TOP, 'crates', 'tcpsim', 'out', 'tcpsim')
+SUBCOMMANDS = ('asm', 'debug', 'dis', 'explain', 'run')
 TOOLS = ('flows', 'plot', 'net', 'sweep', 'follow', 'stalls', 'replay')
 MARK = '@ready@'
-PATIENCE = 10           # seconds for one answer, on a machine that is busy
+PATIENCE = 60           # seconds for one answer, on a machine that is busy
 # A line up to the cursor, and what it becomes, its last word completed. `scenario one.txt`, `scenario_two.txt`
 # and the folder `shelf` with `inner.txt` are there; the completed word is the only one that fits.
 # Of several that fit, as --access and --access-queue, what they have in common.
@@ -88,6 +92,109 @@ class Folder(unittest.TestCase):
         done = subprocess.run(words, cwd=self.folder, env=self.environment, capture_output=True, text=True,
                               stdin=subprocess.DEVNULL, check=False, timeout=60)
         return done.stdout.splitlines()
+
+
+    def compgen(self, function, *words):
+        """bash's answers, all words that fit: those of the function, by `compgen`, or where it has none, files."""
+        script = ('source "$1"; shift; function=$1; shift; COMP_WORDS=("$@"); COMP_CWORD=$(($# - 1)); "$function"; '
+                  'if [ ${#COMPREPLY[@]} -gt 0 ]; then printf "%s\\n" "${COMPREPLY[@]}"; '
+                  'elif complete -p "$1" | grep -q -- "-o default"; then compgen -f -- "${COMP_WORDS[COMP_CWORD]}"; fi')
+        return sorted(self.run_shell('bash', '-c', script, 'bash', os.path.join(COMPLETIONS, 'tcpsim.bash'), function,
+                                     *words))
+
+    def fish(self, line):
+        told = self.run_shell('fish', '--no-config', '-c', f'source {COMPLETIONS}/tcpsim.fish; complete -C "{line}"')
+        return sorted(word.split('\t')[0] for word in told)
+
+
+def help_of(*words):
+    """What a command prints as its help."""
+    return subprocess.run([*words, '--help'], capture_output=True, text=True, stdin=subprocess.DEVNULL, check=True,
+                          timeout=60).stdout
+
+
+def long_options(text):
+    return set(re.findall(r'(?<![\w-])--[a-z][a-z-]*', text))
+
+
+def manual(name):
+    """A man page with plain signs, and where fonts are changed a space."""
+    with open(os.path.join(TOP, 'man', f'{name}.1'), encoding='utf-8') as file:
+        return re.sub(r'\\f[A-Z]', ' ', file.read().replace('\\-', '-'))
+
+
+def part_of(page, head):
+    return re.search(rf'^\.SH {head}\n((?:(?!\.SH ).*\n)*)', page, re.M)[1]
+
+
+@unittest.skipUnless(os.path.exists(PROGRAM), 'the program is not built')
+class Words(Folder):
+    """Each word that the program's help lists, and no other, in each shell and in the man page."""
+
+    def setUp(self):
+        super().setUp()
+        self.options = {name: long_options(help_of(PROGRAM, name)) for name in SUBCOMMANDS}
+        self.groups = re.search(r'--groups <G> .*: (one, each, auto), or numbers', help_of(PROGRAM, 'run'))[1].split(', ')
+
+    def test_subcommands_are_those_of_the_help(self):
+        told = re.findall(r'^  ([a-z]+)  ', help_of(PROGRAM).partition('Commands:')[2], re.M)
+        self.assertEqual(sorted(told), sorted(SUBCOMMANDS))
+        self.assertEqual({it for it in self.compgen('_tcpsim', 'tcpsim', '') if it[0] != '-'}, set(told))
+        self.assertEqual(set(re.findall(r'^\.B tcpsim ([a-z]+)$', part_of(manual('tcpsim'), 'SYNOPSIS'), re.M)), set(told))
+        for name in told:
+            self.assertIn(f'.TP\n.B {name}\n', part_of(manual('tcpsim'), 'SUBCOMMANDS'))
+
+    def test_bash(self):
+        for name in SUBCOMMANDS:
+            with self.subTest(name):
+                self.assertEqual(set(self.compgen('_tcpsim', 'tcpsim', name, '--')), self.options[name])
+        self.assertEqual(self.compgen('_tcpsim', 'tcpsim', 'run', '--groups', ''), sorted(self.groups))
+
+    def test_zsh(self):
+        with open(os.path.join(COMPLETIONS, '_tcpsim'), encoding='utf-8') as file:
+            text = file.read().partition('_tcpsim_tool()')[0]
+        self.assertEqual(long_options(text), set().union(*self.options.values()) | {'--version'})
+        self.assertEqual(set(re.findall(r"^    '([a-z]+):", text, re.M)), set(SUBCOMMANDS))
+        self.assertIn(f'({" ".join(self.groups)})', text)
+
+    def test_fish(self):
+        with open(os.path.join(COMPLETIONS, 'tcpsim.fish'), encoding='utf-8') as file:
+            lines = [line for line in file if line.startswith('complete -c tcpsim ')]
+        told = {name: set() for name in SUBCOMMANDS}
+        for line in lines:
+            option = re.search(r' -l ([a-z-]+)', line)
+            where = re.search(r"__fish_seen_subcommand_from ([a-z ]+)'", line)
+            for name in where[1].split() if where else SUBCOMMANDS:
+                if option and '__fish_use_subcommand' not in line:
+                    told[name].add(f'--{option[1]}')
+        self.assertEqual(told, self.options)
+        self.assertTrue(any(f"-a '{' '.join(self.groups)}'" in line for line in lines))
+
+    def test_the_manual(self):
+        page = manual('tcpsim')
+        for name in SUBCOMMANDS:
+            form = re.search(rf'^\.B tcpsim {name}\n((?:(?!\.br).*\n)*)', part_of(page, 'SYNOPSIS'), re.M)[1]
+            with self.subTest(name):
+                self.assertEqual(long_options(form), self.options[name] - {'--help'})
+                self.assertEqual('FILE' in form, '[FILE]' in help_of(PROGRAM, name))
+        heads = re.findall(r'^\.TP\n(.*)', part_of(page, 'OPTIONS'), re.M)
+        self.assertEqual(long_options('\n'.join(heads)), set().union(*self.options.values()) | {'--version'})
+        for value in self.groups:
+            self.assertIn(f'\n.B {value}\n', part_of(page, 'OPTIONS'))
+
+
+class Manuals(unittest.TestCase):
+    def test_a_tool_s_page_has_each_option_of_its_help(self):
+        for tool in TOOLS:
+            words = [sys.executable, f'{HERE}/{tool}.py']
+            try:
+                text = help_of(*words)
+                for shape in re.findall(r'^    ([a-z][a-z-]*)(?: .*)?$', text, re.M) if tool == 'net' else ():
+                    text += help_of(*words, shape)
+            except subprocess.CalledProcessError:   # its library is not there, as matplotlib
+                continue
+            with self.subTest(tool):
+                self.assertEqual(long_options(text) - long_options(manual(f'tcpsim-{tool}')) - {'--help'}, set())
 
 
 class Compgen(Folder):
@@ -225,21 +332,24 @@ class InATerminal(Folder):
 class Fish(Folder):
     @unittest.skipUnless(shutil.which('fish'), 'no fish')
     def test_fish(self):
-        for line, answer in (('tcpsim d', ['debug', 'dis']), ('tcpsim run --', ['--groups', '--help', '--workers']),
+        for line, answer in (('tcpsim d', ['debug', 'dis']), ('tcpsim run --', ['--explain', '--groups', '--help', '--progress', '--workers']),
+                             ('tcpsim asm --', ['--explain', '--help']), ('tcpsim run --groups a', ['auto']),
+                             ('tcpsim explain E', ['E10', 'E4']),
                              ('tcpsim run --workers 3', ['32']), ('tcpsim run < scenario_', ['scenario_two.txt']),
                              ('tcpsim-flows scenario_', ['scenario_two.txt']), ('tcpsim-flows --ser', ['--series']),
                              ('tcpsim-follow scenario_', ['scenario_two.txt']), ('tcpsim-follow --by', ['--byte']),
                              ('tcpsim-stalls scenario_', ['scenario_two.txt']), ('tcpsim-stalls --lon', ['--longer']),
                              ('tcpsim-stalls --ca', ['--causes']), ('tcpsim-net dumb', ['dumbbell'])):
             with self.subTest(line):
-                told = self.run_shell('fish', '--no-config', '-c', f'source {COMPLETIONS}/tcpsim.fish; complete -C "{line}"')
-                self.assertEqual(sorted(word.split('\t')[0] for word in told), answer)
+                self.assertEqual(self.fish(line), answer)
 
 
 def main():
     for shell in ('zsh', 'fish'):
         if not shutil.which(shell):
             print(f'LEFT OUT, not passed: the completions of {shell} (it is not there)')
+    if not os.path.exists(PROGRAM):
+        print('LEFT OUT, not passed: the words of the program (it is not built)')
     stream = io.StringIO()
     result = unittest.TextTestRunner(stream=stream).run(unittest.defaultTestLoader.loadTestsFromModule(
         sys.modules['__main__']))

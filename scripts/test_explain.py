@@ -97,6 +97,24 @@ class Explained(unittest.TestCase):
         self.assertEqual([line.split(':')[0] for line in lines], CODES)
         self.assertEqual(lines, [explained(code).splitlines()[0] for code in CODES])
 
+    def test_a_refusal_of_no_line_shows_what_the_page_says(self):
+        """The rows of docs/FORMATS.md that change a line of its text: the witness and the statement."""
+        with open(os.path.join(TOP, 'docs', 'FORMATS.md'), encoding='utf-8') as file:
+            page = file.read()
+        right = re.search(r'^The examples change one line of this text.*?```\n(.*?)```', page, re.M | re.S)[1]
+        table = re.search(r'^\| Fault \| Changed \| Shown \|\n(?:\|.*\n)+', page, re.M)[0]
+        rows = re.findall(r'^\| (\w+) \| line (\d+): `(.*?)` \| `(.*?)`; `(.*?)` \|$', table, re.M)
+        self.assertGreaterEqual(len(rows), 4)
+        for code, place, line, witness, statement in rows:
+            with self.subTest(line=line):
+                lines = right.splitlines()
+                lines[int(place) - 1:int(place)] = [line]
+                done = subprocess.run([PROGRAM, 'run', '--explain'], capture_output=True, text=True,
+                                      input='\n'.join(lines), timeout=60, check=False)
+                self.assertEqual((done.returncode, done.stdout), (1, ''))
+                first = explained(code).splitlines()[0]
+                self.assertEqual(done.stderr.splitlines(), [f'refused {code} line 0', witness, statement, first])
+
     def test_texts_fit_a_terminal(self):
         for code in CODES:
             text = explained(code)

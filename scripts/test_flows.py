@@ -290,7 +290,7 @@ class Commands(Files):
 
     def test_what_is_refused_is_one_sentence(self):
         lines = TRACE.splitlines()
-        image = self.put('i', b'TCB1\0\0')
+        image = self.put('i', b'TCB2\0\0')
         for words, note in (
                 ((self.scenario, self.put('a', TRACE[:-300])), 'cut short'),
                 ((self.scenario, self.put('b', '\n'.join(lines[:5] + lines[6:]) + '\n')), 'line 6 '),

@@ -226,17 +226,19 @@ class Sums(unittest.TestCase):
         self.assertGreater(rows, 20000)
 
     def test_why_segments_are_sent_again(self):
-        """As often by the third duplicate, and as often after a timeout, as trace_reader.py counts it."""
+        """As often in fast recovery, and as often after a timeout, as trace_reader.py counts it."""
         seen = set()
         for name, scenario, lines, flow in examples_flows():
             run = run_of(name).flows[flow]
             why = [packet.why for segment in followed(name, flow).segments.values() for packet in segment.copies]
             seen.update(why)
-            self.assertEqual(why.count(lives.THIRD_DUPLICATE), run.by_fast_retransmit, (name, flow))
+            self.assertEqual(why.count(lives.THIRD_DUPLICATE) + why.count(lives.PARTIAL), run.by_fast_retransmit, (name, flow))
+            self.assertEqual(why.count(lives.THIRD_DUPLICATE), len(run.recoveries), (name, flow))
+            self.assertTrue(lives.PARTIAL not in why or scenario.flows[flow].newreno, (name, flow))
             self.assertEqual(why.count(lives.TIMEOUT), len(run.timeouts), (name, flow))
             self.assertEqual(why.count(lives.TIMEOUT) + why.count(lives.AFTER_TIMEOUT), run.by_timeout, (name, flow))
             self.assertEqual(why.count(lives.FIRST), len(run.sent), (name, flow))
-        self.assertEqual(seen, {lives.FIRST, lives.THIRD_DUPLICATE, lives.TIMEOUT, lives.AFTER_TIMEOUT})
+        self.assertEqual(seen, {lives.FIRST, lives.THIRD_DUPLICATE, lives.PARTIAL, lives.TIMEOUT, lives.AFTER_TIMEOUT})
 
     def test_drops_are_those_of_the_lines(self):
         """Each drop of data is a row with its line and its reason."""

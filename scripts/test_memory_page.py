@@ -18,7 +18,7 @@ WITHOUT_CALLS = {'part_trials', 'net_trials', 'trials', 'tcpsim'}
 # What the last column says in the place of clauses.
 READS, GIVEN, ONE_CLAUSE = 'reads', 'given', 'its clause'
 # Types that are numbers or the like: who gives one keeps it.
-PLAIN = re.compile(r'(u8|u16|u32|u64|u128|usize|bool|Global|Time|Key|Break|Packet|Action|Limits|Subcommand)$')
+PLAIN = re.compile(r'(u8|u16|u32|u64|u128|usize|bool|Global|Time|Key|Break|Packet|Action|Limits|Subcommand|LoadFault)$')
 
 Call = collections.namedtuple('Call', 'crate file owner name taken answer clauses')
 

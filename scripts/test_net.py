@@ -211,7 +211,7 @@ class Texts(unittest.TestCase):
             each.links[3].lose = [2, 5]
         for every in False, True:
             self.assertEqual(mine.text(S, notes=False, every_route=every).encode(),
-                             text.disassemble(other.scenario(S, every)))
+                             text.disassemble(other.scenario(S, every)).replace(b' reno iw3\n', b'\n'))
 
     def test_groups_of_islands(self):
         """The groups that the comment names are accepted and change nothing."""

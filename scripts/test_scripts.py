@@ -15,6 +15,18 @@ The first run is computed by hand, event by event. Data packets take 1.04 ms on 
     5.16, 6.20, 7.24  4000, 5000 and 6000 arrive: three duplicates of 3000, at the sender 6.20, 7.24, 8.28
     8.28      3000 is sent again, arrives at 10.32: 7000 is next, acknowledged at 11.36
     11.36     the recovery ends; 7000, sent once already, stays out: nothing is below the end of 12 ms
+
+The second run by hand is that of a NewReno sender with an initial window of ten segments and a receiver's window of
+eight, over the same links; 1000 and 3000 are lost.
+    0     ms  0 to 7000 are sent; 0 begins, the other five wait: 2000 begins at 1.04, and so on, 7000 at 5.20
+    2.04      0 arrives, acknowledgement 1000 is at the sender at 3.08: cwnd 10100, 8000 is sent and waits
+    3.08      2000 arrives, then 4000 to 7000, one each 1.04 ms: duplicates of 1000 at 4.12, 5.16, 6.20, 7.24, 8.28
+    6.20      the third: 1000 is sent again and waits behind 8000; ssthresh is half of 8000, cwnd that and 3000
+    6.24      8000 begins, arrives at 8.28: the sixth duplicate at 9.32, cwnd 10000; 7.28: 1000 begins
+    9.32      1000 arrives: 3000 is next, acknowledged at 10.36: that is below 9000, the greatest nxt at 6.20
+    10.36     cwnd 10000 - 2000 + 1000; 3000 is sent again and begins at once, 9000 for the first time, and waits
+    11.40     9000 begins; 12.40: 3000 arrives, 9000 is next, acknowledged at 13.44: the recovery ends, cwnd 4000
+    13.44     9000 arrives, acknowledged at 14.48: all is done, cwnd 4250
 """
 import io
 import math
@@ -73,6 +85,58 @@ TRACE = '''1 0 0 0 0 start 0 una=0 nxt=4000 cwnd=4000 ssthresh=64000 phase=ss tx
 28 10360000 1 0 3 free 1 next=7000
 29 11360000 0 2 7 ack 0 7000 una=7000 nxt=8000 cwnd=2500 ssthresh=2500 phase=ca
 end 29
+'''
+PARTIAL = '''sim 15000000
+node s sender
+node r receiver
+link a s r 8000000 1000000 droptail 10
+link b r s 8000000 1000000 droptail 10
+flow f s r 1000 10 0 8000 0 newreno iw10
+lose a 2
+lose a 4
+'''
+PARTIAL_TRACE = '''1 0 0 0 0 start 0 una=0 nxt=8000 cwnd=10000 ssthresh=8000 phase=ca tx=0:0:0 drop=lost:0:1000 drop=lost:0:3000
+2 1040000 0 0 3 free 0 una=0 nxt=8000 cwnd=10000 ssthresh=8000 phase=ca tx=0:0:2000
+3 2040000 1 1 1 data 0 0 next=1000 tx=1:0:1000
+4 2080000 0 0 3 free 0 una=0 nxt=8000 cwnd=10000 ssthresh=8000 phase=ca tx=0:0:4000
+5 2080000 1 0 3 free 1 next=1000
+6 3080000 0 2 1 ack 0 1000 una=1000 nxt=9000 cwnd=10100 ssthresh=8000 phase=ca
+7 3080000 1 1 2 data 0 2000 next=1000 tx=1:0:1000
+8 3120000 0 0 3 free 0 una=1000 nxt=9000 cwnd=10100 ssthresh=8000 phase=ca tx=0:0:5000
+9 3120000 1 0 3 free 1 next=1000
+10 4120000 0 2 2 ack 0 1000 una=1000 nxt=9000 cwnd=10100 ssthresh=8000 phase=ca
+11 4120000 1 1 3 data 0 4000 next=1000 tx=1:0:1000
+12 4160000 0 0 3 free 0 una=1000 nxt=9000 cwnd=10100 ssthresh=8000 phase=ca tx=0:0:6000
+13 4160000 1 0 3 free 1 next=1000
+14 5160000 0 2 3 ack 0 1000 una=1000 nxt=9000 cwnd=10100 ssthresh=8000 phase=ca
+15 5160000 1 1 4 data 0 5000 next=1000 tx=1:0:1000
+16 5200000 0 0 3 free 0 una=1000 nxt=9000 cwnd=10100 ssthresh=8000 phase=ca tx=0:0:7000
+17 5200000 1 0 3 free 1 next=1000
+18 6200000 0 2 4 ack 0 1000 una=1000 nxt=9000 cwnd=7000 ssthresh=4000 phase=fr
+19 6200000 1 1 5 data 0 6000 next=1000 tx=1:0:1000
+20 6240000 0 0 3 free 0 una=1000 nxt=9000 cwnd=7000 ssthresh=4000 phase=fr tx=0:0:8000
+21 6240000 1 0 3 free 1 next=1000
+22 7240000 0 2 5 ack 0 1000 una=1000 nxt=9000 cwnd=8000 ssthresh=4000 phase=fr
+23 7240000 1 1 6 data 0 7000 next=1000 tx=1:0:1000
+24 7280000 0 0 3 free 0 una=1000 nxt=9000 cwnd=8000 ssthresh=4000 phase=fr tx=0:0:1000
+25 7280000 1 0 3 free 1 next=1000
+26 8280000 0 2 6 ack 0 1000 una=1000 nxt=9000 cwnd=9000 ssthresh=4000 phase=fr
+27 8280000 1 1 7 data 0 8000 next=1000 tx=1:0:1000
+28 8320000 0 0 3 free 0 una=1000 nxt=9000 cwnd=9000 ssthresh=4000 phase=fr
+29 8320000 1 0 3 free 1 next=1000
+30 9320000 0 2 7 ack 0 1000 una=1000 nxt=9000 cwnd=10000 ssthresh=4000 phase=fr
+31 9320000 1 1 8 data 0 1000 next=3000 tx=1:0:3000
+32 9360000 1 0 3 free 1 next=3000
+33 10360000 0 2 8 ack 0 3000 una=3000 nxt=10000 cwnd=9000 ssthresh=4000 phase=fr tx=0:0:3000
+34 11400000 0 0 3 free 0 una=3000 nxt=10000 cwnd=9000 ssthresh=4000 phase=fr tx=0:0:9000
+35 12400000 1 1 9 data 0 3000 next=9000 tx=1:0:9000
+36 12440000 0 0 3 free 0 una=3000 nxt=10000 cwnd=9000 ssthresh=4000 phase=fr
+37 12440000 1 0 3 free 1 next=9000
+38 13440000 0 2 9 ack 0 9000 una=9000 nxt=10000 cwnd=4000 ssthresh=4000 phase=ca
+39 13440000 1 1 10 data 0 9000 next=10000 tx=1:0:10000
+40 13480000 1 0 3 free 1 next=10000
+41 14480000 0 2 10 ack 0 10000 una=10000 nxt=10000 cwnd=4250 ssthresh=4000 phase=ca
+end 41
 '''
 
 
@@ -137,6 +201,52 @@ class ByHand(unittest.TestCase):
             self.assertNotEqual(changed, lines)
             with self.assertRaises(Unreadable, msg=new):
                 Run(Scenario(BY_HAND), changed)
+
+
+class PartialByHand(unittest.TestCase):
+    """The second run: an acknowledgement of less than all, in a recovery that goes on."""
+
+    def test_curves(self):
+        run = Run(Scenario(PARTIAL), PARTIAL_TRACE.splitlines())
+        flow, link = run.flows[0], run.links[0]
+        self.assertEqual(list(zip(flow.again_times, flow.again)), [(6_200_000, 1000), (10_360_000, 3000)])
+        self.assertEqual((flow.by_fast_retransmit, flow.by_timeout), (2, 0))
+        self.assertEqual(flow.recoveries, [[6_200_000, 13_440_000]])
+        self.assertEqual(list(zip(flow.sent_times, flow.sent))[8:], [(3_080_000, 8000), (10_360_000, 9000)])
+        self.assertEqual([wait / MS for wait in link.waits], [0, 1.04, 2.08, 3.12, 4.16, 5.2, 3.16, 1.08, 0, 1.04])
+        self.assertEqual(list(flow.next), [1000, 3000, 9000, 10000])
+        self.assertEqual(flow.completed, 14_480_000)
+
+    def test_figures(self):
+        figures = {figure: value for _, name, figure, _, value in
+                   flows.figures(flows.Figures(Scenario(PARTIAL), PARTIAL_TRACE.splitlines())) if name == 'f'}
+        self.assertEqual([figures[name] for name in ('sent', 'sent again by fast retransmit', 'sent again by timeout')],
+                         [12, 2, 0])
+        # 9000, sent after a resending, is the last that is timed: from 10.36 to 14.48 ms
+        self.assertEqual((figures['least round trip'], figures['99th percentile of round trips']), (3.08 * MS, 4.12 * MS))
+
+    def test_what_is_no_trace_of_it_is_refused(self):
+        lines = PARTIAL_TRACE.splitlines()
+        for text in (PARTIAL.replace('newreno', 'reno'), PARTIAL.replace(' newreno iw10', '')):
+            with self.assertRaises(Unreadable):
+                Run(Scenario(text), lines)
+        for old, new in (('nxt=10000 cwnd=9000 ssthresh=4000 phase=fr tx=0:0:3000', 'nxt=11000 cwnd=9000 ssthresh=4000 phase=fr tx=0:0:3000'),
+                         ('tx=0:0:3000', 'tx=0:0:9000'), ('nxt=10000', 'nxt=9000')):
+            changed = lines[:32] + [lines[32].replace(old, new)] + lines[33:]
+            self.assertNotEqual(changed, lines)
+            with self.assertRaises(Unreadable, msg=new):
+                Run(Scenario(PARTIAL), changed)
+
+
+class Variants(unittest.TestCase):
+    def test_a_flow_has_both_words_or_neither(self):
+        for words, newreno, iw10 in (('', False, False), (' reno iw3', False, False), (' newreno iw3', True, False),
+                                     (' reno iw10', False, True), (' newreno iw10', True, True)):
+            flow = Scenario(PARTIAL.replace(' newreno iw10', words)).flows[0]
+            self.assertEqual((flow.delack, flow.newreno, flow.iw10), (0, newreno, iw10))
+        for words in (' reno', ' iw3', ' iw3 reno', ' reno iw5', ' Reno iw3', ' reno iw3 1', ' 1 2'):
+            with self.assertRaisesRegex(Unreadable, 'line 6', msg=words):
+                Scenario(PARTIAL.replace(' newreno iw10', words))
 
 
 class Arithmetic(unittest.TestCase):

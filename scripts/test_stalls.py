@@ -338,6 +338,28 @@ class ByHand(unittest.TestCase):
             0, 1_011_080_000, 'an acknowledgement was lost',
             'acknowledgement 1000 was dropped (lost), and the timer ended after 1 s', [1, 3, 4, 8]))
 
+    def test_a_partial_acknowledgement(self):
+        """Segments 1000 and 3000 of eight are lost. The third duplicate of 1000 comes at 6.2 ms, line 18; the
+        acknowledgement of 3000 alone, at 10.36 ms, line 33, sends that again at once. Where this is lost too the timer
+        ends, and where 9000 is, which is sent with it, duplicates of 9000 come from line 48 on and begin nothing."""
+        text = net(delay=MS, segments=20).replace(' 64000 0\n', ' 8000 0 newreno iw10\n') + 'lose a 2\nlose a 4\n'
+        ended = 'and 3.08 ms went by after it'
+        self.check(text.replace('sim 10000000000', 'sim 13440001').replace(' 20 0 8000', ' 10 0 8000'), 3 * MS, (
+            0, 3_080_000, 'the receive window was full', '8000 of 8000 bytes were on their way, and 2000 not yet sent', [1, 6]), (
+            3_080_000, 10_360_000, 'fast retransmit took a round trip',
+            'segment 1000 was dropped (lost); the third duplicate came after 3.12 ms, and 4.16 ms went by after it', [1, 6, 18, 33]), (
+            10_360_000, 13_440_000, 'fast retransmit took a round trip',
+            f'segment 3000 was dropped (lost); a partial acknowledgement sent it again at once, {ended}', [1, 33, 38]))
+        rows = rows_of(text + 'lose a 11\n', run_by_program(text + 'lose a 11\n'))
+        self.assertEqual([(row.begin, row.cause, row.found) for row in rows], [(
+            10_360_000, 'a retransmission was lost',
+            'segment 3000, sent again (partial acknowledgement), was dropped (lost); the timer ended after 1 s')])
+        rows = rows_of(text + 'lose a 12\n', run_by_program(text + 'lose a 12\n'))
+        self.assertEqual([(row.begin, row.cause, row.found) for row in rows], [(
+            13_440_000, 'a loss was left to the timer',
+            'segment 9000 was dropped (lost) and 5 duplicates came: none begins a recovery up to 9000, as far as was sent '
+            'when the last loss was noticed; the timer ended after 1 s')])
+
     def test_a_queue_that_makes_a_loss_last(self):
         """Where all waited in one queue, a segment that was lost is told besides, with the line of its drop."""
         found = 0
@@ -524,7 +546,7 @@ class Refusals(Files):
         image = self.put('i', subprocess.run([PROGRAM, 'asm'], input=self.text.encode(), capture_output=True, check=True).stdout)
         self.refused('is an image', image, self.trace)
         self.refused('is an image', image, '--program', PROGRAM)
-        self.refused('line 1 is cut short', self.scenario, self.put('j', b'TCB1 0 0 0 0 0'))
+        self.refused('line 1 is cut short', self.scenario, self.put('j', b'TCB2 0 0 0 0 0'))
         self.refused('not ASCII', self.scenario, image)
         self.refused('not ASCII', self.put('k', b'sim \xff\n'), self.trace)
         self.refused('line 1', self.put('l', 'sim 1 2\n'), self.trace)

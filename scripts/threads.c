@@ -1,5 +1,5 @@
 /* Counts the threads that a program starts: a library for LD_PRELOAD. Each that is started adds one byte to
-   the file that THREADS names. scripts/test_threads.py builds it. */
+   the file that THREADS names. scripts/test_threads.py and scripts/refuse_memory.sh build it. */
 #define _GNU_SOURCE
 #include <dlfcn.h>
 #include <fcntl.h>

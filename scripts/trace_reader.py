@@ -28,7 +28,8 @@ NEVER = 1 << 62         # past every moment of a run
 
 Node = namedtuple('Node', 'name kind')
 Link = namedtuple('Link', 'name source to rate delay queue capacity target interval')
-Flow = namedtuple('Flow', 'name sender receiver mss segments start rwnd delack')
+Flow = namedtuple('Flow', 'name sender receiver mss segments start rwnd delack newreno iw10', defaults=(False, False))
+VARIANTS = {'reno': False, 'newreno': True}, {'iw3': False, 'iw10': True}      # a flow's last two words: both or neither
 
 
 class Unreadable(Exception):
@@ -78,9 +79,12 @@ class Scenario:
             name, self._numbers[source], self._numbers[to], int(rate), int(delay), queue, int(capacity),
             int(target), int(interval)))
 
-    def _flow(self, name, sender, receiver, *numbers):
+    def _flow(self, name, sender, receiver, mss, segments, start, rwnd, delack, *variant):
+        if len(variant) not in (0, 2):
+            raise ValueError(variant)
         self._declare(name, self.flows, Flow(
-            name, self._numbers[sender], self._numbers[receiver], *map(int, numbers)))
+            name, self._numbers[sender], self._numbers[receiver], *map(int, (mss, segments, start, rwnd, delack)),
+            *(words[word] for words, word in zip(VARIANTS, variant))))
 
     def _route(self, router, to, link):
         self.routes[self._numbers[router], self._numbers[to]] = self._numbers[link]
@@ -121,7 +125,8 @@ class FlowState:
     kind of its own may have: each is told what happened."""
 
     on_sent = None          # (time, number): a segment was sent for the first time
-    on_again = None         # (time, number, by_dups): sent again, by a third duplicate or else a timeout
+    on_again = None         # (time, number, by_dups): sent again, in fast recovery (by a third duplicate, or by a
+                            # partial acknowledgement of NewReno's) or else by a timeout
     on_acknowledged = None  # (time): `last_una` rose
     on_received = None      # (time): `expected` rose
     on_window = None        # (time, cwnd, ssthresh, flight), the first two as words: after a sender's line
@@ -162,6 +167,10 @@ class FlowState:
                 self.on_timeout(time)
         elif recovering and not self.recovering and kind == 'ack' and low <= una_before:
             numbers, by_dups = (una,), True
+        elif recovering and self.recovering and kind == 'ack' and low > una_before:
+            numbers, by_dups = (una, *range(self.nxt, nxt, self.flow.mss)), True    # a partial acknowledgement
+            if len(numbers) > 2 or not self.flow.newreno:
+                raise ValueError('a recovery goes on as that of no NewReno sender')
         else:
             numbers = range(max(self.nxt, low), nxt, self.flow.mss)
             # what finds no room has an act each

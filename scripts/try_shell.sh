@@ -70,7 +70,7 @@ Commands:
   asm      Write the image of a scenario
   dis      Write the canonical text of a scenario
   run      Run a scenario and print its trace
-  debug    Answer the commands behind the scenario text on standard input
+  debug    Walk through a run by commands, forwards and backwards
   explain  Say what a code means, with an example, or list all codes
 
 Options:
@@ -82,7 +82,7 @@ help_of() {
   {
     case $1 in
       run) printf '%s\n\nUsage: tcpsim run [OPTIONS] [FILE]\n\n' "$2"; cat "$work/argument"; printf 'Options:\n'; cat "$work/options" "$work/flags" ;;
-      debug) printf '%s\n\nUsage: tcpsim debug [OPTIONS]\n\nOptions:\n' "$2"; cat "$work/options"; echo '  -h, --help         Print help' ;;
+      debug) printf '%s\n\nUsage: tcpsim debug [OPTIONS] [FILE]\n\n' "$2"; cat "$work/session_argument"; printf 'Options:\n'; cat "$work/options"; echo '  -h, --help         Print help' ;;
       explain) printf '%s\n\nUsage: tcpsim explain [CODE]\n\nArguments:\n  [CODE]  The code, as it stands behind `refused`\n\nOptions:\n  -h, --help  Print help\n' "$2" ;;
       *) printf '%s\n\nUsage: tcpsim %s [OPTIONS] [FILE]\n\n' "$2" "$1"; cat "$work/argument"
         printf 'Options:\n      --explain  Show on standard error why an input is refused\n  -h, --help     Print help\n' ;;
@@ -95,6 +95,11 @@ help_of() {
 cat > "$work/argument" <<'T'
 Arguments:
   [FILE]  The scenario's file; without it, or where it is -, standard input
+
+T
+cat > "$work/session_argument" <<'T'
+Arguments:
+  [FILE]  The scenario's file, and commands are typed; without it, or where it is -, standard input has both
 
 T
 cat > "$work/options" <<'T'
@@ -112,7 +117,7 @@ run -h < "$first"; ended 'tcpsim -h' 0 "$work/nothing" "$work/help"
 help_of asm 'Write the image of a scenario'
 help_of dis 'Write the canonical text of a scenario'
 help_of run 'Run a scenario and print its trace'
-help_of debug 'Answer the commands behind the scenario text on standard input'
+help_of debug 'Walk through a run by commands, forwards and backwards'
 help_of explain 'Say what a code means, with an example, or list all codes'
 run --version < "$first"; ended 'tcpsim --version' 0 "$work/nothing" "$work/version"
 run -V < "$first"; ended 'tcpsim -V' 0 "$work/nothing" "$work/version"
@@ -142,7 +147,7 @@ mistaken 'tcpsim dis [OPTIONS] [FILE]' "unexpected argument '--groups' found
   tip: to pass '--groups' as a value, use '-- --groups'" dis --groups each
 mistaken 'tcpsim run [OPTIONS] [FILE]' "unexpected argument 'twice' found" run "$first" twice
 mistaken 'tcpsim asm [OPTIONS] [FILE]' "unexpected argument 'twice' found" asm "$first" twice
-mistaken 'tcpsim debug [OPTIONS]' "unexpected argument 'file' found" debug file
+mistaken 'tcpsim debug [OPTIONS] [FILE]' "unexpected argument 'other' found" debug file other
 mistaken 'tcpsim dis [OPTIONS] [FILE]' "unexpected argument '--fast' found
 
   tip: to pass '--fast' as a value, use '-- --fast'" dis --fast
@@ -150,7 +155,9 @@ mistaken 'tcpsim run [OPTIONS] [FILE]' "unexpected argument '--version' found
 
   tip: to pass '--version' as a value, use '-- --version'" run --version
 mistaken 'tcpsim explain [CODE]' "unexpected argument 'E2' found" explain E1 E2
-mistaken 'tcpsim debug [OPTIONS]' "unexpected argument '--progress' found" debug --progress
+mistaken 'tcpsim debug [OPTIONS] [FILE]' "unexpected argument '--progress' found
+
+  tip: to pass '--progress' as a value, use '-- --progress'" debug --progress
 mistaken 'tcpsim run [OPTIONS] [FILE]' "the argument '--explain' cannot be used multiple times" run --explain --explain
 # valued LINE WORD..: options whose value is refused, whatever the input is
 valued() {
@@ -245,6 +252,55 @@ for words in run asm dis; do
   run $words --explain < "$first"; mv "$work/out" "$work/plain"
   run $words < "$first"; ended "tcpsim $words of a right text" 0 "$work/nothing" "$work/plain"
 done
+# shown NAME NOTE FILE WITNESS STATEMENT: a refusal of no line, with two lines that show what it is for
+shown() {
+  { printf 'refused %s\n%s\n%s\n' "$2" "$4" "$5"; grep "^${2%% *}: " "$work/codes"; } > "$work/expected"
+  run run --explain "$3"; ended "$1" 1 "$work/expected" "$work/nothing"
+}
+cat > "$work/net" <<'T'
+sim 1000000000
+node s sender
+node p router
+node r receiver
+node q router
+link a s p 8000000 1000000 droptail 10
+link b p r 8000000 1000000 droptail 10
+link c r p 8000000 1000000 droptail 10
+link d p s 8000000 1000000 droptail 10
+link e p q 8000000 1000000 droptail 10
+link g q p 8000000 1000000 droptail 10
+flow f s r 1000 1 0 64000 0
+route p r b
+route q r g
+route p s d
+T
+{ cat "$work/net"; echo 'node t sender'; } > "$work/text"
+shown 'L5 of a text' 'L5 line 0' "$work/text" 'L5: no flow names sender t' \
+  'flow NAME t RECEIVER MSS SEGMENTS START RWND DELACK'
+grep -v '^route p s' "$work/net" > "$work/text"
+shown 'L7 of a text' 'L7 line 0' "$work/text" 'L7: acknowledgements of flow f stop at router p: no route for s' \
+  'route p s LINK'
+sed 's/^route p r b/route p r e/' "$work/net" > "$work/text"
+shown 'L8 of a text' 'L8 line 0' "$work/text" 'L8: data of flow f come to router p again, from router q' \
+  'route q r LINK'
+# Its image has 4 nodes from byte 22, 6 links from 26, a flow from 278, and routes (p, s), (p, r), (q, r) from 305.
+"$program" asm "$work/net" > "$work/whole"
+# changed PLACE BYTES: the image with these bytes at a place, in the notation of printf
+changed() {
+  { head -c "$1" "$work/whole"; printf "$2"; } > "$work/image"
+  tail -c +"$(($(wc -c < "$work/image") + 1))" "$work/whole" > "$work/behind"
+  cat "$work/behind" >> "$work/image"
+}
+changed 278 '\0\2'
+shown 'L5 of an image' L5 "$work/image" 'L5: no flow names sender 0' 'flow NAME 0 RECEIVER MSS SEGMENTS START RWND DELACK'
+changed 278 '\0\2\0\0'
+shown 'L6 of an image' L6 "$work/image" 'L6: flow 0 goes from receiver 2 to sender 0' \
+  'flow 0 SENDER RECEIVER MSS SEGMENTS START RWND DELACK'
+changed 309 '\0\1'
+shown 'L7 of an image' L7 "$work/image" \
+  'L7: acknowledgements of flow 0 come to receiver 2 over link 1, and not to sender 0' 'route 1 0 LINK'
+changed 315 '\0\4'
+shown 'L8 of an image' L8 "$work/image" 'L8: data of flow 0 come to router 1 again, from router 3' 'route 3 2 LINK'
 { printf 'refused groups\ngroups that are given: 3; nodes: 2\n'; grep '^groups: ' "$work/codes"; } > "$work/expected"
 run run --explain --groups 0,1,1 "$first"; ended 'tcpsim run --explain of other groups' 2 "$work/expected" "$work/nothing"
 { echo 'refused I1'; grep '^I1: ' "$work/codes"; } > "$work/expected"
@@ -375,16 +431,16 @@ node n0 sender
 node n1 receiver
 link l0 n0 n1 8000000 1000000 droptail 10
 link l1 n1 n0 8000000 1000000 droptail 10
-flow f0 n0 n1 1000 1 0 64000 0
+flow f0 n0 n1 1000 1 0 64000 0 reno iw3
 T
 "$program" asm < "$work/right" > "$work/image"
 run dis < "$work/image"; ended 'dis of the right image' 0 "$work/nothing" "$work/canonical"
 tr -d ' \n' > "$work/digits" <<'T'
-54434231 000000003b9aca00 0002 0002 0001 00000000
+54434232 000000003b9aca00 0002 0002 0001 00000000
 00 01
 0000 0001 00000000007a1200 00000000000f4240 00 000a 0000000000000000 0000000000000000 0000 00
 0001 0000 00000000007a1200 00000000000f4240 00 000a 0000000000000000 0000000000000000 0000 00
-0000 0001 03e8 00000001 0000000000000000 0000fa00 00000000
+0000 0001 03e8 00000001 0000000000000000 0000fa00 00000000 00
 T
 if od -An -v -tx1 "$work/image" | tr -d ' \n' | cmp -s - "$work/digits"; then
   pass 'the right image'
@@ -398,13 +454,32 @@ broken() {
     run $words < "$work/text"; told "$words of an image $2" 1 "$1"
   done
 }
-head -c 133 "$work/image" > "$work/text"; broken 'refused L1' 'without its last byte'
+# Of version 1, which has no byte for a flow's variant.
+{ printf TCB1; tail -c +5 "$work/image" | head -c 130; } > "$work/first"
+for input in first image; do
+  run asm < "$work/$input"; ended "asm of the image of $(wc -c < "$work/$input") bytes" 0 "$work/nothing" "$work/image"
+  run dis < "$work/$input"; ended "dis of the image of $(wc -c < "$work/$input") bytes" 0 "$work/nothing" "$work/canonical"
+done
+# Each variant, and bits that are none.
+for variant in '1 newreno iw3' '2 reno iw10' '3 newreno iw10'; do
+  set -- $variant
+  sed "s/reno iw3\$/$2 $3/" "$work/canonical" > "$work/variant"
+  { head -c 134 "$work/image"; printf "\\$1"; } > "$work/text"
+  run asm < "$work/variant"; ended "asm of a flow $2 $3" 0 "$work/nothing" "$work/text"
+  run dis < "$work/text"; ended "dis of a flow $2 $3" 0 "$work/nothing" "$work/variant"
+done
+{ head -c 134 "$work/image"; printf '\4'; } > "$work/text"; broken 'refused L3' 'with a variant of 4'
+{ head -c 134 "$work/image"; printf '\4\0'; } > "$work/text"; broken 'refused L3' 'with a variant of 4 and a byte more'
+{ printf TCB2; tail -c +5 "$work/first"; } > "$work/text"; broken 'refused L1' 'of version 2, with the bytes of version 1'
+{ printf TCB3; tail -c +5 "$work/image"; } > "$work/text"; broken 'refused L2' 'that begins TCB3'
+{ cat "$work/first"; printf '\0'; } > "$work/text"; broken 'refused L4' 'of version 1, with a byte more'
+head -c 134 "$work/image" > "$work/text"; broken 'refused L1' 'without its last byte'
 head -c 3 "$work/image" > "$work/text"; broken 'refused L1' 'of three bytes'
 head -c 2 "$work/image" > "$work/text"; broken 'refused E2 line 1' 'of two bytes, which is a text'
 { printf TCBX; tail -c +5 "$work/image"; } > "$work/text"; broken 'refused L2' 'that begins TCBX'
 { cat "$work/image"; printf '\0'; } > "$work/text"; broken 'refused L4' 'with a byte more'
 { head -c 22 "$work/image"; printf '\3'; tail -c +24 "$work/image"; } > "$work/text"; broken 'refused L3' 'with a node of kind 3'
-{ cat "$work/image"; head -c 16777083 /dev/zero; } > "$work/text"; broken 'refused I1' 'of 16,777,217 bytes'
+{ cat "$work/image"; head -c 16777082 /dev/zero; } > "$work/text"; broken 'refused I1' 'of 16,777,217 bytes'
 
 # ---- workers and groups
 
@@ -418,8 +493,10 @@ for scenario in "$examples"/*.txt; do
     run run --groups each --workers "$workers" < "$scenario"
     ended "examples/$(basename "$scenario"), each node by itself, workers: $workers" 0 "$work/nothing" "$stored"
   done
-  run run --groups auto --workers 4 "$scenario"
-  ended "examples/$(basename "$scenario"), groups that are found" 0 "$work/nothing" "$stored"
+  for workers in 1 2 4 64; do
+    run run --groups auto --workers "$workers" "$scenario"
+    ended "examples/$(basename "$scenario"), groups that are found, workers: $workers" 0 "$work/nothing" "$stored"
+  done
 done
 for options in '--groups auto' '--groups auto --workers 4' '--groups one --workers 64' '--workers=2 --groups=63,7' '--groups 0,0' '--workers +1 --groups 0,1'; do
   run run $options < "$first"; ended "run $options" 0 "$work/nothing" "$first_trace"
@@ -453,6 +530,15 @@ else
   fail 'the answers of docs/DEBUGGING.md' 'are others'
 fi
 printf 'TCB\n---\n' > "$work/session"
+# At the prompt, where all commands are there: the same answers, and a prompt before each line.
+hunt=two_timeouts_in_a_row
+for options in '' '--groups each --workers 2'; do
+  "$program" debug "$examples/$hunt.txt" $options < "$examples/$hunt.commands" > "$work/out" 2> "$work/note"; status=$?
+  sed 's/.*/(tcpsim) /' "$examples/$hunt.commands" | tr -d '\n' > "$work/expected"
+  printf '(tcpsim) ' >> "$work/expected"
+  ended "the hunt $hunt at the prompt, debug $options" 0 "$work/expected" "$work/out.$hunt"
+done
+run debug "$work/none" < "$first"; told 'debug of a file that is not there' 3 "cannot read $work/none"
 "$program" debug < "$work/session" > "$work/out" 2> "$work/note"; status=$?
 told 'debug of an image' 1 'refused E2 line 1'
 

@@ -1,15 +1,18 @@
-"""Binary images of scenarios, version 1: `load` and `save`. All numbers are big-endian."""
+"""Binary images of scenarios: `load` reads versions 1 and 2, `save` writes version 2. All numbers are
+big-endian."""
 import struct
 
 from scenario import (MOST_FLOWS, MOST_LINKS, MOST_LOSSES, MOST_NODES, MOST_ROUTES, Flow, Link, Refused,
                       Scenario, fault_of_whole, in_range)
 
-MAGIC = b'TCB1'
+MAGIC = {1: b'TCB1', 2: b'TCB2'}
+NEWRENO, IW10 = 1, 2                    # of a flow's variant, added
 HEADER = struct.Struct('>4sQHHHI')      # magic, end, numbers of nodes, links, flows, routes
 LINK = struct.Struct('>HHQQBHQQHB')     # from, to, rate, delay, queue, capacity, target, interval,
 #                                         maxpacket, number of `lose` entries, which follow
 LOSE = struct.Struct('>I')
-FLOW = struct.Struct('>HHHIQII')        # sender, receiver, mss, segments, start, rwnd, delack
+FLOW = {1: struct.Struct('>HHHIQII'),   # sender, receiver, mss, segments, start, rwnd, delack,
+        2: struct.Struct('>HHHIQIIB')}  # and from version 2 on the variant
 ROUTE = struct.Struct('>HHH')           # router, destination, link
 
 
@@ -35,6 +38,11 @@ class Reader:
         return [self.one(layout) for _ in range(count)]
 
 
+def version_of(data):
+    """By which version's layout the bytes are judged, whatever else they begin with."""
+    return 2 if data[3:4] == MAGIC[2][3:] else 1
+
+
 def split(data):
     """The numbers of an image as they stand, and how many bytes are left over."""
     read = Reader(data)
@@ -45,7 +53,8 @@ def split(data):
     for _ in range(links):
         link = read.one(LINK)
         cables.append((link[:-1], [number for number, in read.many(LOSE, link[-1])]))
-    return header, kinds, cables, read.many(FLOW, flows), read.many(ROUTE, routes), len(data) - read.at
+    records = read.many(FLOW[version_of(data)], flows)
+    return header, kinds, cables, records, read.many(ROUTE, routes), len(data) - read.at
 
 
 def places(data):
@@ -58,7 +67,8 @@ def places(data):
         records.append((2, 2, 8, 8, 1, 2, 8, 8, 2, 1))
         place = at + sum(map(sum, records))
         records.append((4,) * data[place - 1])
-    for sizes in records + [(2, 2, 2, 4, 8, 4, 4)] * flows + [(2, 2, 2)] * routes:
+    flow_sizes = (2, 2, 2, 4, 8, 4, 4) + (1,) * (version_of(data) == 2)
+    for sizes in records + [flow_sizes] * flows + [(2, 2, 2)] * routes:
         for size in sizes:
             yield at, size
             at += size
@@ -78,9 +88,10 @@ def link_is_right(link, lose, nodes):
 
 
 def flow_is_right(flow, nodes, end):
-    sender, receiver, mss, segments, start, rwnd, delack = flow
+    sender, receiver, mss, segments, start, rwnd, delack, *variant = flow
     return (sender < nodes and receiver < nodes and in_range('mss', mss) and in_range('segments', segments)
-            and start < end and in_range('rwnd', rwnd) and rwnd >= mss and in_range('delack', delack))
+            and start < end and in_range('rwnd', rwnd) and rwnd >= mss and in_range('delack', delack)
+            and all(bits <= NEWRENO + IW10 for bits in variant))
 
 
 def numbers_are_right(header, kinds, links, flows, routes):
@@ -93,13 +104,19 @@ def numbers_are_right(header, kinds, links, flows, routes):
             and strictly_rises([route[:2] for route in routes]))
 
 
+def flow_of(record):
+    """The flow of a record whose numbers are right; one without a variant is `reno iw3`."""
+    variant = record[7] if len(record) > 7 else 0
+    return Flow(*record[:7], bool(variant & NEWRENO), bool(variant & IW10))
+
+
 def load(data):
     """The scenario of an image; raises `Refused` with its first fault."""
     try:
         header, kinds, links, flows, routes, left = split(data)
     except TooShort:
         raise Refused('L1') from None
-    if header[0] != MAGIC:
+    if header[0] not in MAGIC.values():
         raise Refused('L2')
     if not numbers_are_right(header, kinds, links, flows, routes):
         raise Refused('L3')
@@ -107,19 +124,23 @@ def load(data):
         raise Refused('L4')
     scenario = Scenario(header[1], kinds,
                         [Link(*link[:4], link[4] == 1, *link[5:], lose) for link, lose in links],
-                        [Flow(*flow) for flow in flows], routes)
+                        [flow_of(flow) for flow in flows], routes)
     fault = fault_of_whole(scenario)
     if fault:
         raise Refused(fault)
     return scenario
 
 
-def save(s):
-    out = [HEADER.pack(MAGIC, s.end, len(s.nodes), len(s.links), len(s.flows), len(s.routes)), bytes(s.nodes)]
+def save(s, version=2):
+    """The image of a scenario; one of version 1 leaves the flows' variants out."""
+    out = [HEADER.pack(MAGIC[version], s.end, len(s.nodes), len(s.links), len(s.flows), len(s.routes)), bytes(s.nodes)]
     for k in s.links:
         out.append(LINK.pack(k.source, k.to, k.rate, k.delay, k.codel, k.capacity, k.target, k.interval,
                              k.maxpacket, len(k.lose)))
         out += [LOSE.pack(number) for number in k.lose]
-    out += [FLOW.pack(f.sender, f.receiver, f.mss, f.segments, f.start, f.rwnd, f.delack) for f in s.flows]
+    for f in s.flows:
+        record = f.sender, f.receiver, f.mss, f.segments, f.start, f.rwnd, f.delack
+        variant = NEWRENO * f.newreno + IW10 * f.iw10
+        out.append(FLOW[version].pack(*record, *(variant,) * (version == 2)))
     out += [ROUTE.pack(*route) for route in s.routes]
     return b''.join(out)

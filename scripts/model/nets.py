@@ -33,13 +33,13 @@ class Net:
         """A link each way."""
         return self.link(a, b, rate, delay, queue), self.link(b, a, rate, delay, queue)
 
-    def flow(self, at, to, up, down, mss, segments, start=0, rwnd=2**30, delack=0):
+    def flow(self, at, to, up, down, mss, segments, start=0, rwnd=2**30, delack=0, newreno=False, iw10=False):
         """A sender on a cable to router `at` and a receiver on a cable to router `to`; `up` and `down`
         are (rate, delay, queue) of the two cables."""
         sender, receiver = self.node(SENDER), self.node(RECEIVER)
         self.cable(sender, at, *up)
         self.cable(receiver, to, *down)
-        self.flows.append(Flow(sender, receiver, mss, segments, start, rwnd, delack))
+        self.flows.append(Flow(sender, receiver, mss, segments, start, rwnd, delack, newreno, iw10))
         return len(self.flows) - 1
 
     def next_links(self, goal):
@@ -105,18 +105,27 @@ def random_cable(pick, kinds, equal):
 
 
 def random_flow(pick, equal, most_segments):
-    """mss, segments, start, rwnd, delack"""
+    """mss, segments, start, rwnd, delack, newreno, iw10"""
     mss = pick.choice((1000, 960)) if equal else any_size(pick, 1, 9000)
     segments = any_size(pick, 1, most_segments)
     start = pick.choice((0, 0, 10**6)) if equal else pick.choice((0, any_size(pick, 1, 10**10)))
     rwnd = min(mss * any_size(pick, 1, 200) + pick.choice((0, 0, pick.randint(0, mss))), 2**30)
-    return mss, segments, start, rwnd, pick.choice((0, 0, 1, 40_000, 10**6, 2 * 10**8, 5 * 10**8))
+    delack = pick.choice((0, 0, 1, 40_000, 10**6, 2 * 10**8, 5 * 10**8))
+    return mss, segments, start, rwnd, delack, *random_variant(pick)
+
+
+def random_variant(pick):
+    """newreno, iw10"""
+    return pick.random() < 0.6, pick.random() < 0.4
 
 
 def random_lose(pick, segments):
-    """Rising numbers, dense at times so that timeouts follow one another."""
-    if pick.random() < 0.5:
+    """Rising numbers, dense at times so that timeouts follow one another, or a few in one window."""
+    if pick.random() < 0.4:
         return []
+    if pick.random() < 0.4:
+        first = pick.randint(1, max(segments * 2 // 3, 1))
+        return sorted(pick.sample(range(first, first + pick.choice((5, 10, 30))), pick.randint(2, 5)))
     count, most = pick.choice((1, 2, 5, 20, 64)), max(segments, 3) * pick.choice((1, 2))
     return sorted(pick.sample(range(1, most + 1), min(count, most)))
 
@@ -155,8 +164,30 @@ def slow_queue(pick):
         cable = 8 * 10**pick.choice((6, 7)), pick.choice((1, 2, 5)) * SERIAL, droptail(1000)
         start = pick.randint(0, 40) * SERIAL * pick.choice((1, 1, 20))
         net.flow(*routers, cable, cable, 1000, pick.choice((3, 10, 30, 100)), start, pick.choice((8, 20, 200)) * 1000,
-                 pick.choice((0, 0, SERIAL)))
+                 pick.choice((0, 0, SERIAL)), *random_variant(pick))
     return net.scenario(10**15)
+
+
+def islands(pick):
+    """Three islands or more, each a flow or a dumbbell of its own with thousands of events, and now and then
+    joined by long cables, over which a flow or two go: parts that are worth running side by side."""
+    net, routers = Net(), []
+    segments = pick.choice((150, 200, 300))
+    for _ in range(pick.choice((3, 4, 4, 6, 9))):
+        pair = [net.node(ROUTER), net.node(ROUTER)]
+        net.cable(*pair, 8 * 10**pick.choice((7, 8)), pick.choice((1, 5, 20)) * 10**5, any_queue(pick, ('droptail', 'codel')))
+        for _ in range(pick.choice((1, 1, 2, 3))):
+            cable = 8 * 10**8, any_size(pick, 10**4, 10**6), droptail(pick.choice((20, 100, 1000)))
+            net.flow(*pick.sample(pair, 2), cable, cable, 1000, segments, pick.choice((0, 0, 10**6)), 64000,
+                     pick.choice((0, 0, 40 * 10**6)))
+        routers.append(pair[0])
+    if pick.random() < 0.5:
+        for one, other in zip(routers, routers[1:]):
+            net.cable(one, other, 8 * 10**6, pick.choice((10**9, 10**10)), droptail(100))
+        for _ in range(pick.choice((0, 1, 2))):
+            cable = 8 * 10**8, 10**5, droptail(100)
+            net.flow(*pick.sample(routers, 2), cable, cable, 1000, 20, 0, 64000)
+    return shuffled(net.scenario(10**15), pick)
 
 
 def broken(scenario, pick):

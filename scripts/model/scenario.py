@@ -70,6 +70,8 @@ class Flow:
     start: int              # ns
     rwnd: int               # bytes
     delack: int             # ns; 0: every segment is acknowledged at once
+    newreno: bool = False   # how its sender recovers
+    iw10: bool = False      # its initial window
 
 
 @dataclass

@@ -56,7 +56,7 @@ class Network:
                 self.own_ports[node].append(self.ports[number])
         self.routes = {(router, to): self.ports[link] for router, to, link in scenario.routes}
         for number, flow in enumerate(self.flows):
-            self.ends[flow.sender] = Sender(flow.mss, flow.segments, flow.rwnd)
+            self.ends[flow.sender] = Sender(flow.mss, flow.segments, flow.rwnd, flow.newreno, flow.iw10)
             self.ends[flow.receiver] = Receiver(flow.mss, flow.delack)
             self.flow_at[flow.sender] = self.flow_at[flow.receiver] = number
             self.set_alarm(flow.sender, START, flow.start)

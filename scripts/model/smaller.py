@@ -49,6 +49,10 @@ def smaller(s):
             yield changed(s, 'flows', number, start=0)
         if flow.delack:
             yield changed(s, 'flows', number, delack=0)
+        if flow.iw10:
+            yield changed(s, 'flows', number, iw10=False)
+        if flow.newreno:
+            yield changed(s, 'flows', number, newreno=False)
     for number, link in enumerate(s.links):
         if link.lose:
             yield changed(s, 'links', number, lose=[])

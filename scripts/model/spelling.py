@@ -11,10 +11,13 @@ PLACES = {
     b'sim': ('end',),
     b'node': ('name', 'kind'),
     b'link': ('name', 'node', 'to', 'rate', 'delay', 'queue', 'capacity', 'target', 'interval', 'maxpacket'),
-    b'flow': ('name', 'sender', 'receiver', 'mss', 'segments', 'start', 'rwnd', 'delack'),
+    b'flow': ('name', 'sender', 'receiver', 'mss', 'segments', 'start', 'rwnd', 'delack', 'recovery', 'first window'),
     b'route': ('router', 'destination', 'own link'),
     b'lose': ('link', 'lose'),
 }
+# Words at a flow's end, right and wrong.
+VARIANT_WORDS = (b'reno', b'newreno', b'iw3', b'iw10', b'Reno', b'ren', b'new', b'renonew', b'iw5', b'iw1', b'iw100', b'IW10',
+                 b'iw03', b'10', b'0')
 # One flow with all that it may have.
 SMALL = b'''sim 5000000
 node s sender
@@ -43,7 +46,7 @@ link h u q 8000000 1000000 droptail 10
 link i q u 8000000 1000000 droptail 10
 link j v q 8000000 1000000 droptail 10
 link k q v 8000000 1000000 droptail 10
-flow x s u 1000 4 0 64000 0
+flow x s u 1000 4 0 64000 0 newreno iw10
 flow y t v 500 4 10 64000 50
 route p u b
 route p v b
@@ -58,8 +61,8 @@ lose b 4
 lose k 1
 '''
 STRANGE = (b'0', b'00', b'01', b'1', b'+1', b'-1', b'1.', b'1e3', b'0x1', b'1_0', b'a1', b'1a', b'A', b'a-', b'aB',
-           b'a_b', b'zz', b'sim', b'link', b'sender', b'router', b'droptail', b'codel', b'fq', b'"a"', b'~', b'#', b'a#b',
-           b'a' * 15, b'a' * 16, b'z9' * 7, b'4294967296', b'18446744073709551615', b'18446744073709551616',
+           b'a_b', b'zz', b'sim', b'link', b'sender', b'router', b'droptail', b'codel', b'fq', b'reno', b'newreno',
+           b'Reno', b'iw3', b'iw10', b'iw5', b'iw', b'"a"', b'~', b'#', b'a#b', b'a' * 15, b'a' * 16, b'z9' * 7, b'4294967296', b'18446744073709551615', b'18446744073709551616',
            b'340282366920938463463374607431768211456', b'9' * 5000, b'\t', b'\r', b'a\t', b'\x7f', b'\x80', b'\x00', b'\xff',
            b'1\x0b')
 
@@ -72,6 +75,7 @@ def spelt(scenario, pick):
         if words[0] in (b'node', b'link', b'flow'):
             names[words[1]] = any_name(pick, names)
     lines = [[words[0]] + [names.get(word, word) for word in words[1:]] for words in lines]
+    lines = [words[:9] if words[9:] == [b'reno', b'iw3'] and pick.random() < 0.6 else words for words in lines]
     sorts = [[words for words in lines if words[0] == sort] for sort in PLACES]
     nodes, links, flows, routes, lose = sorts[1:]
     out = nodes + links
@@ -153,6 +157,10 @@ def around_words(text):
                     yield replaced(lines, n, [other] + words[1:])
         for more in range(1, 4):
             yield replaced(lines, n, words + [b'1'] * more)
+        if words[0] == b'flow':
+            for more in itertools.chain(itertools.product(VARIANT_WORDS), itertools.product(VARIANT_WORDS, repeat=2),
+                                        (VARIANT_WORDS[:3], VARIANT_WORDS[:4])):
+                yield replaced(lines, n, words[:9] + list(more))
 
 
 def around_lines(text):
@@ -187,7 +195,8 @@ FAULTY = {
     'name': (b'A', b's'), 'kind': (b'x',), 'node': (b'A', b'zz', b'f'), 'to': (b'A', b'zz', b'f', None),
     'queue': (b'fq',), 'sender': (b'A', b'zz', b'a', b'r'), 'receiver': (b'A', b'zz', b'a', b's'),
     'router': (b'A', b'zz', b'a', b's'), 'destination': (b'A', b'zz', b'a', b'p'),
-    'own link': (b'A', b'zz', b's', b'a'), 'link': (b'A', b'zz', b's'),
+    'own link': (b'A', b'zz', b's', b'a'), 'link': (b'A', b'zz', b's'), 'recovery': (b'iw3',),
+    'first window': (b'reno',),
 }
 
 
@@ -263,7 +272,9 @@ def counts_at_limits():
     for lines, more in (
             (nodes(256), (b'node y router', b'node y bus', b'node x1 router', b'node y', b'sim 5', b'flow y')),
             (nodes(256) + ring, (link % (1024, 100, 0), link % (1024, 100, 100), link % (1, 100, 0), b'sim 5')),
-            (pairs(100) + flows(128), (b'flow g s1 r1 1 1 0 1 0', b'flow g s1 r1 1 1 0 0 0', b'flow g s1 r1 2 1 0 1 0')),
+            (pairs(100) + flows(128), (b'flow g s1 r1 1 1 0 1 0', b'flow g s1 r1 1 1 0 0 0', b'flow g s1 r1 2 1 0 1 0',
+                                    b'flow g s1 r1 1 1 0 1 0 reno iw10', b'flow g s1 r1 1 1 0 1 0 reno iw5',
+                                    b'flow g s1 r1 1 1 0 1 0 iw3 reno', b'flow g s1 r1 1 1 0 1 0 newreno')),
             (hub, (b'link m h t 1000 1 droptail 1', b'link m t h 1000 1 droptail 1', b'link m h h 1000 1 droptail 1',
                    b'link m h t 1000 1 droptail 0', b'link m h t 1000 1 codel 1 1 1 1', b'link m h t 1000 1 codel 1 1 1 0')),
             (small + loses, (b'lose a 65', b'lose a 64', b'lose a 1', b'lose b 1', b'lose a 1000000001', b'lose a x'))):
@@ -306,14 +317,15 @@ def other_numbers(data):
                 yield data[:at] + value.to_bytes(size, 'big') + data[at + size:]
 
 
-def images_at_limits():
-    """Nodes, links, flows, a router's links, routes and a link's losses: as many as may be, and one more."""
+def images_at_limits(version):
+    """Nodes, links, flows, a router's links, routes and a link's losses: as many as may be, and one more; each
+    variant of a flow."""
     def link(source, to, lose=()):
         return Link(source, to, 1000, 1, False, 1, lose=list(lose))
     links, flows = [link(0, 1), link(1, 0)], [Flow(0, 1, 1, 1, 0, 1, 0)]
 
     def saved(nodes=(0, 1), links=links, flows=flows, routes=()):
-        return image.save(Scenario(5, list(nodes), list(links), list(flows), list(routes)))
+        return image.save(Scenario(5, list(nodes), list(links), list(flows), list(routes)), version)
     for count in (1, 2, MOST_NODES, MOST_NODES + 1):
         yield saved([0, 1, *[ROUTER] * (count - 2)][:count])
     for count in (0, 1, MOST_LINKS, MOST_LINKS + 1):
@@ -322,6 +334,8 @@ def images_at_limits():
         yield saved(flows=flows * count)
     for count in (0, 1, MOST_ROUTER_LINKS, MOST_ROUTER_LINKS + 1):
         yield saved((0, 1, ROUTER), links + [link(2, 0)] * count)
+    for variant in itertools.product((False, True), repeat=2):
+        yield saved(flows=[Flow(0, 1, 1, 1, 0, 1, 0, *variant)])
     every = [(router, end, 0) for router, end in itertools.product(range(MOST_NODES), range(MOST_NODES))]
     for routes in (every, [*every, (255, 255, 0)], [*every, (256, 0, 0)], every[:2][::-1], every[:1] * 2):
         yield saved([ROUTER] * MOST_NODES, routes=routes)

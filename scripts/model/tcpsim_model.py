@@ -1,12 +1,13 @@
 #!/usr/bin/env python3
 """tcpsim's model: reads standard input, writes standard output, a note on standard error, a status.
 
-Usage: tcpsim_model.py run|asm|dis|debug [--workers N] [--groups G]
+Usage: tcpsim_model.py run|asm|dis|figures|debug [--workers N] [--groups G]
 """
 import re
 import sys
 
 from debugger import session, split
+from figures import figures
 from image import load, save
 from scenario import Refused
 from simulate import trace
@@ -22,12 +23,12 @@ class WrongWords(Exception):
 
 def options_of(words):
     """The subcommand and the groups that the words ask for."""
-    if not words or words[0] not in ('run', 'asm', 'dis', 'debug'):
+    if not words or words[0] not in ('run', 'asm', 'dis', 'figures', 'debug'):
         raise WrongWords
     command, rest, given = words[0], list(words[1:]), {}
     while rest:
         name, _, value = rest.pop(0).partition('=')
-        if name not in ('--workers', '--groups') or command in ('asm', 'dis') or name in given:
+        if name not in ('--workers', '--groups') or command not in ('run', 'debug') or name in given:
             raise WrongWords
         if not value:
             if not rest:
@@ -64,6 +65,8 @@ def output(command, groups, data):
         yield save(scenario)
     elif command == 'dis':
         yield disassemble(scenario)
+    elif command == 'figures':
+        yield figures(scenario).encode()
     else:
         for piece in trace(scenario) if command == 'run' else session(data):
             yield piece.encode()

@@ -9,6 +9,7 @@ from collections import namedtuple
 HERE = os.path.dirname(os.path.abspath(__file__))
 sys.path.insert(0, HERE)
 
+import figures  # noqa: E402
 import image  # noqa: E402
 import tcpsim_model  # noqa: E402
 from queues import COUNT_STOPS, Codel, gap  # noqa: E402
@@ -31,11 +32,13 @@ ONE_SEGMENT_TRACE = '''1 0 0 0 0 start 0 una=0 nxt=1000 cwnd=4000 ssthresh=64000
 5 3080000 0 2 1 ack 0 1000 una=1000 nxt=1000 cwnd=5000 ssthresh=64000 phase=ss
 end 5
 '''
-ONE_SEGMENT_IMAGE = bytes.fromhex(
+# Of version 1, which has no variant at a flow's end.
+OLD_IMAGE = bytes.fromhex(
     '54434231 000000003b9aca00 0002 0002 0001 00000000 00 01'
     '0000 0001 00000000007a1200 00000000000f4240 00 000a 0000000000000000 0000000000000000 0000 00'
     '0001 0000 00000000007a1200 00000000000f4240 00 000a 0000000000000000 0000000000000000 0000 00'
     '0000 0001 03e8 00000001 0000000000000000 0000fa00 00000000')
+ONE_SEGMENT_IMAGE = OLD_IMAGE[:3] + b'2' + OLD_IMAGE[4:] + b'\0'
 SLOW_TRACE = '''1 0 0 0 0 start 0 una=0 nxt=1000 cwnd=4000 ssthresh=64000 phase=ss tx=0:0:0
 2 1040000 0 0 3 free 0 una=0 nxt=1000 cwnd=4000 ssthresh=64000 phase=ss
 3 501040000 1 1 1 data 0 0 next=1000 tx=1:0:1000
@@ -129,6 +132,14 @@ def program(data, *words):
     return status, b''.join(written), note
 
 
+def with_variant(words):
+    """The first scenario with these words at its flow's end."""
+    return ONE_SEGMENT.replace(' 64000 0\n', f' 64000 0 {words}\n')
+
+
+VARIANTS = 'reno iw3', 'newreno iw3', 'reno iw10', 'newreno iw10'
+
+
 def positions(output):
     return [int(line[3:]) for line in output.decode().splitlines() if line.startswith('at ')]
 
@@ -156,6 +167,8 @@ class Numbers(unittest.TestCase):
 
     def test_initial_window(self):
         self.assertEqual([initial_window(m) for m in (1095, 1096, 2190, 2191)], [4380, 3288, 6570, 4382])
+        self.assertEqual([initial_window(m, True) for m in (1, 1000, 1460, 1461, 7300, 7301, 9000)],
+                         [10, 10000, 14600, 14600, 14600, 14602, 18000])
 
     def test_round_trip_samples(self):
         first = after_sample(None, 0, 400000000)
@@ -192,6 +205,129 @@ class SenderAlone(unittest.TestCase):
             s.ssthresh, s.nxt, s.high, s.cwnd = 2000, 10000, 10000, cwnd
             s.on_ack(1000, 5)
             self.assertEqual(s.cwnd, wider)
+
+
+class NewRenoAlone(unittest.TestCase):
+    """Ten segments out; byte 0 is lost, and byte 6000."""
+
+    def setUp(self):
+        self.sender = s = Sender(1000, 10**9, 64000, newreno=True)
+        s.nxt = s.high = s.cwnd = 10000
+        s.deadline = 10**9
+
+    def recovering(self):
+        """After five duplicates of 0 and the partial acknowledgement 6000 at 7."""
+        for _ in range(5):
+            self.sender.on_ack(0, 5)
+        return self.sender.on_ack(6000, 7)
+
+    def test_a_partial_acknowledgement_sends_the_next_hole(self):
+        s = self.sender
+        self.assertEqual([s.on_ack(0, 5) for _ in range(5)], [[10000], [11000], [0], [], []])
+        self.assertEqual((s.ssthresh, s.cwnd, s.recover, s.dups), (5000, 10000, 12000, 5))
+        self.assertEqual(s.on_ack(6000, 7), [6000])
+        self.assertEqual((s.una, s.nxt, s.cwnd, s.deadline, s.partial, s.recovery, s.dups),
+                         (6000, 12000, 5000, 7 + 10**9, True, True, 5))
+        self.assertEqual((s.on_ack(6000, 8), s.cwnd), ([], 6000))
+        self.assertEqual((s.on_ack(6000, 9), s.cwnd), ([12000], 7000))
+        self.assertEqual((s.on_ack(12000, 10), s.cwnd, s.recovery), ([13000, 14000, 15000, 16000], 5000, False))
+
+    def test_a_later_partial_acknowledgement_leaves_the_timer(self):
+        s = self.sender
+        self.recovering()
+        self.assertEqual(s.on_ack(8000, 9), [8000])
+        self.assertEqual((s.una, s.cwnd, s.deadline, s.recovery), (8000, 4000, 7 + 10**9, True))
+
+    def test_the_window_is_a_segment_at_least(self):
+        s = self.sender
+        s.ssthresh = 2000
+        self.recovering()
+        s.cwnd = 2000
+        self.assertEqual(s.on_ack(11000, 9), [11000])
+        self.assertEqual((s.cwnd, s.recovery), (1000, True))
+
+    def test_a_partial_acknowledgement_sends_a_new_segment_where_there_is_room(self):
+        s = self.sender
+        for _ in range(9):
+            s.on_ack(0, 5)
+        self.assertEqual((s.cwnd, s.nxt), (14000, 14000))
+        self.assertEqual((s.on_ack(1000, 7), s.cwnd, s.recovery), ([1000, 14000], 14000, True))
+
+    def test_duplicates_behind_recover_start_nothing(self):
+        s = self.sender
+        self.recovering()
+        for _ in range(2):
+            s.on_ack(6000, 9)
+        s.on_ack(12000, 10)
+        self.assertEqual([(s.on_ack(12000, 11), s.dups) for _ in range(4)],
+                         [([17000], 1), ([18000], 2), ([], 3), ([], 4)])
+        self.assertEqual((s.cwnd, s.recovery, s.recover), (5000, False, 12000))
+        s.on_ack(13000, 12)
+        for _ in range(3):
+            s.on_ack(13000, 13)
+        self.assertTrue(s.recovery)
+
+    def test_a_timeout_sets_recover(self):
+        s = self.sender
+        s.on_rto(10**9)
+        self.assertEqual((s.recover, s.recovery, s.nxt), (10000, False, 1000))
+        s.on_ack(3000, 2 * 10**9)
+        self.assertEqual([s.on_ack(3000, 2 * 10**9) for _ in range(3)], [[], [], []])
+        self.assertEqual((s.dups, s.recovery, s.cwnd), (3, False, 2000))
+
+    def test_a_partial_acknowledgement_measures(self):
+        s = self.sender
+        for _ in range(3):
+            s.on_ack(0, 5)
+        s.timing, s.rto = (5000, 0), 4 * 10**9
+        self.assertEqual(s.on_ack(6000, 10**8), [6000])
+        self.assertEqual((s.srtt, s.rto, s.deadline, s.timing), (10**8, 10**9, 10**8 + 10**9, None))
+
+    def test_no_loss_shows_no_difference(self):
+        pick = random.Random(4)
+        both = [Sender(1000, 200, 30000, newreno) for newreno in (False, True)]
+        for s in both:
+            s.on_start(0)
+        for now in range(1, 400):
+            ack = min(both[0].una + 1000 * pick.choice((0, 1, 1, 2)), both[0].nxt)
+            if both[0].dups == 2 and ack == both[0].una:
+                continue
+            self.assertEqual(*(s.on_ack(ack, now) for s in both))
+            self.assertEqual(*(s.dump() for s in both))
+        self.assertEqual(both[0].una, 200000)
+
+    def test_facts_in_every_state_of_random_runs(self):
+        """What a sender's fields keep, whatever comes."""
+        pick, partial, behind = random.Random(5), 0, 0
+        for _ in range(300):
+            mss = pick.choice((1, 700, 1000, 9000))
+            s = Sender(mss, pick.choice((5, 60, 10**9)), mss * pick.choice((1, 4, 20, 10**4)), pick.random() < 0.8,
+                       pick.random() < 0.5)
+            s.on_start(0)
+            for now in range(1, 250):
+                was = s.una, s.recovery, s.recover
+                if s.una == s.nxt or (s.deadline is not None and pick.random() < 0.03):
+                    s.on_rto(now) if s.deadline is not None else s.on_ack(s.una, now)
+                else:
+                    ack = s.una + mss * pick.choice((0, 0, 0, 0, 1, 1, 2, 5, 30))
+                    s.on_ack(min(ack, s.high), now)
+                    partial += was[1] and s.recovery and s.una > was[0]
+                    behind += s.dups >= 3 and not s.recovery
+                self.facts(s)
+        self.assertGreater(partial, 500)
+        self.assertGreater(behind, 200)
+
+    def facts(self, s):
+        self.assertTrue(s.una <= s.nxt <= s.high <= s.total and s.nxt - s.una <= s.rwnd and s.lt <= s.nxt - s.una)
+        self.assertTrue(s.mss <= s.cwnd and s.mss <= s.ssthresh)
+        self.assertEqual(s.deadline is not None, s.una < s.nxt)
+        if not s.newreno:
+            self.assertEqual((s.recovery, s.recover, s.partial), (s.dups >= 3, None, False))
+            return
+        self.assertTrue(not s.recovery or s.dups >= 3)
+        self.assertTrue(s.recover is None or s.recover <= s.high)
+        self.assertTrue(s.nxt == s.high or s.recover == s.high)
+        self.assertTrue(not s.recovery or (s.una < s.recover and s.nxt == s.high))
 
 
 class ReceiverAlone(unittest.TestCase):
@@ -337,6 +473,13 @@ class Runs(Case):
         self.runs(ONE_SEGMENT, ONE_SEGMENT_TRACE)
         self.runs(ONE_SEGMENT_IMAGE, ONE_SEGMENT_TRACE)
 
+    def test_a_larger_initial_window(self):
+        wider = ONE_SEGMENT_TRACE.replace('cwnd=4000', 'cwnd=10000').replace('cwnd=5000', 'cwnd=11000')
+        self.assertEqual(wider.count('cwnd=10000'), 2)
+        self.runs(with_variant('reno iw10'), wider)
+        self.runs(with_variant('newreno iw10'), wider)
+        self.runs(with_variant('newreno iw3'), ONE_SEGMENT_TRACE)
+
     def test_groups_and_workers_change_nothing(self):
         for groups in ('one', 'each', '1,0', '63,63'):
             for workers in ('1', '2', '64'):
@@ -382,6 +525,94 @@ class Runs(Case):
                         self.runs(text.read(), wanted.read())
 
 
+FLOW_FIGURES = ('start,ns', 'delivered,bytes', 'completed,ns', 'sent,segments', 'sent again by fast retransmit,segments',
+                'sent again by timeout,segments', 'timeouts,times', 'round trips,times', 'least round trip,ns',
+                'median round trip,ns', '99th percentile of round trips,ns', 'greatest round trip,ns')
+LINK_FIGURES = ('offered,packets', 'dropped as lost,packets', 'dropped as full,packets', 'dropped by CoDel,packets',
+                'sent,packets', 'sent,bytes', 'busy,ns', 'greatest queue,packets', 'waited,packet-ns',
+                'median delay in the queue,ns', '99th percentile of delay in the queue,ns',
+                'greatest delay in the queue,ns')
+
+
+def table(flow, links, events, end):
+    """The figures of a run with one flow, from their values."""
+    lines = ['what,number,figure,unit,value']
+    lines += [f'flow,0,{figure},{value}' for figure, value in zip(FLOW_FIGURES, flow.split(), strict=True)]
+    for number, link in enumerate(links):
+        lines += [f'link,{number},{figure},{value}' for figure, value in zip(LINK_FIGURES, link.split(), strict=True)]
+    return ''.join(line + '\n' for line in lines + [f'run,,events,events,{events}', f'run,,end,ns,{end}'])
+
+
+class Figures(Case):
+    def has(self, text, *figures_of):
+        self.assertEqual(program(text, 'figures'), (0, table(*figures_of).encode(), ''))
+
+    def test_one_segment(self):
+        """Its acknowledgement comes at 3.08 ms; 1,040 and 40 bytes are sent, each at once."""
+        for given in (ONE_SEGMENT, ONE_SEGMENT_IMAGE, with_variant('newreno iw10')):
+            self.has(given, '0 1000 3080000 1 0 0 0 1 3080000 3080000 3080000 3080000',
+                     ('1 0 0 0 1 1040 1040000 0 0 0 0 0', '1 0 0 0 1 40 40000 0 0 0 0 0'), 5, 3080000)
+
+    def test_a_flow_that_starts_at_the_last_moment(self):
+        """The packet's sending is cut after 1 ns."""
+        self.has(ONE_SEGMENT.replace(' 0 64000 0', ' 999999999 64000 0'), '999999999 0 - 1 0 0 0 0 - - - -',
+                 ('1 0 0 0 1 1040 1 0 0 0 0 0', '0 0 0 0 0 0 0 0 0 - - -'), 1, 999999999)
+
+    def test_two_segments_lost_with_a_timeout(self):
+        """Both are lost at 0. At 1 s the timer sends 0 again, which ends the timing. It arrives at 1.00204 s, its
+        acknowledgement at 1.00308; then 1000 is sent again, and acknowledged at 1.00616. Events: the start, the
+        timer, and twice a free, data, b free, ack."""
+        self.has(ONE_SEGMENT.replace('sim 1', 'sim 2').replace('1000 1 0', '1000 2 0') + 'lose a 1\nlose a 2\n',
+                 '0 2000 1006160000 4 0 2 1 0 - - - -',
+                 ('4 2 0 0 2 2080 2080000 0 0 0 0 0', '2 0 0 0 2 80 80000 0 0 0 0 0'), 10, 1006160000)
+
+    def test_codel_that_drops(self):
+        """CODEL_TRACE: three segments wait until 1.04 ms and two until 2.08 ms, when 2000 is dropped and 3000 begins,
+        1 ns before the end. The delays are 0, 1,040,000 and 2,080,000: the class of the second ends with
+        64 * 2^14 - 1, that of the third is past the greatest."""
+        self.has(CODEL, '0 1000 - 4 0 0 0 0 - - - -',
+                 ('4 0 0 1 3 3120 2080001 3 5200000 1048575 2080000 2080000', '1 0 0 0 1 40 40000 0 0 0 0 0'), 5, 2080000)
+
+    def test_a_fast_retransmit_behind_a_full_queue(self):
+        """scripts/test_flows.py has its trace. 3000 and 7000 find two waiting, and 3000 is sent again at the third
+        duplicate, 8.28 ms, while 4000, sent at 3.08 ms, is timed. Until then one round trip was measured.
+        The queue is 2 to 1.04 ms, 1 to 2.08, 2 from 3.08 to 3.12, 1 to 4.12, 2 to 4.16, 1 to 5.2. The delays are
+        0, 1.04, 2.08, .04, 1.08, 1.08 and 0 ms; the 4th of 7 is 1,040,000."""
+        self.has(ONE_SEGMENT.replace('sim 1000000000', 'sim 12000000').replace('1000 1 0', '1000 8 0')
+                 .replace('droptail 10', 'droptail 2', 1),
+                 '0 7000 - 9 1 0 0 1 3080000 3080000 3080000 3080000',
+                 ('9 0 2 0 7 7280 7280000 2 5320000 1048575 2080000 2080000', '7 0 0 0 7 280 280000 0 0 0 0 0'),
+                 29, 11360000)
+
+    def test_refusals(self):
+        self.refuses(LOOP, 'refused L8 line 0', 'figures')
+        self.refuses('sim 01', 'refused E4 line 1', 'figures')
+        self.refuses(ONE_SEGMENT_IMAGE + b'\0', 'refused L4', 'figures')
+        self.refuses(b'\n' * 16777217, 'refused I1', 'figures')
+        for word in ('--groups', '--workers', '--progress', 'x'):
+            self.assertEqual(program(ONE_SEGMENT, 'figures', word, '1')[:2], (2, b''))
+
+    def test_classes(self):
+        """Each number lies in one class, at most 1/32 below its top; the classes follow one another."""
+        before = -1
+        for number in range(3000):
+            top = figures.top(number)
+            self.assertEqual((figures.class_of(before + 1), figures.class_of(top)), (number, number))
+            self.assertTrue(32 * top <= 33 * (before + 1) or top == before + 1)
+            before = top
+
+    def test_percentiles_are_at_most_a_part_of_32_above(self):
+        pick = random.Random(6)
+        for _ in range(500):
+            values = [pick.randrange(10**pick.randint(0, 15)) for _ in range(pick.randint(1, 60))]
+            for percent in (1, 50, 99, 100):
+                exact, answer = figures.nearest_rank(values, percent), figures.percentile(values, percent)
+                self.assertTrue(exact <= answer <= max(values) and 32 * answer <= 33 * exact)
+                self.assertGreaterEqual(100 * sum(value <= exact for value in values), percent * len(values))
+                self.assertLess(100 * sum(value < exact for value in values), percent * len(values))
+        self.assertEqual((figures.nearest_rank([], 50), figures.percentile([], 50)), (None, None))
+
+
 class Texts(Case):
     def test_ways(self):
         self.refuses(LOOP, 'refused L8 line 0')
@@ -401,6 +632,10 @@ class Texts(Case):
                 ('link a b c d e codel 1 2 3', 'E3 line 1'), ('link a b c d e fast 1', 'E7 line 1'),
                 ('link a b c d e fast 1 2', 'E3 line 1'), ('simm\t', 'E1 line 1'), ('simm 5', 'E2 line 1'),
                 (ONE_SEGMENT + ''.join(f'lose a {n}\n' for n in range(1, 66)), 'E9 line 71'),
+                (with_variant('reno'), 'E3 line 6'), (with_variant('iw3'), 'E3 line 6'),
+                (with_variant('reno iw3 1'), 'E3 line 6'), (with_variant('reno iw5'), 'E4 line 6'),
+                (with_variant('iw3 reno'), 'E4 line 6'), (with_variant('Reno iw3'), 'E4 line 6'),
+                (with_variant('reno iw5').replace(' 64000 0 ', ' 64000 500000001 '), 'E5 line 6'),
                 ('node s sender\n' * 2 + 'sim\n', 'E6 line 2')):
             self.refuses(text, 'refused ' + note)
 
@@ -411,10 +646,12 @@ class Texts(Case):
     def test_disassembled(self):
         text = ONE_SEGMENT.replace('node s', 'node n0').replace('node r', 'node n1')
         text = text.replace('link a s r', 'link l0 n0 n1').replace('link b r s', 'link l1 n1 n0')
-        text = text.replace('flow f s r', 'flow f0 n0 n1')
-        for given in (ONE_SEGMENT, ONE_SEGMENT_IMAGE):
+        text = text.replace('flow f s r', 'flow f0 n0 n1').replace(' 64000 0\n', ' 64000 0 reno iw3\n')
+        for given in (ONE_SEGMENT, ONE_SEGMENT_IMAGE, OLD_IMAGE, with_variant('reno iw3')):
             self.assertEqual(program(given, 'dis'), (0, text.encode(), ''))
-        for text in (ONE_SEGMENT, EQUAL_TIMES, CODEL + 'lose b 3\nlose a 1\nlose b 7\n'):
+        for variant in VARIANTS:
+            self.assertEqual(program(with_variant(variant), 'dis')[1], text.replace('reno iw3', variant).encode())
+        for text in (ONE_SEGMENT, EQUAL_TIMES, CODEL + 'lose b 3\nlose a 1\nlose b 7\n', *map(with_variant, VARIANTS)):
             scenario = assemble(text.encode())
             self.assertEqual(assemble(disassemble(scenario)), scenario)
 
@@ -428,20 +665,39 @@ class Images(Case):
 
     def test_one_segment(self):
         self.assertEqual(program(ONE_SEGMENT, 'asm'), (0, ONE_SEGMENT_IMAGE, ''))
-        self.assertEqual(len(ONE_SEGMENT_IMAGE), 134)
+        self.assertEqual((len(OLD_IMAGE), len(ONE_SEGMENT_IMAGE)), (134, 135))
 
     def test_there_and_back(self):
-        for text in (ONE_SEGMENT, EQUAL_TIMES, CODEL + 'lose b 3\nlose a 1\nlose b 7\n'):
+        for text in (ONE_SEGMENT, EQUAL_TIMES, CODEL + 'lose b 3\nlose a 1\nlose b 7\n', *map(with_variant, VARIANTS)):
             scenario = assemble(text.encode())
             self.assertEqual(image.load(image.save(scenario)), scenario)
+            if 'newreno' not in text and 'iw10' not in text:
+                self.assertEqual(image.load(image.save(scenario, 1)), scenario)
+
+    def test_variants(self):
+        for bits, variant in enumerate(VARIANTS):
+            data = ONE_SEGMENT_IMAGE[:-1] + bytes((bits,))
+            self.assertEqual(program(with_variant(variant), 'asm'), (0, data, ''))
+            self.assertTrue(program(data, 'dis')[1].endswith(f' {variant}\n'.encode()))
+        for bits in (4, 5, 128, 255):
+            self.refuses(ONE_SEGMENT_IMAGE[:-1] + bytes((bits,)), 'refused L3')
+            self.refuses(ONE_SEGMENT_IMAGE[:-1] + bytes((bits, 0)), 'refused L3')
+
+    def test_versions(self):
+        """By which layout the bytes are judged."""
+        self.assertEqual(program(OLD_IMAGE, 'asm'), (0, ONE_SEGMENT_IMAGE, ''))
+        for fourth, rest, note in ((b'2', b'', 'L1'), (b'3', b'', 'L2'), (b'3', b'\0', 'L2'), (b'X', b'', 'L2'),
+                                   (b'1', b'\0', 'L4'), (b'2', b'\0\0', 'L4')):
+            self.refuses(OLD_IMAGE[:3] + fourth + OLD_IMAGE[4:] + rest, 'refused ' + note)
 
     def test_cut_and_stretched(self):
-        for size in range(134):
-            cut = ONE_SEGMENT_IMAGE[:size]
-            self.refuses(cut, 'refused ' + ('E10 line 0' if size == 0 else 'E2 line 1' if size < 3 else 'L1'))
-            with self.assertRaisesRegex(Refused, 'L1'):
-                image.load(cut)
-        self.refuses(ONE_SEGMENT_IMAGE + b'\0', 'refused L4')
+        for data in (OLD_IMAGE, ONE_SEGMENT_IMAGE):
+            for size in range(len(data)):
+                cut = data[:size]
+                self.refuses(cut, 'refused ' + ('E10 line 0' if size == 0 else 'E2 line 1' if size < 3 else 'L1'))
+                with self.assertRaisesRegex(Refused, 'L1'):
+                    image.load(cut)
+            self.refuses(data + b'\0', 'refused L4')
 
     def test_changed_fields(self):
         first, second, flow = 24, 66, 108

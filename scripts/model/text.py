@@ -9,6 +9,7 @@ NUMBER = re.compile(rb'0|[1-9][0-9]*')
 NAME = re.compile(rb'[a-z][a-z0-9]{0,14}')
 DIGITS_ENOUGH = 20          # a number of more digits is out of every range
 NODE, LINK, FLOW = 'node', 'link', 'flow'
+SENDERS, WINDOWS = (b'reno', b'newreno'), (b'iw3', b'iw10')      # a flow's last two words: both or neither
 
 
 class Fault(Exception):
@@ -122,6 +123,10 @@ class Book:
         rwnd = number_in('rwnd', words[7])
         refuse_if(rwnd < mss, 'E5')
         flow = Flow(sender, receiver, mss, segments, start, rwnd, number_in('delack', words[8]))
+        if len(words) > 9:
+            refuse_if(words[9] not in SENDERS, 'E4')
+            refuse_if(words[10] not in WINDOWS, 'E4')
+            flow.newreno, flow.iw10 = words[9] == b'newreno', words[10] == b'iw10'
         self.declare(name, FLOW, flow, self.flows, MOST_FLOWS)
 
     def read_route(self, words):
@@ -143,7 +148,7 @@ class Book:
         b'sim': ((2,), read_sim),
         b'node': ((3,), read_node),
         b'link': ((8, 11), read_link),
-        b'flow': ((9,), read_flow),
+        b'flow': ((9, 11), read_flow),
         b'route': ((4,), read_route),
         b'lose': ((3,), read_lose),
     }
@@ -181,7 +186,8 @@ def disassemble(s):
         queue = f'codel {k.capacity} {k.target} {k.interval} {k.maxpacket}' if k.codel else f'droptail {k.capacity}'
         out.append(f'link l{n} n{k.source} n{k.to} {k.rate} {k.delay} {queue}')
     for n, f in enumerate(s.flows):
-        out.append(f'flow f{n} n{f.sender} n{f.receiver} {f.mss} {f.segments} {f.start} {f.rwnd} {f.delack}')
+        out.append(f'flow f{n} n{f.sender} n{f.receiver} {f.mss} {f.segments} {f.start} {f.rwnd} {f.delack}'
+                   f' {SENDERS[f.newreno].decode()} {WINDOWS[f.iw10].decode()}')
     out += [f'route n{router} n{destination} l{link}' for router, destination, link in s.routes]
     out += [f'lose l{n} {offered}' for n, k in enumerate(s.links) for offered in k.lose]
     return ''.join(line + '\n' for line in out).encode()

@@ -127,6 +127,7 @@ class Record {
     let numbers = [], dups = of(DUPS);
     if (kind === 'rto') { numbers = [una]; dups = 0; this.timeouts.push(this.now.event); }
     else if (kind === 'ack' && ack <= of(UNA) && recovery && !of(RECOVERY)) { numbers = [una]; dups += 1; }
+    else if (kind === 'ack' && ack > of(UNA) && recovery) numbers = nxt > of(NXT) ? [una, of(NXT)] : [una];
     else {
       for (let no = Math.max(of(NXT), ack); no < nxt; no += flow.mss) numbers.push(no);
       if (kind === 'ack') dups = ack > of(UNA) ? 0 : ack === of(UNA) && of(UNA) < of(NXT) ? dups + 1 : dups;

@@ -12,7 +12,7 @@ const KINDS = {
 };
 const PHASES = {ss: ['slow start: cwnd is below ssthresh', 'RFC 5681 section 3.1'],
   ca: ['congestion avoidance: cwnd reached ssthresh', 'RFC 5681 section 3.1'],
-  fr: ['fast recovery: a segment was sent again after three duplicates', 'RFC 5681 section 3.2']};
+  fr: ['fast recovery: a segment was sent again after three duplicates', 'RFC 5681 section 3.2, RFC 6582 section 3.2']};
 const REASONS = {lost: [', as the scenario\'s `lose` says', ''],
   full: [': the queue held its limit', ''],
   codel: [' by CoDel at the queue\'s head: packets waited too long for an interval', 'RFC 8289 section 5']};
@@ -30,12 +30,17 @@ function packetName(facts, packet) {
   return `${sortName(packet.sort)} ${number(packet.number)} of ${facts.flows[packet.flow].name}`;
 }
 
-// Which row of the sender's table an acknowledgement is.
-function rowOf(ack, before) {
+// Which row of the sender's table an acknowledgement is; `recovery`: whether the sender is in recovery after it.
+function rowOf(ack, before, recovery) {
+  if (ack > before.una && before.recovery && recovery)
+    return ['a partial acknowledgement: the next missing segment is sent again, recovery goes on', 'RFC 6582 section 3.2'];
   if (ack > before.una) return [before.recovery ? 'a new acknowledgement: recovery ends' : 'a new acknowledgement',
     before.recovery ? 'RFC 5681 section 3.2 step 6' : 'RFC 5681 section 3.1'];
   if (ack < before.una || before.una === before.nxt) return ['an old acknowledgement: nothing changes', ''];
   if (before.recovery) return ['a further duplicate: cwnd grows by one segment', 'RFC 5681 section 3.2 steps 4, 5'];
+  if (before.dups >= 2 && !recovery)
+    return ['a duplicate: una is not above what was sent when the last loss was noticed, and nothing is done',
+      'RFC 6582 section 3.2'];
   return [['the first duplicate: a new segment may be sent', 'RFC 5681 section 3.2 step 1'],
     ['the second duplicate: a new segment may be sent', 'RFC 5681 section 3.2 step 1'],
     ['the third duplicate: the segment at una is sent again', 'RFC 5681 section 3.2 steps 2, 3']][before.dups] ||
@@ -50,7 +55,7 @@ function explainLine(facts, line, before) {
   const arrival = kind === 'data' || kind === 'ack';
   const out = [[words.slice(0, 5).join(' '),
     `event ${number(+n)} at ${seconds(+time, 9)}, ${at.kind} ${at.name}, from ${from}`]];
-  const does = kind === 'ack' && at.kind === 'sender' ? rowOf(+words[7], before) : KINDS[kind];
+  const does = kind === 'ack' && at.kind === 'sender' ? rowOf(+words[7], before, words[12] === 'phase=fr') : KINDS[kind];
   const whose = kind === 'free' ? `link ${facts.links[name].name}` : `flow ${facts.flows[name].name}`;
   out.push([words.slice(5, arrival ? 8 : 7).join(' '), `${whose}: ${does[0]}`, does[1]]);
   for (const word of words.slice(arrival ? 8 : 7)) out.push(explainWord(facts, word));
