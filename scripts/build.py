@@ -8,8 +8,8 @@ are: two crates side by side, each with as many functions at once as there are p
 which fewer crates stand gives way to the other. Of a library
 its statements are kept (crates/tcpsim/out/libs), so that what stands on it does not read its proofs;
 after a change the changed crate and those that stand on it are proved again. `rt ci` trusts nothing of
-it. With --ready it only says whether the toolchain is the one that is wanted, and whether every file is
-in the layout that `rt fmt` gives, as `rt ci` asks.
+it. With --ready it only says whether the toolchain is the one that is wanted, whether every file is
+in the layout that `rt fmt` gives, and whether a module has a library's name, as `rt ci` asks.
 """
 import argparse
 import contextlib
@@ -64,6 +64,22 @@ def look_at_layout(kit):
     words = [f"{kit}/bin/rattle", "fmt", "--check", *sorted(files)]
     looked = subprocess.run(words, cwd=TOP, stdin=subprocess.DEVNULL, stderr=subprocess.STDOUT)
     return 1 if looked.returncode else 0
+
+
+def look_at_names():
+    """Says which modules have the name of a library of their crate, by which another file's path could reach
+    them; answers the status."""
+    found = []
+    for crate, libraries in declared().items():
+        for at, _, names in os.walk(f"{TOP}/crates/{crate}/src"):
+            for name in sorted(it for it in names if it.endswith(".rt")):
+                with open(f"{at}/{name}", encoding="utf-8") as file:
+                    modules = re.findall(r"^ *(?:pub(?:\([^)]*\))? )?mod (\w+)", file.read(), re.M)
+                where = os.path.relpath(f"{at}/{name}", TOP)
+                found += [f"{where}: {it} is the name of a library: give the module another"
+                          for it in sorted({*modules} & {"core", "std", *libraries})]
+    print("".join(f"{it}\n" for it in found), end="")
+    return 1 if found else 0
 
 
 def declared():
@@ -244,11 +260,11 @@ def build(asked):
 def main():
     reader = argparse.ArgumentParser(description="Proves the program with all its libraries, and builds it.")
     reader.add_argument("--jobs", type=int, default=0, help="functions at once in a crate (left out: one a processor)")
-    reader.add_argument("--ready", action="store_true", help="only say whether the toolchain and the layout are right")
+    reader.add_argument("--ready", action="store_true", help="only say whether the toolchain, the layout and the modules' names are right")
     words = reader.parse_args()
     try:
         if words.ready:
-            return look_at_layout(toolchain())
+            return look_at_layout(toolchain()) or look_at_names()
         return build(words.jobs)
     except Refused as why:
         print(f"tcpsim cannot be built: {why}", file=sys.stderr)
