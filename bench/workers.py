@@ -1,13 +1,13 @@
 #!/usr/bin/env python3
 """Measures runs by workers and groups and writes that section of bench/RESULTS.md:
-bench/workers.py [--program PATH] [--rounds N] [--priority P]
+bench/workers.py [--program PATH] [--rounds N] [--priority P] [--found]
 
 `bench/measure.py` writes the section too. Instructions are counted by valgrind, with one worker, and do
 not depend on the machine's speed. Seconds are whole runs, their trace thrown away, each kind of run in
 turn in each round, so that what else the machine does disturbs them alike; the least of all rounds counts.
 On a machine with other work a real-time priority keeps the cores for them (as root). With strace windows
 are counted by the writes of one worker, and the threads that four start. It wants valgrind, strace, taskset
-and GNU time.
+and GNU time. With --found only the table of the groups that `--groups auto` finds is made, and printed.
 """
 import argparse
 import os
@@ -15,6 +15,7 @@ import subprocess
 import time
 from collections import namedtuple
 
+from found import found_groups
 from results import CALLGRIND, ENVIRONMENT, PROGRAM, instructions, number, processor, put_section, saved, table
 from scenarios import SCENARIOS, chain, disassemble, four_groups, one_flow, started, tree
 
@@ -28,6 +29,8 @@ COUNTED = {'tree': lambda: tree(100, 200), 'chain': lambda: chain(16, 4_000)}
 ONE, EACH = 1.1, 1.6                    # at most so many times the instructions of a run without options
 LEAST, MOST = 2.5, 64                   # four workers to one; megabytes of memory
 SMALL_MOST = 3                          # small windows to a run without options
+FOUND_LEAST, FOUND_MOST = 0.9, 1.15     # a run without options to groups that are found; these to groups by hand
+BY_HAND = {'rate_jump': lambda _: '0,1,0,1,0,1', **{name: four_groups for name in SPED_UP}}
 CORES = os.cpu_count()
 Counted = namedtuple('Counted', 'name a_window plain one each')
 
@@ -103,6 +106,38 @@ def small(program, rounds, before):
                threads(program, path, ('--groups', 'each')), seconds(kinds, rounds, before), sum(map(float, used.split())))
 
 
+Found = namedtuple('Found', 'name events groups a_window threads plain auto by_hand')
+
+
+def found(program, rounds, before):
+    """Runs of each scenario by four workers, in the groups that the program finds for them and in those by hand."""
+    for name in SCENARIOS:
+        scenario = SCENARIOS[name]()
+        path, groups = path_of(name, scenario), found_groups(scenario, 4)
+        crew, auto = ('--workers', '4'), ('--groups', 'auto')
+        kinds = [(program, path, (), '0-3'), (program, path, (*crew, *auto), '0-3')]
+        if name in BY_HAND:
+            kinds.append((program, path, (*crew, '--groups', BY_HAND[name](scenario)), '0-3'))
+        took, events = seconds(kinds, rounds, before), events_of(program, path)
+        many = windows(program, path, ('--groups', ','.join(map(str, groups)))) if max(groups) else 0
+        yield Found(name, events, len(set(groups)), events / many if many else None, threads(program, path, auto),
+                    *took[:2], took[2] if len(took) > 2 else None)
+
+
+def found_table(rows):
+    yield (f'Seconds with the groups that `--groups auto` finds for four workers, reckoned by bench/found.py, beside those of '
+           f'`run` without options and of four workers with groups by hand. `run` is to take at least {FOUND_LEAST} times as long, '
+           f'groups that are found at most {FOUND_MOST} times as long as those by hand or as `run`, whichever is less. With one '
+           'group the program runs one event at a time, on no thread of its own.\n')
+    yield from table(('Scenario', 'Events', 'Groups found', 'Events a window', 'Threads', '`run`', 'found', 'by hand', '`run` to found',
+                      'found to the best', 'Within'),
+                     [(f'`{r.name}`', f'{r.events:,}', f'{r.groups}', f'{r.a_window:,.0f}' if r.a_window else '-', f'{r.threads:,}',
+                       f'{r.plain:.3f}', f'{r.auto:.3f}', f'{r.by_hand:.3f}' if r.by_hand else '-', f'{r.plain / r.auto:.2f}',
+                       f'{r.auto / min(r.plain, r.by_hand or r.plain):.2f}',
+                       'yes' if r.plain / r.auto >= FOUND_LEAST and r.auto / min(r.plain, r.by_hand or r.plain) <= FOUND_MOST
+                       else 'no') for r in rows])
+
+
 def megabytes(program, path, words):
     said = ran(program, path, words, ('/usr/bin/time', '-f', '%M kB'))
     return number(r'(\d+) kB', said) / 1024
@@ -152,6 +187,7 @@ def section(program, rounds, before):
                      [(f'`{name}`', f'{events:,}', f'{events / many:,.0f}', f'{started_:,}', *(f'{s:.3f}' for s in took),
                        f'{max(took[1:]) / took[0]:.2f}', f'{used:.2f}')
                       for name, events, many, started_, took, used in small(program, rounds, before)])
+    yield from found_table(found(program, rounds, before))
     yield f'The most resident memory of a run (GNU time), at most {MOST} MB:\n'
     yield from table(('Scenario', 'Run', 'MB'), [(name, shown(words), f'{most:.1f}') for name, _, words, most in memory(program)])
 
@@ -161,8 +197,12 @@ def main(words=None):
     parser.add_argument('--program', default=PROGRAM)
     parser.add_argument('--rounds', type=int, default=9)
     parser.add_argument('--priority', type=int, help='the real-time priority of the timed runs, 1 to 99')
+    parser.add_argument('--found', action='store_true', help='print the table of groups that are found alone')
     given = parser.parse_args(words)
     before = ('chrt', '-f', str(given.priority)) if given.priority else ()
+    if given.found:
+        print('\n'.join(found_table(found(given.program, given.rounds, before))))
+        return
     put_section(HEAD, section(given.program, given.rounds, before))
 
 
