@@ -2,7 +2,7 @@
 complete -c tcpsim -n __fish_use_subcommand -f -a asm -d 'Write the image of a scenario'
 complete -c tcpsim -n __fish_use_subcommand -f -a dis -d 'Write the canonical text of a scenario'
 complete -c tcpsim -n __fish_use_subcommand -f -a run -d 'Run a scenario and print its trace'
-complete -c tcpsim -n __fish_use_subcommand -f -a debug -d 'Answer the commands behind the scenario text on standard input'
+complete -c tcpsim -n __fish_use_subcommand -f -a debug -d 'Walk through a run by commands, forwards and backwards'
 complete -c tcpsim -n __fish_use_subcommand -f -a explain -d 'Say what a code means, or list all codes'
 complete -c tcpsim -n '__fish_seen_subcommand_from explain' -f -a '(tcpsim explain 2>/dev/null </dev/null | string replace -r ":.*" "")'
 complete -c tcpsim -s h -l help -d 'Print help'
