@@ -11,7 +11,7 @@ use Rattle.table_run.specs.State.{State, part_at}
 use Rattle.figures.specs.declared.link.LinkFigures.{LinkFigures}
 use Rattle.figures.specs.Classes.{greatest}
 use Rattle.figures.specs.Moments.{Moment}
-use Rattle.figures.specs.Links.{port_at, waiting_at, busy_at, acts_between, acts_at, dropped_in, bytes_in, dropped_of, bytes_of, last_from, summed_over, waited_of, busy_of, IsLinkBegun, AreOfLink, IsLinkAfter}
+use Rattle.figures.specs.Links.{port_at, waiting_at, busy_at, acts_between, acts_at, dropped_in, tx_in, bytes_in, dropped_of, tx_of, bytes_of, last_from, summed_over, waited_of, busy_of, IsLinkBegun, AreOfLink, IsLinkAfter}
 use Rattle.figures.proofs.Counts.{greatest_more, test_no}
 use Rattle.figures.proofs.Turns.{sum_more}
 
@@ -53,6 +53,7 @@ link_begun s node index f is = record {
   lost = is.lost;
   full = is.full;
   codel = is.codel;
+  sent = is.sent;
   bytes = is.bytes;
   waited = let none = ap (λ n. f.waiting * (0 - n)) is.since in let zero_is = mul-zero f.waiting in let w = is.waited in omega (arith, none, zero_is, w);
   busy_for = ap (λ n. n + cond f.busy (0 - f.since) 0) is.busy_for ∙ nothing f.busy f.since is.since;
@@ -108,6 +109,8 @@ module _ (ms : List Moment) (s : State) (line : TraceLine) (t : State) (node ind
       lost = dropped Lost f.lost g.lost is.lost after.lost;
       full = dropped Full f.full g.full is.full after.full;
       codel = dropped Codel f.codel g.codel is.codel after.codel;
+      sent = after.sent ∙ ap (λ n. n + tx_in (acts_between f.offered (port_at t node index) line)) is.sent
+          ∙ ap (λ list. tx_of node index ms + tx_in list) (sym acts) ∙ sym (sum_more (λ (n : Moment). tx_in (acts_at node index n)) ms m);
       bytes = after.bytes ∙ ap (λ n. n + bytes_in (acts_between f.offered (port_at t node index) line)) is.bytes
           ∙ ap (λ list. bytes_of node index ms + bytes_in list) (sym acts) ∙ sym (sum_more (λ (n : Moment). bytes_in (acts_at node index n)) ms m);
       waited = ap (λ n. g.waited + g.waiting * n) {x = last_from 0 (ms ++ m ∷ []) - g.since} {y = 0} (let at = nothing_since in omega (arith, at)) ∙ ap (λ n. g.waited + n) (mul-zero g.waiting) ∙ plus_none g.waited ∙ after.waited ∙ waited_more f is;
@@ -146,6 +149,7 @@ module _ (ms : List Moment) (s : State) (line : TraceLine) (t : State) (node ind
       lost = none_dropped Lost f.lost is.lost;
       full = none_dropped Full f.full is.full;
       codel = none_dropped Codel f.codel is.codel;
+      sent = (let more = sum_more (λ (n : Moment). tx_in (acts_at node index n)) ms m in let none : tx_in (acts_at node index m) ≡ 0 = ap tx_in no_acts in let before = is.sent in omega (arith, before, more, none));
       bytes = (let more = sum_more (λ (n : Moment). bytes_in (acts_at node index n)) ms m in let none : bytes_in (acts_at node index m) ≡ 0 = ap bytes_in no_acts in let before = is.bytes in omega (arith, before, more, none));
       waited = ap (λ n. f.waited + f.waiting * (n - f.since)) (last_more 0 ms m) ∙ waited_more f is;
       busy_for = ap (λ n. f.busy_for + cond f.busy (n - f.since) 0) (last_more 0 ms m) ∙ busy_more f is;

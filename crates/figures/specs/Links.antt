@@ -48,9 +48,16 @@ is_for Full (Dropped Full packet) = true
 is_for Codel (Dropped Codel packet) = true
 is_for reason act = false
 
--- the packets that are dropped for a reason, and the bytes of those that begin to be sent
+abbrev pub is_tx : Act → Bool
+is_tx (Tx link packet) = true
+is_tx (Dropped reason packet) = false
+
+-- the packets that are dropped for a reason, those that begin to be sent, and the bytes of these
 abbrev pub dropped_in : DropReason → List Act → ℕ
 dropped_in reason acts = count_by (is_for reason) acts
+
+abbrev pub tx_in : List Act → ℕ
+tx_in acts = count_by is_tx acts
 
 abbrev pub bytes_by : Act → ℕ
 bytes_by (Tx link packet) = packet.bytes
@@ -61,6 +68,9 @@ bytes_in acts = sum_by bytes_by acts
 
 abbrev pub dropped_of : DropReason → ℕ → ℕ → List Moment → ℕ
 dropped_of reason node index ms = sum_by (λ m. dropped_in reason (acts_at node index m)) ms
+
+abbrev pub tx_of : ℕ → ℕ → List Moment → ℕ
+tx_of node index ms = sum_by (λ m. tx_in (acts_at node index m)) ms
 
 abbrev pub bytes_of : ℕ → ℕ → List Moment → ℕ
 bytes_of node index ms = sum_by (λ m. bytes_in (acts_at node index m)) ms
@@ -95,6 +105,7 @@ pub record IsLinkBegun (port : PortState) (f : LinkFigures) : Type 0 where
   pub lost : f.lost ≡ 0
   pub full : f.full ≡ 0
   pub codel : f.codel ≡ 0
+  pub sent : f.sent ≡ 0
   pub bytes : f.bytes ≡ 0
   pub waited : f.waited ≡ 0
   pub busy_for : f.busy_for ≡ 0
@@ -110,6 +121,7 @@ pub record AreOfLink (ms : List Moment) (s : State) (node index : ℕ) (f : Link
   pub lost : f.lost ≡ dropped_of Lost node index ms
   pub full : f.full ≡ dropped_of Full node index ms
   pub codel : f.codel ≡ dropped_of Codel node index ms
+  pub sent : f.sent ≡ tx_of node index ms
   pub bytes : f.bytes ≡ bytes_of node index ms
   pub waited : f.waited + f.waiting * (last_from 0 ms - f.since) ≡ waited_of node index ms
   pub busy_for : f.busy_for + (if f.busy then last_from 0 ms - f.since else 0) ≡ busy_of node index ms
@@ -125,6 +137,7 @@ pub record IsLinkAfter (f : LinkFigures) (port : PortState) (line : TraceLine) (
   pub lost : g.lost ≡ f.lost + dropped_in Lost (acts_between f.offered port line)
   pub full : g.full ≡ f.full + dropped_in Full (acts_between f.offered port line)
   pub codel : g.codel ≡ f.codel + dropped_in Codel (acts_between f.offered port line)
+  pub sent : g.sent ≡ f.sent + tx_in (acts_between f.offered port line)
   pub bytes : g.bytes ≡ f.bytes + bytes_in (acts_between f.offered port line)
   pub waited : g.waited ≡ f.waited + f.waiting * (line.key.time - f.since)
   pub busy_for : g.busy_for ≡ f.busy_for + (if f.busy then line.key.time - f.since else 0)

@@ -23,6 +23,8 @@ pub struct LinkFigures {
     pub full: u128,
     /// How many packets CoDel dropped.
     pub codel: u128,
+    /// How many packets began to be sent.
+    pub sent: u128,
     /// The bytes of the packets that began to be sent.
     pub bytes: u128,
     /// How many packets waited, times for how many nanoseconds, up to then.
@@ -36,6 +38,7 @@ pub struct LinkFigures {
     ghost lost_most: { lost ≤ turns * 2 ^ 64 },
     ghost full_most: { full ≤ turns * 2 ^ 64 },
     ghost codel_most: { codel ≤ turns * 2 ^ 64 },
+    ghost sent_most: { sent ≤ turns * 2 ^ 64 },
     ghost bytes_most: { bytes ≤ turns * (2 ^ 64 * 9040) },
     ghost waited_most: { waited ≤ since * 2 ^ 64 },
     ghost busy_most: { busy_for ≤ since },
@@ -74,6 +77,7 @@ impl LinkFigures {
             lost: 0,
             full: 0,
             codel: 0,
+            sent: 0,
             bytes: 0,
             waited: 0,
             busy_for: 0,
@@ -99,6 +103,7 @@ impl LinkFigures {
         self.lost += u128::from(told.lost);
         self.full += u128::from(told.full);
         self.codel += u128::from(told.codel);
+        self.sent += u128::from(told.sent);
         self.bytes += told.bytes;
         self.offered = port.offered();
         self.waiting = port.queue().len();

@@ -70,8 +70,8 @@ fn one_segment(rt: HostRuntime) -> Result<(), Fail> {
     let links = figures.links.get(0).ok_or("links")?;
     let link = links.figures.get(0).ok_or("link")?;
     assert_eq!(rt;
-        (link.offered, link.bytes, link.busy_for),
-        (1, 1_040, 1_040_000)
+        (link.offered, link.sent, link.bytes, link.busy_for),
+        (1, 1, 1_040, 1_040_000)
     );
     assert_eq!(rt; (link.waited, link.longest), (0, 0));
     assert_eq!(rt; (link.lost, link.full, link.codel), (0, 0, 0));
@@ -90,7 +90,10 @@ fn a_segment_that_is_lost(rt: HostRuntime) -> Result<(), Fail> {
     assert_eq!(rt; sender.trips.greatest(), Some(3_080_000));
     let links = figures.links.get(0).ok_or("links")?;
     let link = links.figures.get(0).ok_or("link")?;
-    assert_eq!(rt; (link.offered, link.lost, link.bytes), (3, 1, 2_080));
+    assert_eq!(rt;
+        (link.offered, link.lost, link.sent, link.bytes),
+        (3, 1, 2, 2_080)
+    );
     Ok(())
 }
 

@@ -2,7 +2,7 @@
 ghost use Rattle.std.specs.Prelude.{◌≡◌, ◌*◌, ◌≤◌, ◌^◌, length};
 ghost use Rattle.port.specs.declared.acts.DropReason.TheVariants.{Lost, Full, Codel};
 ghost use Rattle.node_core.specs.TraceLine.{shown};
-ghost use Rattle.figures.specs.Links.{frees as frees_is, acts_between, dropped_in, bytes_in};
+ghost use Rattle.figures.specs.Links.{frees as frees_is, acts_between, dropped_in, tx_in, bytes_in};
 
 use node_core::{Act, DropReason, Event, Line};
 use port::Port;
@@ -16,6 +16,8 @@ pub struct Told {
     pub full: u64,
     /// How many packets CoDel dropped.
     pub codel: u64,
+    /// How many packets began to be sent.
+    pub sent: u64,
     /// The bytes of the packets that began to be sent.
     pub bytes: u128,
 }
@@ -25,6 +27,7 @@ fn told_by(acts: &[Act]) -> Told
     ensures lost { result.lost ≡ dropped_in Lost acts.now }
     ensures full { result.full ≡ dropped_in Full acts.now }
     ensures codel { result.codel ≡ dropped_in Codel acts.now }
+    ensures sent { result.sent ≡ tx_in acts.now }
     ensures bytes { result.bytes ≡ bytes_in acts.now }
     ensures most { result.bytes ≤ length acts.now * 9040 }
 {
@@ -32,11 +35,15 @@ fn told_by(acts: &[Act]) -> Told
         lost: 0,
         full: 0,
         codel: 0,
+        sent: 0,
         bytes: 0,
     };
     for act in acts {
         match act {
-            Act::Tx(_, packet) => told.bytes += u128::from(packet.bytes.get()),
+            Act::Tx(_, packet) => {
+                told.sent += 1;
+                told.bytes += u128::from(packet.bytes.get());
+            }
             Act::Dropped(DropReason::Lost, _) => told.lost += 1,
             Act::Dropped(DropReason::Full, _) => told.full += 1,
             Act::Dropped(DropReason::Codel, _) => told.codel += 1,
@@ -60,6 +67,7 @@ pub fn told_at(offered: u128, port: &Port, line: &Line) -> Told
     ensures lost { result.lost ≡ dropped_in Lost (acts_between offered port.now (shown line.now)) }
     ensures full { result.full ≡ dropped_in Full (acts_between offered port.now (shown line.now)) }
     ensures codel { result.codel ≡ dropped_in Codel (acts_between offered port.now (shown line.now)) }
+    ensures sent { result.sent ≡ tx_in (acts_between offered port.now (shown line.now)) }
     ensures bytes { result.bytes ≡ bytes_in (acts_between offered port.now (shown line.now)) }
     ensures most { result.bytes ≤ 2 ^ 64 * 9040 }
 {

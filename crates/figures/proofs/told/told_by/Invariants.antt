@@ -1,6 +1,6 @@
 use Rattle.std.proofs.Common.{◌≡◌, ◌*◌, ◌≤◌, take}
 use Rattle.port.specs.declared.acts.DropReason.TheVariants.{Lost, Full, Codel}
-use Rattle.figures.specs.Links.{dropped_in, bytes_in}
+use Rattle.figures.specs.Links.{dropped_in, tx_in, bytes_in}
 use Rattle.figures.proofs.told.told_by.Given as goal
 
 -- what the acts so far tell
@@ -9,9 +9,11 @@ invariant-loop-act l = record {
   lost : l.told.lost ≡ dropped_in Lost (take l.act-index l.acts);
   full : l.told.full ≡ dropped_in Full (take l.act-index l.acts);
   codel : l.told.codel ≡ dropped_in Codel (take l.act-index l.acts);
+  sent : l.told.sent ≡ tx_in (take l.act-index l.acts);
   bytes : l.told.bytes ≡ bytes_in (take l.act-index l.acts);
   lost_most : l.told.lost ≤ l.act-index;
   full_most : l.told.full ≤ l.act-index;
   codel_most : l.told.codel ≤ l.act-index;
+  sent_most : l.told.sent ≤ l.act-index;
   bytes_most : l.told.bytes ≤ l.act-index * 9040;
 }
