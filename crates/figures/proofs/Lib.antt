@@ -2,6 +2,7 @@ pub mod ClassBounds
 pub mod Counts
 pub mod Values
 pub mod Near
+pub mod Rise
 pub mod Sent
 pub mod Runs
 pub mod Turns

@@ -24,7 +24,7 @@ lower_one x v e fits under =
     at_most true = omega arith
     at_most false = omega arith
 
-lower : (v e : ℕ) (xs : List ℕ) → e < class_of v → All (λ x. x < 2 ^ 50) xs → upto xs e ≤ count_by (λ x. nat_lt x v) xs
+pub lower : (v e : ℕ) (xs : List ℕ) → e < class_of v → All (λ x. x < 2 ^ 50) xs → upto xs e ≤ count_by (λ x. nat_lt x v) xs
 lower v e [] under all = omega arith
 lower v e (x ∷ xs) under all =
     let a = sum_by-cons (λ (y : ℕ). cond {A = ℕ} (nat_le (class_of y) e) 1 0) x xs in
