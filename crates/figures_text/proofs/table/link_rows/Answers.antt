@@ -1,0 +1,19 @@
+use Rattle.figures_text.proofs.table.link_rows.Goals as goal
+
+pub returns : goal.returns
+returns c =
+    cc (
+      c.counted.ensures,
+      c.counted-2.ensures,
+      c.counted-3.ensures,
+      c.counted-4.ensures,
+      c.counted-5.ensures,
+      c.counted-6.ensures,
+      c.counted-7.ensures,
+      c.from.ensures,
+      c.counted-8.ensures,
+      c.counted-9.ensures,
+      c.or_none.ensures,
+      c.or_none-2.ensures,
+      c.or_none-3.ensures,
+    )

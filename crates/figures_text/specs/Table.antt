@@ -1,0 +1,133 @@
+-- The table of a run's figures: what,number,figure,unit,value.
+use Rattle.std.specs.Prelude.{ℕ, List, [], ◌∷◌, ◌++◌, codes, decimal, Option, None, Some}
+use Rattle.std.specs.List.{flat_map, enumerate_from}
+use Rattle.figures_text.specs.declared.figure.Figure.{Figure}
+use Rattle.figures_text.specs.declared.figure.Figure.TheVariants.{Start, Delivered, Completed, SentSegments, AgainInRecovery, AgainOtherwise, Timeouts, RoundTrips, LeastTrip, MedianTrip, HighTrip, GreatestTrip, Offered, Lost, Full, Codel, SentPackets, SentBytes, Busy, GreatestQueue, Waited, MedianDelay, HighDelay, GreatestDelay, Events, End}
+use Rattle.figures_text.specs.declared.row.Row.{Row}
+use Rattle.figures_text.specs.declared.subject.Subject.{Subject}
+use Rattle.figures_text.specs.declared.subject.Subject.TheVariants.{Flow, Link, Run}
+use Rattle.figures_text.specs.declared.summary.FlowSummary.{FlowSummary}
+use Rattle.figures_text.specs.declared.summary.LinkSummary.{LinkSummary}
+use Rattle.figures_text.specs.declared.summary.RunSummary.{RunSummary}
+
+-- the first line
+abbrev pub heading : List ℕ
+heading = codes "what,number,figure,unit,value\n"
+
+-- what, and its number; the run has none
+abbrev pub subject_text : Subject → List ℕ
+subject_text (Flow number) = codes "flow," ++ decimal number
+subject_text (Link number) = codes "link," ++ decimal number
+subject_text Run = codes "run,"
+
+-- the value, a dash where there is none
+abbrev pub value_text : Option ℕ → List ℕ
+value_text None = codes "-"
+value_text (Some n) = decimal n
+
+-- its name and its unit, with a comma between them
+abbrev pub label_of : Figure → List ℕ
+label_of Start = codes "start,ns"
+label_of Delivered = codes "delivered,bytes"
+label_of Completed = codes "completed,ns"
+label_of SentSegments = codes "sent,segments"
+label_of AgainInRecovery = codes "sent again by fast retransmit,segments"
+label_of AgainOtherwise = codes "sent again by timeout,segments"
+label_of Timeouts = codes "timeouts,times"
+label_of RoundTrips = codes "round trips,times"
+label_of LeastTrip = codes "least round trip,ns"
+label_of MedianTrip = codes "median round trip,ns"
+label_of HighTrip = codes "99th percentile of round trips,ns"
+label_of GreatestTrip = codes "greatest round trip,ns"
+label_of Offered = codes "offered,packets"
+label_of Lost = codes "dropped as lost,packets"
+label_of Full = codes "dropped as full,packets"
+label_of Codel = codes "dropped by CoDel,packets"
+label_of SentPackets = codes "sent,packets"
+label_of SentBytes = codes "sent,bytes"
+label_of Busy = codes "busy,ns"
+label_of GreatestQueue = codes "greatest queue,packets"
+label_of Waited = codes "waited,packet-ns"
+label_of MedianDelay = codes "median delay in the queue,ns"
+label_of HighDelay = codes "99th percentile of delay in the queue,ns"
+label_of GreatestDelay = codes "greatest delay in the queue,ns"
+label_of Events = codes "events,events"
+label_of End = codes "end,ns"
+
+-- these between commas
+abbrev pub figure_text : Figure → List ℕ
+figure_text figure = codes "," ++ label_of figure ++ codes ","
+
+-- the value, at the end of a line
+abbrev pub last_text : Option ℕ → List ℕ
+last_text value = value_text value ++ codes "\n"
+
+-- a line: what and number, figure and unit, value
+abbrev pub row_line : Subject → Row → List ℕ
+row_line subject row = subject_text subject ++ figure_text row.figure ++ last_text row.value
+
+-- a line for each row
+abbrev pub rows_text : Subject → List Row → List ℕ
+rows_text subject rows = flat_map (λ (row : Row). row_line subject row) rows
+
+-- a figure that there may not be
+abbrev pub or_none : Figure → Option ℕ → Row
+or_none figure value = record { figure = figure; value = value }
+
+-- a figure that there always is
+abbrev pub counted : Figure → ℕ → Row
+counted figure n = or_none figure (Some n)
+
+-- what is said of a flow
+abbrev pub flow_rows : FlowSummary → List Row
+flow_rows flow =
+    counted Start flow.start
+    ∷ counted Delivered flow.delivered
+    ∷ or_none Completed flow.completed
+    ∷ counted SentSegments flow.sent
+    ∷ counted AgainInRecovery flow.again_in_recovery
+    ∷ counted AgainOtherwise flow.again_otherwise
+    ∷ counted Timeouts flow.timeouts
+    ∷ counted RoundTrips flow.round_trips
+    ∷ or_none LeastTrip flow.least
+    ∷ or_none MedianTrip flow.median
+    ∷ or_none HighTrip flow.high
+    ∷ or_none GreatestTrip flow.greatest
+    ∷ []
+
+-- what is said of a link
+abbrev pub link_rows : LinkSummary → List Row
+link_rows link =
+    counted Offered link.offered
+    ∷ counted Lost link.lost
+    ∷ counted Full link.full
+    ∷ counted Codel link.codel
+    ∷ counted SentPackets link.sent
+    ∷ counted SentBytes link.bytes
+    ∷ counted Busy link.busy
+    ∷ counted GreatestQueue link.longest
+    ∷ counted Waited link.waited
+    ∷ or_none MedianDelay link.median
+    ∷ or_none HighDelay link.high
+    ∷ or_none GreatestDelay link.greatest
+    ∷ []
+
+-- what is said of the run as a whole: its events, and when it ended
+abbrev pub run_rows : RunSummary → List Row
+run_rows run = counted Events run.events ∷ counted End run.end ∷ []
+
+-- the lines of a flow, with its number
+abbrev pub flow_lines : ℕ × FlowSummary → List ℕ
+flow_lines numbered = rows_text (Flow numbered.0) (flow_rows numbered.1)
+
+-- the lines of a link, with its number
+abbrev pub link_lines : ℕ × LinkSummary → List ℕ
+link_lines numbered = rows_text (Link numbered.0) (link_rows numbered.1)
+
+-- each link, by number from 0 on, and the run
+abbrev pub ending_of : List LinkSummary → RunSummary → List ℕ
+ending_of links run = flat_map link_lines (enumerate_from 0 links) ++ rows_text Run (run_rows run)
+
+-- the heading, each flow, by number from 0 on, and what follows
+abbrev pub table_of : List FlowSummary → List LinkSummary → RunSummary → List ℕ
+table_of flows links run = heading ++ flat_map flow_lines (enumerate_from 0 flows) ++ ending_of links run

@@ -1,0 +1,155 @@
+//! The table as a whole.
+ghost use Rattle.std.specs.Prelude.{◌≡◌, ◌++◌, OnOk, OnErr};
+ghost use Rattle.std.specs.List.{flat_map, enumerate_from};
+ghost use Rattle.figures_text.specs.Table.{counted, or_none, flow_rows, link_rows, run_rows, flow_lines, link_lines, rows_text, heading, ending_of, table_of};
+
+use crate::figure::Figure;
+use crate::row::{Row, append_rows};
+use crate::subject::Subject;
+use crate::summary::{FlowSummary, LinkSummary, RunSummary};
+use std::alloc::AllocError;
+
+/// Appends the table of a run's figures: a heading, then a line `what,number,figure,unit,value` for
+/// each figure of each flow, of each link, and of the run, each with its LF. Nothing is appended where
+/// memory is refused.
+pub fn figures_text(
+    flows: &[FlowSummary],
+    links: &[LinkSummary],
+    run: RunSummary,
+    text: &mut Vec<u8>,
+) -> Result<(), AllocError>
+    ensures ok { OnOk result (text.new.items ≡ text.old.items ++ table_of flows.now links.now run) }
+    ensures err { OnErr result (text.new.items ≡ text.old.items) }
+{
+    let mut table = Vec::new(*text.allocator());
+    append_table(flows, links, run, &mut table)?;
+    text.extend_from_slice(&table)
+}
+
+/// Appends the table. Where memory is refused, a part of it may have been appended.
+fn append_table(
+    flows: &[FlowSummary],
+    links: &[LinkSummary],
+    run: RunSummary,
+    text: &mut Vec<u8>,
+) -> Result<(), AllocError>
+    ensures { OnOk result (text.new.items ≡ text.old.items ++ table_of flows.now links.now run) }
+{
+    append_heading(text)?;
+    append_flows(flows, text)?;
+    append_ending(links, run, text)
+}
+
+/// Appends the first line, or nothing.
+fn append_heading(text: &mut Vec<u8>) -> Result<(), AllocError>
+    ensures { OnOk result (text.new.items ≡ text.old.items ++ heading) }
+{
+    text.extend_from_slice(b"what,number,figure,unit,value\n")
+}
+
+/// Appends the lines of the links and of the run. After an `Err` a part of them may stand there.
+fn append_ending(
+    links: &[LinkSummary],
+    run: RunSummary,
+    text: &mut Vec<u8>,
+) -> Result<(), AllocError>
+    ensures { OnOk result (text.new.items ≡ text.old.items ++ ending_of links.now run) }
+{
+    append_links(links, text)?;
+    append_rows(Subject::Run, &run_rows(run), text)
+}
+
+/// Appends the lines of the flows, by number. After an `Err` a part of them may stand there.
+fn append_flows(flows: &[FlowSummary], text: &mut Vec<u8>) -> Result<(), AllocError>
+    ensures { OnOk result (text.new.items ≡ text.old.items
+        ++ flat_map flow_lines (enumerate_from 0 flows.now)) }
+{
+    for (number, flow) in flows.iter().enumerate() {
+        append_rows(Subject::Flow(number as u64), &flow_rows(flow), text)?;
+    }
+    Ok(())
+}
+
+/// Appends the lines of the links, by number. After an `Err` a part of them may stand there.
+fn append_links(links: &[LinkSummary], text: &mut Vec<u8>) -> Result<(), AllocError>
+    ensures { OnOk result (text.new.items ≡ text.old.items
+        ++ flat_map link_lines (enumerate_from 0 links.now)) }
+{
+    for (number, link) in links.iter().enumerate() {
+        append_rows(Subject::Link(number as u64), &link_rows(link), text)?;
+    }
+    Ok(())
+}
+
+/// A figure that there always is.
+fn counted(figure: Figure, value: u128) -> Row
+    ensures { result ≡ counted figure value }
+{
+    Row {
+        figure,
+        value: Some(value),
+    }
+}
+
+/// A figure that there may not be.
+fn or_none(figure: Figure, value: Option<u64>) -> Row
+    ensures { result ≡ or_none figure value }
+{
+    match value {
+        None => Row {
+            figure,
+            value: None,
+        },
+        Some(value) => counted(figure, u128::from(value)),
+    }
+}
+
+/// What the table says of a flow.
+fn flow_rows(flow: &FlowSummary) -> [Row; 12]
+    ensures { result ≡ flow_rows flow.now }
+{
+    [
+        counted(Figure::Start, u128::from(flow.start)),
+        counted(Figure::Delivered, u128::from(flow.delivered)),
+        or_none(Figure::Completed, flow.completed),
+        counted(Figure::SentSegments, flow.sent),
+        counted(Figure::AgainInRecovery, flow.again_in_recovery),
+        counted(Figure::AgainOtherwise, flow.again_otherwise),
+        counted(Figure::Timeouts, u128::from(flow.timeouts)),
+        counted(Figure::RoundTrips, u128::from(flow.round_trips)),
+        or_none(Figure::LeastTrip, flow.least),
+        or_none(Figure::MedianTrip, flow.median),
+        or_none(Figure::HighTrip, flow.high),
+        or_none(Figure::GreatestTrip, flow.greatest),
+    ]
+}
+
+/// What the table says of a link.
+fn link_rows(link: &LinkSummary) -> [Row; 12]
+    ensures { result ≡ link_rows link.now }
+{
+    [
+        counted(Figure::Offered, link.offered),
+        counted(Figure::Lost, link.lost),
+        counted(Figure::Full, link.full),
+        counted(Figure::Codel, link.codel),
+        counted(Figure::SentPackets, link.sent),
+        counted(Figure::SentBytes, link.bytes),
+        counted(Figure::Busy, link.busy),
+        counted(Figure::GreatestQueue, u128::from(link.longest)),
+        counted(Figure::Waited, link.waited),
+        or_none(Figure::MedianDelay, link.median),
+        or_none(Figure::HighDelay, link.high),
+        or_none(Figure::GreatestDelay, link.greatest),
+    ]
+}
+
+/// What the table says of the run as a whole.
+fn run_rows(run: RunSummary) -> [Row; 2]
+    ensures { result ≡ run_rows run }
+{
+    [
+        counted(Figure::Events, u128::from(run.events)),
+        counted(Figure::End, u128::from(run.end)),
+    ]
+}
