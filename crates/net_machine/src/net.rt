@@ -1,6 +1,7 @@
 //! One event at a time: the least pending key below the end.
 ghost use Rattle.std.specs.Prelude.{◌≡◌, ◌≢◌, ◌+◌, if◌then◌else◌, false, IfOk, OnErr, IfErr, None, Some, Ok, Err};
 ghost use Rattle.std.specs.Option.{option_map};
+ghost use Rattle.ranking.specs.Keyed.{next_key};
 ghost use Rattle.node_core.specs.TraceLine.{shown};
 ghost use Rattle.table_run.specs.State.{opening, due};
 ghost use Rattle.net_machine.specs.Nodes.{parts_of, net_pending, IsPlaced};
@@ -127,6 +128,16 @@ impl Net {
         ensures is_run { IsRun self.now }
     {
         self.position
+    }
+
+    /// The least pending key, below the end or not.
+    pub fn first(&self) -> Option<Key>
+        ensures { result ≡ next_key self.now.state.pending }
+    {
+        match self.nodes.first() {
+            Some((_, key)) => Some(key),
+            None => None,
+        }
     }
 
     /// Runs the event of the least key below the end, where there is one, and tells of it in
