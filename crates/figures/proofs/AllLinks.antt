@@ -1,5 +1,5 @@
 -- The figures of all links, one event on.
-use Rattle.std.proofs.Common.{◌≡◌, ◌≢◌, ℕ, ◌<◌, ◌≤◌, List, [], ◌∷◌, ◌++◌, length, get_or, sym, ap, subst, ◌∙◌, Some, arith, ⊎_elim}
+use Rattle.std.proofs.Common.{◌≡◌, ◌≢◌, ℕ, ◌<◌, ◌≤◌, List, [], ◌∷◌, ◌++◌, length, get_or, sym, ap, subst, ◌∙◌, Option, Some, arith, ⊎_elim, true}
 use Rattle.std.proofs.lemmas.Bool.{cases_eq}
 use Rattle.std.proofs.lemmas.List.{length-map}
 use Rattle.node_core.specs.Part.{PartState, link_at}
@@ -10,7 +10,7 @@ use Rattle.net_machine.specs.Nodes.{parts_of, node_at}
 use Rattle.figures.specs.declared.link.LinkFigures.{LinkFigures}
 use Rattle.figures.specs.declared.links.NodeLinks.{NodeLinks}
 use Rattle.figures.specs.Moments.{Moment}
-use Rattle.figures.specs.Links.{last_from, IsLinkAfter, AreLinksAfter, AreLinksBegun, AreOfNode}
+use Rattle.figures.specs.Links.{port_at, frees, wait_of_given, TellsWait, last_from, IsLinkAfter, AreLinksAfter, AreLinksBegun, AreOfNode}
 use Rattle.figures.specs.Figures.{AreOfLinks}
 use Rattle.figures.proofs.Begun.{part_is}
 use Rattle.figures.proofs.Steps.{IsStep, is_step, size_stays, part_elsewhere, links_stay}
@@ -32,7 +32,8 @@ links_begun nodes s fs parts size each =
           };
     }
 
-module _ (ms : List Moment) (s : State) (line : TraceLine) (t : State) (is_next : step s ≡ Some (line, t)) (order : last_from 0 ms ≤ line.key.time) (nodes : List NodeState) (parts : parts_of nodes ≡ t.parts) where
+module _ (ms : List Moment) (s : State) (line : TraceLine) (t : State) (is_next : step s ≡ Some (line, t)) (order : last_from 0 ms ≤ line.key.time) (nodes : List NodeState) (parts : parts_of nodes ≡ t.parts)
+    (given : Option ℕ) (tells : TellsWait s line t given) where
   abbrev m : Moment
   m = record { before = s; line = line; after = t }
 
@@ -47,18 +48,21 @@ module _ (ms : List Moment) (s : State) (line : TraceLine) (t : State) (is_next 
         each = λ i link inside. link_elsewhere ms s line t node i order apart same (get_or fs i link) (is.each i link inside);
       }
 
-  here_node : (node : ℕ) (fs gs : List LinkFigures) → line.key.node ≡ node → node < length s.parts → length gs ≡ length fs → AreLinksAfter fs (node_at nodes node).part.links line gs → AreOfNode ms s node fs → AreOfNode (ms ++ m ∷ []) t node gs
+  here_node : (node : ℕ) (fs gs : List LinkFigures) → line.key.node ≡ node → node < length s.parts → length gs ≡ length fs → AreLinksAfter fs (node_at nodes node).part.links line given gs → AreOfNode ms s node fs → AreOfNode (ms ++ m ∷ []) t node gs
   here_node node fs gs here within same after is = record {
     size = same ∙ is.size ∙ sym (links_stay s line t its node within);
     each = λ i link inside.
         let old : i < length fs = omega (arith, inside, same) in
-        link_here ms s line t node i order here (get_or fs i link) (get_or gs i link) (is.each i link old)
-        (subst (λ (p : PartState). IsLinkAfter (get_or fs i link) (link_at p.links i).port line (get_or gs i link)) (part_is nodes t node parts) (after i link old));
+        link_here ms s line t node i order here given (told i (omega (arith, old, is.size))) (get_or fs i link) (get_or gs i link) (is.each i link old)
+        (subst (λ (p : PartState). IsLinkAfter (get_or fs i link) (link_at p.links i).port line given (get_or gs i link)) (part_is nodes t node parts) (after i link old));
   }
+    where
+      told : (i : ℕ) → i < length (part_at s node).links → frees (port_at t node i).link line.event ≡ true → given ≡ wait_of_given line.key.time (port_at s node i)
+      told = subst (λ n. (i : ℕ) → i < length (part_at s n).links → frees (port_at t n i).link line.event ≡ true → given ≡ wait_of_given line.key.time (port_at s n i)) here tells
 
   pub links_step : (fs gs : List NodeLinks) → AreOfLinks ms s fs → length gs ≡ length fs →
       ((other : NodeLinks) → length (get_or gs line.key.node other).figures.items ≡ length (get_or fs line.key.node other).figures.items) →
-      ((other : NodeLinks) → line.key.node < length fs → AreLinksAfter (get_or fs line.key.node other).figures.items (node_at nodes line.key.node).part.links line (get_or gs line.key.node other).figures.items) →
+      ((other : NodeLinks) → line.key.node < length fs → AreLinksAfter (get_or fs line.key.node other).figures.items (node_at nodes line.key.node).part.links line given (get_or gs line.key.node other).figures.items) →
       ((node : ℕ) (other : NodeLinks) → node ≢ line.key.node → get_or gs node other ≡ get_or fs node other) → AreOfLinks (ms ++ m ∷ []) t gs
   links_step fs gs is size sizes here elsewhere = record {
     count = size ∙ is.count ∙ sym (size_stays s line t its);
@@ -68,8 +72,8 @@ module _ (ms : List Moment) (s : State) (line : TraceLine) (t : State) (is_next 
         ⊎_elim
         (λ (at : node ≡ line.key.node).
         let same : length (get_or gs node other).figures.items ≡ length (get_or fs node other).figures.items = subst (λ n. length (get_or gs n other).figures.items ≡ length (get_or fs n other).figures.items) (sym at) (sizes other) in
-        let after : AreLinksAfter (get_or fs node other).figures.items (node_at nodes node).part.links line (get_or gs node other).figures.items =
-        subst (λ n. AreLinksAfter (get_or fs n other).figures.items (node_at nodes n).part.links line (get_or gs n other).figures.items) (sym at) (here other (omega (arith, inside, at, is.count))) in
+        let after : AreLinksAfter (get_or fs node other).figures.items (node_at nodes node).part.links line given (get_or gs node other).figures.items =
+        subst (λ n. AreLinksAfter (get_or fs n other).figures.items (node_at nodes n).part.links line given (get_or gs n other).figures.items) (sym at) (here other (omega (arith, inside, at, is.count))) in
         here_node node (get_or fs node other).figures.items (get_or gs node other).figures.items (sym at) inside same after old)
         (λ (apart : node ≢ line.key.node). subst (λ (links : NodeLinks). AreOfNode (ms ++ m ∷ []) t node links.figures.items) (sym (elsewhere node other apart)) (apart_node node (get_or fs node other).figures.items apart old))
         (cases_eq node line.key.node);
@@ -78,7 +82,7 @@ module _ (ms : List Moment) (s : State) (line : TraceLine) (t : State) (is_next 
   -- the same, where the links before are known as another list
   pub links_counted : (fs gs old : List NodeLinks) → old ≡ fs → AreOfLinks ms s fs → length gs ≡ length old →
       ((other : NodeLinks) → length (get_or gs line.key.node other).figures.items ≡ length (get_or old line.key.node other).figures.items) →
-      ((other : NodeLinks) → line.key.node < length old → AreLinksAfter (get_or old line.key.node other).figures.items (node_at nodes line.key.node).part.links line (get_or gs line.key.node other).figures.items) →
+      ((other : NodeLinks) → line.key.node < length old → AreLinksAfter (get_or old line.key.node other).figures.items (node_at nodes line.key.node).part.links line given (get_or gs line.key.node other).figures.items) →
       ((node : ℕ) (other : NodeLinks) → node ≢ line.key.node → get_or gs node other ≡ get_or old node other) → AreOfLinks (ms ++ m ∷ []) t gs
   links_counted fs gs old old_is is size sizes here elsewhere = links_step old gs (subst (AreOfLinks ms s) (sym old_is) is) size sizes here elsewhere
 

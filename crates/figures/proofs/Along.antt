@@ -47,7 +47,7 @@ begun_run p r f at none early_is is = record {
 }
 
 pub step_run : (p : ScenarioParts) (old new : Reached) (line : TraceLine) (f g : Figures) → AreOfRun p f old → Stepped old (Some line) new → g.events ≡ f.events + 1 → g.last ≡ line.key.time →
-    ((ms : List Moment) (s : State) → AreFigures ms s f → step s ≡ Some (line, new.state) → AreFigures (ms ++ record { before = s; line = line; after = new.state } ∷ []) new.state g) → AreOfRun p g new
+    ((ms : List Moment) → AreFigures ms old.state f → step old.state ≡ Some (line, new.state) → AreFigures (ms ++ record { before = old.state; line = line; after = new.state } ∷ []) new.state g) → AreOfRun p g new
 step_run p old new line f g of stepped count last more =
     let next : suc old.position ≡ new.position = omega (arith, stepped.1) in
     record {
@@ -58,15 +58,23 @@ step_run p old new line f g of stepped count last more =
           (subst (λ ms. AreFigures ms new.state g)
           (sym (ap (λ o. moments (opening p) old.position ++ following o) of.comes
           ∙ ap (λ o. moments (opening p) old.position ++ option_to_list (option_map {U = Moment} (λ (x : TraceLine × State). record { before = old.state; line = x.0; after = x.1 }) o)) stepped.0))
-          (more (moments (opening p) old.position) old.state of.figures stepped.0));
+          (more (moments (opening p) old.position) of.figures stepped.0));
       events = count ∙ ap (λ n. n + 1) of.events ∙ sym stepped.1;
       last = last ∙ sym (line_more 0 of.lines line);
     }
 
 -- the event of a step is the one that is due
-of_due : (s : State) (o : Option (Key × Event)) (line : TraceLine) (t : State) → option_map (step_at s) o ≡ Some (line, t) → o ≡ Some (line.key, line.event)
+pub of_due : (s : State) (o : Option (Key × Event)) (line : TraceLine) (t : State) → option_map (step_at s) o ≡ Some (line, t) → o ≡ Some (line.key, line.event)
 of_due s None line t is = absurd (not_some is)
 of_due s (Some e) line t is = ap (λ (x : TraceLine × State). Some (x.0.key, x.0.event)) (same_some (step_at s e) (line, t) is)
+
+-- a run ends at a moment
+pub end_is_moment : (f : Figures) (r : Reached) → AreOfSomeRun f r → IsMoment r.state.end
+end_is_moment f r some =
+    let sound = sound_run some.scenario r.position some.of.lines r.state some.is_scenario some.of.comes in
+    let most = some.is_scenario.in_limits.end_range in
+    let end_is = sound.sound.end_is in
+    omega (arith, end_is, most)
 
 module _ (f : Figures) (r : Reached) (line : TraceLine) (t : State) (some : AreOfSomeRun f r) (is : step r.state ≡ Some (line, t)) where
   abbrev sound : IsSoundRun some.scenario some.of.lines r.state

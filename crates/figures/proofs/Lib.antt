@@ -11,7 +11,9 @@ pub mod Steps
 pub mod Begun
 pub mod After
 pub mod Along
+pub mod Given
 pub mod OfLinks
+pub mod Freed
 pub mod AllLinks
 pub mod Pushed
 pub mod Again

@@ -1,7 +1,8 @@
 -- The figures of a link, one event on.
-use Rattle.std.proofs.Common.{◌≡◌, ◌≢◌, ℕ, ◌+◌, ◌-◌, ◌*◌, ◌≤◌, Bool, true, false, cond, max, List, [], ◌∷◌, ◌++◌, length-append, map, refl, sym, ap, ◌∙◌, arith, eq-eqb, is_some}
+use Rattle.std.proofs.Common.{◌≡◌, ◌≢◌, ℕ, ◌+◌, ◌-◌, ◌*◌, ◌≤◌, Bool, true, false, cond, max, List, [], ◌∷◌, ◌++◌, length-append, map, refl, sym, ap, subst, ◌∙◌, arith, eq-eqb, is_some, Option, None}
+use Rattle.std.specs.Prelude.{option_to_list}
 use Rattle.std.proofs.Math.Nat.{mul-add, zero-mul, one-mul, mul-zero}
-use Rattle.std.proofs.lemmas.List.{map-append}
+use Rattle.std.proofs.lemmas.List.{map-append, append-nil}
 use Rattle.port.specs.declared.acts.DropReason.{DropReason}
 use Rattle.port.specs.declared.acts.DropReason.TheVariants.{Lost, Full, Codel}
 use Rattle.port.specs.Port.{PortState}
@@ -11,9 +12,10 @@ use Rattle.table_run.specs.State.{State, part_at}
 use Rattle.figures.specs.declared.link.LinkFigures.{LinkFigures}
 use Rattle.figures.specs.Classes.{greatest}
 use Rattle.figures.specs.Moments.{Moment}
-use Rattle.figures.specs.Links.{port_at, waiting_at, busy_at, acts_between, acts_at, dropped_in, tx_in, bytes_in, dropped_of, tx_of, bytes_of, last_from, summed_over, waited_of, busy_of, IsLinkBegun, AreOfLink, IsLinkAfter}
+use Rattle.figures.specs.Tallied.{IsTallyOf}
+use Rattle.figures.specs.Links.{port_at, waiting_at, busy_at, frees, acts_between, wait_of_given, wait_in, wait_at, waits_of, acts_at, dropped_in, tx_in, bytes_in, dropped_of, tx_of, bytes_of, last_from, summed_over, waited_of, busy_of, IsLinkBegun, AreOfLink, IsLinkAfter}
 use Rattle.figures.proofs.Counts.{greatest_more, test_no}
-use Rattle.figures.proofs.Turns.{sum_more}
+use Rattle.figures.proofs.Turns.{sum_more, given_more}
 
 pub last_more : (since : ℕ) (ms : List Moment) (m : Moment) → last_from since (ms ++ m ∷ []) ≡ m.line.key.time
 last_more since [] m = refl
@@ -33,6 +35,11 @@ passed w a b c first second = sym (mul-add w (b - a) (c - b)) ∙ ap (λ n. w * 
 
 passed_on : (x w a b c : ℕ) → a ≤ b → b ≤ c → x + w * (c - a) ≡ x + w * (b - a) + w * (c - b)
 passed_on x w a b c first second = let both = passed w a b c first second in omega (arith, both)
+
+-- what is told where a test is passed need be right there alone
+told_where : (b : Bool) (x y z : Option ℕ) → (b ≡ true → x ≡ y) → cond b y z ≡ cond b x z
+told_where true x y z is = sym (is refl)
+told_where false x y z is = refl
 
 chosen : (b : Bool) (n : ℕ) → cond b n 0 ≡ cond {A = ℕ} b 1 0 * n
 chosen true n = sym (one-mul n)
@@ -58,6 +65,7 @@ link_begun s node index f is = record {
   waited = let none = ap (λ n. f.waiting * (0 - n)) is.since in let zero_is = mul-zero f.waiting in let w = is.waited in omega (arith, none, zero_is, w);
   busy_for = ap (λ n. n + cond f.busy (0 - f.since) 0) is.busy_for ∙ nothing f.busy f.since is.since;
   longest = let long = is.longest in omega (arith, long);
+  waits = is.waits;
   turns = let none = is.turns in omega (arith, none);
 }
   where
@@ -87,7 +95,8 @@ module _ (ms : List Moment) (s : State) (line : TraceLine) (t : State) (node ind
       ∙ sym (summed_more (λ (u : State). busy_at (port_at u node index)) 0 ms m)
 
   -- an event at the link's node
-  module _ (here : line.key.node ≡ node) (f g : LinkFigures) (is : AreOfLink ms s node index f) (after : IsLinkAfter f (port_at t node index) line g) where
+  module _ (here : line.key.node ≡ node) (given : Option ℕ) (tells : frees (port_at t node index).link line.event ≡ true → given ≡ wait_of_given line.key.time (port_at s node index))
+      (f g : LinkFigures) (is : AreOfLink ms s node index f) (after : IsLinkAfter f (port_at t node index) line given g) where
     acts : acts_at node index m ≡ acts_between f.offered (port_at t node index) line
     acts = ap (λ b. cond b (acts_between (port_at s node index).offered (port_at t node index) line) []) (eq-eqb line.key.node node here) ∙ ap (λ n. acts_between n (port_at t node index) line) (sym is.offered)
 
@@ -96,6 +105,12 @@ module _ (ms : List Moment) (s : State) (line : TraceLine) (t : State) (node ind
         after_is ∙ ap (λ n. n + dropped_in reason (acts_between f.offered (port_at t node index) line)) before
         ∙ ap (λ list. dropped_of reason node index ms + dropped_in reason list) (sym acts)
         ∙ sym (sum_more (λ (n : Moment). dropped_in reason (acts_at node index n)) ms m)
+
+    wait : wait_at node index m ≡ wait_in f.offered (port_at t node index) line given
+    wait =
+        ap (λ b. cond b (wait_in (port_at s node index).offered (port_at t node index) line (wait_of_given line.key.time (port_at s node index))) None) (eq-eqb line.key.node node here)
+        ∙ ap (λ n. wait_in n (port_at t node index) line (wait_of_given line.key.time (port_at s node index))) (sym is.offered)
+        ∙ told_where (frees (port_at t node index).link line.event) given (wait_of_given line.key.time (port_at s node index)) _ tells
 
     nothing_since : g.since ≡ last_from 0 (ms ++ m ∷ [])
     nothing_since = after.since ∙ sym (last_more 0 ms m)
@@ -116,6 +131,7 @@ module _ (ms : List Moment) (s : State) (line : TraceLine) (t : State) (node ind
       waited = ap (λ n. g.waited + g.waiting * n) {x = last_from 0 (ms ++ m ∷ []) - g.since} {y = 0} (let at = nothing_since in omega (arith, at)) ∙ ap (λ n. g.waited + n) (mul-zero g.waiting) ∙ plus_none g.waited ∙ after.waited ∙ waited_more f is;
       busy_for = ap (λ n. g.busy_for + cond g.busy n 0) {x = last_from 0 (ms ++ m ∷ []) - g.since} {y = 0} (let at = nothing_since in omega (arith, at)) ∙ ap (λ n. g.busy_for + n) (either g.busy) ∙ plus_none g.busy_for ∙ after.busy_for ∙ busy_more f is;
       longest = after.longest ∙ ap (λ n. max n (waiting_at (port_at t node index))) (is.longest ∙ sym (greatest_before node index ms m));
+      waits = subst (λ xs. IsTallyOf xs g.waits) (sym (given_more (wait_at node index) ms m ∙ ap (λ o. waits_of node index ms ++ option_to_list o) wait)) (after.waits (waits_of node index ms) is.waits);
       turns = let count = length-append ms (m ∷ []) in let before = is.turns in let more = after.turns in omega (arith, count, before, more);
     }
       where
@@ -130,6 +146,10 @@ module _ (ms : List Moment) (s : State) (line : TraceLine) (t : State) (node ind
   module _ (apart : node ≢ line.key.node) (same : part_at t node ≡ part_at s node) (f : LinkFigures) (is : AreOfLink ms s node index f) where
     no_acts : acts_at node index m ≡ []
     no_acts = ap (λ b. cond b (acts_between (port_at s node index).offered (port_at t node index) line) []) (test_no line.key.node node (λ e. apart (sym e)))
+
+    no_wait : wait_at node index m ≡ None
+    no_wait =
+        ap (λ b. cond b (wait_in (port_at s node index).offered (port_at t node index) line (wait_of_given line.key.time (port_at s node index))) None) (test_no line.key.node node (λ e. apart (sym e)))
 
     port_same : port_at t node index ≡ port_at s node index
     port_same = ap (λ (p : PartState). (link_at p.links index).port) same
@@ -154,5 +174,7 @@ module _ (ms : List Moment) (s : State) (line : TraceLine) (t : State) (node ind
       waited = ap (λ n. f.waited + f.waiting * (n - f.since)) (last_more 0 ms m) ∙ waited_more f is;
       busy_for = ap (λ n. f.busy_for + cond f.busy (n - f.since) 0) (last_more 0 ms m) ∙ busy_more f is;
       longest = (let before = greatest_before node index ms m in let long = is.longest in let still : waiting_at (port_at t node index) ≡ waiting_at (port_at s node index) = ap (λ (p : PortState). waiting_at p) port_same in omega (arith, before, long, still));
+      waits = subst (λ xs. IsTallyOf xs f.waits)
+          (sym (given_more (wait_at node index) ms m ∙ ap (λ o. waits_of node index ms ++ option_to_list o) no_wait ∙ append-nil (waits_of node index ms))) is.waits;
       turns = let count = length-append ms (m ∷ []) in let before = is.turns in omega (arith, count, before);
     }

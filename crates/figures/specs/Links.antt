@@ -1,7 +1,9 @@
 -- What is counted of a link, over the events of a run.
-use Rattle.std.specs.Prelude.{◌≡◌, ◌+◌, ◌-◌, ◌*◌, ◌==◌, ◌||◌, ◌≤◌, ◌<◌, ℕ, Bool, true, false, not, max, if◌then◌else◌, List, [], ◌∷◌, length, map, count_by, is_some, slice_index_or}
-use Rattle.std.specs.List.{sum_by}
-use Rattle.aqm.specs.Queue.{waiting_in}
+use Rattle.std.specs.Prelude.{◌≡◌, ◌+◌, ◌-◌, ◌*◌, ◌==◌, ◌||◌, ◌≤◌, ◌<◌, ℕ, Bool, true, false, not, max, nat_lt, if◌then◌else◌, List, [], ◌∷◌, ◌++◌, length, map, count_by, is_some, slice_index_or, Option, Some, None, option_to_list}
+use Rattle.std.specs.List.{sum_by, filter_map}
+use Rattle.std.specs.Option.{option_map}
+use Rattle.packet_chain.specs.Stamped.{Stamped}
+use Rattle.aqm.specs.Queue.{waiting_in, taken_from}
 use Rattle.port.specs.declared.acts.Act.{Act}
 use Rattle.port.specs.declared.acts.Act.TheVariants.{Tx, Dropped}
 use Rattle.port.specs.declared.acts.DropReason.{DropReason}
@@ -14,6 +16,7 @@ use Rattle.node_core.specs.TraceLine.{TraceLine}
 use Rattle.table_run.specs.State.{State, part_at}
 use Rattle.figures.specs.Classes.{greatest}
 use Rattle.figures.specs.Moments.{Moment}
+use Rattle.figures.specs.Tallied.{IsTallyOf}
 use Rattle.figures.specs.declared.link.LinkFigures.{LinkFigures}
 
 -- the sending side of a link: the node that it leaves, and which of that node's outgoing links it is
@@ -75,6 +78,27 @@ tx_of node index ms = sum_by (λ m. tx_in (acts_at node index m)) ms
 abbrev pub bytes_of : ℕ → ℕ → List Moment → ℕ
 bytes_of node index ms = sum_by (λ m. bytes_in (acts_at node index m)) ms
 
+-- for how long the packet has waited that is given where a link takes from its queue at a moment, if one is: since it was offered
+abbrev pub wait_of_given : ℕ → PortState → Option ℕ
+wait_of_given now port = option_map (λ (cell : Stamped). now - cell.1) (taken_from port.queue now).given
+
+-- for how long the packet has waited that an event begins to send, if it does so: where the link is freed, so long as that which it is given; in any other event the packet is sent as it is offered
+abbrev pub wait_in : ℕ → PortState → TraceLine → Option ℕ → Option ℕ
+wait_in offered after line given = if frees after.link line.event then given else (if nat_lt 0 (tx_in (acts_between offered after line)) then Some 0 else None)
+
+abbrev pub wait_at : ℕ → ℕ → Moment → Option ℕ
+wait_at node index m =
+    if m.line.key.node == node then wait_in (port_at m.before node index).offered (port_at m.after node index) m.line (wait_of_given m.line.key.time (port_at m.before node index)) else None
+
+-- for how long each packet waited that began to be sent
+abbrev pub waits_of : ℕ → ℕ → List Moment → List ℕ
+waits_of node index ms = filter_map (wait_at node index) ms
+
+-- where an event frees a link of its node, the packet that is sent has waited so long
+abbrev pub TellsWait : State → TraceLine → State → Option ℕ → Type 0
+TellsWait before line after given =
+    (i : ℕ) → i < length (part_at before line.key.node).links → frees (port_at after line.key.node i).link line.event ≡ true → given ≡ wait_of_given line.key.time (port_at before line.key.node i)
+
 -- when the last event was run; an earlier moment before the first
 abbrev pub last_from : ℕ → List Moment → ℕ
 last_from since [] = since
@@ -110,6 +134,7 @@ pub record IsLinkBegun (port : PortState) (f : LinkFigures) : Type 0 where
   pub waited : f.waited ≡ 0
   pub busy_for : f.busy_for ≡ 0
   pub longest : f.longest ≡ waiting_at port
+  pub waits : IsTallyOf [] f.waits
   pub turns : f.turns ≡ 0
 
 -- the figures are those of a link after these events, the last state being s; what has passed since they were read last is added to the two that count time
@@ -126,10 +151,11 @@ pub record AreOfLink (ms : List Moment) (s : State) (node index : ℕ) (f : Link
   pub waited : f.waited + f.waiting * (last_from 0 ms - f.since) ≡ waited_of node index ms
   pub busy_for : f.busy_for + (if f.busy then last_from 0 ms - f.since else 0) ≡ busy_of node index ms
   pub longest : f.longest ≡ longest_of node index ms s
+  pub waits : IsTallyOf (waits_of node index ms) f.waits
   pub turns : f.turns ≤ length ms
 
--- what a link's figures are after an event at its node
-pub record IsLinkAfter (f : LinkFigures) (port : PortState) (line : TraceLine) (g : LinkFigures) : Type 0 where
+-- what a link's figures are after an event at its node; where the event frees a link, the packet that is sent has waited so long
+pub record IsLinkAfter (f : LinkFigures) (port : PortState) (line : TraceLine) (given : Option ℕ) (g : LinkFigures) : Type 0 where
   pub offered : g.offered ≡ port.offered
   pub waiting : g.waiting ≡ waiting_at port
   pub busy : g.busy ≡ is_some port.next_free
@@ -142,6 +168,7 @@ pub record IsLinkAfter (f : LinkFigures) (port : PortState) (line : TraceLine) (
   pub waited : g.waited ≡ f.waited + f.waiting * (line.key.time - f.since)
   pub busy_for : g.busy_for ≡ f.busy_for + (if f.busy then line.key.time - f.since else 0)
   pub longest : g.longest ≡ max f.longest (waiting_at port)
+  pub waits : (xs : List ℕ) → IsTallyOf xs f.waits → IsTallyOf (xs ++ option_to_list (wait_in f.offered port line given)) g.waits
   pub turns : g.turns ≡ f.turns + 1
 
 -- the links of a node, of each of which nothing is counted yet
@@ -150,8 +177,8 @@ pub record AreLinksBegun (links : List LinkState) (fs : List LinkFigures) : Type
   pub each : (i : ℕ) (other : LinkFigures) → i < length links → IsLinkBegun (link_at links i).port (slice_index_or fs i other)
 
 -- the links of a node, each after an event at it
-abbrev pub AreLinksAfter : List LinkFigures → List LinkState → TraceLine → List LinkFigures → Type 0
-AreLinksAfter old links line new = (i : ℕ) (other : LinkFigures) → i < length old → IsLinkAfter (slice_index_or old i other) (link_at links i).port line (slice_index_or new i other)
+abbrev pub AreLinksAfter : List LinkFigures → List LinkState → TraceLine → Option ℕ → List LinkFigures → Type 0
+AreLinksAfter old links line given new = (i : ℕ) (other : LinkFigures) → i < length old → IsLinkAfter (slice_index_or old i other) (link_at links i).port line given (slice_index_or new i other)
 
 -- the figures of all links of a node after these events
 pub record AreOfNode (ms : List Moment) (s : State) (node : ℕ) (fs : List LinkFigures) : Type 0 where

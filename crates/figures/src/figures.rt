@@ -12,6 +12,7 @@ ghost use Rattle.figures.specs.Links.{AreLinksBegun};
 use crate::links::{NodeLinks, count_links, links_begun};
 use crate::sender::SenderFigures;
 use crate::turn::Cause;
+use crate::waits::next_wait;
 use net_machine::{Net, StepFault};
 use node_core::{Event, Line, Node};
 use packet_chain::Kind;
@@ -107,6 +108,7 @@ impl Figures {
     ghost use Rattle.node_core.specs.TraceLine.{shown};
     ghost use Rattle.table_run.specs.State.{State, opening, step, due};
     ghost use Rattle.figures.specs.Moments.{Moment};
+    ghost use Rattle.figures.specs.Links.{TellsWait};
     ghost use Rattle.figures.specs.Figures.{AreAfter, AreOfLinks, AreFigures, Follows, AreOfRun, AreOfSomeRun};
     ghost use Rattle.scenario_image.specs.declared.parts.ScenarioParts.{ScenarioParts};
     ghost use Rattle.scenario_image.specs.Scenario.{IsScenario};
@@ -125,20 +127,22 @@ impl Figures {
         })
     }
 
-    /// The net has run one more event, of which the line tells.
-    pub fn after(&mut self, net: &Net, line: &Line)
+    // The net has run one more event, of which the line tells. Where it frees a link, the packet
+    // that is sent then has waited for `given`.
+    fn after(&mut self, net: &Net, line: &Line, given: Option<Time>)
         requires few { self.old.events < 1000000000000000 }
         requires moment { IsMoment line.now.key.time }
         requires order { self.old.last ≤ line.now.key.time }
         requires follows { Follows self.old (shown line.now) net.now.state }
+        requires given { IfSome given (λ wait. wait < 2 ^ 50) }
         ensures senders { (ms : List Moment) (s : State) → AreAfter ms s self.old → step s ≡ Some (shown line.now, net.now.state) → AreAfter (ms ++ record { before = s; line = shown line.now; after = net.now.state } ∷ []) net.now.state self.new }
-        ensures links { (ms : List Moment) (s : State) → AreFigures ms s self.old → step s ≡ Some (shown line.now, net.now.state) → AreOfLinks (ms ++ record { before = s; line = shown line.now; after = net.now.state } ∷ []) net.now.state self.new.links.items }
+        ensures links { (ms : List Moment) (s : State) → AreFigures ms s self.old → step s ≡ Some (shown line.now, net.now.state) → TellsWait s (shown line.now) net.now.state given → AreOfLinks (ms ++ record { before = s; line = shown line.now; after = net.now.state } ∷ []) net.now.state self.new.links.items }
         ensures last { self.new.last ≡ line.now.key.time }
         ensures events { self.new.events ≡ self.old.events + 1 }
     {
         self.events += 1;
         self.last = line.key.time;
-        count_links(&mut self.links, net.nodes(), line);
+        count_links(&mut self.links, net.nodes(), line, given);
         if let Some(cause) = cause_of(&line.event) {
             let place = usize::from(line.key.node);
             if let Some(sender) = sender_at(net.nodes(), place) {
@@ -147,6 +151,7 @@ impl Figures {
             }
         }
     }
+
     /// Runs the event of the least key below the end, where there is one, and tells of it in
     /// `line`, as [`Net::step_into`] does; the figures are then those of the run up to there.
     pub fn step(&mut self, net: &mut Net, line: &mut Line) -> Result<bool, StepFault>
@@ -159,9 +164,10 @@ impl Figures {
         ensures figures { (p : ScenarioParts) → AreOfRun p self.old net.old → AreOfRun p self.new net.new }
         ensures goes_on { AreOfSomeRun self.new net.new }
     {
+        let given = next_wait(net);
         let fired = net.step_into(line)?;
         if fired {
-            self.after(net, line);
+            self.after(net, line, given);
         }
         Ok(fired)
     }

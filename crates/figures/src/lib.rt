@@ -13,6 +13,7 @@ pub mod tally;
 mod tests;
 mod told;
 mod turn;
+mod waits;
 
 pub use figures::Figures;
 pub use link::LinkFigures;

@@ -1,13 +1,15 @@
 //! What is counted of a link.
-ghost use Rattle.std.specs.Prelude.{◌≡◌, ◌+◌, ◌-◌, ◌*◌, ◌<◌, ◌≤◌, ◌^◌, if◌then◌else◌};
+ghost use Rattle.std.specs.Prelude.{◌≡◌, ◌+◌, ◌-◌, ◌*◌, ◌<◌, ◌≤◌, ◌^◌, IfOk, IfSome, if◌then◌else◌};
 
-use crate::told::told_at;
+use crate::tally::Tally;
+use crate::told::{told_at, wait_in};
 use node_core::Line;
 use port::Port;
 use sim_time::Time;
+use std::alloc::{AllocError, Global};
 
 /// What is counted of a link.
-#[derive(Clone, Copy, Debug, PartialEq, Eq)]
+#[derive(Drop)]
 pub struct LinkFigures {
     /// How many packets were offered to it.
     pub offered: u128,
@@ -33,6 +35,9 @@ pub struct LinkFigures {
     pub busy_for: u128,
     /// The longest queue so far, in packets.
     pub longest: usize,
+    /// For how long each packet waited that began to be sent, in nanoseconds: 0 where it was sent
+    /// as it was offered.
+    pub waits: Tally,
     /// How many events were run at its node.
     pub turns: u64,
     ghost lost_most: { lost ≤ turns * 2 ^ 64 },
@@ -42,6 +47,7 @@ pub struct LinkFigures {
     ghost bytes_most: { bytes ≤ turns * (2 ^ 64 * 9040) },
     ghost waited_most: { waited ≤ since * 2 ^ 64 },
     ghost busy_most: { busy_for ≤ since },
+    ghost waits_most: { waits.count ≤ turns },
 }
 
 // For how long a link was busy of so many nanoseconds: for all of them, or not at all.
@@ -66,10 +72,10 @@ impl LinkFigures {
     ghost use Rattle.figures.specs.Links.{IsLinkBegun, IsLinkAfter};
 
     /// Nothing is counted yet of a link.
-    pub fn new(port: &Port) -> LinkFigures
-        ensures { IsLinkBegun port.now result }
+    pub fn new(alloc: Global, port: &Port) -> Result<LinkFigures, AllocError>
+        ensures { IfOk result (IsLinkBegun port.now) }
     {
-        LinkFigures {
+        Ok(LinkFigures {
             offered: port.offered(),
             waiting: port.queue().len(),
             busy: port.next_free().is_some(),
@@ -82,21 +88,26 @@ impl LinkFigures {
             waited: 0,
             busy_for: 0,
             longest: port.queue().len(),
+            waits: Tally::new(alloc)?,
             turns: 0,
-        }
+        })
     }
 
-    /// An event was run at its node, of which the line tells, and it is `port` now.
-    pub fn after(&mut self, port: &Port, line: &Line)
+    /// An event was run at its node, of which the line tells, and it is `port` now. Where the event
+    /// frees a link, the packet that is sent then has waited for `given`.
+    pub fn after(&mut self, port: &Port, line: &Line, given: Option<Time>)
         requires few { self.old.turns < 1000000000000000 }
         requires moment { IsMoment line.now.key.time }
         requires order { self.old.since ≤ line.now.key.time }
-        ensures { IsLinkAfter self.old port.now (shown line.now) self.new }
+        requires given { IfSome given (λ wait. wait < 2 ^ 50) }
+        ensures { IsLinkAfter self.old port.now (shown line.now) given self.new }
     {
         let now = line.key.time;
         let passed = now - self.since;
         let told = told_at(self.offered, port, line);
+        let wait = wait_in(port, line, told.sent, given);
         self.turns += 1;
+        self.waits.note_some(wait);
         self.since = now;
         self.waited += area(self.waiting, passed);
         self.busy_for += u128::from(busy_for(self.busy, passed));
@@ -110,6 +121,7 @@ impl LinkFigures {
         self.busy = port.next_free().is_some();
         self.longest = self.longest.max(self.waiting);
     }
+
     /// How many packets waited, times for how many nanoseconds, up to a moment.
     pub fn waited_by(&self, end: Time) -> u128
         requires moment { IsMoment end }

@@ -1,5 +1,5 @@
 //! What is counted of the links that leave a node.
-ghost use Rattle.std.specs.Prelude.{◌≡◌, ◌≢◌, ◌<◌, ◌≤◌, ℕ, length, slice_index_or, IfOk};
+ghost use Rattle.std.specs.Prelude.{◌≡◌, ◌≢◌, ◌<◌, ◌≤◌, ◌^◌, ℕ, length, slice_index_or, IfOk, IfSome};
 ghost use Rattle.sim_time.specs.Moment.{IsMoment};
 ghost use Rattle.node_core.specs.Part.{link_at};
 ghost use Rattle.node_core.specs.TraceLine.{shown};
@@ -11,6 +11,7 @@ ghost use Rattle.figures.specs.Links.{AreLinksBegun, AreLinksAfter};
 use crate::link::LinkFigures;
 use node_core::link::Link;
 use node_core::{Line, Node};
+use sim_time::Time;
 use std::alloc::{AllocError, Global};
 
 /// What is counted of the links that leave a node.
@@ -26,41 +27,45 @@ pub fn links_begun(alloc: Global, links: &[Link]) -> Result<Vec<LinkFigures>, Al
 {
     let mut all = Vec::new(alloc);
     for link in links {
-        all.push(LinkFigures::new(link.port()))?;
+        all.push(LinkFigures::new(alloc, link.port())?)?;
     }
     Ok(all)
 }
 
-/// An event was run at the node of some links, of which the line tells, and they are so now.
-pub fn links_after(figures: &mut [LinkFigures], links: &[Link], line: &Line)
+/// An event was run at the node of some links, of which the line tells, and they are so now. Where
+/// it frees one of them, the packet that is sent then has waited for `given`.
+pub fn links_after(figures: &mut [LinkFigures], links: &[Link], line: &Line, given: Option<Time>)
     requires size { length figures.old ≡ length links.now }
     requires few { (i : ℕ) (other : LinkFigures) → i < length figures.old → (slice_index_or figures.old i other).turns < 1000000000000000 }
     requires moment { IsMoment line.now.key.time }
     requires order { (i : ℕ) (other : LinkFigures) → i < length figures.old → (slice_index_or figures.old i other).since ≤ line.now.key.time }
+    requires given { IfSome given (λ wait. wait < 2 ^ 50) }
     ensures size_stays { length figures.new ≡ length figures.old }
-    ensures figures { AreLinksAfter figures.old links.now (shown line.now) figures.new }
+    ensures figures { AreLinksAfter figures.old links.now (shown line.now) given figures.new }
 {
     for i in 0..figures.len() {
         let figures = &mut figures[i];
-        figures.after(links[i].port(), line);
+        figures.after(links[i].port(), line, given);
     }
 }
 
-/// An event was run, of which the line tells, and the nodes are so now.
-pub fn count_links(all: &mut Vec<NodeLinks>, nodes: &[Node], line: &Line)
+/// An event was run, of which the line tells, and the nodes are so now. Where it frees a link, the
+/// packet that is sent then has waited for `given`.
+pub fn count_links(all: &mut Vec<NodeLinks>, nodes: &[Node], line: &Line, given: Option<Time>)
     requires size { length all.old.items ≡ length nodes.now }
     requires sizes { (node : ℕ) (other : NodeLinks) → node < length all.old.items → length (slice_index_or all.old.items node other).figures.items ≡ length (node_at nodes.now node).part.links }
     requires few { (node : ℕ) (other : NodeLinks) (i : ℕ) (link : LinkFigures) → node < length all.old.items → i < length (slice_index_or all.old.items node other).figures.items → (slice_index_or (slice_index_or all.old.items node other).figures.items i link).turns < 1000000000000000 }
     requires moment { IsMoment line.now.key.time }
     requires order { (node : ℕ) (other : NodeLinks) (i : ℕ) (link : LinkFigures) → node < length all.old.items → i < length (slice_index_or all.old.items node other).figures.items → (slice_index_or (slice_index_or all.old.items node other).figures.items i link).since ≤ line.now.key.time }
+    requires given { IfSome given (λ wait. wait < 2 ^ 50) }
     ensures size { length all.new.items ≡ length all.old.items }
     ensures sizes { (other : NodeLinks) → length (slice_index_or all.new.items line.now.key.node other).figures.items ≡ length (slice_index_or all.old.items line.now.key.node other).figures.items }
-    ensures here { (other : NodeLinks) → line.now.key.node < length all.old.items → AreLinksAfter (slice_index_or all.old.items line.now.key.node other).figures.items (node_at nodes.now line.now.key.node).part.links (shown line.now) (slice_index_or all.new.items line.now.key.node other).figures.items }
+    ensures here { (other : NodeLinks) → line.now.key.node < length all.old.items → AreLinksAfter (slice_index_or all.old.items line.now.key.node other).figures.items (node_at nodes.now line.now.key.node).part.links (shown line.now) given (slice_index_or all.new.items line.now.key.node other).figures.items }
     ensures elsewhere { (node : ℕ) (other : NodeLinks) → node ≢ line.now.key.node → slice_index_or all.new.items node other ≡ slice_index_or all.old.items node other }
 {
     let place = usize::from(line.key.node);
     if place < all.len() {
         let links = &mut all[place];
-        links_after(&mut links.figures, nodes[place].ports(), line);
+        links_after(&mut links.figures, nodes[place].ports(), line, given);
     }
 }

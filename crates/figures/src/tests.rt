@@ -110,3 +110,25 @@ fn a_segment_that_waits(rt: HostRuntime) -> Result<(), Fail> {
     assert_eq!(rt; link.bytes, 2_080);
     Ok(())
 }
+
+/// Three segments leave one behind the other: the first is sent as it is offered, the second waits
+/// for 1.04 ms, and the third for twice as long. The median is told by its class, which is that of
+/// the values from 63 to 64 times 2^14, and no percentile is above the greatest value.
+#[test]
+fn waits_of_three_segments(rt: HostRuntime) -> Result<(), Fail> {
+    let figures = figures_of(rt.alloc(), 3, &[])?;
+    let links = figures.links.get(0).ok_or("links")?;
+    let link = links.figures.get(0).ok_or("link")?;
+    let waits = &link.waits;
+    assert!(rt; waits.count == 3 && link.sent == 3);
+    assert_eq!(rt;
+        (waits.least(), waits.greatest()),
+        (Some(0), Some(2_080_000))
+    );
+    assert_eq!(rt; waits.percentile(50), Some(64 * 16_384 - 1));
+    assert_eq!(rt; waits.percentile(99), Some(2_080_000));
+    let links = figures.links.get(1).ok_or("links")?;
+    let back = links.figures.get(0).ok_or("link")?;
+    assert_eq!(rt; (back.waits.count, back.waits.greatest()), (3, Some(0)));
+    Ok(())
+}

@@ -1,11 +1,12 @@
 //! What an event's acts tell of a link.
-ghost use Rattle.std.specs.Prelude.{◌≡◌, ◌*◌, ◌≤◌, ◌^◌, length};
+ghost use Rattle.std.specs.Prelude.{◌≡◌, ◌*◌, ◌≤◌, ◌<◌, ◌^◌, ℕ, IfSome, length};
 ghost use Rattle.port.specs.declared.acts.DropReason.TheVariants.{Lost, Full, Codel};
 ghost use Rattle.node_core.specs.TraceLine.{shown};
-ghost use Rattle.figures.specs.Links.{frees as frees_is, acts_between, dropped_in, tx_in, bytes_in};
+ghost use Rattle.figures.specs.Links.{frees as frees_is, acts_between, dropped_in, tx_in, bytes_in, wait_in as wait_is};
 
 use node_core::{Act, DropReason, Event, Line};
 use port::Port;
+use sim_time::Time;
 
 /// What the acts at a link tell of it.
 #[derive(Clone, Copy, Debug, PartialEq, Eq)]
@@ -75,5 +76,21 @@ pub fn told_at(offered: u128, port: &Port, line: &Line) -> Told
         told_by(line.acts.as_slice())
     } else {
         told_by(&[])
+    }
+}
+
+/// For how long the packet has waited that an event begins to send over a link of its node, if it
+/// does so: where the link is freed, `given`, and where as many are sent of those that are offered, 0.
+pub fn wait_in(port: &Port, line: &Line, sent: u64, given: Option<Time>) -> Option<Time>
+    requires given { IfSome given (λ wait. wait < 2 ^ 50) }
+    ensures value { (offered : ℕ) → sent ≡ tx_in (acts_between offered port.now (shown line.now)) → result ≡ wait_is offered port.now (shown line.now) given }
+    ensures most { IfSome result (λ wait. wait < 2 ^ 50) }
+{
+    if frees(&line.event, port.link()) {
+        given
+    } else if sent > 0 {
+        Some(0)
+    } else {
+        None
     }
 }

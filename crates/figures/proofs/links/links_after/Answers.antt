@@ -38,8 +38,8 @@ loop-i-preserved c =
     let within : at < length old = omega (arith, c.loop-i-test.true, size) in
     let link : link_at c.args.links.now at ≡ c.index-links-i.result = sym (get_or_read c.args.links.now at c.index-links-i.result (omega (arith, within, c.requires.size)) c.index-links-i.is no_link) in
     let port : c.port.result.now ≡ (link_at c.args.links.now at).port = c.port.ensures.value ∙ ap (λ (l : LinkState). l.port) (sym link) in
-    let after : IsLinkAfter x (link_at c.args.links.now at).port (shown c.args.line.now) y = subst (λ (p : PortState). IsLinkAfter x p (shown c.args.line.now) y) port (subst (λ v. IsLinkAfter v c.port.result.now (shown c.args.line.now) y) (sym c.index-figures-i.is) c.after.ensures) in
+    let after : IsLinkAfter x (link_at c.args.links.now at).port (shown c.args.line.now) c.args.given y = subst (λ (p : PortState). IsLinkAfter x p (shown c.args.line.now) c.args.given y) port (subst (λ v. IsLinkAfter v c.port.result.now (shown c.args.line.now) c.args.given y) (sym c.index-figures-i.is) c.after.ensures) in
     record {
-      done = one_more old now at x y size within c.index-figures-i.is c.loop-i.invariant.rest (λ i f g. IsLinkAfter f (link_at c.args.links.now i).port (shown c.args.line.now) g) c.loop-i.invariant.done after;
+      done = one_more old now at x y size within c.index-figures-i.is c.loop-i.invariant.rest (λ i f g. IsLinkAfter f (link_at c.args.links.now i).port (shown c.args.line.now) c.args.given g) c.loop-i.invariant.done after;
       rest = still old now at x y size within c.index-figures-i.is c.loop-i.invariant.rest;
     }

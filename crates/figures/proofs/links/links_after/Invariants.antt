@@ -8,6 +8,6 @@ use Rattle.figures.proofs.links.links_after.Given as goal
 -- of each link so far the event is counted, and the others are as they were
 abbrev pub invariant-loop-i : goal.invariant-loop-i
 invariant-loop-i l = record {
-  done : (i : ℕ) (other : LinkFigures) → i < l.i → IsLinkAfter (slice_index_or l.fn.figures i other) (link_at l.links i).port (shown l.line) (slice_index_or l.figures i other);
+  done : (i : ℕ) (other : LinkFigures) → i < l.i → IsLinkAfter (slice_index_or l.fn.figures i other) (link_at l.links i).port (shown l.line) l.given (slice_index_or l.figures i other);
   rest : (i : ℕ) (other : LinkFigures) → l.i ≤ i → slice_index_or l.figures i other ≡ slice_index_or l.fn.figures i other;
 }

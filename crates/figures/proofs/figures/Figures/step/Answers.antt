@@ -4,11 +4,15 @@ use Rattle.table_run.specs.State.{State}
 use Rattle.figures.specs.declared.figures.Figures.{Figures}
 use Rattle.net_machine.specs.declared.net.StepFault.{StepFault}
 use Rattle.net_machine.specs.declared.net.StepFault.TheVariants.{CountFull}
-use Rattle.figures.proofs.Along.{step_run, together, is_moment, is_later, has_stepped, was_due}
+use Rattle.figures.proofs.Along.{step_run, together, end_is_moment, is_moment, is_later, has_stepped, was_due}
+use Rattle.figures.proofs.Freed.{tells_in_run}
 use Rattle.figures.proofs.figures.Figures.step.Goals as goal
 
 fired_is_no_fault : (fired : Bool) (fault : StepFault) → (let told : Result Bool StepFault = Ok fired in told ≡ Err fault) → ⊥
 fired_is_no_fault fired fault is = cc
+
+pub next_wait-given-requires : goal.next_wait-given-requires
+next_wait-given-requires c = end_is_moment c.args.self.now c.args.net.now c.requires
 
 pub after-requires-clause-few : goal.after-requires-clause-few
 after-requires-clause-few c =
@@ -43,7 +47,10 @@ returns-then-fired-clause-figures c = λ p of.
     let f : Figures = c.args.self.now in
     step_run p c.args.net.now c.step_into.new.self line f c.after.new.self of
     (has_stepped c.args.net.now c.step_into.new.self line c.in_ok-fired.fired c.if-fired.true c.in_ok-fired.ensures.ok) c.after.ensures.events c.after.ensures.last
-    (λ ms s is next. together ms s line t f c.after.new.self is (c.after.ensures.senders ms s is.senders next) (c.after.ensures.links ms s is next) c.after.ensures.events c.after.ensures.last)
+    (λ ms is next.
+    let before : State = c.args.net.now.state in
+    together ms before line t f c.after.new.self is (c.after.ensures.senders ms before is.senders next)
+    (c.after.ensures.links ms before is next (tells_in_run f c.args.net.now line t c.next_wait-given.result c.requires next c.next_wait-given.ensures.value)) c.after.ensures.events c.after.ensures.last)
 
 pub returns-then-fired-clause-goes_on : goal.returns-then-fired-clause-goes_on
 returns-then-fired-clause-goes_on c =
