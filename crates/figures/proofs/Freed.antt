@@ -32,7 +32,7 @@ same_number ls ms i same =
     ap (λ (l : LinkState). l.port.link) (sym (get_or-map afresh ls i no_link) ∙ ap (λ xs. get_or xs i (afresh no_link)) same ∙ get_or-map afresh ms i no_link)
 
 module _ (p : ScenarioParts) (is_scenario : IsScenario p) (n : ℕ) (lines : List TraceLine) (s : State) (comes : ComesTo p n lines s) (line : TraceLine) (t : State) (next : step s ≡ Some (line, t)) where
-  abbrev before : IsSoundRun p lines s
+  abbrev pub before : IsSoundRun p lines s
   before = sound_run p n lines s is_scenario comes
 
   abbrev after : IsSoundRun p (lines ++ line ∷ []) t

@@ -17,3 +17,8 @@ pub mod Freed
 pub mod AllLinks
 pub mod Pushed
 pub mod Again
+pub mod Offerings
+pub mod Passages
+pub mod Balance
+pub mod LinkLaws
+pub mod Delivered

@@ -17,6 +17,7 @@ use Rattle.figures.proofs.Rows.{after_event, row_keeps, row_links}
 -- a step is that of the event that is due
 pub record IsStep (s : State) (line : TraceLine) (t : State) : Type 0 where
   pub parts : t.parts ≡ set s.parts line.key.node (row (part_at s line.key.node) line.key line.event).part
+  pub acts : line.acts ≡ (row (part_at s line.key.node) line.key line.event).acts
 
 of_due : (s : State) (o : Option (Key × Event)) (line : TraceLine) (t : State) → option_map (step_at s) o ≡ Some (line, t) → IsStep s line t
 of_due s None line t e = absurd (not_some e)
@@ -29,6 +30,7 @@ of_due s (Some entry) line t e =
       parts = ap (λ (x : TraceLine × State). x.1.parts) (sym same)
           ∙ ap (λ (k : Key). set s.parts k.node (row (part_at s k.node) k entry.1).part) key
           ∙ ap (λ (v : Event). set s.parts line.key.node (row (part_at s line.key.node) line.key v).part) event;
+      acts = ap (λ (l : TraceLine). l.acts) (sym its_line) ∙ ap (λ (k : Key). (row (part_at s k.node) k entry.1).acts) key ∙ ap (λ (v : Event). (row (part_at s line.key.node) line.key v).acts) event;
     }
 
 pub is_step : (s : State) (line : TraceLine) (t : State) → step s ≡ Some (line, t) → IsStep s line t
@@ -59,6 +61,11 @@ part_elsewhere s line t is node other =
 
 pub sender_elsewhere : (s : State) (line : TraceLine) (t : State) → IsStep s line t → (node : ℕ) → node ≢ line.key.node → sender_in (part_at t node).role ≡ sender_in (part_at s node).role
 sender_elsewhere s line t is node other = ap (λ (p : PartState). sender_in p.role) (part_elsewhere s line t is node other)
+
+-- the node of the event is what its row leaves
+pub part_here : (s : State) (line : TraceLine) (t : State) → IsStep s line t → line.key.node < length s.parts → part_at t line.key.node ≡ (row (part_at s line.key.node) line.key line.event).part
+part_here s line t is within =
+    ap (λ ps. get_or ps line.key.node no_part) is.parts ∙ get_or-set_same s.parts line.key.node (row (part_at s line.key.node) line.key line.event).part no_part within
 
 -- each node keeps its number of links
 pub links_stay : (s : State) (line : TraceLine) (t : State) → IsStep s line t → (node : ℕ) → node < length s.parts → length (part_at t node).links ≡ length (part_at s node).links

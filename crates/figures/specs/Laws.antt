@@ -1,5 +1,16 @@
--- What is said of percentiles.
-use Rattle.std.specs.Prelude.{◌≤◌, ◌<◌, ◌+◌, ◌*◌, ◌^◌, ℕ, nat_lt, nat_le, List, length, count_by, All, Contains, IfSome}
+-- What is said of percentiles, and of what is counted of every run.
+use Rattle.std.specs.Prelude.{◌≡◌, ◌≤◌, ◌<◌, ◌+◌, ◌*◌, ◌^◌, ℕ, nat_lt, nat_le, List, length, count_by, All, Contains, IfSome, Some}
+use Rattle.std.specs.List.{slice_get}
+use Rattle.port.specs.declared.acts.DropReason.TheVariants.{Lost, Full, Codel}
+use Rattle.scenario_image.specs.declared.parts.FlowPart.{FlowPart}
+use Rattle.scenario_image.specs.declared.parts.ScenarioParts.{ScenarioParts}
+use Rattle.scenario_image.specs.Scenario.{IsScenario}
+use Rattle.node_core.specs.TraceLine.{TraceLine}
+use Rattle.table_run.specs.State.{State, part_at, opening}
+use Rattle.table_run.specs.Flow.{received_next}
+use Rattle.table_run.specs.Laws.{ComesTo}
+use Rattle.figures.specs.Moments.{moments}
+use Rattle.figures.specs.Links.{port_at, waiting_at, dropped_of, tx_of, waits_of}
 use Rattle.figures.specs.Turns.{Turn}
 use Rattle.figures.specs.Senders.{sent_of, again_in_recovery_of, again_otherwise_of}
 use Rattle.figures.specs.Classes.{rank_of, percentile, least_of, greatest_of}
@@ -24,3 +35,22 @@ PercentilesRise =
 -- no more is sent again than is sent
 abbrev pub SentAgainIsSent : Type 0
 SentAgainIsSent = (ts : List Turn) → again_in_recovery_of ts + again_otherwise_of ts ≤ sent_of ts
+
+-- P holds of each link of each state that a run of a scenario comes to, by the node that it leaves and its place among that node's links
+abbrev pub AtEachLink : (ScenarioParts → ℕ → State → ℕ → ℕ → Type 0) → Type 0
+AtEachLink P = (p : ScenarioParts) (n : ℕ) (lines : List TraceLine) (s : State) → IsScenario p → ComesTo p n lines s → (node index : ℕ) → index < length (part_at s node).links → P p n s node index
+
+-- the packets that were offered to a link are those that were lost, dropped as the queue was full, dropped by CoDel and sent, and those that wait
+abbrev pub OfferedArePlaced : Type 0
+OfferedArePlaced =
+    AtEachLink (λ p n s node index. let ms = moments (opening p) n in
+    (port_at s node index).offered ≡ dropped_of Lost node index ms + dropped_of Full node index ms + dropped_of Codel node index ms + tx_of node index ms + waiting_at (port_at s node index))
+
+-- there are as many waits as packets that were sent
+abbrev pub EachSentHasItsWait : Type 0
+EachSentHasItsWait = AtEachLink (λ p n s node index. length (waits_of node index (moments (opening p) n)) ≡ tx_of node index (moments (opening p) n))
+
+-- no receiver has more than all bytes of its flow
+abbrev pub DeliveredIsOfTheFlow : Type 0
+DeliveredIsOfTheFlow =
+    (p : ScenarioParts) (n : ℕ) (lines : List TraceLine) (s : State) → IsScenario p → ComesTo p n lines s → (number : ℕ) (flow : FlowPart) → slice_get p.flows number ≡ Some flow → received_next s flow ≤ flow.segments * flow.mss

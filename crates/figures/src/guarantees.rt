@@ -1,6 +1,6 @@
 //! What holds of all figures. Each function is a law: its contract is the statement, and its body is
 //! empty.
-ghost use Rattle.figures.specs.Laws.{PercentilesAreNear, PercentilesRise, SentAgainIsSent};
+ghost use Rattle.figures.specs.Laws.{PercentilesAreNear, PercentilesRise, SentAgainIsSent, OfferedArePlaced, EachSentHasItsWait, DeliveredIsOfTheFlow};
 
 /// A percentile that is answered is no less than the exact one, and at most a 32nd above it.
 #[tactic(auto, using(crate::proofs::Near::percentiles_near))]
@@ -19,4 +19,24 @@ pub fn percentiles_rise()
 #[tactic(auto, using(crate::proofs::Again::sent_again_is_sent))]
 pub fn no_more_is_sent_again_than_sent()
     ensures { SentAgainIsSent }
+{}
+
+/// In each state of each run of a scenario, and at each link: the packets that were offered are those
+/// that were lost, dropped as the queue was full, dropped by CoDel and sent, and those that wait.
+#[tactic(auto, using(crate::proofs::LinkLaws::offered_are_placed))]
+pub fn every_packet_is_counted_once()
+    ensures { OfferedArePlaced }
+{}
+
+/// In each state of each run of a scenario, and at each link: there are as many waits as packets that
+/// were sent.
+#[tactic(auto, using(crate::proofs::LinkLaws::each_sent_has_its_wait))]
+pub fn each_packet_sent_has_its_wait()
+    ensures { EachSentHasItsWait }
+{}
+
+/// In each state of each run of a scenario no receiver has more than all bytes of its flow.
+#[tactic(auto, using(crate::proofs::Delivered::delivered_is_of_the_flow))]
+pub fn no_more_is_delivered_than_the_flow()
+    ensures { DeliveredIsOfTheFlow }
 {}
