@@ -34,7 +34,7 @@ given_by : (dropped : List Stamped) (given : Option Stamped) (rest all : List St
 given_by dropped None rest all front none = sym (ap (λ xs. slice_get xs (length dropped)) (none refl) ∙ none_of_none (length dropped))
 given_by dropped (Some x) rest all front none = sym (ap (λ xs. slice_get xs (length dropped)) (sym front) ∙ behind dropped x rest)
 
-given_is : (q : Queue) (now : ℕ) → (taken_from q now).given ≡ slice_get (waiting_in q) (length (taken_from q now).dropped)
+pub given_is : (q : Queue) (now : ℕ) → (taken_from q now).given ≡ slice_get (waiting_in q) (length (taken_from q now).dropped)
 given_is q now = let t = taken_from q now in given_by t.dropped t.given (waiting_in t.queue) (waiting_in q) (takes_the_front q now) (gives_what_waits q now).0
 
 -- its wait is told by the entry that a walk gives

@@ -22,3 +22,4 @@ pub mod Passages
 pub mod Balance
 pub mod LinkLaws
 pub mod Delivered
+pub mod AtOnce

@@ -1,7 +1,12 @@
 -- What is said of percentiles, and of what is counted of every run.
-use Rattle.std.specs.Prelude.{◌≡◌, ◌≤◌, ◌<◌, ◌+◌, ◌*◌, ◌^◌, ℕ, nat_lt, nat_le, List, length, count_by, All, Contains, IfSome, Some}
+use Rattle.std.specs.Prelude.{◌≡◌, ◌≤◌, ◌<◌, ◌+◌, ◌*◌, ◌^◌, ℕ, nat_lt, nat_le, false, List, length, count_by, All, Contains, IfSome, Some, None}
 use Rattle.std.specs.List.{slice_get}
+use Rattle.packet_chain.specs.declared.packet.Packet.{Packet}
+use Rattle.aqm.specs.DropTail.{is_full}
+use Rattle.aqm.specs.Queue.{fifo_of}
 use Rattle.port.specs.declared.acts.DropReason.TheVariants.{Lost, Full, Codel}
+use Rattle.port.specs.Port.{PortState, with_packet}
+use Rattle.port.specs.Laws.{NothingWaitsWhereIdle}
 use Rattle.scenario_image.specs.declared.parts.FlowPart.{FlowPart}
 use Rattle.scenario_image.specs.declared.parts.ScenarioParts.{ScenarioParts}
 use Rattle.scenario_image.specs.Scenario.{IsScenario}
@@ -10,7 +15,7 @@ use Rattle.table_run.specs.State.{State, part_at, opening}
 use Rattle.table_run.specs.Flow.{received_next}
 use Rattle.table_run.specs.Laws.{ComesTo}
 use Rattle.figures.specs.Moments.{moments}
-use Rattle.figures.specs.Links.{port_at, waiting_at, dropped_of, tx_of, waits_of}
+use Rattle.figures.specs.Links.{port_at, waiting_at, dropped_of, tx_of, wait_of_given, waits_of}
 use Rattle.figures.specs.Turns.{Turn}
 use Rattle.figures.specs.Senders.{sent_of, again_in_recovery_of, again_otherwise_of}
 use Rattle.figures.specs.Classes.{rank_of, percentile, least_of, greatest_of}
@@ -49,6 +54,11 @@ OfferedArePlaced =
 -- there are as many waits as packets that were sent
 abbrev pub EachSentHasItsWait : Type 0
 EachSentHasItsWait = AtEachLink (λ p n s node index. length (waits_of node index (moments (opening p) n)) ≡ tx_of node index (moments (opening p) n))
+
+-- where a link is idle nothing waits at it, and a packet that its queue takes in is given at once: it has waited for 0
+abbrev pub SentAsOffered : Type 0
+SentAsOffered =
+    (now : ℕ) (port : PortState) (packet : Packet) → NothingWaitsWhereIdle port → port.next_free ≡ None → is_full (fifo_of port.queue) ≡ false → wait_of_given now (with_packet now port packet) ≡ Some 0
 
 -- no receiver has more than all bytes of its flow
 abbrev pub DeliveredIsOfTheFlow : Type 0

@@ -1,6 +1,6 @@
 //! What holds of all figures. Each function is a law: its contract is the statement, and its body is
 //! empty.
-ghost use Rattle.figures.specs.Laws.{PercentilesAreNear, PercentilesRise, SentAgainIsSent, OfferedArePlaced, EachSentHasItsWait, DeliveredIsOfTheFlow};
+ghost use Rattle.figures.specs.Laws.{PercentilesAreNear, PercentilesRise, SentAgainIsSent, OfferedArePlaced, EachSentHasItsWait, SentAsOffered, DeliveredIsOfTheFlow};
 
 /// A percentile that is answered is no less than the exact one, and at most a 32nd above it.
 #[tactic(auto, using(crate::proofs::Near::percentiles_near))]
@@ -33,6 +33,13 @@ pub fn every_packet_is_counted_once()
 #[tactic(auto, using(crate::proofs::LinkLaws::each_sent_has_its_wait))]
 pub fn each_packet_sent_has_its_wait()
     ensures { EachSentHasItsWait }
+{}
+
+/// At an idle link, where nothing waits, a packet that the queue takes in is given at once, after a wait
+/// of 0.
+#[tactic(auto, using(crate::proofs::AtOnce::sent_as_offered))]
+pub fn a_packet_sent_as_offered_has_not_waited()
+    ensures { SentAsOffered }
 {}
 
 /// In each state of each run of a scenario no receiver has more than all bytes of its flow.
