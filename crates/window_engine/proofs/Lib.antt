@@ -12,3 +12,4 @@ pub mod Writing
 pub mod Between
 pub mod TooMany
 pub mod Unwritten
+pub mod Filled

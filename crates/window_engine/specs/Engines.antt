@@ -1,5 +1,5 @@
 -- A run by windows, as it goes on from edge to edge: what the engine's calls commit.
-use Rattle.std.specs.Prelude.{ℕ, ◌+◌, ◌≡◌, ◌≢◌, min, Bool, List, length, Option, None, Some, option_map, Result, Err, OnOk}
+use Rattle.std.specs.Prelude.{ℕ, ◌+◌, ◌<◌, ◌≡◌, ◌≢◌, min, Bool, List, length, Option, None, Some, option_map, Result, Err, OnOk}
 use Rattle.std.specs.Io.KnownBytes.{Appends}
 use Rattle.sim_time.specs.declared.key.Key.{Key}
 use Rattle.ranking.specs.Keyed.{next_key}
@@ -34,6 +34,12 @@ NoneBelow moment s = due (up_to moment s) ≡ None
 -- when the least pending event is
 abbrev pub next_time : State → Option ℕ
 next_time s = option_map (λ (k : Key). k.time) (next_key s.pending)
+
+-- the least pending event is at this moment, below another and the run's end
+pub record IsNext (until : ℕ) (s : State) (time : ℕ) : Type 0 where
+  pub least : next_time s ≡ Some time
+  pub within : time < s.end
+  pub below : time < until
 
 -- where the next window ends: the least of the least pending moment and the lookahead together, where both are there, the run's end and a bound
 abbrev pub window_end_by : EngineValue → ℕ → ℕ

@@ -1,4 +1,4 @@
-//! One window, run by workers.
+//! One window, run by workers or by the calling thread alone.
 ghost use Rattle.std.specs.Prelude.{◌≡◌, ◌+◌, ◌<◌, ◌≤◌, ◌^◌, ℕ, All, List, length, map as each, min, true, false, None, IfOk, IfErr, OnOk};
 ghost use Rattle.table_run.specs.State.{State, due};
 ghost use Rattle.window_core.specs.Full.{HasTooMany};
@@ -10,7 +10,7 @@ ghost use Rattle.window_core.specs.Window.{IsFrom, HasGoneOn, HasTurned, states_
 ghost use Rattle.window_core.specs.Windows.{AreBelow, all_done, all_lines};
 ghost use Rattle.work_board.specs.Pieces.{PieceState};
 ghost use Rattle.window_engine.specs.Edges.{IsAtEdge, StaysNet, edge_of, reached_in};
-ghost use Rattle.window_engine.specs.Engines.{GoesOn, NoneBelow};
+ghost use Rattle.window_engine.specs.Engines.{GoesOn, IsNext, NoneBelow};
 ghost use Rattle.window_engine.specs.Outcomes.{IsOfWorkers};
 ghost use Rattle.window_engine.specs.Parts.{AreRight};
 ghost use Rattle.window_engine.specs.Laid.{laid_for, HasRun, HasFullGroup, IsDoneBy};
@@ -118,6 +118,22 @@ fn run_apart<G: Gate, R: Threads + Wait + Sync>(
     Ok(())
 }
 
+/// Runs the groups on the calling thread, up to the window's end or a bound that is sooner. Each is
+/// then done.
+fn run_alone<G: Gate>(gate: &G, bound: Time, window: &mut Window) -> Result<(), EngineFault>
+    requires edge { IsAtEdge window.old }
+    requires few { groups_of window.old.entries ≤ 64 }
+    ensures done { OnOk result (IsDoneBy bound window.old window.new) }
+    ensures stays { StaysNet window.old window.new }
+    ensures fault { IfErr result (IsOfWorkers 1) }
+    ensures full { IfErr result (λ fault. fault ≡ EngineFault.CountFull → HasTooMany (reached_in window.old)) }
+{
+    let _began = window.position();
+    window.limit(bound);
+    let _limited = window.position();
+    run_in_turn(gate, window)
+}
+
 /// Runs the groups up to the window's end, or a moment that is sooner: by workers, which then make
 /// the text of a sheaf's lines, or where there is one alone on the calling thread, which makes none.
 /// Each is then done. After a fault the groups may be out.
@@ -142,18 +158,17 @@ pub(crate) fn run_groups<G: Gate, R: Threads + Wait + Sync>(
     ensures full { IfErr result (λ fault. fault ≡ EngineFault.CountFull → HasTooMany (reached_in window.old)) }
     ensures right { AreRight sheaf.now scribes.new.items }
 {
+    if workers == 1 {
+        return run_alone(gate, until, window);
+    }
     let _began = window.position();
     window.limit(until);
     let _limited = window.position();
-    if workers == 1 {
-        run_in_turn(gate, window)
-    } else {
-        run_apart(rt, alloc, workers, gate, window, sheaf, scribes)
-    }
+    run_apart(rt, alloc, workers, gate, window, sheaf, scribes)
 }
 
 /// The same, with no text to make.
-fn run_groups_alone<G: Gate, R: Threads + Wait + Sync>(
+fn run_without_text<G: Gate, R: Threads + Wait + Sync>(
     rt: &R,
     alloc: Global,
     workers: usize,
@@ -172,6 +187,26 @@ fn run_groups_alone<G: Gate, R: Threads + Wait + Sync>(
     let none = Sheaf::new(alloc, 1);
     let mut scribes = Vec::new(alloc);
     run_groups(rt, alloc, workers, gate, until, window, &none, &mut scribes)
+}
+
+/// Turns a window whose groups are done. The batch then has its lines. After a fault it may be
+/// empty.
+fn turn_whole(window: &mut Window, batch: &mut Batch) -> Result<(), EngineFault>
+    requires inside { window.old.out ≡ false }
+    requires done { all_done window.old.until (states_of window.old.groups) ≡ true }
+    ensures turned { OnOk result (HasTurned window.old batch.new window.new) }
+    ensures run { OnOk result ((edge : State) → IsFrom edge window.old → HasGoneOn edge batch.new.lines window.new) }
+    ensures below { OnOk result (AreBelow window.old.until batch.new.lines) }
+    ensures stays { StaysNet window.old window.new }
+    ensures fault { IfErr result (IsOfWorkers 1) }
+    ensures full { IfErr result (λ fault. fault ≡ EngineFault.CountFull → 1000000000000000 < window.old.position + length (all_lines (states_of window.old.groups))) }
+{
+    match window.turn_into(batch) {
+        Ok(()) => Ok(()),
+        Err(TurnFault::NotDone) => unreachable!(),
+        Err(TurnFault::NoMemory) => Err(EngineFault::NoMemory),
+        Err(TurnFault::CountFull) => Err(EngineFault::CountFull),
+    }
 }
 
 /// Runs the next window by workers, up to its end or a moment that is sooner. The batch then has
@@ -197,13 +232,33 @@ pub(crate) fn advance<G: Gate, R: Threads + Wait + Sync>(
     ensures full { IfErr result (λ fault. fault ≡ EngineFault.CountFull → HasTooMany (reached_in window.old)) }
 {
     let _began = window.position();
-    run_groups_alone(rt, alloc, workers, gate, until, window)?;
-    match window.turn_into(batch) {
-        Ok(()) => Ok(()),
-        Err(TurnFault::NotDone) => unreachable!(),
-        Err(TurnFault::NoMemory) => Err(EngineFault::NoMemory),
-        Err(TurnFault::CountFull) => Err(EngineFault::CountFull),
-    }
+    run_without_text(rt, alloc, workers, gate, until, window)?;
+    turn_whole(window, batch)?;
+    Ok(())
+}
+
+/// The same on the calling thread. A window with an event in it has a line.
+pub(crate) fn advance_alone<G: Gate>(
+    gate: &G,
+    until: Time,
+    window: &mut Window,
+    batch: &mut Batch,
+) -> Result<(), EngineFault>
+    requires edge { IsAtEdge window.old }
+    requires few { groups_of window.old.entries ≤ 64 }
+    ensures edge { OnOk result (IsAtEdge window.new) }
+    ensures gone { OnOk result (GoesOn (reached_in window.old) batch.new (reached_in window.new)) }
+    ensures none_left { OnOk result (NoneBelow (min window.old.until until) (edge_of window.new)) }
+    ensures early { OnOk result (AreBelow (min window.old.until until) batch.new.lines) }
+    ensures some { OnOk result ((time : ℕ) → IsNext until (edge_of window.old) time → 0 < length batch.new.lines) }
+    ensures stays { StaysNet window.old window.new }
+    ensures fault { IfErr result (IsOfWorkers 1) }
+    ensures full { IfErr result (λ fault. fault ≡ EngineFault.CountFull → HasTooMany (reached_in window.old)) }
+{
+    let _began = window.position();
+    run_alone(gate, until, window)?;
+    turn_whole(window, batch)?;
+    Ok(())
 }
 
 /// Turns a window whose groups are done. The sheaf then has its lines, group by group. After a
@@ -226,11 +281,8 @@ pub(crate) fn turn_done(window: &mut Window, sheaf: &mut Sheaf) -> Result<(), En
     }
 }
 
-/// As `advance`, and the sheaf then has the lines, group by group. After a fault it may be empty.
-pub(crate) fn advance_apart<G: Gate, R: Threads + Wait + Sync>(
-    rt: &R,
-    alloc: Global,
-    workers: usize,
+/// The same, and the sheaf then has the lines, group by group. After a fault it may be empty.
+pub(crate) fn advance_apart<G: Gate>(
     gate: &G,
     until: Time,
     window: &mut Window,
@@ -238,17 +290,16 @@ pub(crate) fn advance_apart<G: Gate, R: Threads + Wait + Sync>(
 ) -> Result<(), EngineFault>
     requires edge { IsAtEdge window.old }
     requires few { groups_of window.old.entries ≤ 64 }
-    requires workers { (0 < workers) × (workers ≤ 64) }
     ensures edge { OnOk result (IsAtEdge window.new) }
     ensures gone { OnOk result (GoesOn (reached_in window.old) (merged sheaf.new) (reached_in window.new)) }
-    ensures none_left { OnOk result (NoneBelow (min window.old.until until) (edge_of window.new)) }
     ensures early { OnOk result (AreBelow (min window.old.until until) (merged sheaf.new).lines) }
+    ensures some { OnOk result ((time : ℕ) → IsNext until (edge_of window.old) time → 0 < length (merged sheaf.new).lines) }
     ensures stays { StaysNet window.old window.new }
-    ensures fault { IfErr result (IsOfWorkers workers) }
+    ensures fault { IfErr result (IsOfWorkers 1) }
     ensures full { IfErr result (λ fault. fault ≡ EngineFault.CountFull → HasTooMany (reached_in window.old)) }
 {
     let _began = window.position();
-    run_groups_alone(rt, alloc, workers, gate, until, window)?;
+    run_alone(gate, until, window)?;
     turn_done(window, sheaf)?;
     Ok(())
 }

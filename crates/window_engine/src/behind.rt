@@ -95,15 +95,14 @@ impl Course {
         self.put_made(made, text, sink)
     }
 
-    /// Runs windows by workers, and writes the lines of each while the next one runs. Nothing is
-    /// left to write where they end.
+    /// Runs windows by workers, and writes the lines of each while the next one runs, up to the run's
+    /// end or until no event is left below a moment. Nothing is left to write where they end.
     pub(crate) fn write_behind<G: Gate, S: Sink, R: Threads + Wait + Sync>(
         &mut self,
         rt: &R,
         workers: usize,
         gate: &G,
         until: Time,
-        text: &mut Text,
         sink: &mut S,
     ) -> Result<Stop, EngineFault>
         requires rest { AtRest self.old }
@@ -117,6 +116,9 @@ impl Course {
         ensures stays { StaysNet self.old.window self.new.window }
         ensures end { self.new.end ≡ self.old.end }
     {
+        let Ok(mut text) = Text::new(self.alloc) else {
+            return Err(EngineFault::NoMemory);
+        };
         self.sheaf = Sheaf::new(self.alloc, self.position + 1);
         let mut before = Snapshot::of(&self.window);
         let mut slice = FIRST_SLICE;
@@ -124,7 +126,7 @@ impl Course {
         for _ in rt.forever() {
             let next = match self.next_below(until) {
                 Ok(next) => next,
-                Err(stop) => match self.write_rest(&before, text, sink) {
+                Err(stop) => match self.write_rest(&before, &mut text, sink) {
                     Ok(_) => return Ok(stop),
                     Err(fault) => return Err(told(fault, written)),
                 },
@@ -134,7 +136,7 @@ impl Course {
             let shared = self.sheaf.beside_most();
             let hands = hands(&self.window, workers, gate.worth(), shared, bound);
             let now = Snapshot::of(&self.window);
-            match self.write_and_run(rt, hands, gate, bound, &before, text, sink) {
+            match self.write_and_run(rt, hands, gate, bound, &before, &mut text, sink) {
                 Ok(bytes) => written += bytes,
                 Err(fault) => return Err(told(fault, written)),
             }

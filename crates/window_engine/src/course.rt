@@ -7,7 +7,7 @@ ghost use Rattle.window_core.specs.Full.{HasTooMany};
 ghost use Rattle.window_core.specs.Sheaves.{merged};
 ghost use Rattle.window_core.specs.Windows.{AreBelow};
 ghost use Rattle.window_engine.specs.Edges.{IsAtEdge, StaysNet, edge_of, reached_in};
-ghost use Rattle.window_engine.specs.Engines.{Commits, GoesOn, IsStop, next_time, sink_failures};
+ghost use Rattle.window_engine.specs.Engines.{Commits, GoesOn, IsNext, IsStop, next_time, sink_failures};
 ghost use Rattle.window_engine.specs.Courses.{AtRest, CanTell, Wrote, Broke, fails_after, told_as};
 ghost use Rattle.window_engine.specs.Outcomes.{IsOfRun};
 ghost use Rattle.window_engine.specs.Parts.{IsWhole};
@@ -20,8 +20,6 @@ use crate::slice::{FIRST_SLICE, NARROW, slice_after};
 use crate::text::Text;
 use sim_time::Time;
 use std::alloc::{AllocError, Global};
-use std::sync::Wait;
-use std::thread::Threads;
 use window_core::{Sheaf, Window};
 
 /// Of fewer events it is not asked how they lie in their window.
@@ -85,6 +83,7 @@ impl Course {
     pub(crate) fn next_below(&self, until: Time) -> Result<Time, Stop>
         requires edge { IsAtEdge self.now.window }
         requires end { self.now.end ≡ self.now.window.end }
+        ensures next { IfOk result (IsNext until (edge_of self.now.window)) }
         ensures stop { IfErr result (IsStop until (edge_of self.now.window)) }
     {
         let Some(next) = self.next() else {
@@ -140,37 +139,27 @@ impl Course {
         }
     }
 
-    /// Runs the next window by workers, up to a moment at the latest, commits its events and writes
-    /// their lines.
-    fn write_window<G: Gate, S: Sink, R: Threads + Wait + Sync>(
+    /// Runs the next window on the calling thread, up to a moment at the latest, commits its events
+    /// and writes their lines. Where an event is left below the moment, some are committed.
+    fn write_window<G: Gate, S: Sink>(
         &mut self,
-        rt: &R,
-        workers: usize,
         gate: &G,
         until: Time,
         text: &mut Text,
         sink: &mut S,
     ) -> Result<u128, WriteFault>
         requires rest { AtRest self.old }
-        requires workers { (0 < workers) × (workers ≤ 64) }
         ensures rest { OnOk result (AtRest self.new) }
+        ensures some { OnOk result ((time : ℕ) → IsNext until (edge_of self.old.window) time → self.old.position < self.new.position) }
         ensures wrote { IfOk result (λ bytes. Wrote until (reached_in self.old.window) (reached_in self.new.window) bytes (S.contents sink.old) (S.contents sink.new)) }
-        ensures broke { IfErr result (Broke workers until (reached_in self.old.window) self.new.position (S.contents sink.old) (S.contents sink.new)) }
+        ensures broke { IfErr result (Broke 1 until (reached_in self.old.window) self.new.position (S.contents sink.old) (S.contents sink.new)) }
         ensures full { IfErr result (λ fault. fault ≡ WriteFault.Workers EngineFault.CountFull → HasTooMany (reached_in self.old.window)) }
         ensures failures { S.failures sink.new ≡ fails_after result (S.failures sink.old) }
         ensures stays { StaysNet self.old.window self.new.window }
         ensures end { self.new.end ≡ self.old.end }
     {
         self.window.reclaim(&mut self.sheaf);
-        match advance_apart(
-            rt,
-            self.alloc,
-            workers,
-            gate,
-            until,
-            &mut self.window,
-            &mut self.sheaf,
-        ) {
+        match advance_apart(gate, until, &mut self.window, &mut self.sheaf) {
             Ok(()) => {}
             Err(fault) => return Err(WriteFault::Workers(fault)),
         }
@@ -179,61 +168,20 @@ impl Course {
         self.put_made(made, text, sink)
     }
 
-    /// Runs windows by workers, and writes the lines of each before the next one.
-    fn write_in_turn<G: Gate, S: Sink, R: Threads + Wait + Sync>(
+    /// Runs windows on the calling thread, and writes the lines of each before the next one, up to
+    /// the run's end or until no event is left below a moment. It starts no thread and waits for
+    /// none.
+    pub(crate) fn write_in_turn<G: Gate, S: Sink>(
         &mut self,
-        rt: &R,
-        workers: usize,
-        gate: &G,
-        until: Time,
-        text: &mut Text,
-        sink: &mut S,
-    ) -> Result<Stop, EngineFault>
-        requires rest { AtRest self.old }
-        requires workers { (0 < workers) × (workers ≤ 64) }
-        ensures rest { OnOk result (AtRest self.new) }
-        ensures commits { Commits until (reached_in self.old.window) result (record { state = edge_of self.new.window; position = self.new.position }) (S.contents sink.old) (S.contents sink.new) }
-        ensures stop { IfOk result (IsStop until (edge_of self.new.window)) }
-        ensures fault { IfErr result (IsOfRun workers) }
-        ensures full { IfErr result (λ fault. fault ≡ EngineFault.CountFull → HasTooMany (reached_in self.old.window)) }
-        ensures failures { S.failures sink.new ≡ sink_failures result (S.failures sink.old) }
-        ensures stays { StaysNet self.old.window self.new.window }
-        ensures end { self.new.end ≡ self.old.end }
-    {
-        let mut slice = FIRST_SLICE;
-        let mut written: u128 = 0;
-        for _ in rt.forever() {
-            let next = match self.next_below(until) {
-                Ok(next) => next,
-                Err(stop) => return Ok(stop),
-            };
-            let bound = until.min(next.saturating_add(slice));
-            let span = self.span(next, bound);
-            match self.write_window(rt, workers, gate, bound, text, sink) {
-                Ok(bytes) => written += bytes,
-                Err(fault) => return Err(told(fault, written)),
-            }
-            slice = slice_after(span, self.busy(next, span), self.sheaf.len(), NARROW);
-        }
-        unreachable!()
-    }
-
-    /// Runs windows by workers, and writes their lines, up to the run's end or until no event is
-    /// left below a moment.
-    pub(crate) fn write_windows<G: Gate, S: Sink, R: Threads + Wait + Sync>(
-        &mut self,
-        rt: &R,
-        workers: usize,
         gate: &G,
         until: Time,
         sink: &mut S,
     ) -> Result<Stop, EngineFault>
         requires rest { AtRest self.old }
-        requires workers { (0 < workers) × (workers ≤ 64) }
         ensures rest { OnOk result (AtRest self.new) }
         ensures commits { Commits until (reached_in self.old.window) result (record { state = edge_of self.new.window; position = self.new.position }) (S.contents sink.old) (S.contents sink.new) }
         ensures stop { IfOk result (IsStop until (edge_of self.new.window)) }
-        ensures fault { IfErr result (IsOfRun workers) }
+        ensures fault { IfErr result (IsOfRun 1) }
         ensures full { IfErr result (λ fault. fault ≡ EngineFault.CountFull → HasTooMany (reached_in self.old.window)) }
         ensures failures { S.failures sink.new ≡ sink_failures result (S.failures sink.old) }
         ensures stays { StaysNet self.old.window self.new.window }
@@ -242,10 +190,20 @@ impl Course {
         let Ok(mut text) = Text::new(self.alloc) else {
             return Err(EngineFault::NoMemory);
         };
-        if workers == 1 {
-            self.write_in_turn(rt, workers, gate, until, &mut text, sink)
-        } else {
-            self.write_behind(rt, workers, gate, until, &mut text, sink)
+        let mut slice = FIRST_SLICE;
+        let mut written: u128 = 0;
+        loop {
+            let next = match self.next_below(until) {
+                Ok(next) => next,
+                Err(stop) => return Ok(stop),
+            };
+            let bound = until.min(next.saturating_add(slice));
+            let span = self.span(next, bound);
+            match self.write_window(gate, bound, &mut text, sink) {
+                Ok(bytes) => written += bytes,
+                Err(fault) => return Err(told(fault, written)),
+            }
+            slice = slice_after(span, self.busy(next, span), self.sheaf.len(), NARROW);
         }
     }
 }

@@ -1,5 +1,5 @@
 //! The engine: a scenario's run by windows on many workers.
-ghost use Rattle.std.specs.Prelude.{◌≡◌, ◌≢◌, ◌<◌, ◌≤◌, List, length, true, false, is_err, IfErr, IfOk, IfSome, OnOk, OnErr, None, Some, Err};
+ghost use Rattle.std.specs.Prelude.{◌≡◌, ◌≢◌, ◌<◌, ◌≤◌, ℕ, List, length, true, false, is_err, IfErr, IfOk, IfSome, OnOk, OnErr, None, Some, Err};
 ghost use Rattle.scenario_image.specs.declared.parts.ScenarioParts.{ScenarioParts};
 ghost use Rattle.scenario_image.specs.Scenario.{IsScenario};
 ghost use Rattle.node_core.specs.TraceLine.{TraceLine};
@@ -11,9 +11,9 @@ ghost use Rattle.window_core.specs.Lookahead.{lookahead};
 ghost use Rattle.window_core.specs.Partition.{group_in};
 ghost use Rattle.window_core.specs.Windows.{AreBelow};
 ghost use Rattle.window_engine.specs.Outcomes.{IsOfRun, IsOfWorkers};
-ghost use Rattle.window_engine.specs.Engines.{GoesOn, NoneBelow, Commits, IsStop, next_time, window_end_by, sink_failures};
+ghost use Rattle.window_engine.specs.Engines.{GoesOn, NoneBelow, Commits, IsNext, IsStop, next_time, window_end_by, sink_failures};
 
-use crate::advance::advance;
+use crate::advance::{advance, advance_alone};
 use crate::course::Course;
 use crate::fault::{EngineFault, Stop};
 use crate::gate::Gate;
@@ -153,6 +153,9 @@ impl Engine {
         ensures entries { self.new.entries ≡ self.old.entries }
         ensures ahead { self.new.ahead ≡ self.old.ahead }
     {
+        if workers == 1 {
+            return self.window_alone(gate, until);
+        }
         if self.failed {
             return Err(EngineFault::Failed);
         }
@@ -180,6 +183,39 @@ impl Engine {
         Ok(batch)
     }
 
+    /// Runs the next window on the calling thread, to end by a moment at the latest, and gives its
+    /// lines: what `window` does with one worker. It starts no thread and waits for none.
+    pub fn window_alone<G: Gate>(&mut self, gate: &G, until: Time) -> Result<Batch, EngineFault>
+        ensures ok { IfOk result (λ batch. GoesOn self.old.net batch self.new.net) }
+        ensures early { IfOk result (λ batch. AreBelow (window_end_by self.old until) batch.lines) }
+        ensures none_left { OnOk result (NoneBelow (window_end_by self.old until) self.new.net.state) }
+        ensures some { IfOk result (λ batch. (time : ℕ) → IsNext until self.old.net.state time → 0 < length batch.lines) }
+        ensures err { OnErr result (self.new.net.position ≡ self.old.net.position) }
+        ensures fault { self.old.failed ≡ false → IfErr result (IsOfWorkers 1) }
+        ensures full { IfErr result (λ fault. fault ≡ EngineFault.CountFull → HasTooMany self.old.net) }
+        ensures failed { self.new.failed ≡ is_err result }
+        ensures failed_before { self.old.failed ≡ true → result ≡ Err EngineFault.Failed }
+        ensures nothing_more { self.old.failed ≡ true → self.new ≡ self.old }
+        ensures entries { self.new.entries ≡ self.old.entries }
+        ensures ahead { self.new.ahead ≡ self.old.ahead }
+    {
+        if self.failed {
+            return Err(EngineFault::Failed);
+        }
+        let _reached = self.course.window.position();
+        let mut lines = Batch::new(self.course.alloc, 0);
+        match advance_alone(gate, until, &mut self.course.window, &mut lines) {
+            Ok(()) => {}
+            Err(fault) => {
+                self.failed = true;
+                return Err(fault);
+            }
+        }
+        self.course.position = self.course.window.position();
+        self.shared = lines.beside_most();
+        Ok(lines)
+    }
+
     /// Runs windows by so many workers and writes their lines, up to the run's end or until no
     /// event is left below a moment.
     pub fn run<G: Gate, S: Sink, R: Threads + Wait + Sync>(
@@ -202,11 +238,43 @@ impl Engine {
         ensures entries { self.new.entries ≡ self.old.entries }
         ensures ahead { self.new.ahead ≡ self.old.ahead }
     {
+        if workers == 1 {
+            return self.run_alone(gate, until, sink);
+        }
         if self.failed {
             return Err(EngineFault::Failed);
         }
         let _reached = self.course.window.position();
-        let outcome = self.course.write_windows(rt, workers, gate, until, sink);
+        let outcome = self.course.write_behind(rt, workers, gate, until, sink);
+        self.failed = outcome.is_err();
+        outcome
+    }
+
+    /// Runs windows on the calling thread and writes their lines, up to the run's end or until no
+    /// event is left below a moment: what `run` does with one worker. It starts no thread and waits
+    /// for none.
+    pub fn run_alone<G: Gate, S: Sink>(
+        &mut self,
+        gate: &G,
+        until: Time,
+        sink: &mut S,
+    ) -> Result<Stop, EngineFault>
+        ensures commits { Commits until self.old.net result self.new.net (S.contents sink.old) (S.contents sink.new) }
+        ensures stop { IfOk result (IsStop until self.new.net.state) }
+        ensures fault { self.old.failed ≡ false → IfErr result (IsOfRun 1) }
+        ensures full { IfErr result (λ fault. fault ≡ EngineFault.CountFull → HasTooMany self.old.net) }
+        ensures failed { self.new.failed ≡ is_err result }
+        ensures failed_before { self.old.failed ≡ true → result ≡ Err EngineFault.Failed }
+        ensures nothing_more { self.old.failed ≡ true → self.new ≡ self.old }
+        ensures failures { S.failures sink.new ≡ sink_failures result (S.failures sink.old) }
+        ensures entries { self.new.entries ≡ self.old.entries }
+        ensures ahead { self.new.ahead ≡ self.old.ahead }
+    {
+        if self.failed {
+            return Err(EngineFault::Failed);
+        }
+        let _reached = self.course.window.position();
+        let outcome = self.course.write_in_turn(gate, until, sink);
         self.failed = outcome.is_err();
         outcome
     }

@@ -8,15 +8,8 @@ use Rattle.window_engine.specs.Laid.{HasFullGroup}
 use Rattle.window_engine.proofs.TooMany.{group_full}
 use Rattle.window_engine.proofs.advance.run_groups.Goals as goal
 
-pub returns-then-workers-eq1-clause-full : goal.returns-then-workers-eq1-clause-full
-returns-then-workers-eq1-clause-full g c =
-    let v = c.args.window.now in let w = c.limit.new.self in
-    IfErr-weaker c.run_in_turn.result (λ fault. fault ≡ CountFull → HasFullGroup w) (λ fault. fault ≡ CountFull → HasTooMany (reached_in v))
-    (λ fault full is. group_full v w c.requires.edge c.position-began.ensures.is_window c.position-limited.ensures.is_window c.limit.ensures.from (ap (λ (x : WindowValue). x.position) c.limit.ensures.state) (full is))
-    c.run_in_turn.ensures.full
-
-pub returns-else-workers-eq1-clause-full : goal.returns-else-workers-eq1-clause-full
-returns-else-workers-eq1-clause-full g c =
+pub returns-clause-full : goal.returns-clause-full
+returns-clause-full g c =
     let v = c.args.window.now in let w = c.limit.new.self in
     IfErr-weaker c.run_apart.result (λ fault. fault ≡ CountFull → HasFullGroup w) (λ fault. fault ≡ CountFull → HasTooMany (reached_in v))
     (λ fault full is. group_full v w c.requires.edge c.position-began.ensures.is_window c.position-limited.ensures.is_window c.limit.ensures.from (ap (λ (x : WindowValue). x.position) c.limit.ensures.state) (full is))

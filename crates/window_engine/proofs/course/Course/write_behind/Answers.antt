@@ -1,9 +1,11 @@
 use Rattle.std.proofs.Common.{◌∙◌, ◌+◌, ℕ, arith, refl, sym}
 use Rattle.window_core.specs.Sheaves.{merged}
+use Rattle.window_engine.specs.declared.course.WriteFault.TheVariants.{Workers}
+use Rattle.window_engine.specs.declared.fault.EngineFault.TheVariants.{NoMemory}
 use Rattle.window_engine.specs.declared.fault.Stop.{Stop}
-use Rattle.window_engine.specs.Edges.{reached_in}
+use Rattle.window_engine.specs.Edges.{edge_of, reached_in}
 use Rattle.window_engine.proofs.Edge.{stays_both}
-use Rattle.window_engine.proofs.Writing.{broke_later, can_tell, committed, ended, fails_told, still_fits, told_of, wrote_more, wrote_none}
+use Rattle.window_engine.proofs.Writing.{broke_later, can_tell, committed, ended, fails_told, still_fits, told_of, wrote_more, wrote_no_more, wrote_none}
 use Rattle.window_engine.proofs.Whole.{below_later}
 use Rattle.window_engine.proofs.TooMany.{told_full}
 use Rattle.window_engine.proofs.Unwritten.{behind_by_none, few_before, no_line}
@@ -12,12 +14,12 @@ use Rattle.window_engine.proofs.course.Course.write_behind.Goals as goal
 pub loop-init : goal.loop-init
 loop-init g c =
     rw c.of-before.ensures (
-      behind_by_none c.args.self.now c.new.result c.requires.rest c.new.ensures,
+      behind_by_none c.args.self.now c.new-2.result c.requires.rest c.new-2.ensures,
       wrote_none c.args.until (reached_in c.args.self.now.window) (g.S.Sink.contents c.args.sink.now),
       refl,
       record { entries = refl; ahead = refl; end = refl },
       refl,
-      rw (no_line c.new.result (c.args.self.now.position + 1) c.new.ensures) tt,
+      rw (no_line c.new-2.result (c.args.self.now.position + 1) c.new-2.ensures) tt,
     )
 
 pub returns-in-Ok-write_rest-clause-commits : goal.returns-in-Ok-write_rest-clause-commits
@@ -144,3 +146,10 @@ overflow_add-written g c =
     was.1 (few_before before c.loop.self was.0) wrote was.0.few
     in
     omega (arith, small)
+
+pub returns-in_default-clause-commits : goal.returns-in_default-clause-commits
+returns-in_default-clause-commits g c =
+    let now = c.args.self.now in
+    let net = reached_in now.window in
+    let known = g.S.Sink.contents c.args.sink.now in
+    ended c.args.workers c.args.until net net 0 (record { state = edge_of now.window; position = now.position }) known known known (Workers NoMemory) (wrote_none c.args.until net known) (wrote_no_more c.args.until net now.position known c.requires.rest.committed, tt)

@@ -1,12 +1,12 @@
-use Rattle.std.proofs.Common.{ap, sym, min, arith}
+use Rattle.std.proofs.Common.{ap, sym, min, arith, ◌<◌, ℕ, length}
 use Rattle.std.proofs.lemmas.Result.{IfErr-weaker, IfOk-weaker}
 use Rattle.window_core.specs.Sheaves.{merged}
 use Rattle.window_engine.specs.declared.course.Course.{Course}
 use Rattle.window_engine.specs.Courses.{Broke, Wrote}
-use Rattle.window_engine.specs.Edges.{reached_in}
-use Rattle.window_engine.specs.Engines.{GoesOn}
+use Rattle.window_engine.specs.Edges.{edge_of, reached_in}
+use Rattle.window_engine.specs.Engines.{GoesOn, IsNext}
 use Rattle.window_engine.proofs.TooMany.{workers_full}
-use Rattle.window_engine.proofs.Writing.{broke_later, wrote_no_more}
+use Rattle.window_engine.proofs.Writing.{wrote_no_more}
 use Rattle.window_engine.proofs.Whole.{below_later}
 use Rattle.window_engine.proofs.course.Course.write_window.Goals as goal
 
@@ -39,8 +39,13 @@ returns-clause-broke g c =
     let lines = merged c.advance_apart.new.sheaf in
     let gone : GoesOn net lines to = rw (sym c.reclaim.ensures.same) c.in-Ok.ensures.gone in
     let early = below_later (min c.reclaim.new.self.until c.args.until) c.args.until lines.lines (omega arith) c.in-Ok.ensures.early in
-    let some = c.requires.workers.0 in
-    IfErr-weaker c.put_made.result _ (Broke c.args.workers c.args.until net c.put_made.new.self.position (contents c.args.sink.now) (contents c.put_made.new.sink))
-    (λ fault broke.
-    broke_later 1 c.args.workers c.args.until c.args.until net c.put_made.new.self.position (contents c.args.sink.now) (contents c.put_made.new.sink) fault (omega (arith, some)) (omega arith)
-    (broke c.args.until net to early gone was.committed)) c.put_made.ensures.broke
+    IfErr-weaker c.put_made.result _ (Broke 1 c.args.until net c.put_made.new.self.position (contents c.args.sink.now) (contents c.put_made.new.sink)) (λ fault broke. broke c.args.until net to early gone was.committed) c.put_made.ensures.broke
+
+pub returns-clause-some : goal.returns-clause-some
+returns-clause-some g c =
+    let old = c.args.self.now in
+    let v = c.reclaim.new.self in
+    let lines = (merged c.advance_apart.new.sheaf).lines in
+    let some : (time : ℕ) → IsNext c.args.until (edge_of old.window) time → 0 < length lines = rw (sym c.reclaim.ensures.same) c.in-Ok.ensures.some in
+    IfOk-weaker c.put_made.result _ (λ _. (time : ℕ) → IsNext c.args.until (edge_of old.window) time → old.position < c.put_made.new.self.position)
+    (λ _ at time next. let more = some time next in omega (arith, at, more)) c.put_made.ensures.position

@@ -1,7 +1,7 @@
 use Rattle.std.proofs.Common.{ap, arith, length}
 use Rattle.window_core.specs.Sheaves.{SheafValue}
 use Rattle.window_engine.proofs.Unwritten.{no_line}
-use Rattle.window_engine.proofs.advance.run_groups_alone.Goals as goal
+use Rattle.window_engine.proofs.advance.run_without_text.Goals as goal
 
 pub run_groups-requires-clause-fits : goal.run_groups-requires-clause-fits
 run_groups-requires-clause-fits g c κs within =
