@@ -4,10 +4,12 @@
 mod figure;
 mod row;
 mod subject;
+pub mod summaries;
 mod summary;
 mod table;
 #[cfg(test)]
 mod tests;
 
+pub use summaries::run_text;
 pub use summary::{FlowSummary, LinkSummary, RunSummary};
 pub use table::figures_text;

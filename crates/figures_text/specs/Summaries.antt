@@ -1,0 +1,88 @@
+-- What the table says of a run: over its events, and its last state.
+use Rattle.std.specs.Prelude.{◌≡◌, ℕ, ◌+◌, ◌-◌, ◌*◌, ◌≤◌, List, [], length, map, Option, Some, None}
+use Rattle.std.specs.List.{enumerate_from}
+use Rattle.port.specs.declared.acts.DropReason.TheVariants.{Lost, Full, Codel}
+use Rattle.scenario_image.specs.declared.parts.FlowPart.{FlowPart}
+use Rattle.scenario_image.specs.declared.parts.LinkPart.{LinkPart}
+use Rattle.scenario_image.specs.declared.parts.ScenarioParts.{ScenarioParts}
+use Rattle.node_core.specs.TraceLine.{TraceLine}
+use Rattle.table_run.specs.State.{State, opening, run, step}
+use Rattle.table_run.specs.Flow.{received_next}
+use Rattle.net_machine.specs.Wiring.{from_of, exit_of}
+use Rattle.figures.specs.Classes.{least_of, greatest_of, percentile}
+use Rattle.figures.specs.Turns.{Turn}
+use Rattle.figures.specs.Senders.{sent_of, again_in_recovery_of, again_otherwise_of, timeouts_of, trips_of, completed_of}
+use Rattle.figures.specs.Moments.{Moment, moments, turns_at}
+use Rattle.figures.specs.Links.{port_at, waiting_at, busy_at, dropped_of, tx_of, bytes_of, waited_of, busy_of, longest_of, last_from}
+use Rattle.figures_text.specs.declared.summary.FlowSummary.{FlowSummary}
+use Rattle.figures_text.specs.declared.summary.LinkSummary.{LinkSummary}
+use Rattle.figures_text.specs.declared.summary.RunSummary.{RunSummary}
+use Rattle.figures_text.specs.Table.{table_of}
+
+-- what is said of a flow that starts at a moment: what its sender did, and the next byte that its receiver waits for
+abbrev pub summary_of_turns : ℕ → ℕ → List Turn → FlowSummary
+summary_of_turns start next ts = record {
+  start = start;
+  delivered = next;
+  completed = completed_of ts;
+  sent = sent_of ts;
+  again_in_recovery = again_in_recovery_of ts;
+  again_otherwise = again_otherwise_of ts;
+  timeouts = timeouts_of ts;
+  round_trips = length (trips_of ts);
+  least = least_of (trips_of ts);
+  median = percentile 50 (trips_of ts);
+  high = percentile 99 (trips_of ts);
+  greatest = greatest_of (trips_of ts);
+}
+
+abbrev pub flow_summary : List Moment → State → FlowPart → FlowSummary
+flow_summary ms s flow = summary_of_turns flow.start (received_next s flow) (turns_at flow.sender ms)
+
+-- how long each packet waited in a link's queue that began to be sent: none is counted yet
+abbrev pub delays_of : ℕ → ℕ → List Moment → List ℕ
+delays_of node index ms = []
+
+-- what is said of a link, by the node that it leaves, and which of that node's links it is; what waits after the last event, and a link that is busy then, count up to the run's end
+abbrev pub summary_of_exit : ℕ → ℕ → ℕ → List Moment → State → LinkSummary
+summary_of_exit node index end ms s = record {
+  offered = (port_at s node index).offered;
+  lost = dropped_of Lost node index ms;
+  full = dropped_of Full node index ms;
+  codel = dropped_of Codel node index ms;
+  sent = tx_of node index ms;
+  bytes = bytes_of node index ms;
+  busy = busy_of node index ms + busy_at (port_at s node index) * (end - last_from 0 ms);
+  longest = longest_of node index ms s;
+  waited = waited_of node index ms + waiting_at (port_at s node index) * (end - last_from 0 ms);
+  median = percentile 50 (delays_of node index ms);
+  high = percentile 99 (delays_of node index ms);
+  greatest = greatest_of (delays_of node index ms);
+}
+
+abbrev pub link_summary : ScenarioParts → List Moment → State → ℕ → LinkSummary
+link_summary p ms s number = summary_of_exit (from_of p.links number) (exit_of p.links number) p.end ms s
+
+-- and of all flows and links, by number, and the run as a whole
+abbrev pub flow_summaries : ScenarioParts → List Moment → State → List FlowSummary
+flow_summaries p ms s = map (flow_summary ms s) p.flows
+
+abbrev pub link_summaries : ScenarioParts → List Moment → State → List LinkSummary
+link_summaries p ms s = map (λ (numbered : ℕ × LinkPart). link_summary p ms s numbered.0) (enumerate_from 0 p.links)
+
+abbrev pub run_summary : List Moment → RunSummary
+run_summary ms = record { events = length ms; end = last_from 0 ms }
+
+-- the table of a scenario's events and its last state
+abbrev pub table_over : ScenarioParts → List Moment → State → List ℕ
+table_over p ms s = table_of (flow_summaries p ms s) (link_summaries p ms s) (run_summary ms)
+
+-- the table of the whole run of a scenario: of all its events, which are at most 10^15, none being due after the last
+pub record IsTableOfRun (p : ScenarioParts) (bytes : List ℕ) : Type 0 where
+  pub n : ℕ
+  pub few : n ≤ 1000000000000000
+  pub lines : List TraceLine
+  pub last : State
+  pub is_run : run (opening p) n ≡ Some (lines, last)
+  pub final : step last ≡ None
+  pub bytes_are : bytes ≡ table_over p (moments (opening p) n) last

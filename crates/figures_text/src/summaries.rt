@@ -1,0 +1,242 @@
+//! The table of a run, made of what was counted of it.
+ghost use Rattle.std.specs.Prelude.{◌≡◌, ◌<◌, ◌≤◌, ◌^◌, ◌+◌, ◌*◌, ◌-◌, ℕ, List, IfOk, length, slice_index_or};
+ghost use Rattle.scenario_image.specs.Scenario.{IsScenario};
+ghost use Rattle.sim_time.specs.Moment.{IsMoment};
+ghost use Rattle.table_run.specs.Flow.{next_at as next_of_role};
+ghost use Rattle.table_run.specs.State.{State, opening};
+ghost use Rattle.net_machine.specs.Nodes.{node_at, parts_of};
+ghost use Rattle.net_machine.specs.Wiring.{from_of, exit_of as exit_is};
+ghost use Rattle.figures.specs.Turns.{Turn};
+ghost use Rattle.figures.specs.Moments.{Moment, moments, turns_at};
+ghost use Rattle.figures.specs.Senders.{AreOfTurns};
+ghost use Rattle.figures.specs.Links.{AreOfLink, last_from};
+ghost use Rattle.figures.specs.Classes.{greatest_of, percentile};
+ghost use Rattle.figures.specs.Figures.{AreOfRun};
+ghost use Rattle.figures.specs.declared.sender.SenderFigures.{SenderFigures};
+ghost use Rattle.figures.specs.declared.links.NodeLinks.{NodeLinks};
+ghost use Rattle.figures.specs.declared.link.LinkFigures.{LinkFigures};
+ghost use Rattle.figures_text.specs.Summaries.{summary_of_turns, summary_of_exit, delays_of as delays_are, flow_summary as flow_is, link_summary as link_is, flow_summaries as flows_are, link_summaries as links_are, table_over};
+
+use crate::summary::{FlowSummary, LinkSummary, RunSummary};
+use crate::table::figures_text;
+use figures::{Figures, LinkFigures, SenderFigures};
+use net_machine::Net;
+use node_core::Node;
+use scenario_image::{FlowPart, LinkPart, Scenario};
+use sim_time::Time;
+use std::alloc::{AllocError, Global};
+
+/// The next byte that the receiver at a node waits for, where one is.
+fn next_at(nodes: &[Node], place: usize) -> u64
+    ensures { result ≡ next_of_role (node_at nodes.now place).part.role }
+{
+    if place >= nodes.len() {
+        return 0;
+    }
+    match nodes[place].receiver() {
+        Some((_, receiver)) => receiver.next(),
+        None => 0,
+    }
+}
+
+/// What is said of a flow that starts at a moment, of whose sender this was counted.
+fn of_sender(start: Time, next: u64, counted: &SenderFigures) -> FlowSummary
+    requires few { counted.now.trips.count < 2 ^ 57 }
+    ensures { (ts : List Turn) → AreOfTurns ts counted.now → result ≡ summary_of_turns start next ts }
+{
+    let trips = &counted.trips;
+    FlowSummary {
+        start,
+        delivered: next,
+        completed: counted.completed,
+        sent: counted.sent,
+        again_in_recovery: counted.again_in_recovery,
+        again_otherwise: counted.again_otherwise,
+        timeouts: counted.timeouts,
+        round_trips: trips.count,
+        least: trips.least(),
+        median: trips.percentile(50),
+        high: trips.percentile(99),
+        greatest: trips.greatest(),
+    }
+}
+
+/// What is said of a flow of a run.
+fn flow_summary(figures: &Figures, nodes: &[Node], flow: &FlowPart) -> FlowSummary
+    requires sender { flow.now.sender < length figures.now.senders.items }
+    requires few { figures.now.events ≤ 1000000000000000 }
+    ensures { (ms : List Moment) (s : State) → parts_of nodes.now ≡ s.parts → ((other : SenderFigures) → AreOfTurns (turns_at flow.now.sender ms) (slice_index_or figures.now.senders.items flow.now.sender other)) → result ≡ flow_is ms s flow.now }
+{
+    let next = next_at(nodes, usize::from(flow.receiver));
+    let counted = &figures.senders[usize::from(flow.sender)];
+    of_sender(flow.start, next, counted)
+}
+
+/// What is said of the flows of a run.
+fn flow_summaries(
+    alloc: Global,
+    scenario: &Scenario,
+    figures: &Figures,
+    net: &Net,
+) -> Result<Vec<FlowSummary>, AllocError>
+    requires scenario { IsScenario scenario.now }
+    requires run { AreOfRun scenario.now figures.now net.now }
+    requires few { figures.now.events ≤ 1000000000000000 }
+    ensures { IfOk result (λ all. all.items ≡ flows_are scenario.now (moments (opening scenario.now) net.now.position) net.now.state) }
+{
+    let flows = scenario.parts().flows.as_slice();
+    let nodes = net.nodes();
+    let mut all = Vec::new(alloc);
+    for number in 0..flows.len() {
+        all.push(flow_summary(figures, nodes, &flows[number]))?;
+    }
+    Ok(all)
+}
+
+/// Delays of packets in a link's queue.
+#[derive(Clone, Copy)]
+struct Delays {
+    /// Their median; none where there is none, as the next two.
+    median: Option<u64>,
+    /// Their 99th percentile.
+    high: Option<u64>,
+    /// The greatest of them.
+    greatest: Option<u64>,
+}
+
+/// The delays in the queue of a link of which this was counted: none is counted yet.
+fn delays_of(_counted: &LinkFigures) -> Delays
+    ensures median { (ms : List Moment) (s : State) (node index : ℕ) → AreOfLink ms s node index _counted.now → result.median ≡ percentile 50 (delays_are node index ms) }
+    ensures high { (ms : List Moment) (s : State) (node index : ℕ) → AreOfLink ms s node index _counted.now → result.high ≡ percentile 99 (delays_are node index ms) }
+    ensures greatest { (ms : List Moment) (s : State) (node index : ℕ) → AreOfLink ms s node index _counted.now → result.greatest ≡ greatest_of (delays_are node index ms) }
+{
+    Delays {
+        median: None,
+        high: None,
+        greatest: None,
+    }
+}
+
+/// How long a link was busy up to the end of a run whose last event was at a moment.
+fn busy_to_end(counted: &LinkFigures, last: Time, end: Time) -> u128
+    requires moment { IsMoment last }
+    requires order { counted.now.since ≤ last }
+    requires end { IsMoment end }
+    ensures { (ms : List Moment) (s : State) (node index : ℕ) → AreOfLink ms s node index counted.now → last_from 0 ms ≡ last → result ≡ (summary_of_exit node index end ms s).busy }
+{
+    let left = end.saturating_sub(last);
+    let so_far = counted.busy_by(last);
+    if counted.busy {
+        so_far + u128::from(left)
+    } else {
+        so_far
+    }
+}
+
+/// How many packets waited, times for how long, up to the end of a run whose last event was at a moment.
+fn waited_to_end(counted: &LinkFigures, last: Time, end: Time) -> u128
+    requires moment { IsMoment last }
+    requires order { counted.now.since ≤ last }
+    requires end { IsMoment end }
+    ensures { (ms : List Moment) (s : State) (node index : ℕ) → AreOfLink ms s node index counted.now → last_from 0 ms ≡ last → result ≡ (summary_of_exit node index end ms s).waited }
+{
+    let left = end.saturating_sub(last);
+    counted.waited_by(last) + counted.waiting as u128 * u128::from(left)
+}
+
+/// What is said of a link of which this was counted, of a run whose last event was at a moment.
+fn of_exit(counted: &LinkFigures, last: Time, end: Time) -> LinkSummary
+    requires moment { IsMoment last }
+    requires order { counted.now.since ≤ last }
+    requires end { IsMoment end }
+    ensures { (ms : List Moment) (s : State) (node index : ℕ) → AreOfLink ms s node index counted.now → last_from 0 ms ≡ last → result ≡ summary_of_exit node index end ms s }
+{
+    let delays = delays_of(counted);
+    LinkSummary {
+        offered: counted.offered,
+        lost: counted.lost,
+        full: counted.full,
+        codel: counted.codel,
+        sent: counted.sent,
+        bytes: counted.bytes,
+        busy: busy_to_end(counted, last, end),
+        longest: counted.longest as u64,
+        waited: waited_to_end(counted, last, end),
+        median: delays.median,
+        high: delays.high,
+        greatest: delays.greatest,
+    }
+}
+
+/// Which of the links of its node a link is: as many before it leave the same node.
+fn exit_of(links: &[LinkPart], number: usize) -> usize
+    requires { number < length links.now }
+    ensures { result ≡ exit_is links.now number }
+{
+    let from = links[number].from;
+    let mut count = 0;
+    for link in &links[..number] {
+        if link.from == from {
+            count += 1;
+        }
+    }
+    count
+}
+
+/// What is said of a link of a run.
+fn link_summary(figures: &Figures, links: &[LinkPart], end: Time, number: usize) -> LinkSummary
+    requires number { number < length links.now }
+    requires node { from_of links.now number < length figures.now.links.items }
+    requires index { (other : NodeLinks) → exit_is links.now number < length (slice_index_or figures.now.links.items (from_of links.now number) other).figures.items }
+    requires moment { IsMoment figures.now.last }
+    requires order { (other : NodeLinks) (link : LinkFigures) → (slice_index_or (slice_index_or figures.now.links.items (from_of links.now number) other).figures.items (exit_is links.now number) link).since ≤ figures.now.last }
+    requires end { IsMoment end }
+    ensures { (ms : List Moment) (s : State) → ((other : NodeLinks) (link : LinkFigures) → AreOfLink ms s (from_of links.now number) (exit_is links.now number) (slice_index_or (slice_index_or figures.now.links.items (from_of links.now number) other).figures.items (exit_is links.now number) link)) → last_from 0 ms ≡ figures.now.last → result ≡ summary_of_exit (from_of links.now number) (exit_is links.now number) end ms s }
+{
+    let node = &figures.links[usize::from(links[number].from)];
+    let counted = &node.figures[exit_of(links, number)];
+    of_exit(counted, figures.last, end)
+}
+
+/// What is said of the links of a run.
+fn link_summaries(
+    alloc: Global,
+    scenario: &Scenario,
+    figures: &Figures,
+    net: &Net,
+) -> Result<Vec<LinkSummary>, AllocError>
+    requires scenario { IsScenario scenario.now }
+    requires run { AreOfRun scenario.now figures.now net.now }
+    ensures { IfOk result (λ all. all.items ≡ links_are scenario.now (moments (opening scenario.now) net.now.position) net.now.state) }
+{
+    let parts = scenario.parts();
+    let links = parts.links.as_slice();
+    let mut all = Vec::new(alloc);
+    for number in 0..links.len() {
+        all.push(link_summary(figures, links, parts.end, number))?;
+    }
+    Ok(all)
+}
+
+/// The table of a run, of which these figures were counted, as the net is after the last event.
+pub fn run_text(
+    alloc: Global,
+    scenario: &Scenario,
+    figures: &Figures,
+    net: &Net,
+) -> Result<Vec<u8>, AllocError>
+    requires { AreOfRun scenario.now figures.now net.now }
+    ensures { IfOk result (λ text. text.items ≡ table_over scenario.now (moments (opening scenario.now) net.now.position) net.now.state) }
+{
+    let _parts = scenario.parts();
+    let _position = net.position();
+    let flows = flow_summaries(alloc, scenario, figures, net)?;
+    let links = link_summaries(alloc, scenario, figures, net)?;
+    let run = RunSummary {
+        events: figures.events,
+        end: figures.last,
+    };
+    let mut text = Vec::new(alloc);
+    figures_text(&flows, &links, run, &mut text)?;
+    Ok(text)
+}
