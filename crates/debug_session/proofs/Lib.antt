@@ -1,4 +1,6 @@
 pub mod Words
+pub mod Times
+pub mod Followed
 pub mod Parted
 pub mod Moved
 pub mod Setting

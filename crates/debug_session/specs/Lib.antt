@@ -4,4 +4,7 @@ pub mod Answers
 pub mod Sessions
 pub mod Taking
 pub mod Told
+pub mod Names
+pub mod Times
+pub mod TypedGrammar
 pub mod Prompt

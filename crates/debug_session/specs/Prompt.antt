@@ -1,32 +1,84 @@
 -- A session at a prompt: a line is answered before the next one is asked for.
-use Rattle.std.specs.Prelude.{◌≡◌, ◌⊎◌, ℕ, nat_lt, nat_eq, Bool, true, false, not, MatchBool, if◌then◌else◌, List, [], ◌∷◌, ◌++◌, length, map, codes, Option, None, Some}
+use Rattle.std.specs.Prelude.{◌≡◌, ◌⊎◌, ℕ, nat_lt, nat_eq, Bool, true, false, not, MatchBool, if◌then◌else◌, List, [], ◌∷◌, ◌++◌, length, map, codes, Option, None, Some, Ok, Err}
 use Rattle.std.specs.List.{list_all, starts_with}
-use Rattle.std.specs.Str.{bytes_eq}
 use Rattle.table_run.specs.State.{State}
+use Rattle.debug_session.specs.declared.command.Command.{Command}
+use Rattle.debug_session.specs.declared.command.Command.TheVariants.{Step, Back, Until, Run, SetBreak, Clear}
+use Rattle.debug_session.specs.declared.command.Command.TheVariants as command
 use Rattle.debug_session.specs.declared.command.Limits.{Limits}
+use Rattle.debug_session.specs.declared.dialogue.Dialogue.{Dialogue}
 use Rattle.debug_session.specs.declared.refusal.Refusal.TheVariants.{B2}
+use Rattle.debug_session.specs.Answers.{Standing, standing, Obeys, refusal_line}
+use Rattle.debug_session.specs.Grammar.{Reading}
 use Rattle.debug_session.specs.Input.{words_in}
-use Rattle.debug_session.specs.Answers.{Standing, Stays, Answers, refusal_line}
+use Rattle.debug_session.specs.Names.{begins}
 use Rattle.debug_session.specs.Taking.{Takes}
+use Rattle.debug_session.specs.TypedGrammar.{typed_reading}
+
+-- where a session at a prompt stands, with the last move: the last of `step`, `back`, `run` and `until` that was read
+pub record AtPrompt : Type 0 where
+  pub standing : Standing
+  pub last : Option Command
+
+abbrev pub at_prompt : Dialogue → AtPrompt
+at_prompt d = record { standing = standing d.debugger; last = d.last }
+
+-- no move was read yet
+abbrev pub unmoved : Standing → AtPrompt
+unmoved s = record { standing = s; last = None }
+
+-- nothing changes, and this is answered
+pub record Rests (old new : AtPrompt) (out said : List ℕ) : Type 0 where
+  pub same : new ≡ old
+  pub told : out ≡ said
 
 -- more bytes than a line may have
 abbrev pub is_long : List ℕ → Bool
 is_long line = nat_lt 65536 (length line)
 
--- the one word is `quit`
+-- the one word is `quit`, or begins it, as no other name begins with q
 abbrev pub quits : List (List ℕ) → Bool
 quits [] = false
-quits (word ∷ []) = bytes_eq word (codes "quit")
+quits (word ∷ []) = begins word (codes "quit")
 quits (first ∷ second ∷ more) = false
 
 -- the line that ends a session
 abbrev pub is_quit : List ℕ → Bool
 is_quit line = if is_long line then false else quits (words_in line)
 
--- how a line is answered: one that is too long has no command, `quit` is answered by nothing, and any other line as in a session whose lines are all there from the start
-abbrev pub TypedAnswers : Limits → State → List ℕ → Standing → Standing → List ℕ → Type 0
+-- the last move, once a command was read
+abbrev pub last_after : Command → Option Command → Option Command
+last_after (Step count) last = Some (Step count)
+last_after (Back count) last = Some (Back count)
+last_after (Until time) last = Some (Until time)
+last_after Run last = Some Run
+last_after command.State last = last
+last_after (SetBreak b) last = last
+last_after Clear last = last
+
+-- a command is done, or refused for want of memory or of workers; a move is the last one either way
+pub record ObeysTyped (start : State) (asked : Command) (old new : AtPrompt) (out : List ℕ) : Type 0 where
+  pub obeyed : Obeys start asked old.standing new.standing out
+  pub last : new.last ≡ last_after asked old.last
+
+-- the last move is done again, where there was one
+abbrev pub MovesAgain : State → Option Command → AtPrompt → AtPrompt → List ℕ → Type 0
+MovesAgain start None old new out = Rests old new out []
+MovesAgain start (Some move) old new out = ObeysTyped start move old new out
+
+abbrev pub FollowsTyped : State → Option Reading → AtPrompt → AtPrompt → List ℕ → Type 0
+FollowsTyped start None old new out = MovesAgain start old.last old new out
+FollowsTyped start (Some (Err refusal)) old new out = Rests old new out (refusal_line refusal)
+FollowsTyped start (Some (Ok asked)) old new out = ObeysTyped start asked old new out
+
+-- what a line says that is typed is followed; a line of no words does the last move again
+abbrev pub AnswersTyped : Limits → State → List ℕ → AtPrompt → AtPrompt → List ℕ → Type 0
+AnswersTyped limits start line old new out = FollowsTyped start (typed_reading limits line) old new out
+
+-- how a line is answered: one that is too long has no command, `quit` is answered by nothing, and what any other line says is followed
+abbrev pub TypedAnswers : Limits → State → List ℕ → AtPrompt → AtPrompt → List ℕ → Type 0
 TypedAnswers limits start line old new said =
-    MatchBool (is_long line) (Stays old new said (refusal_line B2)) (MatchBool (is_quit line) (Stays old new said []) (Answers limits start line old new said))
+    MatchBool (is_long line) (Rests old new said (refusal_line B2)) (MatchBool (is_quit line) (Rests old new said []) (AnswersTyped limits start line old new said))
 
 -- the answer is that the line is refused
 abbrev pub is_refusal : List ℕ → Bool
@@ -37,17 +89,17 @@ abbrev pub put_out : List ℕ → List ℕ
 put_out said = if is_refusal said then [] else said
 
 -- the lines are answered one after another, from where the session stands
-abbrev pub TypedRan : Limits → State → List (List ℕ) → Standing → Standing → List ℕ → Type 0
-TypedRan limits start [] old new out = Stays old new out []
+abbrev pub TypedRan : Limits → State → List (List ℕ) → AtPrompt → AtPrompt → List ℕ → Type 0
+TypedRan limits start [] old new out = Rests old new out []
 TypedRan limits start (line ∷ lines) old new out =
-    (between : Standing) × (said rest : List ℕ) × TypedAnswers limits start line old between said × TypedRan limits start lines between new rest × (out ≡ put_out said ++ rest)
+    (between : AtPrompt) × (said rest : List ℕ) × TypedAnswers limits start line old between said × TypedRan limits start lines between new rest × (out ≡ put_out said ++ rest)
 
 -- these lines give this output, wherever the session stands in the end
-abbrev pub TypedOutput : Limits → State → List (List ℕ) → Standing → List ℕ → Type 0
-TypedOutput limits start lines old out = (new : Standing) × TypedRan limits start lines old new out
+abbrev pub TypedOutput : Limits → State → List (List ℕ) → AtPrompt → List ℕ → Type 0
+TypedOutput limits start lines old out = (new : AtPrompt) × TypedRan limits start lines old new out
 
 -- a sink that held the first bytes holds the answers to the lines so far beside them now, and nothing else
-abbrev pub IsSoFar : Limits → State → Standing → List (List ℕ) → Option (List ℕ) → Option (List ℕ) → Type 0
+abbrev pub IsSoFar : Limits → State → AtPrompt → List (List ℕ) → Option (List ℕ) → Option (List ℕ) → Type 0
 IsSoFar limits start old lines first now = Takes (TypedOutput limits start lines old) first now
 
 -- a line that was asked for, and what the sink held at that moment, where that is known
@@ -59,7 +111,7 @@ abbrev pub lines_in : List Ask → List (List ℕ)
 lines_in asks = map (λ (ask : Ask). ask.line) asks
 
 -- whenever a line was asked for, the lines before it were answered: `done`, and those of the asks before it
-abbrev pub AreInTime : Limits → State → Standing → Option (List ℕ) → List (List ℕ) → List Ask → Type 0
+abbrev pub AreInTime : Limits → State → AtPrompt → Option (List ℕ) → List (List ℕ) → List Ask → Type 0
 AreInTime limits start old first done [] = Unit {0}
 AreInTime limits start old first done (ask ∷ asks) = IsSoFar limits start old done first ask.seen × AreInTime limits start old first (done ++ ask.line ∷ []) asks
 

@@ -13,17 +13,17 @@ use crate::refusal::Refusal;
 use debugger::{Break, EventKind};
 
 /// One more than the greatest number of events or nanoseconds that can be asked for.
-const AMOUNTS: u64 = 1_000_000_000_000_001;
+pub(crate) const AMOUNTS: u64 = 1_000_000_000_000_001;
 
 /// Whether a word is this one.
-fn is(word: &[u8], other: &[u8]) -> bool
+pub(crate) fn is(word: &[u8], other: &[u8]) -> bool
     ensures { result ≡ bytes_eq word.now other.now }
 {
     word == other
 }
 
 /// Whether a byte is from `0` to `9`.
-fn is_digit(byte: u8) -> bool
+pub(crate) fn is_digit(byte: u8) -> bool
     ensures { result ≡ is_digit byte }
 {
     matches!(byte, b'0'..=b'9')
@@ -37,7 +37,7 @@ fn are_digits(bytes: &[u8]) -> bool
 }
 
 /// Whether a word is decimal digits, with no 0 before others.
-fn is_numeral(word: &[u8]) -> bool
+pub(crate) fn is_numeral(word: &[u8]) -> bool
     ensures { result ≡ is_numeral word.now }
 {
     match word.split_first() {
@@ -48,7 +48,7 @@ fn is_numeral(word: &[u8]) -> bool
 }
 
 /// The number that digits mean, or the greatest `u64` where it is above that.
-fn value(digits: &[u8]) -> u64
+pub(crate) fn value(digits: &[u8]) -> u64
     requires { IsTrue (list_all is_digit digits.now) }
     ensures { result ≡ min (digits_value 10 digits.now) (2 ^ 64 - 1) }
 {
@@ -86,7 +86,7 @@ pub(crate) fn one_word(line: &[u8]) -> Option<&[u8]>
 }
 
 /// The number below a bound that is the only word of a line.
-fn one_number(line: &[u8], bound: u64) -> Result<u64, Refusal>
+pub(crate) fn one_number(line: &[u8], bound: u64) -> Result<u64, Refusal>
     requires { bound ≤ 2 ^ 64 - 1 }
     ensures number { result ≡ one_number bound (words_in line.now) }
     ensures below { IfOk result (λ n. n < bound) }
@@ -132,7 +132,7 @@ fn one_kind(line: &[u8]) -> Result<Command, Refusal>
 }
 
 /// A command, where a line has no word.
-fn alone(command: Command, line: &[u8]) -> Result<Command, Refusal>
+pub(crate) fn alone(command: Command, line: &[u8]) -> Result<Command, Refusal>
     ensures { result ≡ alone command (words_in line.now) }
 {
     match next_word(line) {
@@ -142,7 +142,7 @@ fn alone(command: Command, line: &[u8]) -> Result<Command, Refusal>
 }
 
 /// The breakpoint that the words behind `break` name.
-fn breakpoint(limits: Limits, line: &[u8]) -> Result<Command, Refusal>
+pub(crate) fn breakpoint(limits: Limits, line: &[u8]) -> Result<Command, Refusal>
     ensures { result ≡ breakpoint limits (words_in line.now) }
 {
     let Some((sort, rest)) = next_word(line) else {

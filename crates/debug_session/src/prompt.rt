@@ -1,15 +1,16 @@
 //! Lines that are typed at a prompt.
 ghost use Rattle.std.specs.Prelude.{◌≡◌, false};
-ghost use Rattle.debug_session.specs.Answers.{standing};
 ghost use Rattle.debug_session.specs.Input.{words_in};
-ghost use Rattle.debug_session.specs.Prompt as at_prompt;
+ghost use Rattle.debug_session.specs.Prompt as prompt;
 
-use crate::command::Limits;
+use crate::command::{Command, Limits};
+use crate::dialogue::Dialogue;
 use crate::grammar::one_word;
+use crate::name::begins;
 use crate::refusal::Refusal;
-use crate::reply::answer;
+use crate::reply::obey;
 use crate::said::Said;
-use debugger::Debugger;
+use crate::typed::read_typed;
 use std::sync::Wait;
 use std::thread::Threads;
 use window_engine::Gate;
@@ -19,51 +20,114 @@ pub const MOST_LINE: usize = 65_536;
 
 /// Whether a line has more bytes than a line may have.
 fn is_long(line: &[u8]) -> bool
-    ensures { result ≡ at_prompt.is_long line.now }
+    ensures { result ≡ prompt.is_long line.now }
 {
     line.len() > MOST_LINE
 }
 
-/// Whether the only word of a line is `quit`.
+/// Whether the only word of a line is `quit`, or begins it.
 fn quits(line: &[u8]) -> bool
-    ensures { result ≡ at_prompt.quits (words_in line.now) }
+    ensures { result ≡ prompt.quits (words_in line.now) }
 {
     match one_word(line) {
-        Some(word) => word == b"quit".as_slice(),
+        Some(word) => begins(word, b"quit"),
         None => false,
     }
 }
 
 /// Whether a line ends a session at a prompt.
 pub fn is_quit(line: &[u8]) -> bool
-    ensures { result ≡ at_prompt.is_quit line.now }
+    ensures { result ≡ prompt.is_quit line.now }
 {
     !is_long(line) && quits(line)
 }
 
 /// Whether an answer is that a line is refused.
 pub fn is_refusal(said: &[u8]) -> bool
-    ensures { result ≡ at_prompt.is_refusal said.now }
+    ensures { result ≡ prompt.is_refusal said.now }
 {
     said.starts_with(b"refused ")
 }
 
-/// Answers a line that doesn't end the session: one that is too long is refused, and any other is
-/// answered as in a session whose lines are all there from the start.
-pub fn answer_typed<R: Threads + Wait + Sync, G: Gate>(
+/// The last move, once a command was read.
+fn last_after(command: Command, last: Option<Command>) -> Option<Command>
+    ensures { result ≡ prompt.last_after command last }
+{
+    match command {
+        Command::Step(_) | Command::Back(_) | Command::Until(_) | Command::Run => Some(command),
+        Command::State | Command::SetBreak(_) | Command::Clear => last,
+    }
+}
+
+/// Does what a command asks for. A move is the last one from then on.
+#[tactic(none)]
+fn obey_typed<R: Threads + Wait + Sync, G: Gate>(
     rt: &R,
     gate: &G,
-    debugger: &mut Debugger,
+    dialogue: &mut Dialogue,
+    command: Command,
+    said: &mut Said,
+)
+    ensures obeys { prompt.ObeysTyped dialogue.old.debugger.start command (prompt.at_prompt dialogue.old) (prompt.at_prompt dialogue.new) said.new }
+    ensures start { dialogue.new.debugger.start ≡ dialogue.old.debugger.start }
+{
+    dialogue.last = last_after(command, dialogue.last);
+    obey(rt, gate, &mut dialogue.debugger, command, said);
+}
+
+/// Does the last move again, where there was one.
+#[tactic(none)]
+fn move_again<R: Threads + Wait + Sync, G: Gate>(
+    rt: &R,
+    gate: &G,
+    dialogue: &mut Dialogue,
+    said: &mut Said,
+)
+    ensures moves { prompt.MovesAgain dialogue.old.debugger.start dialogue.old.last (prompt.at_prompt dialogue.old) (prompt.at_prompt dialogue.new) said.new }
+    ensures start { dialogue.new.debugger.start ≡ dialogue.old.debugger.start }
+{
+    match dialogue.last {
+        None => said.clear(),
+        Some(command) => obey_typed(rt, gate, dialogue, command, said),
+    }
+}
+
+/// Follows what a line says.
+#[tactic(none)]
+fn follow_typed<R: Threads + Wait + Sync, G: Gate>(
+    rt: &R,
+    gate: &G,
+    dialogue: &mut Dialogue,
     limits: Limits,
     line: &[u8],
     said: &mut Said,
 )
-    ensures answers { at_prompt.is_quit line.now ≡ false → at_prompt.TypedAnswers limits debugger.old.start line.now (standing debugger.old) (standing debugger.new) said.new }
-    ensures start { debugger.new.start ≡ debugger.old.start }
+    ensures answers { prompt.AnswersTyped limits dialogue.old.debugger.start line.now (prompt.at_prompt dialogue.old) (prompt.at_prompt dialogue.new) said.new }
+    ensures start { dialogue.new.debugger.start ≡ dialogue.old.debugger.start }
+{
+    match read_typed(limits, line) {
+        None => move_again(rt, gate, dialogue, said),
+        Some(Err(refusal)) => said.say_refused(refusal),
+        Some(Ok(command)) => obey_typed(rt, gate, dialogue, command, said),
+    }
+}
+
+/// Answers a line that doesn't end the session: one that is too long is refused, and what any other
+/// says is followed.
+pub fn answer_typed<R: Threads + Wait + Sync, G: Gate>(
+    rt: &R,
+    gate: &G,
+    dialogue: &mut Dialogue,
+    limits: Limits,
+    line: &[u8],
+    said: &mut Said,
+)
+    ensures answers { prompt.is_quit line.now ≡ false → prompt.TypedAnswers limits dialogue.old.debugger.start line.now (prompt.at_prompt dialogue.old) (prompt.at_prompt dialogue.new) said.new }
+    ensures start { dialogue.new.debugger.start ≡ dialogue.old.debugger.start }
 {
     if is_long(line) {
         said.say_refused(Refusal::B2);
     } else {
-        answer(rt, gate, debugger, limits, line, said);
+        follow_typed(rt, gate, dialogue, limits, line, said);
     }
 }

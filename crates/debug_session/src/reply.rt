@@ -59,7 +59,7 @@ fn set_break(debugger: &mut Debugger, b: Break, said: &mut Said)
 
 /// Does what a command asks for.
 #[tactic(none)]
-fn obey<R: Threads + Wait + Sync, G: Gate>(
+pub(crate) fn obey<R: Threads + Wait + Sync, G: Gate>(
     rt: &R,
     gate: &G,
     debugger: &mut Debugger,

@@ -1,12 +1,14 @@
 -- How a session at a prompt ends, over a scenario, an input and a file.
-use Rattle.std.proofs.Common.{◌≡◌, ◌∙◌, ◌⊎◌, ◌<◌, inl, inr, ℕ, Bool, true, false, MatchBool, List, [], Option, Result, Ok, Err, IfOk, IfErr, refl, sym, ap, subst, string_bytes}
+use Rattle.std.proofs.Common.{◌≡◌, ◌∙◌, ◌⊎◌, ◌<◌, inl, inr, ℕ, Bool, true, false, MatchBool, List, [], Option, None, Result, Ok, Err, IfOk, IfErr, refl, sym, ap, subst, string_bytes}
 use Rattle.scenario_image.specs.declared.parts.ScenarioParts.{ScenarioParts}
 use Rattle.table_run.specs.State.{opening}
 use Rattle.debugger.specs.Debugging.{Debugging, opened}
+use Rattle.debug_session.specs.declared.command.Command.{Command}
 use Rattle.debug_session.specs.declared.command.Limits.{Limits}
+use Rattle.debug_session.specs.declared.dialogue.Dialogue.{Dialogue}
 use Rattle.debug_session.specs.Answers.{standing}
 use Rattle.debug_session.specs.Sessions.{limits_of}
-use Rattle.debug_session.specs.Prompt.{Typing, Typed}
+use Rattle.debug_session.specs.Prompt.{AtPrompt, Typing, Typed, at_prompt, unmoved}
 use Rattle.sessions.specs.declared.fault.SessionFault.{SessionFault}
 use Rattle.sessions.specs.declared.fault.SessionFault.TheVariants.{TooLong, Refused, RefusedImage, Groups, ReadFailed, CannotRead, WriteFailed, NoMemory}
 use Rattle.sessions.specs.Ended.{Ended, reads_after, writes_after}
@@ -21,15 +23,16 @@ pub unbegun : (streams : Streams) → IsUnbegun streams streams
 unbegun streams = record { untyped = none_typed streams.typed; unwritten = refl }
 
 -- lines were typed over a scenario
-pub over_scenario : (p : ScenarioParts) (ended : Ended) (before after : Streams) → IsTypedSession (limits_of p) (opening p) (standing (opened (opening p))) ended before after → IsOverScenario p ended before after
+pub over_scenario : (p : ScenarioParts) (ended : Ended) (before after : Streams) → IsTypedSession (limits_of p) (opening p) (unmoved (standing (opened (opening p)))) ended before after → IsOverScenario p ended before after
 over_scenario p (Err NoMemory) before after session = absurd session.ending
 over_scenario p _ before after session = session
 
-pub typed_over : (p : ScenarioParts) (d : Debugging) (limits : Limits) (ended : Ended) (before after : Streams) → d ≡ opened (opening p) → limits ≡ limits_of p → IsTypedSession limits d.start (standing d) ended before after
-    → IsOverScenario p ended before after
-typed_over p d limits ended before after is bounds session =
-    over_scenario p ended before after
-    (subst (λ (e : Debugging). IsTypedSession (limits_of p) e.start (standing e) ended before after) is (subst (λ (l : Limits). IsTypedSession l d.start (standing d) ended before after) bounds session))
+pub typed_over : (p : ScenarioParts) (d : Dialogue) (limits : Limits) (ended : Ended) (before after : Streams) → d.debugger ≡ opened (opening p) → d.last ≡ None → limits ≡ limits_of p
+    → IsTypedSession limits d.debugger.start (at_prompt d) ended before after → IsOverScenario p ended before after
+typed_over p d limits ended before after is none bounds session =
+    let bounded = subst (λ (l : Limits). IsTypedSession l d.debugger.start (at_prompt d) ended before after) bounds session in
+    let unasked = subst (λ (m : Option Command). IsTypedSession (limits_of p) d.debugger.start (record { standing = standing d.debugger; last = m }) ended before after) none bounded in
+    over_scenario p ended before after (subst (λ (e : Debugging). IsTypedSession (limits_of p) e.start (unmoved (standing e)) ended before after) is unasked)
 
 pub no_memory_over : (p : ScenarioParts) (ended : Ended) (streams : Streams) → ended ≡ Err NoMemory → IsOverScenario p ended streams streams
 no_memory_over p ended streams is = subst (λ (e : Ended). IsOverScenario p e streams streams) (sym is) (unbegun streams)

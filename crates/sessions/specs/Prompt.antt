@@ -4,9 +4,9 @@ use Rattle.scenario_image.specs.declared.parts.ScenarioParts.{ScenarioParts}
 use Rattle.table_run.specs.State.{State, opening}
 use Rattle.debugger.specs.Debugging.{opened}
 use Rattle.debug_session.specs.declared.command.Limits.{Limits}
-use Rattle.debug_session.specs.Answers.{Standing, standing}
+use Rattle.debug_session.specs.Answers.{standing}
 use Rattle.debug_session.specs.Sessions.{limits_of}
-use Rattle.debug_session.specs.Prompt.{Ask, Typed, TypedOutput, AreInTime, IsSoFar, IsToEnd, lines_in, none_quits}
+use Rattle.debug_session.specs.Prompt.{Ask, AtPrompt, Typed, TypedOutput, AreInTime, IsSoFar, IsToEnd, lines_in, none_quits, unmoved}
 use Rattle.sessions.specs.declared.fault.SessionFault.{SessionFault}
 use Rattle.sessions.specs.declared.fault.SessionFault.TheVariants.{TooLong, Refused, RefusedImage, Groups, ReadFailed, CannotRead, WriteFailed, NoMemory}
 use Rattle.sessions.specs.Ended.{Ended, writes_after}
@@ -18,14 +18,14 @@ use Rattle.sessions.specs.Written.{Writes, IsBeginningOf}
 use Rattle.window_engine.specs.Failures.{counted}
 
 -- how the lines that were typed ended a session, and what it has put out: done, the answers to the lines up to `quit`, or to all; where reading a line failed, the answers to the lines before; where the output failed, a beginning of the answers
-abbrev pub IsTypedEnd : Limits → State → Standing → List (List ℕ) → Ended → Streams → Streams → Type 0
+abbrev pub IsTypedEnd : Limits → State → AtPrompt → List (List ℕ) → Ended → Streams → Streams → Type 0
 IsTypedEnd limits start old lines (Ok done) before after = IsSoFar limits start old lines before.written after.written × IsToEnd lines after.typed
 IsTypedEnd limits start old lines (Err ReadFailed) before after = IsSoFar limits start old lines before.written after.written × (none_quits lines ≡ true)
 IsTypedEnd limits start old lines (Err WriteFailed) before after = Writes (IsBeginningOf (TypedOutput limits start lines old)) before.written after.written × (none_quits lines ≡ true)
 IsTypedEnd limits start old lines _ before after = ⊥
 
 -- a session at a prompt that ended so, from where it stands: whenever it asked for a line, it had answered those before it, whatever came later
-pub record IsTypedSession (limits : Limits) (start : State) (old : Standing) (ended : Ended) (before after : Streams) : Type 0 where
+pub record IsTypedSession (limits : Limits) (start : State) (old : AtPrompt) (ended : Ended) (before after : Streams) : Type 0 where
   pub asks : List Ask
   pub typed : Typed before.typed after.typed asks
   pub in_time : AreInTime limits start old before.written [] asks
@@ -39,7 +39,7 @@ pub record IsUnbegun (before after : Streams) : Type 0 where
 -- the input has a scenario, for whose nodes the text names groups, and a session at a prompt over it ended so
 abbrev pub IsAtPrompt : List ℕ → List ℕ → Ended → Streams → Streams → Type 0
 IsAtPrompt groups input ended before after =
-    IsWithin input × ((p : ScenarioParts) × HasScenario input p × HasGroups groups p × IsTypedSession (limits_of p) (opening p) (standing (opened (opening p))) ended before after)
+    IsWithin input × ((p : ScenarioParts) × HasScenario input p × HasGroups groups p × IsTypedSession (limits_of p) (opening p) (unmoved (standing (opened (opening p)))) ended before after)
 
 -- the input has a scenario, for whose nodes the text names no groups
 abbrev pub IsUngrouped : List ℕ → List ℕ → Type 0
@@ -48,7 +48,7 @@ IsUngrouped groups input = IsWithin input × ((p : ScenarioParts) × HasScenario
 -- a session at a prompt over a scenario ended so: memory was refused before the first line, or lines were typed
 abbrev pub IsOverScenario : ScenarioParts → Ended → Streams → Streams → Type 0
 IsOverScenario p (Err NoMemory) before after = IsUnbegun before after
-IsOverScenario p ended before after = IsTypedSession (limits_of p) (opening p) (standing (opened (opening p))) ended before after
+IsOverScenario p ended before after = IsTypedSession (limits_of p) (opening p) (unmoved (standing (opened (opening p)))) ended before after
 
 -- why a session at a prompt over this input ends so, and what came of its streams by then: each end has its row
 abbrev pub IsPromptOver : List ℕ → List ℕ → Ended → Streams → Streams → Type 0

@@ -3,8 +3,7 @@ use Rattle.std.specs.Prelude.{◌≡◌, ℕ, Bool, true, false, List, [], ◌�
 use Rattle.std.specs.Io.KnownBytes.{Appends}
 use Rattle.table_run.specs.State.{State}
 use Rattle.debug_session.specs.declared.command.Limits.{Limits}
-use Rattle.debug_session.specs.Answers.{Standing}
-use Rattle.debug_session.specs.Prompt.{Ask, Typed, TypedAnswers, IsTypedOut, is_quit, put_out}
+use Rattle.debug_session.specs.Prompt.{Ask, AtPrompt, Typed, TypedAnswers, IsTypedOut, is_quit, put_out}
 use Rattle.sessions.specs.declared.fault.SessionFault.{SessionFault}
 use Rattle.sessions.specs.declared.fault.SessionFault.TheVariants.{ReadFailed, WriteFailed}
 use Rattle.sessions.specs.declared.prompt.Turn.{Turn}
@@ -18,7 +17,7 @@ pub record IsAsked (ask : Ask) (before after : Streams) : Type 0 where
   pub seen : ask.seen ≡ before.written
 
 -- a line was asked for and answered
-pub record IsAnswered (limits : Limits) (start : State) (old new : Standing) (before after : Streams) : Type 0 where
+pub record IsAnswered (limits : Limits) (start : State) (old new : AtPrompt) (before after : Streams) : Type 0 where
   pub ask : Ask
   pub asked : IsAsked ask before after
   pub goes_on : is_quit ask.line ≡ false
@@ -27,7 +26,7 @@ pub record IsAnswered (limits : Limits) (start : State) (old new : Standing) (be
   pub put : Appends before.written after.written (put_out said)
 
 -- or the writer failed over the answer
-pub record IsCutOff (limits : Limits) (start : State) (old new : Standing) (before after : Streams) : Type 0 where
+pub record IsCutOff (limits : Limits) (start : State) (old new : AtPrompt) (before after : Streams) : Type 0 where
   pub ask : Ask
   pub asked : IsAsked ask before after
   pub goes_on : is_quit ask.line ≡ false
@@ -36,7 +35,7 @@ pub record IsCutOff (limits : Limits) (start : State) (old new : Standing) (befo
   pub put : Writes (IsBeginningOf (λ all. all ≡ put_out said)) before.written after.written
 
 -- the line is `quit`
-pub record IsQuitting (old new : Standing) (before after : Streams) : Type 0 where
+pub record IsQuitting (old new : AtPrompt) (before after : Streams) : Type 0 where
   pub ask : Ask
   pub asked : IsAsked ask before after
   pub quits : is_quit ask.line ≡ true
@@ -44,13 +43,13 @@ pub record IsQuitting (old new : Standing) (before after : Streams) : Type 0 whe
   pub unwritten : after.written ≡ before.written
 
 -- there is no line
-pub record IsSilent (old new : Standing) (before after : Streams) : Type 0 where
+pub record IsSilent (old new : AtPrompt) (before after : Streams) : Type 0 where
   pub untyped : Typed before.typed after.typed []
   pub stays : new ≡ old
   pub unwritten : after.written ≡ before.written
 
 -- what a turn that ended so did
-abbrev pub IsTurn : Limits → State → Standing → Standing → Result Turn SessionFault → Streams → Streams → Type 0
+abbrev pub IsTurn : Limits → State → AtPrompt → AtPrompt → Result Turn SessionFault → Streams → Streams → Type 0
 IsTurn limits start old new (Ok Answered) before after = IsAnswered limits start old new before after
 IsTurn limits start old new (Ok Quit) before after = IsQuitting old new before after
 IsTurn limits start old new (Ok NoLine) before after = IsSilent old new before after × IsTypedOut after.typed

@@ -1,8 +1,7 @@
 //! A debugging session at a prompt: the scenario is a file's, and commands are typed, one a line.
 ghost use Rattle.std.specs.Prelude.{◌≡◌, ◌<◌, ◌≤◌, ℕ, List, length, IfOk, IfErr, OnOk, OnErr};
 ghost use Rattle.std.specs.Io.KnownBytes.{Appends};
-ghost use Rattle.debug_session.specs.Answers.{standing};
-ghost use Rattle.debug_session.specs.Prompt.{put_out};
+ghost use Rattle.debug_session.specs.Prompt.{at_prompt, put_out};
 ghost use Rattle.sessions.specs.Ended.{writes_after, reads_after};
 ghost use Rattle.sessions.specs.Prompt.{IsFileFault, IsOverScenario, IsPromptOn, IsPromptOver, IsTypedSession, line_reads_after};
 ghost use Rattle.sessions.specs.Session.{IsWithin};
@@ -20,7 +19,7 @@ use crate::output::put_all;
 use crate::scenario_input::read_scenario;
 use crate::sharing::Sharing;
 use crate::source::Source;
-use debug_session::{Limits, MOST_LINE, Said, answer_typed, is_quit, is_refusal};
+use debug_session::{Dialogue, Limits, MOST_LINE, Said, answer_typed, is_quit, is_refusal};
 use debugger::Debugger;
 use scenario_image::Scenario;
 use std::alloc::{AllocError, Global};
@@ -57,7 +56,7 @@ fn put_answer<W: Sink, N: Notes>(said: &Said, writer: &mut W, notes: &mut N) -> 
 fn take_turn<R: Source, W: Sink, G: Gate, H: Threads + Wait + Sync, N: Notes>(
     means: &Means<H, G>,
     limits: Limits,
-    debugger: &mut Debugger,
+    dialogue: &mut Dialogue,
     room: &mut [u8],
     said: &mut Said,
     reader: &mut R,
@@ -66,8 +65,8 @@ fn take_turn<R: Source, W: Sink, G: Gate, H: Threads + Wait + Sync, N: Notes>(
 ) -> Result<Turn, SessionFault>
     requires room { 65536 < length room.old }
     ensures room { length room.new ≡ length room.old }
-    ensures turn { let seen = streams_of R.failures R.typed W.failures W.contents in IsTurn limits debugger.old.start (standing debugger.old) (standing debugger.new) result (seen reader.old writer.old) (seen reader.new writer.new) }
-    ensures start { debugger.new.start ≡ debugger.old.start }
+    ensures turn { let seen = streams_of R.failures R.typed W.failures W.contents in IsTurn limits dialogue.old.debugger.start (at_prompt dialogue.old) (at_prompt dialogue.new) result (seen reader.old writer.old) (seen reader.new writer.new) }
+    ensures start { dialogue.new.debugger.start ≡ dialogue.old.debugger.start }
     ensures reads { R.failures reader.new ≡ reads_after result (R.failures reader.old) }
     ensures writes { W.failures writer.new ≡ writes_after result (W.failures writer.old) }
 {
@@ -79,7 +78,7 @@ fn take_turn<R: Source, W: Sink, G: Gate, H: Threads + Wait + Sync, N: Notes>(
     if is_quit(line) {
         return Ok(Turn::Quit);
     }
-    answer_typed(means.rt, means.gate, debugger, limits, line, said);
+    answer_typed(means.rt, means.gate, dialogue, limits, line, said);
     put_answer(said, writer, notes)?;
     Ok(Turn::Answered)
 }
@@ -89,7 +88,7 @@ fn take_turn<R: Source, W: Sink, G: Gate, H: Threads + Wait + Sync, N: Notes>(
 fn answer_lines<R: Source, W: Sink, G: Gate, H: Threads + Wait + Sync, N: Notes>(
     means: &Means<H, G>,
     limits: Limits,
-    debugger: &mut Debugger,
+    dialogue: &mut Dialogue,
     room: &mut [u8],
     said: &mut Said,
     reader: &mut R,
@@ -97,12 +96,12 @@ fn answer_lines<R: Source, W: Sink, G: Gate, H: Threads + Wait + Sync, N: Notes>
     notes: &mut N,
 ) -> Result<(), SessionFault>
     requires room { 65536 < length room.old }
-    ensures session { let seen = streams_of R.failures R.typed W.failures W.contents in IsTypedSession limits debugger.old.start (standing debugger.old) result (seen reader.old writer.old) (seen reader.new writer.new) }
+    ensures session { let seen = streams_of R.failures R.typed W.failures W.contents in IsTypedSession limits dialogue.old.debugger.start (at_prompt dialogue.old) result (seen reader.old writer.old) (seen reader.new writer.new) }
     ensures reads { R.failures reader.new ≡ reads_after result (R.failures reader.old) }
     ensures writes { W.failures writer.new ≡ writes_after result (W.failures writer.old) }
 {
     for _ in means.rt.forever() {
-        match take_turn(means, limits, debugger, room, said, reader, writer, notes)? {
+        match take_turn(means, limits, dialogue, room, said, reader, writer, notes)? {
             Turn::Answered => {}
             Turn::Quit => return Ok(()),
             Turn::NoLine => return Ok(()),
@@ -135,20 +134,21 @@ fn debug_scenario<R: Source, W: Sink, G: Gate, H: Threads + Wait + Sync, N: Note
     ensures writes { W.failures writer.new ≡ writes_after result (W.failures writer.old) }
 {
     let mut room = room_for_line(means.alloc)?;
-    let mut debugger = Debugger::new(means.alloc, scenario, partition, workers)?;
+    let debugger = Debugger::new(means.alloc, scenario, partition, workers)?;
+    let mut dialogue = Dialogue::new(debugger);
     let limits = Limits::of(scenario);
     let mut said = Said::new(means.alloc);
     let ended = answer_lines(
         means,
         limits,
-        &mut debugger,
+        &mut dialogue,
         room.as_mut_slice(),
         &mut said,
         reader,
         writer,
         notes,
     );
-    drop(debugger);
+    drop(dialogue);
     drop(said);
     ended
 }

@@ -1,6 +1,6 @@
 -- the lines so far are answered, each before the next was asked for, and nothing has failed
 use Rattle.std.proofs.Common.{◌≡◌, ◌<◌, length}
-use Rattle.debug_session.specs.Answers.{standing}
+use Rattle.debug_session.specs.Prompt.{at_prompt}
 use Rattle.sessions.specs.Streams.{streams_of}
 use Rattle.sessions.proofs.Prompting.{SoFar}
 use Rattle.sessions.proofs.prompt.answer_lines.Given as goal
@@ -11,8 +11,8 @@ invariant-loop g l =
     record {
       can_next : (goal.iterator-loop g).can_next l.iterator';
       is_finite : (goal.iterator-loop g).is_finite l.iterator';
-      so_far : SoFar l.limits l.fn.debugger.start (standing l.fn.debugger) (standing l.debugger) (seen l.fn.reader l.fn.writer) (seen l.reader l.writer);
-      start : l.debugger.start ≡ l.fn.debugger.start;
+      so_far : SoFar l.limits l.fn.dialogue.debugger.start (at_prompt l.fn.dialogue) (at_prompt l.dialogue) (seen l.fn.reader l.fn.writer) (seen l.reader l.writer);
+      start : l.dialogue.debugger.start ≡ l.fn.dialogue.debugger.start;
       room : 65536 < length l.room;
       reads : g.R.Source.failures l.reader ≡ g.R.Source.failures l.fn.reader;
       writes : g.W.Sink.failures l.writer ≡ g.W.Sink.failures l.fn.writer;

@@ -1,4 +1,4 @@
-use Rattle.std.proofs.Common.{◌≡◌, Err, rules}
+use Rattle.std.proofs.Common.{◌≡◌, Err, ◌∙◌, rules}
 use Rattle.sessions.specs.declared.fault.SessionFault.TheVariants.{NoMemory}
 use Rattle.sessions.specs.Streams.{streams_of}
 use Rattle.sessions.proofs.PromptEnds.{no_memory_over, typed_over}
@@ -19,5 +19,5 @@ returns-in_err-debugger-clause-session g c =
 pub returns-clause-session : goal.returns-clause-session
 returns-clause-session g c =
     let seen = streams_of g.R.Source.failures g.R.Source.typed g.W.Sink.failures g.W.Sink.contents in
-    typed_over c.args.scenario.now c.in_ok-debugger.debugger c.of-limits.result c.answer_lines-ended.result (seen c.args.reader.now c.args.writer.now) (seen c.answer_lines-ended.new.reader c.answer_lines-ended.new.writer)
-    c.in_ok-debugger.ensures c.of-limits.ensures c.answer_lines-ended.ensures.session
+    typed_over c.args.scenario.now c.new-dialogue.result c.of-limits.result c.answer_lines-ended.result (seen c.args.reader.now c.args.writer.now) (seen c.answer_lines-ended.new.reader c.answer_lines-ended.new.writer)
+    (c.new-dialogue.ensures.debugger ∙ c.in_ok-debugger.ensures) c.new-dialogue.ensures.last c.of-limits.ensures c.answer_lines-ended.ensures.session

@@ -1,0 +1,26 @@
+use Rattle.std.proofs.Common.{Some, refl, sym, ap, ◌∙◌}
+use Rattle.debug_session.specs.Prompt.{at_prompt}
+use Rattle.debug_session.proofs.Followed.{is_again, is_obeyed, is_refused}
+use Rattle.debug_session.proofs.prompt.follow_typed.Goals as goal
+
+pub returns-in-None-clause-answers : goal.returns-in-None-clause-answers
+returns-in-None-clause-answers g c =
+    is_again c.args.limits c.args.dialogue.now.debugger.start c.args.line.now (at_prompt c.args.dialogue.now) (at_prompt c.move_again.new.dialogue) c.move_again.new.said c.in-None.ensures c.move_again.ensures.moves
+
+pub returns-in-None-clause-start : goal.returns-in-None-clause-start
+returns-in-None-clause-start g c = c.move_again.ensures.start
+
+pub returns-in-Some-Err-clause-answers : goal.returns-in-Some-Err-clause-answers
+returns-in-Some-Err-clause-answers g c =
+    is_refused c.args.limits c.args.dialogue.now.debugger.start c.args.line.now (at_prompt c.args.dialogue.now) c.say_refused.new.self c.in-Some-Err.refusal (ap (λ r. Some r) (sym c.in-Some-Err.field-0-is) ∙ c.in-Some-Err.ensures) c.say_refused.ensures
+
+pub returns-in-Some-Err-clause-start : goal.returns-in-Some-Err-clause-start
+returns-in-Some-Err-clause-start g c = refl
+
+pub returns-in-Some-Ok-clause-answers : goal.returns-in-Some-Ok-clause-answers
+returns-in-Some-Ok-clause-answers g c =
+    is_obeyed c.args.limits c.args.dialogue.now.debugger.start c.args.line.now (at_prompt c.args.dialogue.now) (at_prompt c.obey_typed.new.dialogue) c.obey_typed.new.said c.in-Some-Ok.command
+    (ap (λ r. Some r) (sym c.in-Some-Ok.field-0-is) ∙ c.in-Some-Ok.ensures) c.obey_typed.ensures.obeys
+
+pub returns-in-Some-Ok-clause-start : goal.returns-in-Some-Ok-clause-start
+returns-in-Some-Ok-clause-start g c = c.obey_typed.ensures.start

@@ -1,0 +1,17 @@
+use Rattle.std.proofs.Common.{refl}
+use Rattle.debug_session.specs.Prompt.{at_prompt}
+use Rattle.debug_session.proofs.Followed.{nothing_again, done_again}
+use Rattle.debug_session.proofs.prompt.move_again.Goals as goal
+
+pub returns-in-None-clause-moves : goal.returns-in-None-clause-moves
+returns-in-None-clause-moves g c = nothing_again c.args.dialogue.now.debugger.start (at_prompt c.args.dialogue.now) c.clear.new.self c.in-None.is c.clear.ensures
+
+pub returns-in-None-clause-start : goal.returns-in-None-clause-start
+returns-in-None-clause-start g c = refl
+
+pub returns-in-Some-clause-moves : goal.returns-in-Some-clause-moves
+returns-in-Some-clause-moves g c =
+    done_again c.args.dialogue.now.debugger.start (at_prompt c.args.dialogue.now) (at_prompt c.obey_typed.new.dialogue) c.obey_typed.new.said c.in-Some.command c.in-Some.is c.obey_typed.ensures.obeys
+
+pub returns-in-Some-clause-start : goal.returns-in-Some-clause-start
+returns-in-Some-clause-start g c = c.obey_typed.ensures.start

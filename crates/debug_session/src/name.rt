@@ -1,0 +1,57 @@
+//! The names of the commands that are typed at a prompt.
+ghost use Rattle.std.specs.Prelude.{◌≡◌, nat_eq};
+ghost use Rattle.std.specs.List.{starts_with};
+ghost use Rattle.debug_session.specs.Names.{name_of};
+
+/// The name of a command.
+#[derive(Clone, Copy, Debug, PartialEq, Eq)]
+pub enum Name {
+    /// Events are run.
+    Step,
+    /// Events are taken back.
+    Back,
+    /// A breakpoint is set.
+    Break,
+    /// Events are run until a breakpoint matches.
+    Run,
+    /// Events are run until a moment.
+    Until,
+    /// The state is shown.
+    State,
+    /// All breakpoints are taken away.
+    Clear,
+    /// The session ends.
+    Quit,
+}
+
+/// Whether a word is the beginning of a name, or all of it.
+pub(crate) fn begins(word: &[u8], name: &[u8]) -> bool
+    ensures { result ≡ starts_with nat_eq name.now word.now }
+{
+    name.starts_with(word)
+}
+
+/// The first name that a word begins.
+pub(crate) fn name_of(word: &[u8]) -> Option<Name>
+    ensures { result ≡ name_of word.now }
+{
+    if begins(word, b"step") {
+        Some(Name::Step)
+    } else if begins(word, b"back") {
+        Some(Name::Back)
+    } else if begins(word, b"break") {
+        Some(Name::Break)
+    } else if begins(word, b"run") {
+        Some(Name::Run)
+    } else if begins(word, b"until") {
+        Some(Name::Until)
+    } else if begins(word, b"state") {
+        Some(Name::State)
+    } else if begins(word, b"clear") {
+        Some(Name::Clear)
+    } else if begins(word, b"quit") {
+        Some(Name::Quit)
+    } else {
+        None
+    }
+}
