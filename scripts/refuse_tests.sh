@@ -19,9 +19,9 @@ net_trials windows::refused::a_refused_window_gives_the_net_back
 net_trials windows::refused::a_refused_turn_leaves_the_window
 net_trials windows::refused::a_refused_group_stands_after_whole_events
 net_trials boards::refused::a_refused_board_gives_its_pieces_up
-trials refused::a_refused_window_fails_the_engine
-trials refused::a_refused_text_commits_nothing_of_its_window
-trials refused::a_refused_move_changes_nothing'
+engine_trials refused::a_refused_window_fails_the_engine
+engine_trials refused::a_refused_text_commits_nothing_of_its_window
+engine_trials refused::a_refused_move_changes_nothing'
 
 if ! command -v cc > /dev/null; then
   echo 'LEFT OUT, not passed: memory refused to tests (no cc)'

@@ -1,16 +1,6 @@
-//! Tests of the engine, of debugging sessions and of whole sessions, by public calls alone, so that no
-//! library is proved a second time with its tests.
+//! Tests of whole sessions, by public calls alone, so that no library is proved a second time with its
+//! tests. What compares bytes alone is tried on the built program, by scripts/test_whole.py.
 #![tactic(auto)]
 
-#[cfg(test)]
-mod crowd;
-#[cfg(test)]
-mod debugging;
-#[cfg(test)]
-mod engines;
-#[cfg(test)]
-mod hands;
-#[cfg(test)]
-mod refused;
 #[cfg(test)]
 mod whole;

@@ -1,8 +1,8 @@
 //! Sessions whose reader or writer fails at one of its calls, or that are long.
 
 use super::ends::{Break, Giver, Taker};
-use crate::hands::AllHands;
 use crate::whole::{FIRST, FIRST_TRACE};
+use engine_trials::hands::AllHands;
 use sessions::session::{run_all, run_with};
 use sessions::source::OverRead;
 use std::alloc::{AllocError, Global};

@@ -2,7 +2,7 @@
 
 use super::debug::{ANSWERS, SESSION};
 use super::{FIRST, FIRST_TRACE, expect_words};
-use crate::hands::AllHands;
+use engine_trials::hands::AllHands;
 use explanations::list_codes;
 use sessions::debug::run_debug;
 use sessions::outcome::Outcome;

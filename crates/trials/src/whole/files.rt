@@ -1,7 +1,7 @@
 //! Sessions over files, and what codes mean.
 
-use crate::hands::AllHands;
 use crate::whole::{FIRST, FIRST_TRACE, expect_words};
+use engine_trials::hands::AllHands;
 use sessions::session::run_with;
 use sessions::source::{Source, SourceFail};
 use std::process::Abort;

@@ -1,8 +1,8 @@
 //! Debugging sessions at a prompt, whose lines come one by one.
 
-use crate::hands::AllHands;
 use crate::whole::FIRST;
 use crate::whole::debug::{ANSWERS, SESSION};
+use engine_trials::hands::AllHands;
 use sessions::notes::{HowFar, Notes};
 use sessions::session::run_noted;
 use sessions::source::{Source, SourceFail};

@@ -2,7 +2,7 @@
 
 use super::networks::{EQUAL_TIMES, EQUAL_TIMES_TRACE};
 use super::{FIRST, FIRST_TRACE, expect_words};
-use crate::crowd::Crowd;
+use engine_trials::crowd::Crowd;
 use sessions::session::{run_all, run_with};
 use sessions::source::OverRead;
 use std::io;

@@ -1,7 +1,7 @@
 //! How far a run is, and why an input is refused, as it is told.
 
-use crate::hands::AllHands;
-use crate::whole::FIRST;
+use crate::FIRST;
+use engine_trials::hands::AllHands;
 use explanations::text_of;
 use sessions::notes::{HowFar, Notes};
 use sessions::session::run_noted;

@@ -3,7 +3,7 @@
 use window_engine::Gate;
 
 /// Keeps nobody, and asks for all workers.
-pub(crate) struct AllHands;
+pub struct AllHands;
 
 impl Gate for AllHands {
     fn enter(&self, _piece: u64) {}

@@ -1,7 +1,7 @@
 //! Groups that the program finds.
 
-use crate::hands::AllHands;
-use crate::whole::FIRST;
+use crate::FIRST;
+use engine_trials::hands::AllHands;
 use scenario_asm::assemble;
 use sessions::session::run_with;
 use sessions::source::OverRead;

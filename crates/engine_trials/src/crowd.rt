@@ -11,7 +11,7 @@ const TURNS: u64 = 10_000_000;
 /// Holds whoever enters until so many have: they are let go together. A worker that waits in vain goes
 /// on alone at last, which is counted.
 #[derive(Drop)]
-pub(crate) struct Crowd {
+pub struct Crowd {
     /// How many are let go together.
     size: u64,
     /// How often a piece was entered.
@@ -28,7 +28,7 @@ pub(crate) struct Crowd {
 
 impl Crowd {
     /// So many are let go together. Nobody has entered yet.
-    pub(crate) fn of(size: u64) -> Crowd {
+    pub fn of(size: u64) -> Crowd {
         Crowd {
             size,
             entered: AtomicU64::new(0),
@@ -40,17 +40,17 @@ impl Crowd {
     }
 
     /// How often pieces were entered, and what their numbers are together.
-    pub(crate) fn entered(&self) -> (u64, u64) {
+    pub fn entered(&self) -> (u64, u64) {
         (self.entered.load(SeqCst), self.numbers_entered.load(SeqCst))
     }
 
     /// How often pieces were left, and what their numbers are together.
-    pub(crate) fn left(&self) -> (u64, u64) {
+    pub fn left(&self) -> (u64, u64) {
         (self.left.load(SeqCst), self.numbers_left.load(SeqCst))
     }
 
     /// How often somebody went on alone.
-    pub(crate) fn missed(&self) -> u64 {
+    pub fn missed(&self) -> u64 {
         self.missed.load(SeqCst)
     }
 }

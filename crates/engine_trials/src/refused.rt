@@ -4,7 +4,6 @@
 ghost use Rattle.std.specs.Prelude.{◌<◌, ◌≤◌};
 
 use crate::hands::AllHands;
-use crate::whole::traces::DELAYED;
 use debugger::{Break, Debugger, EventKind, MoveFault};
 use scenario_asm::assemble;
 use scenario_image::Scenario;
@@ -16,12 +15,33 @@ use std::thread::Threads;
 use window_core::Partition;
 use window_engine::{Engine, EngineFault, OverWrite, Stop};
 
+/// Two segments with one delayed acknowledgement.
+const DELAYED: &str = "sim 1000000000
+node s sender
+node r receiver
+link a s r 8000000 1000000 droptail 10
+link b r s 8000000 1000000 droptail 10
+flow f s r 1000 2 0 64000 500000000
+";
+
+/// Their trace, by the rules of docs/MODEL.md.
+const DELAYED_TRACE: &str =
+    "1 0 0 0 0 start 0 una=0 nxt=2000 cwnd=4000 ssthresh=64000 phase=ss tx=0:0:0
+2 1040000 0 0 3 free 0 una=0 nxt=2000 cwnd=4000 ssthresh=64000 phase=ss tx=0:0:1000
+3 2040000 1 1 1 data 0 0 next=1000
+4 2080000 0 0 3 free 0 una=0 nxt=2000 cwnd=4000 ssthresh=64000 phase=ss
+5 3080000 1 1 2 data 0 1000 next=2000 tx=1:0:2000
+6 3120000 1 0 3 free 1 next=2000
+7 4120000 0 2 1 ack 0 2000 una=2000 nxt=2000 cwnd=5000 ssthresh=64000 phase=ss
+end 7
+";
+
 /// How many events the run has.
 const EVENTS: u64 = 7;
 
 /// The scenario of seven events, at two nodes.
 fn scenario(rt: &impl Abort, alloc: Global) -> Scenario {
-    let text = DELAYED.0.as_bytes();
+    let text = DELAYED.as_bytes();
     match assemble(alloc, text) {
         Ok(scenario) => scenario,
         Err(_) => assemble(alloc, text)
@@ -183,7 +203,7 @@ fn stops_at_an_edge<R: Threads + Wait + Abort + Sync>(
     let position = engine.position();
     assert!(rt; engine.failed() == ended.is_err());
     drop(engine);
-    let trace = DELAYED.1.as_bytes();
+    let trace = DELAYED_TRACE.as_bytes();
     let size = size_of_lines(trace, position);
     assert_eq!(rt; room.get(..size), trace.get(..size));
     assert_eq!(rt; room.get(size), Some(&0));

@@ -1,7 +1,6 @@
 //! What is told of a refusal of no line: its first witness, and a statement that would mend it.
 
-use crate::whole::images::changed_of;
-use crate::whole::notes::expect_why;
+use crate::notes::expect_why;
 use explanations::image_parts;
 use scenario_asm::assemble;
 use scenario_image::{Scenario, load, save};
@@ -227,6 +226,40 @@ const CHANGED_BYTES: &[(usize, &str, usize, &str, &str)] = &[
     (193, "ffff", 232, "", "L3"),
     (0, "54434233", 232, "", "L2"),
 ];
+
+/// The value of a digit, if it is one.
+fn digit(byte: u8) -> Option<u8> {
+    match byte {
+        b'0'..=b'9' => Some(byte - b'0'),
+        b'a'..=b'f' => Some(byte - b'a' + 10),
+        _ => None,
+    }
+}
+
+/// Adds the bytes that pairs of digits spell.
+fn push_hex(bytes: &mut Vec<u8>, hex: &str) -> Result<(), AllocError> {
+    let mut high = None;
+    for low in hex.as_bytes().iter().filter_map(|byte| digit(*byte)) {
+        high = match high {
+            None => Some(low),
+            Some(first) => {
+                bytes.push(low.wrapping_add(16u8.wrapping_mul(first)))?;
+                None
+            }
+        };
+    }
+    Ok(())
+}
+
+/// An image with these bytes in place of those at this place.
+fn changed_of(alloc: Global, image: &[u8], place: usize, hex: &str) -> Result<Vec<u8>, AllocError> {
+    let mut bytes = Vec::new(alloc);
+    bytes.extend_from_slice(image.get(..place).unwrap_or(b""))?;
+    push_hex(&mut bytes, hex)?;
+    let kept = image.get(bytes.len()..).unwrap_or(b"");
+    bytes.extend_from_slice(kept)?;
+    Ok(bytes)
+}
 
 #[test]
 fn an_image_is_shown_its_witness_by_numbers(rt: HostRuntime) -> Result<(), Fail> {

@@ -1,0 +1,248 @@
+#!/usr/bin/env python3
+"""Runs the built program on whole inputs whose outcome was worked out without it: each text of
+scripts/whole/ against the trace beside it, by hand from docs/MODEL.md or by the model of scripts/model, and
+the texts, images and words of the tables there and below against their faults.
+
+They were tests of the crate trials. On bytes alone they try the program as it is run, and the prover need
+not prove them. Usage: scripts/test_whole.py [--program PATH] [TEST..]. The last line is 'N passed, N failed'.
+"""
+import argparse
+import concurrent.futures
+import glob
+import os
+import subprocess
+import sys
+import unittest
+
+HERE = os.path.dirname(os.path.abspath(__file__))
+TOP = os.path.dirname(HERE)
+sys.path.insert(0, HERE)
+
+from whole import images, texts  # noqa: E402
+from whole.texts import RIGHT  # noqa: E402
+
+PROGRAM = os.path.join(TOP, 'crates', 'tcpsim', 'out', 'tcpsim')
+LONGEST = 60  # seconds that a run may take
+FIRST = ''.join(f'{line}\n' for line in texts.LINES).encode()
+
+# Words that are refused. The input, a right text, plays no part.
+MISTAKEN = [
+    [],
+    ['asm', 'one', 'two'],
+    ['help'],
+    ['run', 'one', 'two'],
+    ['debug', 'one', 'two'],
+    ['explain', 'E1', 'E2'],
+    ['run', '--workers', '0'],
+    ['run', '--workers=65'],
+    ['run', '--workers', 'two'],
+    ['run', '--workers='],
+    ['run', '--workers', '1', '--workers', '1'],
+    ['debug', '--workers', '18446744073709551617'],
+    ['run', '--groups'],
+    ['--groups', 'one', 'run'],
+    ['asm', '--groups', 'one'],
+    ['dis', '--workers', '1'],
+    ['run', '--version'],
+    ['--fast', 'run'],
+]
+
+
+def read(name):
+    with open(name, 'rb') as file:
+        return file.read()
+
+
+def outcome(words, given):
+    """The status, the note and the output of a run of the program."""
+    done = subprocess.run([PROGRAM, *words], input=given, capture_output=True, timeout=LONGEST, check=False)
+    return done.returncode, done.stderr, done.stdout
+
+
+def hash_of(data):
+    """A number of 64 bits that all bytes decide in their order: the hash of Fowler, Noll and Vo, variant 1a."""
+    value = 0xcbf2_9ce4_8422_2325
+    for byte in data:
+        value = (value ^ byte) * 0x0100_0000_01b3 & 0xffff_ffff_ffff_ffff
+    return value
+
+
+def text_with(lines, pieces, number, line):
+    """These lines with the line of this number replaced, or with one more line, at this number: before it
+    stand lines that each name a number, 1, 2 and so on, between two pieces."""
+    before, after = pieces
+    more = [f'{before}{it}{after}' for it in range(1, number - len(lines))]
+    own = [line if at == number else it for at, it in enumerate(lines, 1)]
+    return ''.join(f'{it}\n' for it in [*own, *more]) + (line if number > len(lines) else '')
+
+
+class Whole(unittest.TestCase):
+    def expect(self, cases):
+        """Runs the program on each case, its words and its input, which has to end with this status, note
+        and output."""
+        with concurrent.futures.ThreadPoolExecutor(len(os.sched_getaffinity(0))) as pool:
+            came = pool.map(lambda it: outcome(it[0], it[1]), cases)
+            for (words, given, *wanted), found in zip(cases, came):
+                with self.subTest(words=words, given=given[:2000]):
+                    self.assertEqual(found, tuple(wanted))
+
+    def expect_faults(self, subcommand, rows):
+        """Each row is an input, what it is refused for, or RIGHT, and what is written then; None is not
+        looked at."""
+        with concurrent.futures.ThreadPoolExecutor(len(os.sched_getaffinity(0))) as pool:
+            came = pool.map(lambda it: outcome([subcommand], it[0]), rows)
+            for (given, fault, output), (status, note, found) in zip(rows, came):
+                with self.subTest(given=given[:2000], fault=fault):
+                    if fault == RIGHT:
+                        self.assertEqual((status, note), (0, b''))
+                        self.assertIn(output, (None, found))
+                    else:
+                        self.assertEqual((status, note, found), (1, f'refused {fault}\n'.encode(), b''))
+
+    def expect_texts(self, rows):
+        """The same of texts, by a fault and its line."""
+        faults = [(text.encode(), code if code == RIGHT else f'{code} line {line}' if code[0] == 'E' else
+                   f'{code} line 0', None) for text, code, line in rows]
+        self.assertTrue(all(line == 0 for _, code, line in rows if code[0] in 'rL'))
+        self.expect_faults('asm', faults)
+
+    # ---- runs
+
+    def test_runs_have_the_stored_traces(self):
+        names = sorted(glob.glob(f'{HERE}/whole/*.txt'))
+        self.assertGreaterEqual(len(names), 10)
+        self.expect([(['run'], read(it), 0, b'', read(f'{it[:-4]}.trace')) for it in names])
+
+    def test_a_hundred_thousand_events_of_a_network_run_to_their_end(self):
+        """402 drops by CoDel, 19 at the full queue, 63 timeouts."""
+        text = read(f'{TOP}/examples/four_flows_before_codel.txt').decode()
+        for old, new, count in [('sim 10000000000\n', 'sim 100000000000\n', 1), (' 1000 6 ', ' 1000 2100 ', 4),
+                                ('codel 20 3000000 10000000 1040', 'codel 8 3000000 10000000 1040', 1)]:
+            self.assertEqual(text.count(old), count, old)
+            text = text.replace(old, new)
+        status, note, trace = outcome(['run'], text.encode())
+        self.assertEqual((status, note), (0, b''))
+        self.assertTrue(trace.endswith(b'\nend 103546\n'))
+        self.assertEqual(len(trace), 5_656_297)
+        self.assertEqual(hash_of(trace), 0x7547_0a11_fb92_3df2)
+
+    # ---- texts
+
+    def test_texts_have_their_faults(self):
+        self.expect_texts(texts.TEXTS)
+        self.expect_faults('run', [(text.encode(), f'{code} line {line}', None) for text, code, line in texts.TEXTS])
+
+    def test_lines_have_their_faults(self):
+        rows = [(text_with(texts.LINES, texts.LOSSES, at, line), code, place)
+                for at, line, code, place in [*texts.PLACED, *texts.NAMED]]
+        rows += [(text_with(texts.ROUTED, texts.ROUTER_LINKS, at, line), code, place)
+                 for at, line, code, place in texts.ROUTES]
+        self.expect_texts(rows)
+
+    def test_texts_of_many_statements_have_their_faults(self):
+        self.expect_texts([(text_with(texts.LINES, pieces, at, line), code, place)
+                           for pieces, at, line, code, place in texts.COUNTED])
+
+    def test_lines_of_many_words_have_their_faults(self):
+        rows = [(7, first + ' 1' * more, of_flow if first == 'flow' else 'E3', 7)
+                for more, of_flow in texts.WORDS for first in ('sim', 'node', 'flow', 'route', 'lose')]
+        rows += [(4, texts.CODEL + ' 1' * more, code, place) for more, code, place in texts.MORE]
+        self.expect_texts([(text_with(texts.LINES, texts.LOSSES, at, line), code, place)
+                           for at, line, code, place in rows])
+
+    def test_long_lines_have_their_faults(self):
+        self.expect([(['run'], (first + piece * count).encode(), 1, f'{note}\n'.encode(), b'')
+                     for first, piece, count, note in texts.LONG])
+
+    def test_a_cut_text_has_its_fault_or_runs(self):
+        trace = read(f'{TOP}/examples/one_segment.trace')
+        rows = [(FIRST[:size], fault, trace) for least, most, fault in texts.CUTS for size in range(least, most + 1)]
+        self.assertEqual([len(it) for it, _, _ in rows], [*range(len(FIRST) + 1)])
+        self.expect_faults('run', rows)
+
+    def test_a_byte_out_of_range_is_told_by_its_line(self):
+        self.expect_faults('run', [
+            (FIRST[:place] + bytes([byte]) + FIRST[place + 1:], f'E1 line {FIRST.count(10, 0, place) + 1}', None)
+            for place in range(len(FIRST)) for byte in texts.OUTSIDE])
+
+    # ---- images
+
+    def changed(self, image, rows):
+        """Images with bytes put at places, what each is refused for, and itself."""
+        made = [(image[:place] + bytes.fromhex(put), place + len(bytes.fromhex(put)), fault)
+                for place, put, fault in rows]
+        return [(it + image[end:], fault, it + image[end:]) for it, end, fault in made]
+
+    def test_a_scenario_goes_from_text_to_image_and_back(self):
+        self.assertEqual((len(images.FIRST_IMAGE), len(images.IN_VERSION_1)), (135, 134))
+        again = images.FIRST_AGAIN.encode()
+        trace = read(f'{TOP}/examples/one_segment.trace')
+        self.expect([(words, given, 0, b'', output)
+                     for given in (FIRST, again, images.FIRST_IMAGE, images.IN_VERSION_1)
+                     for words, output in ((['asm'], images.FIRST_IMAGE), (['dis'], again), (['run'], trace))])
+
+    def test_images_have_their_faults(self):
+        self.expect_faults('asm', self.changed(images.FIRST_IMAGE, images.CHANGED))
+
+    def test_images_of_version_1_have_their_faults(self):
+        """What is right is the same bytes in version 2, with one more for the sender."""
+        self.expect_faults('asm', [(it, fault, b'TCB2' + it[4:] + b'\0') for it, fault, _ in
+                                   self.changed(images.IN_VERSION_1, images.CHANGED_IN_VERSION_1)])
+
+    def test_a_sender_has_one_byte(self):
+        self.expect([(['asm'], FIRST.rstrip() + f'{words}\n'.encode(), 0, b'', images.FIRST_IMAGE[:-1] + bytes([byte]))
+                     for words, byte in images.SENDERS])
+
+    def test_lost_packets_have_their_faults(self):
+        rows = [([*range(first, last + 1)], fault) for first, last, fault in images.LOST]
+        rows += [(numbers, 'L3') for numbers in images.NOT_RISING]
+        made = [(b''.join(it.to_bytes(4, 'big') for it in numbers), len(numbers), fault) for numbers, fault in rows]
+        made = [(images.FIRST_IMAGE[:65] + bytes([count]) + lost + images.FIRST_IMAGE[66:], fault)
+                for lost, count, fault in made]
+        self.expect_faults('asm', [(it, fault, it) for it, fault in made])
+
+    def test_a_cut_image_has_too_few_bytes(self):
+        notes = {0: b'refused E10 line 0\n', 1: b'refused E2 line 1\n', 2: b'refused E2 line 1\n'}
+        self.expect([(['run'], image[:size], 1, notes.get(size, b'refused L1\n'), b'')
+                     for image in (images.FIRST_IMAGE, images.IN_VERSION_1) for size in range(len(image))])
+
+    def test_images_of_many_records_have_their_faults(self):
+        made = [(images.image_of(counts, routes), fault) for counts, routes, fault in images.COUNTS]
+        self.expect_faults('asm', [(it, fault, it) for it, fault in made])
+
+    def test_the_greatest_images_are_taken(self):
+        """Each is given again, by its text too."""
+        for image in (images.greatest(), images.most_flows()):
+            self.expect([(['asm'], image, 0, b'', image)])
+            status, note, text = outcome(['dis'], image)
+            self.assertEqual((status, note), (0, b''))
+            self.expect([(['asm'], text, 0, b'', image)])
+
+    # ---- words
+
+    def test_mistaken_words_are_refused(self):
+        for words in MISTAKEN:
+            with self.subTest(words=words):
+                status, note, output = outcome(words, FIRST)
+                self.assertEqual((status, output), (2, b''))
+                self.assertTrue(note.startswith(b'error: ') and note.endswith(b'\n'), note)
+
+
+def main():
+    global PROGRAM
+    arguments = argparse.ArgumentParser(add_help=False)
+    arguments.add_argument('--program', default=PROGRAM)
+    options, rest = arguments.parse_known_args()
+    PROGRAM = os.path.abspath(options.program)
+    if not os.path.exists(PROGRAM):
+        print(f"{PROGRAM} is not there: build it with 'make run'")
+        print('LEFT OUT, not passed: scripts/test_whole.py')
+        return 0
+    done = unittest.main(argv=[sys.argv[0], *rest], exit=False).result
+    failed = len({getattr(test, 'test_case', test).id() for test, _ in done.failures + done.errors})
+    print(f'{done.testsRun - failed} passed, {failed} failed')
+    return 1 if failed else 0
+
+
+if __name__ == '__main__':
+    sys.exit(main())
