@@ -1,5 +1,6 @@
 # `make run` builds the program and runs it on the first example; `make test` passes all tests, those
-# of the gate, those of the scripts that read traces, and those of the built program;
+# of the gate, and those of the scripts and of the built program, side by side (`make test-scripts` passes
+# those of the scripts alone);
 # `make wrong-bodies` tries the wrong bodies that stand beside the gate, `make wrong-bodies NAME=aqm` those
 # of one crate;
 # `make bench` measures the built program and writes bench/RESULTS.md (python3 and valgrind);
@@ -24,23 +25,15 @@ FISH_COMPLETIONS = share/fish/vendor_completions.d
 # The scripts that are installed, and what they are made of.
 TOOLS = plot flows net sweep replay follow stalls
 LIBRARY = trace_reader.py finding.py units.py causes.py lives.py
-# The tests of the scripts that want matplotlib.
-DRAWING_TESTS = scripts/test_scripts.py scripts/test_plot.py
 
 test:
 	@python3 scripts/build.py --ready
 	@python3 scripts/wrong_bodies.py --check
 	RT_JOBS=$$(nproc) rt ci
-	scripts/refuse_tests.sh
-	@$(MAKE) --no-print-directory test-scripts
-	scripts/try_shell.sh
+	@python3 scripts/run_tests.py --python '$(PYTHON)'
 
 test-scripts:
-	@for it in $(filter-out $(DRAWING_TESTS),$(wildcard scripts/test_*.py)); do \
-	echo "$$it"; '$(or $(PYTHON),python3)' "$$it" || exit 1; done
-	@if [ -n '$(PYTHON)' ]; then for it in $(DRAWING_TESTS); do \
-	echo "$$it"; '$(PYTHON)' "$$it" || exit 1; done; else \
-	echo 'LEFT OUT, not passed: $(DRAWING_TESTS) (no python3 with matplotlib)'; fi
+	@python3 scripts/run_tests.py --python '$(PYTHON)' $(wildcard scripts/test_*.py)
 
 wrong-bodies:
 	@python3 scripts/wrong_bodies.py $(NAME)
