@@ -2,16 +2,18 @@
 """Compares the built program with the model of scripts/model on many inputs: status, output, note.
 
 Usage: scripts/compare.py [--kind texts,runs,images,debug,auto] [--seed S] [--count N] [--jobs J]
-                          [--program PATH] [--options] [--systematic | --random]
+                          [--program PATH] [--options] [--systematic | --random] [--steps N]
 
   texts    mutated and systematic texts, most of them refused     (tcpsim run)
   runs     random scenarios: one flow, dumbbells, chains, trees   (tcpsim run)
   images   images whole, cut, changed                             (tcpsim run, dis, asm)
   debug    random commands on random scenarios                    (tcpsim debug)
+  prompt   random lines typed at a prompt over random scenarios   (tcpsim debug FILE)
   auto     the examples and random scenarios by 1, 2, 4 and 64 workers, many of which are worth sharing
                                                                   (tcpsim run --groups auto)
 
---options gives random --groups and --workers besides.
+--options gives random --groups and --workers besides. --steps N is for a program whose prompt has the first N steps
+of its grammar (scripts/model/prompt.py), else all.
 
 What differs is printed, the smallest case first, each made smaller by leaving out what isn't needed.
 The status is 1 where anything differs.
@@ -34,6 +36,8 @@ sys.path.insert(0, os.path.join(TOP, 'scripts', 'model'))
 import debugger  # noqa: E402
 import image  # noqa: E402
 import nets  # noqa: E402
+import prompt  # noqa: E402
+import sessions  # noqa: E402
 import simulate  # noqa: E402
 import spelling  # noqa: E402
 import tcpsim_model  # noqa: E402
@@ -47,30 +51,49 @@ MOST_BYTES = 2_000_000  # of an output, that are compared; the program is then s
 MOST_SHRUNK = 100_000   # the same while a case is made smaller
 PROGRAM = os.path.join(TOP, 'crates', 'tcpsim', 'out', 'tcpsim')
 CREWS = ('1', '2', '4', '64')
+# A case of a prompt has scenario and lines in one, with this between them; the word stands for the scenario's file.
+TYPED, FILE = b'\n--- typed\n', 'FILE'
+STEPS = '--steps='      # begins a word that only the model is given
 
 
 class Enough(Exception):
     """As much was written as is compared."""
 
 
+def in_memory(data=b''):
+    """A file with these bytes that is nowhere on a disk."""
+    file = open(os.memfd_create('input'), 'wb+')
+    file.write(data)
+    file.seek(0)
+    return file
+
+
+def parts_of(words, data):
+    """A scenario's file, or nothing where the words name none, and standard input."""
+    if FILE not in words:
+        return b'', data
+    scenario, _, keys = data.partition(TYPED)
+    return scenario, keys
+
+
 def program_answers(path, words, data, most):
     """Status, output and note; a longer output is cut off at `most` bytes, its status then `long`."""
-    with open(os.memfd_create('input'), 'wb+') as given:
-        given.write(data)
-        given.seek(0)
-        process = subprocess.Popen([path, *words], stdin=given, stdout=subprocess.PIPE, stderr=subprocess.PIPE,
-                                   env={'PATH': '/usr/bin:/bin', 'LC_ALL': 'C'})
-    silence = threading.Timer(LONGEST, process.kill)
-    silence.start()
-    out = process.stdout.read(most)
-    if len(out) == most:
-        process.kill()
+    scenario, keys = parts_of(words, data)
+    with in_memory(scenario) as file, in_memory(keys) as given, in_memory() as told:
+        words = [f'/dev/fd/{file.fileno()}' if word == FILE else word for word in words if not word.startswith(STEPS)]
+        process = subprocess.Popen([path, *words], stdin=given, stdout=subprocess.PIPE, stderr=told,
+                                   pass_fds=[file.fileno()], env={'PATH': '/usr/bin:/bin', 'LC_ALL': 'C'})
+        silence = threading.Timer(LONGEST, process.kill)
+        silence.start()
+        out = process.stdout.read(most)
+        if len(out) == most:
+            process.kill()
         process.communicate()
         silence.cancel()
-        return 'long', out, ''
-    _, note = process.communicate()
-    silence.cancel()
-    return process.returncode, out, note.decode(errors='replace').rstrip('\n')
+        if len(out) == most:
+            return 'long', out, ''
+        told.seek(0)
+        return process.returncode, out, told.read().decode(errors='replace').rstrip('\n')
 
 
 def model_answers(words, data, most):
@@ -90,11 +113,13 @@ def model_answers_kept(words, data, most):
         left -= len(piece)
         if left <= 0:
             raise Enough
+    scenario, keys = parts_of(words, data)
+    told = []
     try:
-        status, note = tcpsim_model.main(words, data, write)
+        status, note = tcpsim_model.main(words, keys, write, told.append, lambda _: scenario)
     except Enough:
         return 'long', b''.join(written)[:most], ''
-    return status, b''.join(written), note
+    return status, b''.join(written), (b''.join(told).decode(errors='replace') + note).rstrip('\n')
 
 
 def agree(one, other):
@@ -318,7 +343,19 @@ def debug(pick, args):
         yield ('debug', *options(pick, args, len(scenario.nodes))), text + session.encode()
 
 
-KINDS = {'texts': texts, 'runs': runs, 'images': images, 'debug': debug, 'auto': auto}
+def prompts(pick, args):
+    """Sessions at a prompt, over texts and images; now and then one that is refused."""
+    for _ in range(args.count):
+        scenario = short_scenario(pick)
+        data = image.save(scenario) if pick.random() < 0.1 else spelling.spelt(scenario, pick)
+        if pick.random() < 0.03:
+            data = spelling.mutated(data, pick)
+        keys = sessions.any_session(pick, scenario, moments(scenario) or [0], args.steps)
+        words = [FILE, *options(pick, args, len(scenario.nodes))]
+        yield ('debug', *words, f'{STEPS}{args.steps}'), data + TYPED + keys
+
+
+KINDS = {'texts': texts, 'runs': runs, 'images': images, 'debug': debug, 'auto': auto, 'prompt': prompts}
 
 
 # What is printed.
@@ -338,6 +375,9 @@ def first_difference(real, model):
 def show(found):
     (words, data), real, model = found
     print(f'--- {" ".join(words)}, {len(data)} bytes of input')
+    if FILE in words:
+        data, keys = parts_of(words, data)
+        print(f'typed: {[shortened(line, 200) for line in lines_of(keys)]}, over')
     print(shortened(data) if not data.startswith(b'TCB') else data[:500].hex(' '))
     for name, answer in (('program', real), ('model', model)):
         print(f'{name}: status {answer[0]}, note {answer[2][:200]!r}, {len(answer[1])} bytes')
@@ -352,6 +392,7 @@ def arguments():
     parser.add_argument('--jobs', type=int, default=2)
     parser.add_argument('--program', default=PROGRAM)
     parser.add_argument('--options', action='store_true')
+    parser.add_argument('--steps', type=int, default=prompt.STEPS)
     parser.add_argument('--systematic', action='store_true', help='only the systematic inputs')
     parser.add_argument('--random', action='store_true', help='only the random inputs')
     args = parser.parse_args()

@@ -2,8 +2,9 @@
 """Tests of `tcpsim debug FILE` with the built program: commands are typed one by one, into a pseudo-terminal and
 into pipes, and each answer has to be out before the next command goes in.
 
-What a command answers is what the model of scripts/model says of it. It goes after `make run`.
-Usage: scripts/test_prompt.py [--program PATH] [TEST..]. The last line is 'N passed, N failed'.
+What a line answers is what the model of scripts/model says of it. It goes after `make run`.
+Usage: scripts/test_prompt.py [--program PATH] [--steps N] [TEST..]. --steps N is for a program whose prompt has the
+first N steps of its grammar (scripts/model/prompt.py), else all. The last line is 'N passed, N failed'.
 """
 import argparse
 import os
@@ -22,17 +23,40 @@ HERE = os.path.dirname(os.path.abspath(__file__))
 TOP = os.path.dirname(HERE)
 sys.path.insert(0, os.path.join(HERE, 'model'))
 
-import tcpsim_model  # noqa: E402
+import debugger  # noqa: E402
+import prompt  # noqa: E402
+import sessions  # noqa: E402
+import simulate  # noqa: E402
+from scenario import Refused  # noqa: E402
+from tcpsim_model import read as scenario_in  # noqa: E402
 
 PROGRAM = os.path.join(TOP, 'crates', 'tcpsim', 'out', 'tcpsim')
 PROMPT = b'(tcpsim) '
 LONGEST = 60        # seconds that a session may take
 MOST_LINE = 65_536  # bytes of a line
+STEPS = prompt.STEPS
 
 ONE = os.path.join(TOP, 'examples', 'one_segment.txt')
 TWO = os.path.join(TOP, 'examples', 'two_timeouts_in_a_row.txt')
 HUNT = [b'break kind rto', b'run', b'run', b'back 2', b'clear', b'break drop', b'back 25', b'run', b'state']
-REFUSALS = [(b'bak 1', b'B1'), (b'step', b'B2'), (b'step 01', b'B3'), (b'break flow 1', b'B3'), (b'quit now', b'B1')]
+# What each step of the grammar brought: lines typed over the two timeouts, and the refusals of some.
+LINES = {
+    0: HUNT,
+    1: [b'b', b's', b'', b'st 2', b'  ', b'sta', b'u 3.08ms', b'until 3080us', b'', b'unti 3080000ns', b'u 1s', b'br kind rto',
+        b'brea flow 0', b'cl', b'break drop', b'r', b'break', b'', b'ru', b'back 3', b'', b'until 0.0000000001s', b'', b'c', b'ba 99'],
+}
+REFUSALS = {
+    0: [(b'bak 1', b'B1'), (b'step 01', b'B3'), (b'break flow 1', b'B3'), (b'run 1', b'B2'), (b'break', b'B2')],
+    1: [(b'stepp', b'B1'), (b'w', b'B1'), (b'step 1 2', b'B2'), (b'step x', b'B3'), (b'back 1000000000000001', b'B3'), (b'until', b'B2'),
+        (b'until 1 s', b'B2'), (b'until 1.5', b'B3'), (b'u 1.0ns', b'B3'), (b'u 1.0000us', b'B3'), (b'u .5s', b'B3'), (b'u 5.s', b'B3'),
+        (b'u 01s', b'B3'), (b'u 1000000.000000001s', b'B3'), (b'u 1S', b'B3'), (b'br n 0', b'B1'), (b'br kind', b'B2'),
+        (b'break drop 1', b'B2'), (b'clear x', b'B2'), (b'step\t1', b'B1'), (b'quit now', b'B2')],
+}
+
+
+def of_steps(found):
+    """What there is of the steps that the program has."""
+    return [it for step, those in found.items() if step <= STEPS for it in those]
 
 
 def read(path):
@@ -40,19 +64,24 @@ def read(path):
         return file.read()
 
 
-def model(path, lines):
-    """What the session of today's form answers."""
-    written = []
-    given = read(path) + b'---\n' + b''.join(line + b'\n' for line in lines)
-    status, note = tcpsim_model.main(('debug',), given, written.append)
-    assert (status, note) == (0, ''), note
-    return b''.join(written)
+def scenario(path):
+    return scenario_in(read(path))
 
 
 def answers(path, lines):
-    """What each of the lines answers, where the others are typed before it."""
-    whole = [model(path, lines[:count]) for count in range(len(lines) + 1)]
-    return [after[len(before):] for before, after in zip(whole, whole[1:])]
+    """What each of the lines is answered with, and what is noted of it, where the others are typed before it."""
+    session, found = prompt.Prompt(scenario(path), STEPS), []
+    for line in lines:
+        try:
+            found.append((session.answer(line).encode(), b''))
+        except Refused as refusal:
+            found.append((b'', f'{refusal.note()}\n'.encode()))
+    return found
+
+
+def model(path, lines):
+    """What all the lines are answered with."""
+    return b''.join(answer for answer, _ in answers(path, lines))
 
 
 def debug(path, given, *options, **more):
@@ -78,14 +107,17 @@ class Typed:
         self.program = subprocess.Popen([PROGRAM, 'debug', path, *options], stdin=ends[0], stdout=ends[1], stderr=told)
         for end in {*ends, told}:
             os.close(end)
-        self.terminal = terminal
+        self.seen = b''
 
     def until_asked(self):
-        """What is on standard error up to the next prompt."""
+        """What is on standard error up to the next prompt. Standard output is read meanwhile, so that none is full."""
         noted, until = b'', time.monotonic() + LONGEST
         while not noted.endswith(PROMPT):
-            ready, _, _ = select.select([self.notes], [], [], max(0, until - time.monotonic()))
+            ready, _, _ = select.select([self.notes, self.screen], [], [], max(0, until - time.monotonic()))
             assert ready, f'no prompt after {noted!r}'
+            if self.notes not in ready:
+                self.seen += os.read(self.screen, 65_536)
+                continue
             byte = os.read(self.notes, 1)
             assert byte, f'the session ended after {noted!r}'
             noted += byte
@@ -93,16 +125,17 @@ class Typed:
 
     def shown(self):
         """What is on standard output now, without waiting for more."""
-        found = b''
         while select.select([self.screen], [], [], 0)[0]:
             piece = os.read(self.screen, 65_536)
             if not piece:
                 break
-            found += piece
+            self.seen += piece
+        found, self.seen = self.seen, b''
         return found
 
     def type(self, line):
-        os.write(self.keys, line)
+        while line:
+            line = line[os.write(self.keys, line):]
 
     def end(self):
         """The status and the rest of standard error, after the keys are taken away."""
@@ -121,37 +154,40 @@ class AtThePrompt(unittest.TestCase):
         session = Typed(path, *options, terminal=terminal)
         self.assertEqual(session.until_asked(), b'')
         self.assertEqual(session.shown(), b'')
-        for line, answer in zip(lines, answers(path, lines)):
+        for line, (answer, note) in zip(lines, answers(path, lines)):
             session.type(line + b'\n')
             noted = session.until_asked()
             with self.subTest(line=line, terminal=terminal):
-                refused = answer.startswith(b'refused ')
-                self.assertEqual(noted, answer if refused else b'')
-                self.assertEqual(session.shown(), b'' if refused else answer)
+                self.assertEqual((session.shown(), noted), (answer, note))
         session.type(b'quit\n')
         self.assertEqual(session.end(), (0, b''))
 
     def test_each_answer_is_out_before_the_next_command_goes_in(self):
+        lines, refused = of_steps(LINES), [line for line, _ in of_steps(REFUSALS)]
         for terminal in (True, False):
-            self.typed(TWO, HUNT, terminal=terminal)
-            self.typed(TWO, HUNT, '--workers', '2', '--groups', 'each', terminal=terminal)
-            self.typed(ONE, [line for line, _ in REFUSALS] + [b'', b'   ', b'step 3', b' back  2 '], terminal=terminal)
+            self.typed(TWO, lines, terminal=terminal)
+            self.typed(TWO, lines, '--workers', '2', '--groups', 'each', terminal=terminal)
+            self.typed(ONE, refused + [b'', b'   ', b'step 3', b' back  2 '], terminal=terminal)
 
     def test_random_commands(self):
         pick = random.Random(35)
         for count in range(40):
-            many = [b'step %d', b'back %d', b'until %d000', b'break node %d']
-            others = [b'run', b'state', b'clear', b'break drop', b'', b'sep 1', b'step']
-            lines = [pick.choice(many) % pick.choice((0, 1, 2, 7, 40)) if pick.random() < 0.6 else pick.choice(others)
-                     for _ in range(8)]
+            path = pick.choice((ONE, TWO))
+            net = simulate.Network(scenario(path))
+            moments = [line.time for line in iter(net.step, None)]
+            session = prompt.Prompt(net.scenario, STEPS)
+            lines = [line for line in (sessions.any_line(pick, net.scenario, moments, STEPS) for _ in range(12))
+                     if not session.quits(line)]
             with self.subTest(count=count):
-                self.typed(pick.choice((ONE, TWO)), lines, terminal=bool(count % 2))
+                self.typed(path, lines, terminal=bool(count % 2))
 
     def test_all_lines_at_once(self):
         """What is there before it is asked for is answered in turn, with a prompt a line."""
+        lines = of_steps(LINES)
+        noted = b''.join(PROMPT + note for _, note in answers(TWO, lines)) + PROMPT
         for options in ((), ('--groups', 'each', '--workers=2')):
-            told = debug(TWO, b''.join(line + b'\n' for line in HUNT), *options)
-            self.assertEqual(told, (0, model(TWO, HUNT), PROMPT * (len(HUNT) + 1)))
+            told = debug(TWO, b''.join(line + b'\n' for line in lines), *options)
+            self.assertEqual(told, (0, model(TWO, lines), noted))
 
     def test_the_end_of_input(self):
         self.assertEqual(debug(ONE, b''), (0, b'', PROMPT))
@@ -160,7 +196,7 @@ class AtThePrompt(unittest.TestCase):
 
     def test_quit(self):
         """Nothing behind the line is read: it is there for who reads on."""
-        for line in (b'quit', b'  quit ', b' quit'):
+        for line in (b'quit', b'  quit ', b' quit', *((b'q', b' qu', b'qui') if STEPS else ())):
             with tempfile.TemporaryFile() as keys:
                 keys.write(b'step 1\n' + line + b'\nstep 2\n')
                 keys.seek(0)
@@ -170,7 +206,7 @@ class AtThePrompt(unittest.TestCase):
                 self.assertEqual(os.lseek(keys.fileno(), 0, os.SEEK_CUR), len(b'step 1\n' + line + b'\n'))
 
     def test_refused_lines(self):
-        for line, code in REFUSALS:
+        for line, code in of_steps(REFUSALS):
             with self.subTest(line=line):
                 told = debug(ONE, line + b'\nstep 1\n')
                 self.assertEqual(told, (0, model(ONE, [b'step 1']), PROMPT + b'refused ' + code + b'\n' + PROMPT * 2))
@@ -214,8 +250,9 @@ class AtThePrompt(unittest.TestCase):
         for words in ((), ('-',)):
             done = subprocess.run([PROGRAM, 'debug', *words], input=given, capture_output=True, timeout=LONGEST,
                                   check=False)
-            self.assertEqual((done.returncode, done.stdout, done.stderr),
-                             (0, model(ONE, [b'step 3']) + b'refused B1\n', b''))
+            expected = b''.join(piece.encode() for piece in debugger.session(given))
+            self.assertTrue(expected.endswith(b'refused B1\n'))
+            self.assertEqual((done.returncode, done.stdout, done.stderr), (0, expected, b''))
 
     def test_ends_that_fail(self):
         with open('/dev/full', 'wb') as full:
@@ -234,11 +271,12 @@ class AtThePrompt(unittest.TestCase):
 
 
 def main():
-    global PROGRAM
+    global PROGRAM, STEPS
     arguments = argparse.ArgumentParser(add_help=False)
     arguments.add_argument('--program', default=PROGRAM)
+    arguments.add_argument('--steps', type=int, default=STEPS)
     options, rest = arguments.parse_known_args()
-    PROGRAM = os.path.abspath(options.program)
+    PROGRAM, STEPS = os.path.abspath(options.program), options.steps
     if not os.path.exists(PROGRAM):
         print(f"{PROGRAM} is not there: build it with 'make run'")
         print('LEFT OUT, not passed: scripts/test_prompt.py')

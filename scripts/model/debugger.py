@@ -27,7 +27,7 @@ class Debugger:
     def __init__(self, scenario):
         self.scenario = scenario
         self.net = Network(scenario)
-        self.breaks = set()
+        self.breaks = []            # in the order in which they were set
 
     def step(self, count):
         while count > 0 and self.net.step() is not None:
@@ -70,6 +70,15 @@ def breakpoint_of(words, scenario):
     return sort, None
 
 
+def set_breakpoint(debugger, new):
+    """Sets it at the end, where it isn't set yet."""
+    if new in debugger.breaks:
+        return
+    if len(debugger.breaks) == MOST_BREAKS:
+        raise Refused('B4')
+    debugger.breaks.append(new)
+
+
 def words_wanted(words):
     """How many words the command has to have."""
     if words[0] in COMMANDS:
@@ -89,9 +98,7 @@ def obey(debugger, words):
         raise Refused('B2')
     if words[0] == b'break':
         new = breakpoint_of(words, debugger.scenario)
-        if new not in debugger.breaks and len(debugger.breaks) == MOST_BREAKS:
-            raise Refused('B4')
-        debugger.breaks.add(new)
+        set_breakpoint(debugger, new)
         return f'break {len(debugger.breaks)}\n'
     if words[0] == b'clear':
         debugger.breaks.clear()
@@ -102,6 +109,11 @@ def obey(debugger, words):
         move = {b'step': debugger.step, b'back': debugger.back, b'until': debugger.until}[words[0]]
         move(number_to(MOST, words[1]))
     return debugger.net.dump()
+
+
+def words_in(line):
+    """Words stand between spaces; all other bytes are plain."""
+    return [word for word in line.split(b' ') if word]
 
 
 def split(data):
@@ -120,7 +132,7 @@ def session(data):
     debugger = Debugger(assemble(text))
     yield ''
     for command in commands:
-        words = [word for word in command.split(b' ') if word]
+        words = words_in(command)
         if words:
             try:
                 yield obey(debugger, words)

@@ -2,10 +2,17 @@
 """tcpsim's model: reads standard input, writes standard output, a note on standard error, a status.
 
 Usage: tcpsim_model.py run|asm|dis|figures|debug [--workers N] [--groups G]
+       tcpsim_model.py debug [--workers N] [--groups G] [--steps N] FILE
+
+With a file the scenario is the file's and standard input has lines typed at a prompt. --steps N takes the prompt's
+grammar after the first N steps in which it was made; 0 is that of the other form.
 """
+import io
 import re
 import sys
+from collections import namedtuple
 
+import prompt
 from debugger import session, split
 from figures import figures
 from image import load, save
@@ -21,24 +28,38 @@ class WrongWords(Exception):
     """A command line that can't be read."""
 
 
+class CannotRead(Exception):
+    """A file that cannot be read."""
+
+
+Asked = namedtuple('Asked', 'command groups steps file')
+
+
 def options_of(words):
-    """The subcommand and the groups that the words ask for."""
+    """What the words ask for: the subcommand, the groups, the steps of the prompt's grammar, and the file."""
     if not words or words[0] not in ('run', 'asm', 'dis', 'figures', 'debug'):
         raise WrongWords
-    command, rest, given = words[0], list(words[1:]), {}
+    command, rest, given, file = words[0], list(words[1:]), {}, None
     while rest:
-        name, _, value = rest.pop(0).partition('=')
-        if name not in ('--workers', '--groups') or command not in ('run', 'debug') or name in given:
+        word = rest.pop(0)
+        if command == 'debug' and file is None and (word == '-' or not word.startswith('-')):
+            file = word
+            continue
+        name, _, value = word.partition('=')
+        options = {'run': ('--workers', '--groups'), 'debug': ('--workers', '--groups', '--steps')}
+        if name not in options.get(command, ()) or name in given:
             raise WrongWords
         if not value:
             if not rest:
                 raise WrongWords
             value = rest.pop(0)
         given[name] = value
-    workers = given.get('--workers', '1')
+    workers, steps = given.get('--workers', '1'), given.get('--steps', str(prompt.STEPS))
     if not NUMBER.fullmatch(workers.encode()) or not 1 <= int(workers) <= 64:
         raise WrongWords
-    return command, given.get('--groups', 'one')
+    if not NUMBER.fullmatch(steps.encode()) or int(steps) > prompt.STEPS:
+        raise WrongWords
+    return Asked(command, given.get('--groups', 'one'), int(steps), None if file == '-' else file)
 
 
 def check_groups(groups, nodes):
@@ -54,40 +75,80 @@ def read(data):
     return load(data) if data.startswith(b'TCB') else assemble(data)
 
 
-def output(command, groups, data):
-    """The bytes that the command writes, piece by piece."""
+def scenario_of(asked, data):
+    """The scenario that is read from the bytes, which the groups have to fit."""
     if len(data) > MOST_INPUT:
         raise Refused('I1')
-    scenario = assemble(split(data)[0]) if command == 'debug' else read(data)
-    if not check_groups(groups, len(scenario.nodes)):
+    whole = asked.command == 'debug' and asked.file is None
+    scenario = assemble(split(data)[0]) if whole else read(data)
+    if not check_groups(asked.groups, len(scenario.nodes)):
         raise WrongWords('refused groups')
-    if command == 'asm':
+    return scenario
+
+
+def output(asked, data):
+    """The bytes that the command writes, piece by piece."""
+    scenario = scenario_of(asked, data)
+    if asked.command == 'asm':
         yield save(scenario)
-    elif command == 'dis':
+    elif asked.command == 'dis':
         yield disassemble(scenario)
-    elif command == 'figures':
+    elif asked.command == 'figures':
         yield figures(scenario).encode()
     else:
-        for piece in trace(scenario) if command == 'run' else session(data):
+        for piece in trace(scenario) if asked.command == 'run' else session(data):
             yield piece.encode()
 
 
-def main(words, data, write):
-    """Status and note; `write` takes the output."""
+def contents(path):
     try:
-        command, groups = options_of(words)
-        for piece in output(command, groups, data() if callable(data) else data):
-            write(piece)
+        with open(path, 'rb') as file:
+            return file.read()
+    except OSError as error:
+        raise CannotRead(f'cannot read {path}') from error
+
+
+def lines_typed(keys):
+    """The lines of a file, each read when it is asked for; the last may lack its line feed."""
+    for line in iter(keys.readline, b''):
+        yield line.removesuffix(b'\n')
+
+
+def main(words, keys, write, tell=lambda note: None, contents=contents):
+    """Status and note; `write` takes the output, `tell` what is noted at a prompt. Standard input is `keys`, bytes or
+    a file."""
+    try:
+        asked = options_of(words)
+        keys = io.BytesIO(keys) if isinstance(keys, bytes) else keys
+        if asked.file is None:
+            for piece in output(asked, keys.read()):
+                write(piece)
+        else:
+            for piece, note in prompt.typed(scenario_of(asked, contents(asked.file)), lines_typed(keys), asked.steps):
+                write(piece.encode())
+                tell(note.encode())
     except WrongWords as wrong:
         return 2, str(wrong) or __doc__.strip()
     except Refused as refusal:
         return 1, refusal.note()
+    except CannotRead as fault:
+        return 3, str(fault)
     return 0, ''
 
 
+def at_once(file):
+    def put(piece):
+        file.write(piece)
+        file.flush()
+    return put
+
+
 if __name__ == '__main__':
-    out = sys.stdout.buffer
-    status, note = main(sys.argv[1:], sys.stdin.buffer.read, out.write)
+    out, err = sys.stdout.buffer, sys.stderr.buffer
+    # Not a byte more of standard input is read than a line is long.
+    with open(0, 'rb', buffering=0, closefd=False) as standard_input:
+        write = at_once(out) if sys.argv[1:2] == ['debug'] else out.write
+        status, note = main(sys.argv[1:], standard_input, write, at_once(err))
     out.flush()
     if note:
         print(note, file=sys.stderr)

@@ -1,5 +1,6 @@
 #!/usr/bin/env python3
 """Worked examples for the model: python3 scripts/model/test_model.py."""
+import io
 import os
 import random
 import sys
@@ -11,6 +12,7 @@ sys.path.insert(0, HERE)
 
 import figures  # noqa: E402
 import image  # noqa: E402
+import prompt  # noqa: E402
 import tcpsim_model  # noqa: E402
 from queues import COUNT_STOPS, Codel, gap  # noqa: E402
 from receiver import Receiver  # noqa: E402
@@ -770,6 +772,55 @@ at 1
         self.assertEqual(program(ONE_SEGMENT + '---', 'debug'), (0, b'', ''))
         self.assertEqual(program('---\nstate\n', 'debug'), (1, b'', 'refused E10 line 0'))
         self.assertEqual(program(ONE_SEGMENT_IMAGE, 'debug')[0], 1)
+
+
+class Prompts(Case):
+    def typed(self, text, *lines, steps=prompt.STEPS):
+        """What is written and what is noted, without the prompts."""
+        out, notes, keys = [], [], io.BytesIO(''.join(line + '\n' for line in lines).encode())
+        status, note = tcpsim_model.main(('debug', 'FILE', '--steps', str(steps)), keys, out.append, notes.append,
+                                         lambda _: text.encode())
+        self.assertEqual((status, note), (0, ''))
+        return b''.join(out).decode(), b''.join(notes).decode().replace(prompt.PROMPT, '').split()
+
+    def refuses(self, code, *lines):
+        for line in lines:
+            self.assertEqual(self.typed(ONE_SEGMENT, line), ('', ['refused', code]), line)
+
+    def where(self, *lines):
+        """The positions that the dumps are of."""
+        return positions(self.typed(ONE_SEGMENT, *lines, steps=1)[0].encode())
+
+    def test_names_cut_short(self):
+        self.assertEqual(self.where('s', 'st', 'ste', 'b', 'ba', 'sta', 'r', 'u 0', 'state', 'back 9'),
+                         [1, 2, 3, 2, 1, 1, 5, 5, 5, 0])
+        self.assertEqual(self.typed(ONE_SEGMENT, 'br drop', 'brea drop', 'c', 'break node 1', steps=1)[0],
+                         'break 1\nbreak 1\nclear\nbreak 1\n')
+        self.refuses('B1', 'x', 'steps', 'stepp 1', 'S', 'w', 'break no 1', 'br k rto', 'ste\tp', '#')
+
+    def test_words(self):
+        self.refuses('B2', 'step 1 2', 'back 1 1', 'run 1', 'until', 'until 1 s', 'state x', 'clear 1', 'break', 'br drop 1',
+                     'quit now', 'q 1', 'x' * 65_537, ' ' * 65_537)
+        self.refuses('B3', 'step 01', 'back -1', 'step 1000000000000001', 'break node 2', 'br kind tx')
+        self.assertEqual(self.where('step 1000000000000000'), [5])
+
+    def test_times(self):
+        for time, position in (('2040000', 2), ('2040001', 3), ('2040us', 2), ('2.04ms', 2), ('0.00204s', 2), ('2.040001ms', 3),
+                               ('2040.001us', 3), ('2040001ns', 3), ('0s', 0), ('0.000000001s', 1), ('1000000s', 5),
+                               ('1000000000000us', 5), ('1000000000000000', 5)):
+            self.assertEqual(self.where(f'until {time}'), [position], time)
+        self.refuses('B3', 'u 1.5', 'u 1.5ns', 'u 1.0ns', 'u 1.0000us', 'u 1.s', 'u .5s', 'u s', 'u 01s', 'u 00', 'u 1S', 'u 1e3',
+                     'u 1000000.000000001s', 'u 1000000000000001', 'u ' + '9' * 5000 + 's')
+
+    def test_an_empty_line(self):
+        self.assertEqual(self.where('', 's', '', 'step 2', ' ', 'b', 'state', 'x', 'run 1', 'clear', '', '', 'u 1', '', 'r', ''),
+                         [1, 2, 4, 5, 4, 4, 3, 2, 2, 2, 5, 5])
+        self.assertEqual(self.where('state', 'br drop', '', 'back 01', ''), [0])
+
+    def test_the_end(self):
+        for line in ('quit', 'q', ' qu ', 'qui'):
+            self.assertEqual(self.where('s', line, 's'), [1])
+        self.assertEqual(self.typed(ONE_SEGMENT), ('', []))
 
 
 if __name__ == '__main__':

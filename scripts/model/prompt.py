@@ -1,0 +1,137 @@
+"""The debugger at a prompt: lines that are typed over a scenario, in the prompt's own grammar, each answered before
+the next is read. Answers go to standard output, prompts and refusals to standard error.
+
+The grammar was made in steps. A session of fewer than all `STEPS` stands for a program that has only these; that of
+none reads lines as a session whose commands are all there (`debugger.obey`).
+
+1. Names cut short, counts left out, times with units, the last move again by an empty line.
+"""
+import re
+
+from debugger import MOST, Debugger, breakpoint_of, number_to, obey, set_breakpoint, words_in, words_wanted
+from scenario import Refused
+
+STEPS = 1
+PROMPT = '(tcpsim) '
+MOST_LINE = 65_536      # bytes
+# The names that a first word can begin, the first of them first, and the step that each came with.
+NAMES = {b'step': 1, b'back': 1, b'break': 1, b'run': 1, b'until': 1, b'state': 1, b'clear': 1, b'quit': 1}
+PLACES = {b'ns': 0, b'us': 3, b'ms': 6, b's': 9}     # of a time's unit: how many digits a nanosecond is behind it
+TIME = re.compile(rb'(0|[1-9][0-9]*)(?:(?:\.([0-9]+))?(ns|us|ms|s))?')
+
+
+def time_in(word):
+    """A moment in nanoseconds: a number, or one with a unit and then maybe with digits behind a point."""
+    found = TIME.fullmatch(word)
+    if not found:
+        raise Refused('B3')
+    whole, part, unit = found[1], found[2] or b'', found[3] or b'ns'
+    if len(whole) > 20 or len(part) > PLACES[unit]:
+        raise Refused('B3')
+    value = int(whole + part.ljust(PLACES[unit], b'0'))
+    if value > MOST:
+        raise Refused('B3')
+    return value
+
+
+def at_most(words, count):
+    if len(words) > count:
+        raise Refused('B2')
+
+
+def count_in(words, most, default):
+    """The one number that may stand behind a name."""
+    at_most(words, 1)
+    return number_to(most, words[0]) if words else default
+
+
+class Prompt:
+    def __init__(self, scenario, steps=STEPS):
+        self.debugger, self.steps = Debugger(scenario), steps
+        self.last = None        # the last move: its name and its numbers
+
+    def name_of(self, word):
+        """The first name that the word begins."""
+        for name, step in NAMES.items():
+            if step <= self.steps and name.startswith(word):
+                return name
+        raise Refused('B1')
+
+    def quits(self, line):
+        words = words_in(line)
+        if len(line) > MOST_LINE or len(words) != 1:
+            return False
+        if self.steps == 0:
+            return words == [b'quit']
+        return b'quit'.startswith(words[0])
+
+    def answer(self, line):
+        """What a line that doesn't quit answers; raises `Refused`, and has changed nothing then."""
+        if len(line) > MOST_LINE:
+            raise Refused('B2')
+        words = words_in(line)
+        if not words:
+            return self.move(*self.last) if self.last else ''
+        if self.steps == 0:
+            return obey(self.debugger, words)
+        return getattr(self, 'on_' + self.name_of(words[0]).decode())(words[1:])
+
+    def move(self, name, *numbers):
+        self.last = name, *numbers
+        getattr(self.debugger, name)(*numbers)
+        return self.debugger.net.dump()
+
+    # For each name: what its line answers, of the words behind the name.
+
+    def on_step(self, words):
+        return self.move('step', count_in(words, MOST, 1))
+
+    def on_back(self, words):
+        return self.move('back', count_in(words, MOST, 1))
+
+    def on_run(self, words):
+        at_most(words, 0)
+        return self.move('run')
+
+    def on_until(self, words):
+        if len(words) != 1:
+            raise Refused('B2')
+        return self.move('until', time_in(words[0]))
+
+    def on_state(self, words):
+        at_most(words, 0)
+        return self.debugger.net.dump()
+
+    def on_clear(self, words):
+        at_most(words, 0)
+        self.debugger.breaks.clear()
+        return 'clear\n'
+
+    def on_quit(self, words):
+        raise Refused('B2')         # alone on its line it ends the session
+
+    def breakpoint(self, words):
+        """The breakpoint of `break`'s words, which stand as in a session whose commands are all there."""
+        words = [b'break', *words]
+        if len(words) != words_wanted(words):
+            raise Refused('B2')
+        return breakpoint_of(words, self.debugger.scenario)
+
+    def on_break(self, words):
+        set_breakpoint(self.debugger, self.breakpoint(words))
+        return f'break {len(self.debugger.breaks)}\n'
+
+
+def typed(scenario, lines, steps=STEPS):
+    """A session of the lines: what is written to standard output and to standard error, in turn. Not one line more
+    is asked for than is read."""
+    session = Prompt(scenario, steps)
+    yield '', PROMPT
+    for line in lines:
+        if session.quits(line):
+            return
+        try:
+            yield session.answer(line), ''
+        except Refused as refusal:
+            yield '', refusal.note() + '\n'
+        yield '', PROMPT

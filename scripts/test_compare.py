@@ -1,0 +1,135 @@
+#!/usr/bin/env python3
+"""Tests of scripts/compare.py at a prompt: a program that is right differs in no session, and each of some that are
+wrong in one place differs in one. These programs are the model with one thing changed.
+
+Usage: scripts/test_compare.py. The last line is 'N passed, N failed'.
+"""
+import argparse
+import os
+import random
+import subprocess
+import sys
+import tempfile
+import unittest
+from unittest import mock
+
+HERE = os.path.dirname(os.path.abspath(__file__))
+sys.path.insert(0, HERE)
+
+import compare  # noqa: E402
+from compare import debugger, prompt  # noqa: E402
+from scenario import Refused  # noqa: E402
+
+ENOUGH = 400        # sessions in which a fault has to show
+# A program beside the model's: the path of the model, and a statement that makes it wrong.
+STAND_IN = '''#!{python}
+import sys
+sys.path.insert(0, {model!r})
+import prompt
+{fault}
+with open({model!r} + '/tcpsim_model.py') as file:
+    exec(compile(file.read(), 'tcpsim_model.py', 'exec'))
+'''
+at_prompt = prompt.Prompt
+right = {name: getattr(place, name) for place, name in (
+    (at_prompt, 'answer'), (at_prompt, 'quits'), (prompt, 'time_in'))}
+
+
+def empty_lines_do_nothing(self, line):
+    return right['answer'](self, line) if line.strip(b' ') else ''
+
+
+def refused_lines_count_as_moves(self, line):
+    try:
+        return right['answer'](self, line)
+    except Refused:
+        self.last = None
+        raise
+
+
+def quit_may_have_words_behind(self, line):
+    return right['quits'](self, line) or right['quits'](self, line.strip(b' ').split(b' ')[0])
+
+
+def times_may_begin_with_zeros(word):
+    return right['time_in'](word.lstrip(b'0') or b'0' if b'.' not in word else word)
+
+
+# What is wrong in each program: since which step it can be, and what is changed.
+FAULTS = {
+    'a long line is read': (1, prompt, 'MOST_LINE', 10**9),
+    'a microsecond is a millisecond': (1, prompt, 'PLACES', {**prompt.PLACES, b'us': 6}),
+    'a time may begin with zeros': (1, prompt, 'time_in', times_may_begin_with_zeros),
+    'the most is one less': (1, prompt, 'MOST', 10**15 - 1),
+    'st is state': (1, prompt, 'NAMES', {b'state': 1, **prompt.NAMES}),
+    'b is break': (1, prompt, 'NAMES', {b'break': 1, **prompt.NAMES}),
+    'an empty line does nothing': (1, at_prompt, 'answer', empty_lines_do_nothing),
+    'a refused line takes the last move away': (1, at_prompt, 'answer', refused_lines_count_as_moves),
+    'quit may have words behind': (1, at_prompt, 'quits', quit_may_have_words_behind),
+}
+
+
+def cases(count, steps):
+    args = argparse.Namespace(count=count, options=False, steps=steps)
+    return compare.prompts(random.Random(f'self-test {steps}'), args)
+
+
+def answers(case):
+    return compare.model_answers_kept.__wrapped__(*case, compare.MOST_BYTES)
+
+
+class Prompts(unittest.TestCase):
+    def test_each_fault_is_found(self):
+        for name, (step, place, attribute, wrong) in FAULTS.items():
+            with self.subTest(fault=name):
+                for case in cases(ENOUGH, max(step, prompt.STEPS)):
+                    expected = answers(case)
+                    with mock.patch.object(place, attribute, wrong):
+                        if not compare.agree(answers(case), expected):
+                            break
+                else:
+                    self.fail('no session shows it')
+
+    def compared(self, fault, count):
+        """The status and the output of a comparison with a program that has this fault."""
+        with tempfile.TemporaryDirectory() as folder:
+            path = os.path.join(folder, 'tcpsim')
+            with open(path, 'w', encoding='ascii') as file:
+                file.write(STAND_IN.format(python=sys.executable, model=os.path.join(HERE, 'model'), fault=fault))
+            os.chmod(path, 0o755)
+            done = subprocess.run([sys.executable, os.path.join(HERE, 'compare.py'), '--kind', 'prompt', '--count', str(count),
+                                   '--program', path], capture_output=True, text=True, timeout=1200, check=False)
+        self.assertEqual(done.stderr, '')
+        return done.returncode, done.stdout.splitlines()
+
+    def test_a_program_that_is_right(self):
+        self.assertEqual(self.compared('', 12), (0, ['prompt: 12 compared', '12 compared, 0 different']))
+
+    def test_a_program_that_is_wrong(self):
+        """What differs is shown, made shorter."""
+        status, shown = self.compared("prompt.PROMPT = '(tcpsim)'", 2)
+        self.assertEqual((status, shown[-1]), (1, '2 compared, 2 different'))
+        self.assertIn('same output', shown)
+
+    def test_a_prompt_of_no_step_has_the_other_forms_grammar(self):
+        for words, data in cases(60, 0):
+            scenario, keys = compare.parts_of(words, data)
+            lines = [line for line in keys.split(b'\n') if len(line) <= prompt.MOST_LINE and line.strip(b' ') != b'quit']
+            status, out, note = answers((words, scenario + compare.TYPED + b'\n'.join(lines)))
+            if status == 0:
+                text = compare.disassemble(compare.tcpsim_model.read(scenario))
+                whole = ''.join(debugger.session(text + b'---\n' + b'\n'.join(lines))).splitlines()
+                refused = [line for line in whole if line.startswith('refused ')]
+                self.assertEqual(out.decode().splitlines(), [line for line in whole if not line.startswith('refused ')])
+                self.assertEqual(note.replace(prompt.PROMPT, '').splitlines(), refused)
+
+
+def main():
+    done = unittest.main(exit=False).result
+    failed = len({getattr(test, 'test_case', test).id() for test, _ in done.failures + done.errors})
+    print(f'{done.testsRun - failed} passed, {failed} failed')
+    return 1 if failed else 0
+
+
+if __name__ == '__main__':
+    sys.exit(main())
