@@ -1,8 +1,8 @@
 #!/usr/bin/env python3
 """Compares the built program with the model of scripts/model on many inputs: status, output, note.
 
-Usage: scripts/compare.py [--kind texts,runs,images,debug,auto] [--seed S] [--count N] [--jobs J]
-                          [--program PATH] [--options] [--systematic | --random] [--steps N]
+Usage: scripts/compare.py [--kind texts,runs,images,debug,prompt,auto,figures] [--seed S] [--count N] [--jobs J]
+                          [--program PATH] [--options] [--systematic | --random] [--steps N] [--shrink SECONDS]
 
   texts    mutated and systematic texts, most of them refused     (tcpsim run)
   runs     random scenarios: one flow, dumbbells, chains, trees   (tcpsim run)
@@ -11,6 +11,9 @@ Usage: scripts/compare.py [--kind texts,runs,images,debug,auto] [--seed S] [--co
   prompt   random lines typed at a prompt over random scenarios   (tcpsim debug FILE)
   auto     the examples and random scenarios by 1, 2, 4 and 64 workers, many of which are worth sharing
                                                                   (tcpsim run --groups auto)
+  figures  the examples and random scenarios as texts and as images of both versions, now and then with a fault. The
+           model keeps each number of which a percentile is asked for: its answer is the top of the exact one's class
+                                                                  (tcpsim figures)
 
 --options gives random --groups and --workers besides. --steps N is for a program whose prompt has the first N steps
 of its grammar (scripts/model/prompt.py), else all.
@@ -45,7 +48,7 @@ from smaller import smaller  # noqa: E402
 from text import assemble, disassemble, lines_of  # noqa: E402
 
 SHOWN = 12              # differences that are printed
-SHRINKING = 20          # seconds for making a case smaller
+SHRINKING = 20          # seconds for making a case smaller, where none are given
 LONGEST = 60            # seconds that the program may take
 MOST_BYTES = 2_000_000  # of an output, that are compared; the program is then stopped
 MOST_SHRUNK = 100_000   # the same while a case is made smaller
@@ -142,14 +145,14 @@ def differs(job):
     return found if found[1] is not None else None
 
 
-def shrunk(job):
+def shrunk(job, seconds=SHRINKING):
     """The case made as small as it goes in a while so that it stays different."""
     path, (words, data) = job
     best = differs(job)
     if best is None:            # the difference comes late in a long output
         return compared(job)
-    stop = time.monotonic() + SHRINKING
-    if words[0] == 'run' and best[2][0] in (0, 'long'):
+    stop = time.monotonic() + seconds
+    if words[0] in ('run', 'figures') and best[2][0] in (0, 'long'):
         return fewer_things(job, best, stop)
     return best if data.startswith(b'TCB') or len(data) > 100_000 else fewer_lines(job, best, stop)
 
@@ -234,16 +237,18 @@ def runs(pick, args):
         yield ('run', *options(pick, args, len(scenario.nodes))), spelling.spelt(scenario, pick)
 
 
+def examples(args):
+    """The texts of the examples, where systematic inputs are asked for."""
+    for path in sorted(glob.glob(os.path.join(TOP, 'examples', '*.txt'))) if args.systematic else ():
+        with open(path, 'rb') as file:
+            yield file.read()
+
+
 def auto(pick, args):
     """Groups that the program finds, by each crew."""
-    texts_ = []
-    if args.systematic:
-        for path in sorted(glob.glob(os.path.join(TOP, 'examples', '*.txt'))):
-            with open(path, 'rb') as file:
-                texts_.append(file.read())
     random_ = (spelling.spelt(pick.choice((long_scenario, nets.islands))(pick), pick)
                for _ in range(args.count if args.random else 0))
-    for text in itertools.chain(texts_, random_):
+    for text in itertools.chain(examples(args), random_):
         yield from ((('run', '--groups', 'auto', '--workers', crew), text) for crew in CREWS)
 
 
@@ -355,7 +360,31 @@ def prompts(pick, args):
         yield ('debug', *words, f'{STEPS}{args.steps}'), data + TYPED + keys
 
 
-KINDS = {'texts': texts, 'runs': runs, 'images': images, 'debug': debug, 'auto': auto, 'prompt': prompts}
+def tables(pick, args):
+    """Inputs of which the figures are asked."""
+    for text in examples(args):
+        yield ('figures',), text
+        yield from ((('figures',), image.save(assemble(text), version)) for version in (1, 2))
+    for _ in range(args.count if args.random else 0):
+        scenario = long_scenario(pick)
+        yield ('figures',), any_input(pick, scenario)
+
+
+def any_input(pick, scenario):
+    """The scenario as a text or as an image of either version; now and then its ways, a word or a byte are wrong."""
+    chance = pick.random()
+    if chance < 0.03:
+        return spelling.spelt(nets.broken(scenario, pick), pick)
+    if chance < 0.06:
+        return spelling.mutated(spelling.spelt(scenario, pick), pick)
+    if chance < 0.6:
+        return spelling.spelt(scenario, pick)
+    data = image.save(scenario, pick.choice((1, 2, 2)))
+    return changed_image(pick, data) if chance > 0.97 else data
+
+
+KINDS = {'texts': texts, 'runs': runs, 'images': images, 'debug': debug, 'auto': auto, 'prompt': prompts,
+         'figures': tables}
 
 
 # What is printed.
@@ -393,6 +422,7 @@ def arguments():
     parser.add_argument('--program', default=PROGRAM)
     parser.add_argument('--options', action='store_true')
     parser.add_argument('--steps', type=int, default=prompt.STEPS)
+    parser.add_argument('--shrink', type=float, default=SHRINKING, help='seconds for making a case that differs smaller')
     parser.add_argument('--systematic', action='store_true', help='only the systematic inputs')
     parser.add_argument('--random', action='store_true', help='only the random inputs')
     args = parser.parse_args()
@@ -417,7 +447,7 @@ def main():
                     differences.append((args.program, found[0]))
             print(f'{kind}: {count - before} compared', flush=True)
         differences.sort(key=lambda job: len(job[1][1]))
-        shortest = pool.map(shrunk, differences[:SHOWN], 1)
+        shortest = pool.map(functools.partial(shrunk, seconds=args.shrink), differences[:SHOWN], 1)
     for found in sorted(filter(None, shortest), key=lambda found: len(found[0][1])):
         show(found)
     print(f'{count} compared, {len(differences)} different')

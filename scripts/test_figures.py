@@ -2,14 +2,17 @@
 """Tests of a run's figures: scripts/test_figures.py [--program FILE]. On every example and on random scenarios the
 model's figures (scripts/model/figures.py), which it counts from its states, are those that trace_reader.py and
 flows.py find in the trace; and where the program is built and has the command `figures`, its figures are the
-model's, byte for byte. Nothing but Python's standard library is wanted. The last line is `N passed, M failed`.
+model's, byte for byte. Four tables are worked out by hand. scripts/compare.py sees a table that is wrong by one.
+Nothing but Python's standard library is wanted. The last line is `N passed, M failed`.
 """
 import glob
 import io
 import os
 import random
+import stat
 import subprocess
 import sys
+import tempfile
 import unittest
 from array import array
 
@@ -156,6 +159,168 @@ class AgainstTraces(unittest.TestCase):
             self.assertIsNone(answer)
         else:
             self.assertTrue(exact <= answer <= max(numbers) and 32 * answer <= 33 * exact, (exact, answer))
+
+
+# The runs by hand: links of 8 Mbit/s and 1 ms each way, on which a segment takes 1.04 ms and an acknowledgement .04.
+ONE_SEGMENT = '''sim 1000000000
+node s sender
+node r receiver
+link a s r 8000000 1000000 droptail 10
+link b r s 8000000 1000000 droptail 10
+flow f s r 1000 1 0 64000 0
+'''
+LOST = (ONE_SEGMENT.replace('sim 1', 'sim 2').replace('1000 1 0', '1000 4 0') + 'lose a 3\nlose a 4\n')
+CODEL = (ONE_SEGMENT.replace('sim 1', 'sim 2').replace('1000 1 0', '1000 5 0')
+         .replace('droptail 10', 'codel 10 1000000 1000000 1000', 1))
+BELOW_RECOVER = (ONE_SEGMENT.replace('sim 1', 'sim 4').replace('1000 1 0 64000 0', '1000 8 0 64000 0 newreno iw3')
+                 + ''.join(f'lose a {number}\n' for number in (1, 2, 3, 4, 8)))
+FLOW = (('start', 'ns'), ('delivered', 'bytes'), ('completed', 'ns'), ('sent', 'segments'),
+        ('sent again by fast retransmit', 'segments'), ('sent again by timeout', 'segments'), ('timeouts', 'times'),
+        ('round trips', 'times'), ('least round trip', 'ns'), ('median round trip', 'ns'),
+        ('99th percentile of round trips', 'ns'), ('greatest round trip', 'ns'))
+LINK = (('offered', 'packets'), ('dropped as lost', 'packets'), ('dropped as full', 'packets'),
+        ('dropped by CoDel', 'packets'), ('sent', 'packets'), ('sent', 'bytes'), ('busy', 'ns'),
+        ('greatest queue', 'packets'), ('waited', 'packet-ns'), ('median delay in the queue', 'ns'),
+        ('99th percentile of delay in the queue', 'ns'), ('greatest delay in the queue', 'ns'))
+
+
+def table_of(flow, a, b, run):
+    """The table of a run with one flow and two links, from the values in their order."""
+    rows = [f'{what},{figure},{unit},{value}' for what, names, values in (('flow,0', FLOW, flow), ('link,0', LINK, a),
+                                                                          ('link,1', LINK, b))
+            for (figure, unit), value in zip(names, values.split(), strict=True)]
+    return '\n'.join([HEADING, *rows, 'run,,events,events,{}'.format(run[0]), 'run,,end,ns,{}'.format(run[1]), ''])
+
+
+class ByHand(unittest.TestCase):
+    """The model's tables, and the program's where it has them."""
+
+    def has(self, text, *values):
+        table = table_of(*values)
+        self.assertEqual(figures(assemble(text.encode())), table)
+        if finding.is_program(PROGRAM) and finding.knows(PROGRAM, 'figures'):
+            done = subprocess.run([PROGRAM, 'figures'], input=text, capture_output=True, text=True, check=False)
+            self.assertEqual((done.returncode, done.stdout, done.stderr), (0, table, ''))
+
+    def test_one_segment(self):
+        """0 is sent at 0, free at 1.04 ms, arrives at 2.04; 1000 is sent at once, free at 2.08, arrives at 3.08: four
+        events and the start. The one round trip is 3.08 ms, so that each percentile is the greatest. Nothing waits:
+        one delay on each link, 0. 1000 + 40 and 40 bytes."""
+        self.has(ONE_SEGMENT, '0 1000 3080000 1 0 0 0 1 3080000 3080000 3080000 3080000',
+                 '1 0 0 0 1 1040 1040000 0 0 0 0 0', '1 0 0 0 1 40 40000 0 0 0 0 0', (5, 3080000))
+
+    def test_two_segments_lost_with_a_timeout(self):
+        """0 to 3000 are offered at 0; 0 begins, 1000 waits 1.04 ms, 2000 and 3000 are lost.
+        Acknowledgements: 1000 at 3.08 ms, the one round trip (0 is timed, then nothing new is sent); 2000 at 4.12.
+        The timer, of 1 s from then on, ends at 1.00412 s: 2000 is sent again, and its acknowledgement, 3000, comes
+        3.08 ms later, at 1.00720. Now cwnd is 2000 and nxt 3000: 3000 is sent again, as the timeout's work, and
+        acknowledged at 1.01028.
+        Segments: 4, and 2 again. Delays on a: 0, 1.04 ms, 0, 0: the 2nd of four is 0; the 4th is 1,040,000, whose class
+        ends at 1,048,575, past the greatest. Events: the start, the timer, and for each of the four that arrive a free,
+        a data, b free, an ack."""
+        self.has(LOST, '0 4000 1010280000 6 0 2 1 1 3080000 3080000 3080000 3080000',
+                 '6 2 0 0 4 4160 4160000 1 1040000 0 1040000 1040000', '4 0 0 0 4 160 160000 0 0 0 0 0', (18, 1010280000))
+
+    def test_codel_that_drops(self):
+        """Target and interval are 1 ms, maxpacket is 1000. At 0 0 begins, and 1000, 2000 and 3000 wait.
+        1.04 ms  1000 has waited for longer than the target, and 2,080 bytes are behind it: first_above becomes 2.04. It is
+                 sent, after 1.04 ms
+        2.08     2000 has waited 2.08 ms, 1,040 bytes are behind it, and 2.04 is past: it is dropped. Behind 3000 nothing
+                 is left, so it is sent, after 2.08 ms; drop state is on
+        3.08     acknowledgement 1000, the one round trip; cwnd 5000: 4000 is sent, and waits until 3.12, .04 ms: drop
+                 state is off
+        4.12     acknowledgement 2000: the timer is to end at 1.00412 s. 3000 and 4000 arrive at 4.12 and 5.16: two
+                 duplicates, at 5.16 and 6.20, and nothing is left to be sent
+        1.00412 s  2000 is sent again, at once; it arrives, and 5000 is acknowledged at 1.00720
+        Segments: 5, and 1 again. Waiting: 3 for 1.04 ms, 2 for 1.04, 1 for .04: 5.24 packet-ms. Delays of the five sent:
+        0, 1.04, 2.08, .04, 0. The 3rd is 40,000 = 39 * 2^10 + 64, whose class ends at 40 * 2^10 - 1; the 5th 2,080,000,
+        the greatest. Events: the start, the timer, and four for each of the five sent."""
+        self.has(CODEL, '0 5000 1007200000 6 0 1 1 1 3080000 3080000 3080000 3080000',
+                 '6 0 0 1 5 5200 5200000 3 5240000 40959 2080000 2080000', '5 0 0 0 5 200 200000 0 0 0 0 0',
+                 (22, 1007200000))
+
+    def test_three_duplicates_that_begin_no_recovery(self):
+        """A NewReno sender after a timeout: una is not past recover (RFC 6582 section 3.2 step 1), so that 3000, lost
+        twice, waits for the timer again. 0 to 3000 are offered at 0 and lost.
+        1.00000 s  the timer: ssthresh 2000, 0 is sent again, recover = 4000, the timeout doubles to 2 s
+        1.00308    acknowledgement 1000: cwnd 2000; 1000 and 2000 are sent again, 2000 after 1.04 ms in the queue
+        1.00616    2000: cwnd 2500, 3000 is sent again and lost
+        1.00720    3000: cwnd 2900, 4000 is sent for the first time and timed. The timer is to end at 3.00720
+        1.01028, 1.01336, 1.01644  duplicates, for 4000, and for 5000 and 6000, which the first two send (limited transmit).
+                   The third begins nothing, and nothing more comes
+        3.00720    3000 is sent again, which ends the timing; acknowledgement 7000 at 3.01028: 7000 is sent and timed
+        3.01336    8000: the one round trip, 3.08 ms
+        Sent again: 0, 1000, 2000, 3000, 3000, none in a recovery. Sent are 8 and these 5, of which 5 are lost. Events: the
+        start, two timers, and four for each of the eight that arrive."""
+        self.has(BELOW_RECOVER, '0 8000 3013360000 13 0 5 2 1 3080000 3080000 3080000 3080000',
+                 '13 5 0 0 8 8320 8320000 1 1040000 0 1040000 1040000', '8 0 0 0 8 320 320000 0 0 0 0 0', (35, 3013360000))
+
+    def test_they_are_counted_and_begin_nothing(self):
+        """The duplicates of the run above, one by one, and those of a Reno sender, which sends 3000 again at the third."""
+        for variant, third in (('newreno', False), ('reno', True)):
+            net = simulate.Network(assemble(BELOW_RECOVER.replace('newreno', variant).encode()))
+            sender, got = net.ends[0], []
+            while line := net.step():
+                if line.kind == 'ack' and line.names == '0 3000' and sender.dups:
+                    got.append((sender.dups, sender.recovery, sender.nxt))
+            self.assertEqual(got, [(1, False, 6000), (2, False, 7000), (3, third, 7000)])
+        rows = values_of(figures(assemble(BELOW_RECOVER.replace('newreno', 'reno').encode())))
+        self.assertEqual([rows['flow', '0', figure, 'segments'] for figure, _ in FLOW[3:6]], [13, 1, 4])
+
+
+class TheComparison(unittest.TestCase):
+    """scripts/compare.py --kind figures, with the model in the program's place, and with tables that are wrong."""
+
+    STAND_IN = '''#!{python}
+import sys
+sys.path.insert(0, {model!r})
+import tcpsim_model
+written = []
+status, note = tcpsim_model.main(tuple(sys.argv[1:]), sys.stdin.buffer.read(), written.append)
+table = b"".join(written).decode()
+{change}
+sys.stdout.write(table)
+if note:
+    print(note, file=sys.stderr)
+sys.exit(status)
+'''
+    MORE = '''
+lines = table.splitlines(True)
+for n, line in enumerate(lines):
+    words, _, value = line.rpartition(",")
+    if words == {words!r}:
+        lines[n] = words + "," + str(int(value.replace("-", "0")) + 1) + "\\n"
+table = "".join(lines)
+'''
+
+    def compared(self, change, *words):
+        with tempfile.TemporaryDirectory() as folder:
+            path = os.path.join(folder, 'tcpsim')
+            with open(path, 'w', encoding='utf-8') as file:
+                file.write(self.STAND_IN.format(python=sys.executable, model=os.path.join(HERE, 'model'), change=change))
+            os.chmod(path, stat.S_IRWXU)
+            return subprocess.run([sys.executable, os.path.join(HERE, 'compare.py'), '--kind', 'figures', '--random', '--jobs', '2', '--shrink', '0',
+                                   '--program', path, *words],
+                                  capture_output=True, text=True, check=False, timeout=600)
+
+    def test_the_model_is_equal(self):
+        done = self.compared('', '--count', '30')
+        self.assertEqual((done.returncode, done.stdout), (0, 'figures: 30 compared\n30 compared, 0 different\n'), done.stderr)
+
+    def test_what_is_wrong_by_one_is_seen(self):
+        """Among them a percentile that is still at most 1/32 above the exact one."""
+        for words in ('flow,0,sent again by timeout,segments', 'link,0,median delay in the queue,ns', 'link,1,busy,ns',
+                      'run,,events,events'):
+            done = self.compared(self.MORE.format(words=words), '--count', '4')
+            with self.subTest(words):
+                self.assertEqual(done.returncode, 1, done.stderr)
+                self.assertRegex(done.stdout, f'program: {words},')
+                self.assertNotIn(' 0 different', done.stdout)
+
+    def test_a_row_too_few_or_a_note_too_many_is_seen(self):
+        for change in ('table = table.rpartition("run")[0]', 'note = note or "done"', 'status = status or 3'):
+            done = self.compared(change, '--count', '4')
+            self.assertEqual((done.returncode, ' 0 different' in done.stdout), (1, False), change)
 
 
 class TheProgram(unittest.TestCase):
