@@ -24,7 +24,7 @@ ZSH_COMPLETION = share/zsh/site-functions/_tcpsim
 FISH_COMPLETIONS = share/fish/vendor_completions.d
 # The scripts that are installed, and what they are made of.
 TOOLS = plot flows net sweep replay follow stalls
-LIBRARY = trace_reader.py finding.py units.py causes.py lives.py
+LIBRARY = trace_reader.py engine.py finding.py units.py causes.py lives.py
 
 test:
 	@python3 scripts/build.py --ready

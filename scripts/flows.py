@@ -2,13 +2,15 @@
 """Figures of each flow and each link of a run, as a table or as CSV.
 
 Usage: scripts/flows.py SCENARIO [TRACE] [--csv | --series STEP] [--from T] [--to T] [--busy] [--program PATH]
+       scripts/flows.py SCENARIO --engine [--csv] [--busy] [--program PATH]
 
 SCENARIO is a text or an image, `-` is standard input. Without TRACE the program is run. The trace is
-read as it comes and is not kept. The span is from the first flow's start to the last line where every
-flow is complete, else to the scenario's end; --from and --to (seconds, or with ns, us, ms, s) choose a
-part of it, to which what happens at --to itself does not belong. --series writes as CSV each flow's mean
-window and goodput and each link's mean and greatest queue, a row for each STEP. --busy leaves out the
-links that carried and dropped nothing.
+read as it comes and is not kept; with --engine there is none, and the figures are from `tcpsim figures`.
+The span is from the first flow's start to the last line where every flow is complete, else to the
+scenario's end; --from and --to (seconds, or with ns, us, ms, s) choose a part of it, to which what
+happens at --to itself does not belong. --series writes as CSV each flow's mean window and goodput and
+each link's mean and greatest queue, a row for each STEP. --busy leaves out the links that carried and
+dropped nothing.
 """
 import argparse
 import csv
@@ -21,6 +23,7 @@ from collections import Counter, defaultdict
 from itertools import islice
 
 import units
+from engine import BUSY, REASONS, WAITED, engine_run
 from trace_reader import (ACK, BITS_NS, DATA, NEVER, FlowState, LinkState, Reader, Unreadable, opened_run)
 
 S = 10**9
@@ -361,9 +364,60 @@ def figures(run, only_busy=False):
     return rows
 
 
+# ---- with no trace
+
+# How the table of `tcpsim figures` has the figures of a flow that stand here under the same name, and those of its
+# timed round trips: samples of one segment at a time (RFC 6298 section 3), and not of each that is sent once.
+FLOW_ENGINE = (('timeouts', 'times'), ('sent again by fast retransmit', 'segments'), ('sent again by timeout', 'segments'))
+TIMED = (('least timed round trip', 'least round trip'), ('median timed round trip', 'median round trip'),
+         ('99th percentile of timed round trips', '99th percentile of round trips'))
+
+
+def engine_flow_figures(run, number, used):
+    """The figures of a flow, from the program's table."""
+    values, way = run.flows[number], run.scenario.ways[number][0]
+    busiest = max(way, key=lambda link: -1 if used[link] is None else used[link])       # the first where equal
+    return [('delivered', 'bytes', values['delivered', 'bytes']),
+            ('goodput', 'bit/s', run.goodput(number)),
+            ('bottleneck', 'link', None if used[busiest] is None else run.scenario.links[busiest].name),
+            ('sent', 'segments', values['sent', 'segments']),
+            *((*figure, values[figure]) for figure in FLOW_ENGINE),
+            ('timed round trips', 'times', values['round trips', 'times']),
+            *((name, 'ns', values[figure, 'ns']) for name, figure in TIMED),
+            ('completed', 'ns', values['completed', 'ns'])]
+
+
+def engine_link_figures(run, number, used):
+    """The figures of a link, from the program's table."""
+    values, drops = run.links[number], run.dropped(number)
+    sent = values['sent', 'packets']
+    return [('utilization', 'part', used[number]),
+            ('greatest queue', 'packets', values['greatest queue', 'packets']),
+            ('mean queue', 'packets', run.over_span(number, WAITED)),
+            *((name, 'ns', values[name, 'ns'])
+              for name in ('median delay in the queue', '99th percentile of delay in the queue')),
+            ('sent', 'packets', sent),
+            ('dropped', 'packets', drops),
+            *((reason, 'packets', values[reason, 'packets']) for reason in REASONS),
+            ('loss', 'part', part(drops, sent + drops))]
+
+
+def engine_figures(run, only_busy=False):
+    """As `figures`, from the program's table."""
+    used = [run.over_span(number, BUSY) for number in range(len(run.links))]
+    rows = [('flow', flow.name, *row) for number, flow in enumerate(run.scenario.flows)
+            for row in engine_flow_figures(run, number, used)]
+    rows += [('link', link.name, *row) for number, link in enumerate(run.scenario.links)
+             if not (only_busy and run.idle(number)) for row in engine_link_figures(run, number, used)]
+    shares = [run.goodput(number) for number in range(len(run.flows))]
+    rows.append(('run', '', 'Jain\'s index of goodput', 'part', jain([n for n in shares if n is not None])))
+    rows.append(('run', '', 'span', 'ns', run.end - run.begin))
+    return rows
+
+
 # ---- as text
 
-COLUMNS = {
+TRACE_COLUMNS = {
     'flow': (('delivered', 'bytes', '{:,}', 1), ('goodput', 'Mbit/s', '{:.3f}', 1e6),
              ('share of the bottleneck', 'share %', '{:.1f}', .01), ('bottleneck', 'of link', '{}', 0),
              ('sent', 'sent', '{:,}', 1), ('loss', 'loss %', '{:.2f}', .01), ('timeouts', 'timeouts', '{:,}', 1),
@@ -375,6 +429,14 @@ COLUMNS = {
              ('mean queue', 'mean', '{:.2f}', 1), ('median delay in the queue', 'delay ms: median', '{:.3f}', 1e6),
              ('99th percentile of delay in the queue', '99th', '{:.3f}', 1e6), ('dropped', 'dropped', '{:,}', 1),
              ('loss', 'loss %', '{:.2f}', .01)),
+}
+ENGINE_COLUMNS = {
+    'flow': (*TRACE_COLUMNS['flow'][:2], ('bottleneck', 'bottleneck', '{}', 0), TRACE_COLUMNS['flow'][4],
+             *TRACE_COLUMNS['flow'][6:9], ('least timed round trip', 'timed RTT ms: least', '{:.3f}', 1e6),
+             ('median timed round trip', 'median', '{:.3f}', 1e6),
+             ('99th percentile of timed round trips', '99th', '{:.3f}', 1e6), TRACE_COLUMNS['flow'][-1]),
+    'link': (*TRACE_COLUMNS['link'][:-1], ('dropped as lost', 'as lost', '{:,}', 1), ('dropped as full', 'as full', '{:,}', 1),
+             ('dropped by CoDel', 'by CoDel', '{:,}', 1), TRACE_COLUMNS['link'][-1]),
 }
 
 
@@ -391,10 +453,10 @@ def aligned(rows):
             for row in rows]
 
 
-def table(rows):
+def table(rows, columns_of=TRACE_COLUMNS):
     """The lines of the table of all figures."""
     lines = []
-    for what, columns in COLUMNS.items():
+    for what, columns in columns_of.items():
         of = {}
         for kind, name, figure, _, value in rows:
             if kind == what:
@@ -456,12 +518,20 @@ def words_of(given=None):
                        help='count from here on, in seconds or as 20ms; else from the first flow\'s start')
     words.add_argument('--to', dest='end', metavar='T', type=moment, help='count up to here; else to the run\'s end')
     words.add_argument('--busy', action='store_true', help='leave out links that carried and dropped nothing')
+    words.add_argument('--engine', action='store_true',
+                       help='from `tcpsim figures`, with no trace: of the whole run, percentiles at most 1/32 above the '
+                       'exact ones. It has no share of the bottleneck, no loss and no drops of a flow, and round trips '
+                       'of timed segments alone')
     words.add_argument('--program', metavar='FILE', help='the program that is run where no trace is given')
     given = words.parse_args(given)
     if given.series == 0:
         words.error('--series: a step of 0 has no rows')
     if given.end is not None and given.end <= (given.begin or 0):
         words.error('--to is not behind --from')
+    if given.engine and given.trace is not None:
+        words.error('--engine takes no TRACE: the program runs the scenario')
+    if given.engine and (given.begin, given.end, given.series) != (None, None, None):
+        words.error('--engine has figures of the whole run: it goes without --from, --to and --series')
     return given
 
 
@@ -471,13 +541,16 @@ def run_of(given):
         return Figures(scenario, lines, given.begin, given.end, given.series)
 
 
-def write(run, given, file):
+def write(given, file):
     if given.series is not None:
-        write_series(run, file, given.busy)
-    elif given.csv:
-        write_csv(figures(run, given.busy), file)
+        write_series(run_of(given), file, given.busy)
+        return
+    rows = (engine_figures(engine_run(given.scenario, given.program), given.busy) if given.engine else
+            figures(run_of(given), given.busy))
+    if given.csv:
+        write_csv(rows, file)
     else:
-        print('\n'.join(table(figures(run, given.busy))), file=file)
+        print('\n'.join(table(rows, ENGINE_COLUMNS if given.engine else TRACE_COLUMNS)), file=file)
 
 
 def write_no_more():
@@ -487,7 +560,7 @@ def write_no_more():
 def main():
     given = words_of()
     try:
-        write(run_of(given), given, sys.stdout)
+        write(given, sys.stdout)
         sys.stdout.flush()
     except BrokenPipeError:     # a reader that has seen enough, as `head`
         write_no_more()
