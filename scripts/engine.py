@@ -68,6 +68,16 @@ class EngineRun:
     def dropped(self, number):
         return sum(self.links[number][reason, 'packets'] for reason in REASONS)
 
+    def data_dropped(self):
+        """Segments that were dropped at any link; None where a link dropped something to which acknowledgements come too."""
+        total = 0
+        for number in range(len(self.links)):
+            back = any(number in way for _, way in self.scenario.ways)
+            if back and any(number in way for way, _ in self.scenario.ways) and self.dropped(number):
+                return None
+            total += 0 if back else self.dropped(number)
+        return total
+
     def idle(self, number):
         """Whether a link has carried and dropped nothing."""
         return not (self.links[number]['sent', 'packets'] or self.dropped(number))

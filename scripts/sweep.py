@@ -1,7 +1,7 @@
 #!/usr/bin/env python3
 """Runs one scenario over a grid of values, side by side, a row of figures for each run.
 
-Usage: scripts/sweep.py SCENARIO --set NAME.FIELD=VALUE,.. [--set ..] [-j N] [-o s.csv] [--plot s.svg]
+Usage: scripts/sweep.py SCENARIO --set NAME.FIELD=VALUE,.. [--set ..] [-j N] [-o s.csv] [--plot s.svg] [--engine]
        scripts/sweep.py SCENARIO --set .. --print DIR     the scenarios and a list of jobs, nothing is run
        scripts/sweep.py --gather DIR [-o s.csv]           the rows of these jobs, once they are done
 """
@@ -23,8 +23,9 @@ from concurrent.futures.process import BrokenProcessPool
 from multiprocessing import active_children, get_context
 
 import units
+from engine import BUSY, EngineRun
 from finding import NoProgram, find_program
-from flows import Figures, aligned, figures
+from flows import Figures, aligned, figures, jain
 from trace_reader import Scenario, Unreadable, blocks
 from units import HEADER_BYTES, Wrong, refuse, spelled_rate, spelled_time
 
@@ -217,25 +218,46 @@ def figures_of(run, link):
             'jain': whole['Jain\'s index of goodput']}
 
 
-def row_of(text, program, link, skip):
+def engine_figures_of(run, link):
+    """The same figures, from the table of `tcpsim figures`."""
+    links, flows_of = run.scenario.links, run.flows
+    used = [run.over_span(number, BUSY) for number in range(len(links))]
+    if link is None:
+        ways = sorted({number for there, _ in run.scenario.ways for number in there})
+        at = max(ways, key=lambda number: -1 if used[number] is None else used[number])
+    else:
+        at = next(number for number, its in enumerate(links) if its.name == link)
+    sent, dropped = sum(flow['sent', 'segments'] for flow in flows_of), run.data_dropped()
+    shares = [run.goodput(number) for number in range(len(flows_of))]
+    return {'status': 'done', 'link': links[at].name,
+            'goodput_bit_s': sum(flow['delivered', 'bytes'] for flow in flows_of) * units.BITS_NS / (run.end - run.begin),
+            'utilization': used[at],
+            'wait_median_ns': run.links[at]['median delay in the queue', 'ns'],
+            'wait_p99_ns': run.links[at]['99th percentile of delay in the queue', 'ns'],
+            'loss_percent': 100 * dropped / sent if sent and dropped is not None else None,
+            'timeouts': sum(flow['timeouts', 'times'] for flow in flows_of),
+            'jain': jain([share for share in shares if share is not None])}
+
+
+def row_of(text, program, link, skip, engine):
     """The row of one run: its figures, or in `status` why there are none."""
     try:
-        return run_row(text, program, link, skip)
+        return run_row(text, program, link, skip, engine)
     except MemoryError:
         return {'status': 'no memory for its figures'}
     except OSError as wrong:
         return {'status': f'cannot be run: {wrong.strerror}'}
 
 
-def run_row(text, program, link, skip):
-    """The row of one run. The trace is read as it is made."""
+def run_row(text, program, link, skip, engine):
+    """The row of one run. The trace is read as it is made; with `engine` there is none."""
     with tempfile.TemporaryFile() as given, tempfile.TemporaryFile() as note:
         given.write(text.encode('latin-1'))
         given.seek(0)
         row = {'status': ''}
-        with subprocess.Popen([program, 'run'], stdin=given, stdout=subprocess.PIPE, stderr=note, bufsize=0) as process:
+        with subprocess.Popen([program, 'figures' if engine else 'run'], stdin=given, stdout=subprocess.PIPE, stderr=note, bufsize=0) as process:
             try:
-                row = read_row(text, process.stdout, link, skip)
+                row = read_table_row(text, process.stdout, link) if engine else read_row(text, process.stdout, link, skip)
             except Unreadable as wrong:
                 row = {'status': str(wrong)}
             finally:
@@ -257,13 +279,19 @@ def read_row(text, output, link, skip):
     return figures_of(run, link) if run.whole else {'status': 'the trace has no end'}
 
 
+def read_table_row(text, output, link):
+    """The figures of the table that a program writes."""
+    table = output.read().decode('ascii', 'replace')
+    return engine_figures_of(EngineRun(Scenario(text), table), link) if table else {'status': 'the program wrote nothing'}
+
+
 # ---- all runs
 
 class Grid:
     """The points of a sweep: for each its values and its text, made when it is asked for."""
 
-    def __init__(self, pattern, settings, link, skip):
-        self.pattern, self.settings, self.link, self.skip = pattern, settings, link, skip
+    def __init__(self, pattern, settings, link, skip, engine=False):
+        self.pattern, self.settings, self.link, self.skip, self.engine = pattern, settings, link, skip, engine
         self.points = list(itertools.product(*(each.values for each in settings)))
 
     def text(self, number):
@@ -291,10 +319,11 @@ def rows_of(grid, program, jobs):
     count = len(grid.points)
     if jobs == 1 or count == 1:
         for number in range(count):
-            yield number, row_of(grid.text(number), program, grid.link, grid.skip)
+            yield number, row_of(grid.text(number), program, grid.link, grid.skip, grid.engine)
         return
     pool = ProcessPoolExecutor(min(jobs, count), get_context('fork'), interruptible)
-    runs = {pool.submit(row_of, grid.text(number), program, grid.link, grid.skip): number for number in range(count)}
+    runs = {pool.submit(row_of, grid.text(number), program, grid.link, grid.skip, grid.engine): number
+            for number in range(count)}
     for done in as_completed(runs):
         yield runs[done], done.result()
     pool.shutdown()
@@ -502,6 +531,7 @@ def print_jobs(grid, folder, program, given_program):
     folder = os.path.abspath(folder)
     names = [grid.name(number) for number in range(len(grid.points))]
     options = [*(['--link', grid.link] if grid.link else []), *(['--skip', spelled_time(grid.skip)] if grid.skip else []),
+               *(['--engine'] if grid.engine else []),
                *(['--program', os.path.abspath(program)] if given_program else []), '-j', '1']
     script = os.path.abspath(sys.argv[0])
     call = [script] if os.access(script, os.X_OK) else [sys.executable, script]
@@ -548,6 +578,8 @@ def command_line():
     words.add_argument('--link', metavar='LINK', help='whose figures are told: else the first that is set, else the busiest')
     words.add_argument('--skip', metavar='TIME', type=units.as_type(units.time), default=0,
                        help='figures from this moment on')
+    words.add_argument('--engine', action='store_true', help='figures of `tcpsim figures`, of whole runs and with no trace; '
+                       'waits are at most 1/32 above the exact ones')
     words.add_argument('-j', '--jobs', metavar='N', type=units.as_type(units.count), default=None,
                        help='runs side by side, else one for each processor')
     words.add_argument('-o', '--output', metavar='FILE', help='the rows as CSV')
@@ -581,14 +613,16 @@ def grid_of(given):
     link = given.link or next((each.names[0] for each in settings if each.field in WHERE['link']), None)
     if link and pattern.sorts.get(link) != 'link':
         raise Wrong(f'--link {link!r}: the scenario has no such link, only {", ".join(pattern.named("link")[:12])}')
-    return Grid(pattern, settings, link, given.skip)
+    return Grid(pattern, settings, link, given.skip, given.engine)
 
 
 def check_words(given):
     if bool(given.scenario) == bool(given.gather):
         raise Wrong('name one SCENARIO' if not given.scenario else '--gather takes no SCENARIO')
-    if given.gather and (given.sets or given.folder or given.plot):
+    if given.gather and (given.sets or given.folder or given.plot or given.engine):
         raise Wrong('--gather goes with -o and --csv alone')
+    if given.engine and given.skip:
+        raise Wrong('--engine has figures of whole runs, so it goes without --skip')
     if given.folder and (given.plot or given.output or given.csv):
         raise Wrong('--print runs nothing, so it goes without -o, --csv and --plot')
     if given.jobs is not None and not 1 <= given.jobs <= 1_024:

@@ -19,6 +19,7 @@ import tempfile
 import time
 import unittest
 
+import finding
 import net
 import sweep
 from test_net import MODEL
@@ -164,6 +165,58 @@ class Rows(unittest.TestCase):
         done = tool(path('hand.tcb'), '--set', 'l0.queue=droptail:2')
         self.assertEqual((done.returncode, done.stdout, len(done.stderr.splitlines())), (2, '', 1))
         self.assertIn('refused L1', done.stderr)
+
+
+class Engine(unittest.TestCase):
+    """Rows with no trace, by the program where it has `figures`, else by the model."""
+
+    def setUp(self):
+        self.program = PROGRAM[0]
+        if not finding.knows(self.program, 'figures'):
+            self.program = path('model_figures', f'#!/bin/sh\nexec {MODEL[0]} {MODEL[1]} "$@"\n')
+            os.chmod(self.program, stat.S_IRWXU)
+
+    def rows(self, *words):
+        done = tool(*words, '--csv', '--program', self.program, program=False)
+        self.assertEqual(done.returncode, 0, done.stderr)
+        return rows_of(done.stdout)
+
+    def test_rows_are_those_of_traces(self):
+        """But for waits, which are the greatest values of their classes."""
+        words = (path('four.txt', FOUR), '--set', 'pq.queue=droptail:5,40,codel:5ms:100ms', '--set', 'end=1s,4s')
+        for got, wanted in zip(self.rows(*words, '--engine'), self.rows(*words), strict=True):
+            for name in ('wait_median_ns', 'wait_p99_ns'):
+                one, other = int(got.pop(name)), int(wanted.pop(name))
+                self.assertTrue(other <= one <= other * 33 / 32, (name, one, other))
+            self.assertEqual(got, wanted)
+
+    def test_by_hand(self):
+        """The 4th of seven waits is 1,040,000, whose class ends with 2^20 - 1."""
+        got, = self.rows(path('hand.txt', BY_HAND), '--set', 'a.queue=droptail:2', '--engine')
+        self.assertEqual(got, {**ROW, 'wait_median_ns': str(2**20 - 1)})
+
+    def test_loss_where_acknowledgements_are_dropped_too(self):
+        """Acknowledgements alone at b are no segments; where both are dropped at one link it is not told."""
+        text = BY_HAND.replace('12000000', '2000000000') + 'lose b 2\n'
+        got, = self.rows(path('hand.txt', text), '--set', 'a.queue=droptail:2', '--engine')
+        wanted, = self.rows(path('hand.txt', text), '--set', 'a.queue=droptail:2')
+        self.assertEqual(got['loss_percent'], wanted['loss_percent'])
+        with open(os.path.join(TOP, 'examples', 'acks_share_the_bottleneck.txt'), encoding='ascii') as file:
+            shared = path('shared.txt', file.read())
+        got = self.rows(shared, '--set', 'pq.queue=droptail:2,1000', '--link', 'pq', '--engine')
+        self.assertEqual([row['status'] for row in got], ['done', 'done'])
+        self.assertEqual(got[0]['loss_percent'], '')
+
+    def test_refusals_and_jobs(self):
+        got = self.rows(path('hand.txt', BY_HAND), '--set', 'a.rate=1k,10', '--engine')
+        self.assertEqual([row['status'] for row in got], ['done', 'refused E5 line 4'])
+        done = tool(path('hand.txt', BY_HAND), '--engine', '--skip', '1ms', '--set', 'a.queue=droptail:2')
+        self.assertEqual((done.returncode, done.stderr.count('\n')), (2, 1))
+        self.assertIn('--skip', done.stderr)
+        folder = path('engine.d')
+        tool(path('hand.txt', BY_HAND), '--engine', '--set', 'a.queue=droptail:2,3', '--print', folder)
+        with open(os.path.join(folder, 'jobs'), encoding='utf-8') as jobs:
+            self.assertEqual([' --engine ' in line for line in jobs], [True, True])
 
 
 class Points(unittest.TestCase):
