@@ -9,6 +9,7 @@ import glob
 import io
 import os
 import random
+import re
 import stat
 import subprocess
 import sys
@@ -266,6 +267,18 @@ class ByHand(unittest.TestCase):
             self.assertEqual(got, [(1, False, 6000), (2, False, 7000), (3, third, 7000)])
         rows = values_of(figures(assemble(BELOW_RECOVER.replace('newreno', 'reno').encode())))
         self.assertEqual([rows['flow', '0', figure, 'segments'] for figure, _ in FLOW[3:6]], [13, 1, 4])
+
+
+class ThePage(unittest.TestCase):
+    """docs/FORMATS.md has each figure with its unit, in the order of the table, and the table of the first run."""
+
+    def test_figures(self):
+        with open(os.path.join(TOP, 'docs', 'FORMATS.md'), encoding='utf-8') as file:
+            page = file.read().partition('\n## Figures\n')[2].partition('\n## ')[0]
+        self.assertIn('\n```\n' + figures(assemble(ONE_SEGMENT.encode())) + '```\n', page)
+        told = [[(name, unit) for names, unit in re.findall(r'^\| (`.*`) \| (\S+) \|', part, re.M)
+                 for name in re.findall('`([^`]*)`', names)] for part in re.split('^Of a link:|^Of the run:', page, flags=re.M)]
+        self.assertEqual(told, [[*FLOW], [*LINK], [('events', 'events'), ('end', 'ns')]])
 
 
 class TheComparison(unittest.TestCase):
