@@ -6,7 +6,7 @@ _tcpsim() {
   case $before in '<' | '>' | '>>' | '>|' | '2>') return ;; esac
   case $word in '<'* | '>'*) return ;; esac
   if [ "$COMP_CWORD" = 1 ]; then
-    COMPREPLY=($(compgen -W 'asm dis run debug explain --help --version -h -V' -- "$word"))
+    COMPREPLY=($(compgen -W 'asm dis run figures debug explain --help --version -h -V' -- "$word"))
     return
   fi
   # readline parts `--groups=each` at the sign.
@@ -17,6 +17,7 @@ _tcpsim() {
   case ${COMP_WORDS[1]} in
     explain) COMPREPLY=($(compgen -W "$(_tcpsim_codes) --help -h" -- "$word")) ;;
     asm | dis) COMPREPLY=($(compgen -W '--explain --help -h' -- "$word")) ;;
+    figures) COMPREPLY=($(compgen -W '--progress --explain --help -h' -- "$word")) ;;
     run | debug) case $before in
       --workers) COMPREPLY=($(compgen -W '1 2 4 8 16 32 64' -- "$word")) ;;
       --groups) COMPREPLY=($(compgen -W 'one each auto' -- "$word")) ;;

@@ -2,6 +2,7 @@
 complete -c tcpsim -n __fish_use_subcommand -f -a asm -d 'Write the image of a scenario'
 complete -c tcpsim -n __fish_use_subcommand -f -a dis -d 'Write the canonical text of a scenario'
 complete -c tcpsim -n __fish_use_subcommand -f -a run -d 'Run a scenario and print its trace'
+complete -c tcpsim -n __fish_use_subcommand -f -a figures -d 'Run a scenario and print its figures'
 complete -c tcpsim -n __fish_use_subcommand -f -a debug -d 'Walk through a run by commands, forwards and backwards'
 complete -c tcpsim -n __fish_use_subcommand -f -a explain -d 'Say what a code means, or list all codes'
 complete -c tcpsim -n '__fish_seen_subcommand_from explain' -f -a '(tcpsim explain 2>/dev/null </dev/null | string replace -r ":.*" "")'
@@ -9,8 +10,8 @@ complete -c tcpsim -s h -l help -d 'Print help'
 complete -c tcpsim -n __fish_use_subcommand -s V -l version -d 'Print version'
 complete -c tcpsim -n '__fish_seen_subcommand_from run debug' -l workers -x -a '1 2 4 8 16 32 64' -d 'Run the groups by so many workers, 1 to 64'
 complete -c tcpsim -n '__fish_seen_subcommand_from run debug' -l groups -x -a 'one each auto' -d 'Which group each node is in, or a number a node with commas between'
-complete -c tcpsim -n '__fish_seen_subcommand_from run' -l progress -d 'Say on standard error how far the run is'
-complete -c tcpsim -n '__fish_seen_subcommand_from asm dis run' -l explain -d 'Show on standard error why an input is refused'
+complete -c tcpsim -n '__fish_seen_subcommand_from run figures' -l progress -d 'Say on standard error how far the run is'
+complete -c tcpsim -n '__fish_seen_subcommand_from asm dis run figures' -l explain -d 'Show on standard error why an input is refused'
 
 # The options that a tool's help lists, behind the shape of tcpsim-net those of the shape.
 function __tcpsim_options

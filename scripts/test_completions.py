@@ -21,7 +21,7 @@ HERE = os.path.dirname(os.path.abspath(__file__))
 TOP = os.path.dirname(HERE)
 COMPLETIONS = os.path.join(TOP, 'completions')
 PROGRAM = os.path.join(TOP, 'crates', 'tcpsim', 'out', 'tcpsim')
-SUBCOMMANDS = ('asm', 'debug', 'dis', 'explain', 'run')
+SUBCOMMANDS = ('asm', 'debug', 'dis', 'explain', 'figures', 'run')
 TOOLS = ('flows', 'plot', 'net', 'sweep', 'follow', 'stalls', 'replay')
 MARK = '@ready@'
 PATIENCE = 60           # seconds for one answer, on a machine that is busy
@@ -48,6 +48,9 @@ LINES = (
     ('tcpsim run scenario_', 'tcpsim run scenario_two.txt '),
     ('tcpsim asm sh', 'tcpsim asm shelf/'),
     ('tcpsim exp', 'tcpsim explain '),
+    ('tcpsim fig', 'tcpsim figures '),
+    ('tcpsim figures --pro', 'tcpsim figures --progress '),
+    ('tcpsim figures scenario_', 'tcpsim figures scenario_two.txt '),
     ('tcpsim explain gr', 'tcpsim explain groups '),
     ('tcpsim-flows scenario_', 'tcpsim-flows scenario_two.txt '),
     ('tcpsim-flows scenario_two.txt --ser', 'tcpsim-flows scenario_two.txt --series '),
@@ -208,10 +211,11 @@ class Compgen(Folder):
                                      *words))
 
     def test_words_of_the_program(self):
-        for words, answer in ((['tcpsim', ''], ['--help', '--version', '-V', '-h', 'asm', 'debug', 'dis', 'explain', 'run']),
+        for words, answer in ((['tcpsim', ''], ['--help', '--version', '-V', '-h', 'asm', 'debug', 'dis', 'explain', 'figures', 'run']),
                               (['tcpsim', 'd'], ['debug', 'dis']),
                               (['tcpsim', 'run', '--'], ['--explain', '--groups', '--help', '--progress', '--workers']),
                               (['tcpsim', 'dis', '--'], ['--explain', '--help']),
+                              (['tcpsim', 'figures', '--'], ['--explain', '--help', '--progress']),
                               (['tcpsim', 'run', '--workers', ''], ['1', '16', '2', '32', '4', '64', '8']),
                               (['tcpsim', 'run', '--groups', '=', 'o'], ['one']),
                               (['tcpsim', 'run', '--groups', '='], ['auto', 'each', 'one']),
