@@ -152,7 +152,7 @@ for workers in 1 2 4; do
   row "$first" run --groups each --workers "$workers"
 done
 for input in "$first" "$work/image"; do
-  for words in asm dis run; do
+  for words in asm dis run figures; do
     row "$input" $words
   done
 done

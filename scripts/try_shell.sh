@@ -70,6 +70,7 @@ Commands:
   asm      Write the image of a scenario
   dis      Write the canonical text of a scenario
   run      Run a scenario and print its trace
+  figures  Run a scenario and print its figures, as comma-separated values
   debug    Walk through a run by commands, forwards and backwards
   explain  Say what a code means, with an example, or list all codes
 
@@ -83,6 +84,7 @@ help_of() {
     case $1 in
       run) printf '%s\n\nUsage: tcpsim run [OPTIONS] [FILE]\n\n' "$2"; cat "$work/argument"; printf 'Options:\n'; cat "$work/options" "$work/flags" ;;
       debug) printf '%s\n\nUsage: tcpsim debug [OPTIONS] [FILE]\n\n' "$2"; cat "$work/session_argument"; printf 'Options:\n'; cat "$work/options"; echo '  -h, --help         Print help' ;;
+      figures) printf '%s\n\nUsage: tcpsim figures [OPTIONS] [FILE]\n\n' "$2"; cat "$work/argument"; printf 'Options:\n'; sed 's/^\(.\{16\}\)   /\1/' "$work/flags" ;;
       explain) printf '%s\n\nUsage: tcpsim explain [CODE]\n\nArguments:\n  [CODE]  The code, as it stands behind `refused`\n\nOptions:\n  -h, --help  Print help\n' "$2" ;;
       *) printf '%s\n\nUsage: tcpsim %s [OPTIONS] [FILE]\n\n' "$2" "$1"; cat "$work/argument"
         printf 'Options:\n      --explain  Show on standard error why an input is refused\n  -h, --help     Print help\n' ;;
@@ -117,6 +119,7 @@ run -h < "$first"; ended 'tcpsim -h' 0 "$work/nothing" "$work/help"
 help_of asm 'Write the image of a scenario'
 help_of dis 'Write the canonical text of a scenario'
 help_of run 'Run a scenario and print its trace'
+help_of figures 'Run a scenario and print its figures, as comma-separated values'
 help_of debug 'Walk through a run by commands, forwards and backwards'
 help_of explain 'Say what a code means, with an example, or list all codes'
 run --version < "$first"; ended 'tcpsim --version' 0 "$work/nothing" "$work/version"
@@ -135,7 +138,7 @@ mistaken() {
 }
 
 mistaken 'tcpsim <COMMAND>' "'tcpsim' requires a subcommand but one was not provided
-  [subcommands: asm, dis, run, debug, explain]"
+  [subcommands: asm, dis, run, figures, debug, explain]"
 mistaken 'tcpsim <COMMAND>' "unrecognized subcommand 'verify'" verify
 mistaken 'tcpsim <COMMAND>' "unrecognized subcommand 'help'" help
 mistaken 'tcpsim <COMMAND>' "unexpected argument '--fast' found" --fast run
@@ -145,6 +148,9 @@ mistaken 'tcpsim asm [OPTIONS] [FILE]' "unexpected argument '--workers' found
 mistaken 'tcpsim dis [OPTIONS] [FILE]' "unexpected argument '--groups' found
 
   tip: to pass '--groups' as a value, use '-- --groups'" dis --groups each
+mistaken 'tcpsim figures [OPTIONS] [FILE]' "unexpected argument '--groups' found
+
+  tip: to pass '--groups' as a value, use '-- --groups'" figures --groups each
 mistaken 'tcpsim run [OPTIONS] [FILE]' "unexpected argument 'twice' found" run "$first" twice
 mistaken 'tcpsim asm [OPTIONS] [FILE]' "unexpected argument 'twice' found" asm "$first" twice
 mistaken 'tcpsim debug [OPTIONS] [FILE]' "unexpected argument 'other' found" debug file other
@@ -158,6 +164,7 @@ mistaken 'tcpsim explain [CODE]' "unexpected argument 'E2' found" explain E1 E2
 mistaken 'tcpsim debug [OPTIONS] [FILE]' "unexpected argument '--progress' found
 
   tip: to pass '--progress' as a value, use '-- --progress'" debug --progress
+mistaken 'tcpsim figures [OPTIONS] [FILE]' "unexpected argument 'twice' found" figures "$first" twice
 mistaken 'tcpsim run [OPTIONS] [FILE]' "the argument '--explain' cannot be used multiple times" run --explain --explain
 # valued LINE WORD..: options whose value is refused, whatever the input is
 valued() {
@@ -198,7 +205,7 @@ told 'tcpsim explain to a full device' 3 'write failed'
 
 cp "$first" "$work/one scenario.txt"
 cp "$first" "$work/--workers"
-for words in run asm dis 'run --groups each --workers 2'; do
+for words in run asm dis figures 'run --groups each --workers 2'; do
   run $words < "$first"; mv "$work/out" "$work/expected"
   for file in "$first" "$work/one scenario.txt" -; do
     run $words "$file" < "$first"; ended "tcpsim $words $file" 0 "$work/nothing" "$work/expected"
@@ -242,12 +249,16 @@ for words in 'run --progress' 'run --progress --groups auto --workers 4' 'run --
   "$program" $words "$first" > "$work/out" 2>&-; status=$?
   ended "tcpsim $words with standard error closed" 0 "$work/nothing" "$first_trace"
 done
+"$program" figures "$first" > "$work/figures"
+"$program" figures --progress "$first" > "$work/out" 2> "$work/note"; status=$?
+if [ "$(tr '\r' '\n' < "$work/note" | tail -n 1)" != '100 % of 1 s simulated, 5 events' ]; then fail 'tcpsim figures --progress' "its last line is: $(tail -n 1 "$work/note")"; fi
+: > "$work/note"; ended 'tcpsim figures --progress' 0 "$work/nothing" "$work/figures"
 "$program" run --progress "$first" > /dev/full 2> "$work/note"; status=$?
 if [ "$status" = 3 ] && [ "$(tail -n 1 "$work/note")" = 'write failed' ]; then pass 'a note behind the progress'
 else fail 'a note behind the progress' "status $status, note: $(cat "$work/note")"; fi
 printf 'sim 5\nnode s sendr\n' > "$work/text"
 { printf 'refused E4 line 2\nnode s sendr\n       ^^^^^\n'; grep '^E4: ' "$work/codes"; } > "$work/expected"
-for words in run asm dis; do
+for words in run asm dis figures; do
   run $words --explain "$work/text"; ended "tcpsim $words --explain" 1 "$work/expected" "$work/nothing"
   run $words --explain < "$first"; mv "$work/out" "$work/plain"
   run $words < "$first"; ended "tcpsim $words of a right text" 0 "$work/nothing" "$work/plain"
@@ -405,7 +416,7 @@ for words in run 'run --groups each --workers 2'; do
   status=$(cat "$work/status"); ended "$words, byte by byte" 0 "$work/nothing" "$first_trace"
 done
 
-for words in asm dis run debug; do
+for words in asm dis run figures debug; do
   run $words <&-; told "$words with standard input closed" 3 'read failed'
   run $words < "$work"; told "$words of a directory" 3 'read failed'
   run $words < /dev/null; told "$words of an empty input" 1 'refused E10 line 0'
@@ -450,7 +461,7 @@ fi
 
 # broken NOTE WHAT: the image in $work/text is refused so, by each subcommand
 broken() {
-  for words in asm dis run; do
+  for words in asm dis run figures; do
     run $words < "$work/text"; told "$words of an image $2" 1 "$1"
   done
 }
@@ -567,6 +578,21 @@ else
   fail '800,001 events in 32 MiB of memory' "status $(cat "$work/status"), $(cat "$work/note") $(cat "$work/last")"
 fi
 
+# Its figures, in the same memory: nothing grows with the run, and nothing is written before its end.
+(
+  ulimit -v 32768
+  "$program" figures < "$work/long" > "$work/figures" 2> "$work/note"
+  echo $? > "$work/status"
+)
+for line in flow,0,delivered,bytes,200000000 link,0,sent,packets,200000 link,1,sent,bytes,8000000 run,,events,events,800001; do
+  grep -qx "$line" "$work/figures" || echo "$line is not there" >> "$work/note"
+done
+if [ "$(cat "$work/status") $(wc -l < "$work/figures")" = '0 39' ] && [ ! -s "$work/note" ]; then
+  pass 'the figures of 800,001 events in 32 MiB of memory'
+else
+  fail 'the figures of 800,001 events in 32 MiB of memory' "status $(cat "$work/status"), $(cat "$work/note")"
+fi
+
 # A session whose answers are the first dump, 500 times.
 { cat "$work/right"; echo ---; yes state | head -n 500; } > "$work/session"
 for number in $(seq 1 500); do
@@ -595,7 +621,7 @@ unwritten() {
   "$program" "$@" < "$input" >&- 2> "$work/note"; status=$?
   told "$* with standard output closed" 3 'write failed'
 }
-for words in asm dis run 'run --groups each --workers 2' --help --version; do
+for words in asm dis run figures 'run --groups each --workers 2' --help --version; do
   unwritten "$first" $words
 done
 for words in debug 'debug --groups each --workers 2'; do
@@ -648,10 +674,11 @@ for scenario in slow_start_into_a_full_queue four_flows_before_codel; do
   refused run "$scenario" "$examples/$scenario.txt"
 done
 "$program" asm < "$examples/four_flows_before_codel.txt" > "$work/image"
-for words in asm dis run; do
+for words in asm dis run figures; do
   refused $words "the image of four_flows_before_codel" "$work/image"
 done
 refused asm four_flows_before_codel "$examples/four_flows_before_codel.txt"
+refused figures four_flows_before_codel "$examples/four_flows_before_codel.txt"
 refused dis four_flows_before_codel "$examples/four_flows_before_codel.txt"
 if command -v python3 > /dev/null; then
   if said=$("$top/scripts/refuse_debug.py" 2>&1); then
