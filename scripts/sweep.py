@@ -255,7 +255,8 @@ def run_row(text, program, link, skip, engine):
         given.write(text.encode('latin-1'))
         given.seek(0)
         row = {'status': ''}
-        with subprocess.Popen([program, 'figures' if engine else 'run'], stdin=given, stdout=subprocess.PIPE, stderr=note, bufsize=0) as process:
+        words = [program, 'figures' if engine else 'run']
+        with subprocess.Popen(words, stdin=given, stdout=subprocess.PIPE, stderr=note, bufsize=0) as process:
             try:
                 row = read_table_row(text, process.stdout, link) if engine else read_row(text, process.stdout, link, skip)
             except Unreadable as wrong:

@@ -197,8 +197,9 @@ class Command(Files):
 
     def test_words_that_are_refused(self):
         trace = self.scenario[:-3] + 'trace'
-        for words, note in (((trace, '--engine'), 'TRACE'), (('--engine', '--from', '1s'), '--from'), (('--engine', '--from', '0'), '--from'),
-                            (('--engine', '--to', '2s'), '--to'), (('--engine', '--series', '1s'), '--series'), (('--eng',), '--eng')):
+        for words, note in (((trace, '--engine'), 'TRACE'), (('--engine', '--from', '1s'), '--from'),
+                            (('--engine', '--from', '0'), '--from'), (('--engine', '--to', '2s'), '--to'),
+                            (('--engine', '--series', '1s'), '--series'), (('--eng',), '--eng')):
             done = self.run_flows(self.scenario, *words)
             self.assertEqual((done.returncode, done.stdout, done.stderr.count(b'\n')), (2, b'', 1), words)
             self.assertTrue(done.stderr.startswith(b'flows.py: ') and note.encode() in done.stderr, done.stderr)

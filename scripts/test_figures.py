@@ -277,7 +277,8 @@ class ThePage(unittest.TestCase):
             page = file.read().partition('\n## Figures\n')[2].partition('\n## ')[0]
         self.assertIn('\n```\n' + figures(assemble(ONE_SEGMENT.encode())) + '```\n', page)
         told = [[(name, unit) for names, unit in re.findall(r'^\| (`.*`) \| (\S+) \|', part, re.M)
-                 for name in re.findall('`([^`]*)`', names)] for part in re.split('^Of a link:|^Of the run:', page, flags=re.M)]
+                 for name in re.findall('`([^`]*)`', names)]
+                for part in re.split('^Of a link:|^Of the run:', page, flags=re.M)]
         self.assertEqual(told, [[*FLOW], [*LINK], [('events', 'events'), ('end', 'ns')]])
 
 
@@ -312,8 +313,8 @@ table = "".join(lines)
             with open(path, 'w', encoding='utf-8') as file:
                 file.write(self.STAND_IN.format(python=sys.executable, model=os.path.join(HERE, 'model'), change=change))
             os.chmod(path, stat.S_IRWXU)
-            return subprocess.run([sys.executable, os.path.join(HERE, 'compare.py'), '--kind', 'figures', '--random', '--jobs', '2', '--shrink', '0',
-                                   '--program', path, *words],
+            return subprocess.run([sys.executable, os.path.join(HERE, 'compare.py'), '--kind', 'figures', '--random', '--jobs', '2',
+                                   '--shrink', '0', '--program', path, *words],
                                   capture_output=True, text=True, check=False, timeout=600)
 
     def test_the_model_is_equal(self):
