@@ -4,3 +4,4 @@ pub mod Shown
 pub mod Faults
 pub mod Batches
 pub mod Aims
+pub mod Alone

@@ -1,5 +1,5 @@
 //! A copy of a net, on its way by windows.
-ghost use Rattle.std.specs.Prelude.{◌≡◌, ◌≢◌, ◌<◌, ◌≤◌, false, length, IfOk, IfErr, OnOk, OnErr};
+ghost use Rattle.std.specs.Prelude.{◌≡◌, ◌≢◌, ◌<◌, ◌≤◌, false, length, IfOk, IfErr, IfSome, OnOk, OnErr};
 ghost use Rattle.window_core.specs.Full.{HasTooMany};
 ghost use Rattle.debugger.specs.Moves.{Passes, HasPosition, IsTooLong};
 ghost use Rattle.debugger.specs.Courses.{IsOnWay, WentOn};
@@ -52,6 +52,7 @@ impl Course {
         ensures running { IfOk result (λ c. c.engine.failed ≡ false) }
         ensures behind { IfOk result (λ c. c.behind ≡ present.now) }
         ensures few { present.now.position ≤ 1000000000000000 }
+        ensures slice { IfOk result (λ c. 1 ≤ c.slice) }
     {
         let _reached = present.position();
         let engine = ahead(alloc, present, partition)?;
@@ -94,12 +95,36 @@ impl Course {
         Ok(Some(batch))
     }
 
+    /// The same on the calling thread. A window that is run has a line.
+    pub(crate) fn window_alone<G: Gate>(&mut self, gate: &G) -> Result<Option<Batch>, MoveFault>
+        requires running { self.old.engine.failed ≡ false }
+        requires slice { 1 ≤ self.old.slice }
+        ensures gone { IfOk result (λ batch. WentOn self.old.engine.net batch self.new.engine.net) }
+        ensures some { IfOk result (λ batch. IfSome batch (λ _. self.old.engine.net.position < self.new.engine.net.position)) }
+        ensures few { OnOk result (self.new.engine.net.position ≤ 1000000000000000) }
+        ensures running { OnOk result (self.new.engine.failed ≡ false) }
+        ensures full { IfErr result (λ fault. fault ≡ MoveFault.CountFull → HasTooMany self.old.engine.net) }
+        ensures behind { self.new.behind ≡ self.old.behind }
+        ensures slice { 1 ≤ self.new.slice }
+    {
+        let _began = self.engine.position();
+        let Some(next) = self.engine.next() else {
+            return Ok(None);
+        };
+        let until = next.saturating_add(self.slice);
+        let batch = self.engine.window_alone(gate, until)?;
+        self.slice = next_slice(self.slice, &batch, 1);
+        let _reached = self.engine.position();
+        Ok(Some(batch))
+    }
+
     /// Brings the net behind to the last window's edge, and saves the state there, where enough
     /// events were passed. Where memory is refused, it stays.
     pub(crate) fn follow(&mut self, saved: &mut Saved)
         requires { IsOnWay saved.old self.old.engine.net.position self.old }
         ensures on_way { IsOnWay saved.old self.new.engine.net.position self.new }
         ensures engine { self.new.engine ≡ self.old.engine }
+        ensures slice { self.new.slice ≡ self.old.slice }
         ensures same { saved.new ≡ saved.old }
     {
         if self.engine.position() - self.behind.position() < MOST_BEHIND {

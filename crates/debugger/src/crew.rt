@@ -90,4 +90,62 @@ impl Crew {
         }
         unreachable!()
     }
+
+    /// As `find`, by windows that the calling thread runs, however many workers there are.
+    pub(crate) fn find_alone<G: Gate>(
+        &self,
+        gate: &G,
+        present: &Net,
+        aim: &Aim,
+        saved: &mut Saved,
+        line: &mut Line,
+    ) -> Result<Net, MoveFault>
+        requires on_run { Passes saved.old present.now }
+        requires nodes { length self.now.partition ≡ length present.now.state.parts }
+        ensures on_run { IfOk result (Passes saved.old) }
+        ensures goes { IfOk result (λ net. GoesTo saved.old aim.now present.now.position net.position) }
+        ensures full { IfErr result (λ fault. fault ≡ MoveFault.CountFull → IsTooLong saved.old) }
+        ensures same { saved.new ≡ saved.old }
+    {
+        let mut course = Course::new(self.alloc, present, &self.partition)?;
+        match seek_alone(gate, present, aim, saved, &mut course) {
+            Ok(Some(target)) => course.into_net_at(target, saved, line),
+            Ok(None) => course.into_edge(),
+            Err(fault) => {
+                drop(course);
+                Err(fault)
+            }
+        }
+    }
+}
+
+// As `seek`, by windows that the calling thread runs: each has an event, and a run has at most 10^15.
+fn seek_alone<G: Gate>(
+    gate: &G,
+    present: &Net,
+    aim: &Aim,
+    saved: &mut Saved,
+    course: &mut Course,
+) -> Result<Option<u64>, MoveFault>
+    requires on_run { Passes saved.old present.now }
+    requires net { course.old.engine.net ≡ present.now }
+    requires running { course.old.engine.failed ≡ false }
+    requires behind { course.old.behind ≡ present.now }
+    requires few { present.now.position ≤ 1000000000000000 }
+    requires slice { 1 ≤ course.old.slice }
+    ensures found { IfOk result (IsSought saved.old aim.now present.now.position course.new) }
+    ensures full { IfErr result (λ fault. fault ≡ MoveFault.CountFull → IsTooLong saved.old) }
+    ensures same { saved.new ≡ saved.old }
+{
+    loop {
+        let Some(batch) = course.window_alone(gate)? else {
+            return Ok(None);
+        };
+        let found = aim.end_in(&batch);
+        drop(batch);
+        if let Some(target) = found {
+            return Ok(Some(target));
+        }
+        course.follow(saved);
+    }
 }

@@ -152,10 +152,28 @@ impl Debugger {
         ensures full { IfErr result (λ fault. fault ≡ MoveFault.CountFull → IsTooLong self.old.start) }
         ensures err { OnErr result (self.new ≡ self.old) }
     {
+        if self.crew.workers == 1 {
+            return self.run_alone(gate);
+        }
         let aim = &Aim::Hit(&self.breaks);
         let found = self
             .crew
             .find(rt, gate, &self.net, aim, &mut self.saved, &mut self.line);
+        self.show(found)
+    }
+
+    /// What `run` does with one worker, however many there are: the calling thread runs the windows,
+    /// and waits for no other.
+    pub fn run_alone<G: Gate>(&mut self, gate: &G) -> Result<u64, MoveFault>
+        ensures moved { IfOk result (HasMoved self.old self.new) }
+        ensures goes { IfOk result (RunGoesTo self.old.start self.old.breaks self.old.shown.position) }
+        ensures full { IfErr result (λ fault. fault ≡ MoveFault.CountFull → IsTooLong self.old.start) }
+        ensures err { OnErr result (self.new ≡ self.old) }
+    {
+        let aim = &Aim::Hit(&self.breaks);
+        let found = self
+            .crew
+            .find_alone(gate, &self.net, aim, &mut self.saved, &mut self.line);
         self.show(found)
     }
 
@@ -171,10 +189,28 @@ impl Debugger {
         ensures full { IfErr result (λ fault. fault ≡ MoveFault.CountFull → IsTooLong self.old.start) }
         ensures err { OnErr result (self.new ≡ self.old) }
     {
+        if self.crew.workers == 1 {
+            return self.until_alone(gate, time);
+        }
         let aim = &Aim::Moment(time);
         let found = self
             .crew
             .find(rt, gate, &self.net, aim, &mut self.saved, &mut self.line);
+        self.show(found)
+    }
+
+    /// What `until` does with one worker, however many there are: the calling thread runs the windows,
+    /// and waits for no other.
+    pub fn until_alone<G: Gate>(&mut self, gate: &G, time: Time) -> Result<u64, MoveFault>
+        ensures moved { IfOk result (HasMoved self.old self.new) }
+        ensures goes { IfOk result (UntilGoesTo self.old.start time self.old.shown.position) }
+        ensures full { IfErr result (λ fault. fault ≡ MoveFault.CountFull → IsTooLong self.old.start) }
+        ensures err { OnErr result (self.new ≡ self.old) }
+    {
+        let aim = &Aim::Moment(time);
+        let found = self
+            .crew
+            .find_alone(gate, &self.net, aim, &mut self.saved, &mut self.line);
         self.show(found)
     }
 

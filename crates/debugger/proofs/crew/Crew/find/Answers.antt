@@ -1,4 +1,4 @@
-use Rattle.std.proofs.Common.{◌≡◌, sym, ap, subst, IfOk, IfErr}
+use Rattle.std.proofs.Common.{◌≡◌, sym, subst, IfOk, IfErr}
 use Rattle.std.proofs.lemmas.Result.{IfOk-weaker}
 use Rattle.table_run.specs.State.{State}
 use Rattle.net_machine.specs.Run.{Reached}

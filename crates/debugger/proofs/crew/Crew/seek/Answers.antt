@@ -1,14 +1,11 @@
-use Rattle.std.proofs.Common.{◌≡◌, refl, sym, ap, subst, ◌∙◌, arith, IfOk, IfErr}
-use Rattle.std.proofs.lemmas.Result.{IfOk-weaker}
+use Rattle.std.proofs.Common.{refl, sym, ap, subst, ◌∙◌, arith}
 use Rattle.table_run.specs.State.{State}
 use Rattle.net_machine.specs.Run.{Reached}
 use Rattle.window_engine.specs.Engines.{EngineValue}
-use Rattle.debugger.specs.declared.fault.MoveFault.{MoveFault}
-use Rattle.debugger.specs.declared.fault.MoveFault.TheVariants.{CountFull}
-use Rattle.debugger.specs.Moves.{Passes, HasPosition, IsTooLong}
+use Rattle.debugger.specs.Moves.{Passes}
 use Rattle.debugger.specs.Courses.{IsOnWay}
 use Rattle.debugger.specs.Aims.{EndsIn, GoesTo}
-use Rattle.debugger.proofs.Faults.{not_ok, full_of_move, full_of_memory}
+use Rattle.debugger.proofs.Faults.{not_ok, full_of_move}
 use Rattle.debugger.proofs.Batches.{no_more, window_of, no_window, way_on, too_long_from}
 use Rattle.debugger.proofs.Aims.{NotYet, not_yet_at, ended, not_yet_on, ends_in, not_before}
 use Rattle.debugger.proofs.crew.Crew.seek.Goals as goal
