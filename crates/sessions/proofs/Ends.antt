@@ -11,9 +11,10 @@ use Rattle.window_engine.proofs.Bytes.{appends_nothing}
 use Rattle.sessions.specs.declared.fault.SessionFault.{SessionFault}
 use Rattle.sessions.specs.declared.fault.SessionFault.TheVariants.{TooLong, Refused, RefusedImage, Groups, ReadFailed, WriteFailed, NoMemory, CountFull, NoWorker}
 use Rattle.sessions.specs.declared.subcommand.Subcommand.{Subcommand}
-use Rattle.sessions.specs.declared.subcommand.Subcommand.TheVariants.{Asm, Dis, Run}
+use Rattle.sessions.specs.declared.subcommand.Subcommand.TheVariants.{Asm, Dis, Run, Figures}
 use Rattle.sessions.specs.Input.{is_image, HasScenario, HasFault, Reads}
 use Rattle.sessions.specs.Output.{IsAllOrNothing, IsOutput, IsSharedOutput}
+use Rattle.sessions.specs.FiguresOutput.{IsTableOutput}
 use Rattle.sessions.specs.Nodes.{HasGroups}
 use Rattle.sessions.specs.Trace.{IsTrace, IsTooLong}
 use Rattle.sessions.specs.Written.{Writes}
@@ -47,9 +48,11 @@ no_more s n m lines lines' last last' few is final later = go (m - n) refl
         absurd (some_none (lines', last') (sym later ∙ subst (λ x. run s x ≡ None) same (none_after s (suc n) next k)))
 
 -- a run comes to its end within 10^15 events, or it does not
+ends_in_time : (s : State) (n : ℕ) (lines : List TraceLine) (last : State) → n ≤ 1000000000000000 → run s n ≡ Some (lines, last) → step last ≡ None → IsTooLong s → ⊥
+ends_in_time s n lines last few is_run final long = due_steps long.last long.one_due (no_more s n 1000000000000000 lines long.lines last long.last few is_run final long.is_run)
+
 not_both : (s : State) (out : List ℕ) → IsTrace s out → IsTooLong s → ⊥
-not_both s out ends long =
-    due_steps long.last long.one_due (no_more s ends.n 1000000000000000 ends.lines long.lines ends.last long.last ends.few ends.is_run ends.final long.is_run)
+not_both s out ends long = ends_in_time s ends.n ends.lines ends.last ends.few ends.is_run ends.final long
 
 one_trace : (s : State) (ended : Ended) (out out' : List ℕ) → IsRunOutput s ended out → IsTrace s out' → (ended ≡ Ok tt) ⊎ IsHindered ended
 one_trace s (Ok u) out out' made ends = inl refl
@@ -108,11 +111,28 @@ one_shared groups parts (Err Groups) other out out' free made due = no_groups gr
 one_shared groups parts (Err NoMemory) other out out' free made due = inr tt
 one_shared groups parts ended other out out' free made due = one_shared_run groups parts ended other out out' free made.0 made.1 due
 
+-- so does a run whose figures are counted
+one_table : (p : ScenarioParts) (ended other : Ended) (out out' : List ℕ) → ¬ IsHindered other → IsTableOutput p ended out → IsTableOutput p other out' → (ended ≡ other) ⊎ IsHindered ended
+one_table p (Ok u) (Ok v) out out' free made due = inl refl
+one_table p (Ok u) (Err CountFull) out out' free made due = absurd (ends_in_time (opening p) made.n made.lines made.last made.few made.is_run made.final due.0)
+one_table p (Ok u) (Err NoMemory) out out' free made due = absurd (free tt)
+one_table p (Ok u) (Err WriteFailed) out out' free made due = absurd (free tt)
+one_table p (Ok u) _ out out' free made due = absurd due
+one_table p (Err CountFull) (Ok v) out out' free made due = absurd (ends_in_time (opening p) due.n due.lines due.last due.few due.is_run due.final made.0)
+one_table p (Err CountFull) (Err CountFull) out out' free made due = inl refl
+one_table p (Err CountFull) (Err NoMemory) out out' free made due = absurd (free tt)
+one_table p (Err CountFull) (Err WriteFailed) out out' free made due = absurd (free tt)
+one_table p (Err CountFull) _ out out' free made due = absurd due
+one_table p (Err NoMemory) other out out' free made due = inr tt
+one_table p (Err WriteFailed) other out out' free made due = inr tt
+one_table p _ other out out' free made due = absurd made
+
 one_output : (subcommand : Subcommand) (parts : ScenarioParts) (ended other : Ended) (out out' : List ℕ) → ¬ IsHindered other → IsOutput subcommand parts ended out → IsOutput subcommand parts other out'
     → (ended ≡ other) ⊎ IsHindered ended
 one_output Asm parts ended other out out' free made due = one_whole (image Two parts) ended other out out' free made due
 one_output Dis parts ended other out out' free made due = one_whole (canonical_text parts) ended other out out' free made due
 one_output (Run sharing) parts ended other out out' free made due = one_shared sharing.groups parts ended other out out' free made due
+one_output Figures parts ended other out out' free made due = one_table parts ended other out out' free made due
 
 -- the ends to which work on a scenario can come
 abbrev IsOutputEnd : Ended → Type 0
@@ -143,10 +163,18 @@ shared_end groups parts (Err Groups) out made = tt
 shared_end groups parts (Err NoMemory) out made = tt
 shared_end groups parts ended out made = run_end (opening parts) ended out made.1
 
+table_end : (p : ScenarioParts) (ended : Ended) (out : List ℕ) → IsTableOutput p ended out → IsOutputEnd ended
+table_end p (Ok u) out made = tt
+table_end p (Err CountFull) out made = tt
+table_end p (Err NoMemory) out made = tt
+table_end p (Err WriteFailed) out made = tt
+table_end p _ out made = absurd made
+
 output_end : (subcommand : Subcommand) (parts : ScenarioParts) (ended : Ended) (out : List ℕ) → IsOutput subcommand parts ended out → IsOutputEnd ended
 output_end Asm parts ended out made = whole_end (image Two parts) ended out made
 output_end Dis parts ended out made = whole_end (canonical_text parts) ended out made
 output_end (Run sharing) parts ended out made = shared_end sharing.groups parts ended out made
+output_end Figures parts ended out made = table_end parts ended out made
 
 abbrev pub Read : Type 0
 Read = Result ScenarioParts SessionFault

@@ -17,3 +17,4 @@ pub mod Worked
 pub mod Shared
 pub mod Prompting
 pub mod PromptEnds
+pub mod Figured

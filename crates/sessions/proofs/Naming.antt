@@ -14,10 +14,10 @@ use Rattle.clap.specs.declared.parser.matches.ArgMatches.{ArgMatches}
 use Rattle.clap.specs.declared.parser.matches.ArgMatches.TheViews.{out-ArgMatches}
 use Rattle.sessions.specs.declared.subcommand.Asked.{Asked}
 use Rattle.sessions.specs.declared.subcommand.Asked.TheVariants.{Session, Explanation}
-use Rattle.sessions.specs.declared.subcommand.Subcommand.TheVariants.{Asm, Dis, Run}
+use Rattle.sessions.specs.declared.subcommand.Subcommand.TheVariants.{Asm, Dis, Run, Figures}
 use Rattle.sessions.specs.declared.subcommand.Task.{Task}
 use Rattle.sessions.specs.declared.subcommand.Task.TheVariants.{Scenario, Debug}
-use Rattle.sessions.specs.CommandLine.{program, file_shape, code_shape, word_faults, option_text, number_of, Give, GiveAll, AskFor, WordsAskForOne}
+use Rattle.sessions.specs.CommandLine.{program, file_shape, told_shape, code_shape, word_faults, option_text, number_of, Give, GiveAll, AskFor, WordsAskForOne}
 use Rattle.sessions.specs.Given.{AreOptions, AreOfSubcommand, AreOfAsked, IsSharing}
 use Rattle.sessions.specs.Sharing.{SharingValue}
 use Rattle.sessions.specs.Subcommand.{word_of, asked_word, sharing_of}
@@ -94,27 +94,33 @@ asm_shape = leaf (file_shape (codes "asm"))
 abbrev dis_shape : Shape
 dis_shape = leaf (file_shape (codes "dis"))
 
+abbrev figures_shape : Shape
+figures_shape = leaf (told_shape (codes "figures"))
+
 abbrev explain_shape : Shape
 explain_shape = leaf (code_shape (codes "explain"))
 
-abbrev first_of_five : Bool → Bool → Bool → Bool → Bool → Option Shape
-first_of_five asm dis run debug explain =
-    cond asm (Some asm_shape) (cond dis (Some dis_shape) (cond run (Some (shape_with (codes "run") run_rules)) (cond debug (Some (shape_with (codes "debug") shared_rules)) (cond explain (Some explain_shape) None))))
+abbrev first_of_six : Bool → Bool → Bool → Bool → Bool → Bool → Option Shape
+first_of_six asm dis run figures debug explain =
+    cond asm (Some asm_shape) (cond dis (Some dis_shape) (cond run (Some (shape_with (codes "run") run_rules)) (cond figures (Some figures_shape) (cond debug (Some (shape_with (codes "debug") shared_rules)) (cond explain (Some explain_shape) None)))))
 
--- the first of five subcommands that passes a test
-one_of_five : (asm dis run debug explain : Bool) (rest : List Text) → is_some (found_at rest (first_of_five asm dis run debug explain)) ≡ true → fault_at rest (first_of_five asm dis run debug explain) ≡ []
-    → IsNamed (found_at rest (first_of_five asm dis run debug explain))
-one_of_five true dis run debug explain rest found none = (rows_at asm_shape rest, refl, inr (inl refl))
-one_of_five false true run debug explain rest found none = (rows_at dis_shape rest, refl, inr (inr (inl refl)))
-one_of_five false false true debug explain rest found none = (rows_at (shape_with (codes "run") run_rules) rest, refl, inr (inr (inr (inl (refl, options_there run_rules run_usable (codes "run") run_there rest none)))))
-one_of_five false false false true explain rest found none = (rows_at (shape_with (codes "debug") shared_rules) rest, refl, inr (inr (inr (inr (refl, options_there shared_rules shared_usable (codes "debug") shared_there rest none)))))
-one_of_five false false false false true rest found none = (rows_at explain_shape rest, refl, inl refl)
-one_of_five false false false false false rest found none = absurd (false≢true found)
+-- the first of six subcommands that passes a test
+one_of_six : (asm dis run figures debug explain : Bool) (rest : List Text) → is_some (found_at rest (first_of_six asm dis run figures debug explain)) ≡ true → fault_at rest (first_of_six asm dis run figures debug explain) ≡ []
+    → IsNamed (found_at rest (first_of_six asm dis run figures debug explain))
+one_of_six true dis run figures debug explain rest found none = (rows_at asm_shape rest, refl, inr (inl refl))
+one_of_six false true run figures debug explain rest found none = (rows_at dis_shape rest, refl, inr (inr (inl refl)))
+one_of_six false false true figures debug explain rest found none =
+    (rows_at (shape_with (codes "run") run_rules) rest, refl, inr (inr (inr (inr (inl (refl, options_there run_rules run_usable (codes "run") run_there rest none))))))
+one_of_six false false false true debug explain rest found none = (rows_at figures_shape rest, refl, inr (inr (inr (inl refl))))
+one_of_six false false false false true explain rest found none =
+    (rows_at (shape_with (codes "debug") shared_rules) rest, refl, inr (inr (inr (inr (inr (refl, options_there shared_rules shared_usable (codes "debug") shared_there rest none))))))
+one_of_six false false false false false true rest found none = (rows_at explain_shape rest, refl, inl refl)
+one_of_six false false false false false false rest found none = absurd (false≢true found)
 
 -- the subcommand that was entered is one of them
 name_entered : (stop : Option (Text × List Text)) → is_some (entered (built program) stop) ≡ true → entered_fault (built program) stop ≡ [] → IsNamed (entered (built program) stop)
 name_entered None found none = absurd (false≢true found)
-name_entered (Some (word, rest)) found none = one_of_five _ _ _ _ _ rest found none
+name_entered (Some (word, rest)) found none = one_of_six _ _ _ _ _ _ rest found none
 
 pub named_by : (words : List Text) → word_faults words ≡ [] → IsNamed (subcommand_of program words)
 named_by words none = name_entered (stop_in words) (enter words none) (inside words none)
@@ -130,8 +136,9 @@ asked_there : (word : Text) (rows : List Row) → AreOfSubcommand word rows → 
 asked_there word rows (inl explain) = (Explanation (first_of (codes "code") rows), (explain, refl))
 asked_there word rows (inr (inl asm)) = (Session (Scenario Asm) (first_of (codes "file") rows) (wishes_in rows), (asm, (tt, refl, refl)))
 asked_there word rows (inr (inr (inl dis))) = (Session (Scenario Dis) (first_of (codes "file") rows) (wishes_in rows), (dis, (tt, refl, refl)))
-asked_there word rows (inr (inr (inr (inl run)))) = let shared = sharing_there rows run.1 in (Session (Scenario (Run shared.0)) (first_of (codes "file") rows) (wishes_in rows), (run.0, (shared.1, refl, refl)))
-asked_there word rows (inr (inr (inr (inr debug)))) = let shared = sharing_there rows debug.1 in (Session (Debug shared.0) (first_of (codes "file") rows) (wishes_in rows), (debug.0, (shared.1, refl, refl)))
+asked_there word rows (inr (inr (inr (inl figures)))) = (Session (Scenario Figures) (first_of (codes "file") rows) (wishes_in rows), (figures, (tt, refl, refl)))
+asked_there word rows (inr (inr (inr (inr (inl run))))) = let shared = sharing_there rows run.1 in (Session (Scenario (Run shared.0)) (first_of (codes "file") rows) (wishes_in rows), (run.0, (shared.1, refl, refl)))
+asked_there word rows (inr (inr (inr (inr (inr debug))))) = let shared = sharing_there rows debug.1 in (Session (Debug shared.0) (first_of (codes "file") rows) (wishes_in rows), (debug.0, (shared.1, refl, refl)))
 
 -- what the word and options of the subcommand that faultless words name ask for
 pub asked_for : (words : List Text) (named : Text × List Row) (asked : Asked) → word_faults words ≡ [] → subcommand_of program words ≡ Some named → IsOf named.0 named.1 asked → AskFor words asked
@@ -159,6 +166,10 @@ asked_for words named asked none is of = record {
 differ : (a b : List ℕ) → a ≡ b → (slice_index a 1 == slice_index a 1) ≡ true → (slice_index a 1 == slice_index b 1) ≡ false → ⊥
 differ a b is same other = false≢true (sym other ∙ ap (λ w. slice_index a 1 == slice_index w 1) (sym is) ∙ same)
 
+-- and so are words that differ in their first letters
+differ_first : (a b : List ℕ) → a ≡ b → (slice_index a 0 == slice_index a 0) ≡ true → (slice_index a 0 == slice_index b 0) ≡ false → ⊥
+differ_first a b is same other = false≢true (sym other ∙ ap (λ w. slice_index a 0 == slice_index w 0) (sym is) ∙ same)
+
 -- options are given in one way
 one_sharing : (words : List Text) (one other : SharingValue) → Give words one → Give words other → one ≡ other
 one_sharing words one other gives gives_too =
@@ -171,18 +182,27 @@ same_task : (words : List Text) (one other : Task) → word_of one ≡ word_of o
 same_task words (Scenario Asm) (Scenario Asm) is gives gives_too = refl
 same_task words (Scenario Asm) (Scenario Dis) is gives gives_too = absurd (differ _ _ is refl refl)
 same_task words (Scenario Asm) (Scenario (Run sharing)) is gives gives_too = absurd (differ _ _ is refl refl)
+same_task words (Scenario Asm) (Scenario Figures) is gives gives_too = absurd (differ _ _ is refl refl)
 same_task words (Scenario Asm) (Debug sharing) is gives gives_too = absurd (differ _ _ is refl refl)
 same_task words (Scenario Dis) (Scenario Asm) is gives gives_too = absurd (differ _ _ is refl refl)
 same_task words (Scenario Dis) (Scenario Dis) is gives gives_too = refl
 same_task words (Scenario Dis) (Scenario (Run sharing)) is gives gives_too = absurd (differ _ _ is refl refl)
+same_task words (Scenario Dis) (Scenario Figures) is gives gives_too = absurd (differ_first _ _ is refl refl)
 same_task words (Scenario Dis) (Debug sharing) is gives gives_too = absurd (differ _ _ is refl refl)
 same_task words (Scenario (Run sharing)) (Scenario Asm) is gives gives_too = absurd (differ _ _ is refl refl)
 same_task words (Scenario (Run sharing)) (Scenario Dis) is gives gives_too = absurd (differ _ _ is refl refl)
 same_task words (Scenario (Run one)) (Scenario (Run other)) is gives gives_too = ap (λ sharing. Scenario (Run sharing)) (one_sharing words one other gives gives_too)
+same_task words (Scenario (Run sharing)) (Scenario Figures) is gives gives_too = absurd (differ _ _ is refl refl)
 same_task words (Scenario (Run sharing)) (Debug other) is gives gives_too = absurd (differ _ _ is refl refl)
+same_task words (Scenario Figures) (Scenario Asm) is gives gives_too = absurd (differ _ _ is refl refl)
+same_task words (Scenario Figures) (Scenario Dis) is gives gives_too = absurd (differ_first _ _ is refl refl)
+same_task words (Scenario Figures) (Scenario (Run sharing)) is gives gives_too = absurd (differ _ _ is refl refl)
+same_task words (Scenario Figures) (Scenario Figures) is gives gives_too = refl
+same_task words (Scenario Figures) (Debug sharing) is gives gives_too = absurd (differ _ _ is refl refl)
 same_task words (Debug sharing) (Scenario Asm) is gives gives_too = absurd (differ _ _ is refl refl)
 same_task words (Debug sharing) (Scenario Dis) is gives gives_too = absurd (differ _ _ is refl refl)
 same_task words (Debug sharing) (Scenario (Run other)) is gives gives_too = absurd (differ _ _ is refl refl)
+same_task words (Debug sharing) (Scenario Figures) is gives gives_too = absurd (differ _ _ is refl refl)
 same_task words (Debug one) (Debug other) is gives gives_too = ap Debug (one_sharing words one other gives gives_too)
 
 -- the word of a task is not `explain`
@@ -190,6 +210,7 @@ not_explained : (task : Task) → word_of task ≡ codes "explain" → ⊥
 not_explained (Scenario Asm) is = differ _ _ is refl refl
 not_explained (Scenario Dis) is = differ _ _ is refl refl
 not_explained (Scenario (Run sharing)) is = differ _ _ is refl refl
+not_explained (Scenario Figures) is = differ _ _ is refl refl
 not_explained (Debug sharing) is = differ _ _ is refl refl
 
 same_asked : (words : List Text) (one other : Asked) → asked_word one ≡ asked_word other → GiveAll words one → GiveAll words other → one ≡ other

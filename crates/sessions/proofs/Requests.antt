@@ -222,7 +222,7 @@ found_clear test rest (s ∷ others) all = go (test s) (found_clear test rest ot
 entered_clear : (stop : Option (Text × List Text)) → IsClear (entered_fault (built program) stop)
 entered_clear stop =
     let test : Text → Shape → Bool = λ word s. answers_to word (label_of s) in
-    where_clear (λ p. fault_at p.1 (find (test p.0) (built program).subs)) stop (λ p. found_clear (test p.0) p.1 (built program).subs (refl, (refl, (refl, (refl, (refl, tt))))))
+    where_clear (λ p. fault_at p.1 (find (test p.0) (built program).subs)) stop (λ p. found_clear (test p.0) p.1 (built program).subs (refl, (refl, (refl, (refl, (refl, (refl, tt)))))))
 
 -- where the words ask for a text, that is all that `clap` finds in them
 pub words_clear : (words : List Text) → IsClear (word_faults words)

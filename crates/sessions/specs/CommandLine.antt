@@ -16,7 +16,7 @@ use Rattle.clap.specs.declared.error.kind.ErrorKind.TheVariants.{DisplayHelp, Di
 use Rattle.sessions.specs.declared.fault.SessionFault.TheVariants.{CommandLine, NoSuchCode, WriteFailed, NoMemory}
 use Rattle.sessions.specs.declared.subcommand.Asked.{Asked}
 use Rattle.sessions.specs.declared.subcommand.Asked.TheVariants.{Session, Explanation}
-use Rattle.sessions.specs.declared.subcommand.Subcommand.TheVariants.{Asm, Dis, Run}
+use Rattle.sessions.specs.declared.subcommand.Subcommand.TheVariants.{Asm, Dis, Run, Figures}
 use Rattle.sessions.specs.declared.subcommand.Task.{Task}
 use Rattle.sessions.specs.declared.subcommand.Task.TheVariants.{Scenario, Debug}
 use Rattle.sessions.specs.Ended.{Ended}
@@ -57,6 +57,10 @@ code_rule = record (new_rule (codes "code")) { value_names = 1 }
 abbrev pub file_shape : List ℕ → Shape
 file_shape name = record (new_shape name) { rules = file_rule ∷ explain_rule ∷ [] }
 
+-- a subcommand that takes a file and both flags
+abbrev pub told_shape : List ℕ → Shape
+told_shape name = record (new_shape name) { rules = file_rule ∷ progress_rule ∷ explain_rule ∷ [] }
+
 -- a subcommand that takes both options
 abbrev pub sharing_shape : List ℕ → Shape
 sharing_shape name = record (new_shape name) { rules = workers_rule ∷ groups_rule ∷ [] }
@@ -80,9 +84,9 @@ pub record IsBelow (shape : Shape) (command : Command) : Type 0 where
 
 -- the program without the subcommand that takes a code
 abbrev pub sessions_program : App
-sessions_program = with_subcommand (with_subcommand (with_subcommand (with_subcommand top_program (file_shape (codes "asm"))) (file_shape (codes "dis"))) (run_shape (codes "run"))) (debug_shape (codes "debug"))
+sessions_program = with_subcommand (with_subcommand (with_subcommand (with_subcommand (with_subcommand top_program (file_shape (codes "asm"))) (file_shape (codes "dis"))) (run_shape (codes "run"))) (told_shape (codes "figures"))) (debug_shape (codes "debug"))
 
--- the program with its subcommands: two that take a file, one that is shared out and told of as well, one that is shared out, and one that takes a code
+-- the program with its subcommands: two that take a file, one that is shared out and told of as well, one that is told of, one that is shared out, and one that takes a code
 abbrev pub program : App
 program = with_subcommand sessions_program (code_shape (codes "explain"))
 
@@ -150,7 +154,7 @@ shown = record { progress = false; explain = true }
 abbrev pub of_input : Task → Asked
 of_input task = Session task None no_wishes
 
--- the words `tcpsim asm`, `tcpsim dis`, `tcpsim run`, `tcpsim debug` and `tcpsim explain` ask for their subcommands; options may come in any order, behind `=` or as a word of their own, and before a file or behind it
+-- the words `tcpsim asm`, `tcpsim dis`, `tcpsim run`, `tcpsim figures`, `tcpsim debug` and `tcpsim explain` ask for their subcommands; options may come in any order, behind `=` or as a word of their own, and before a file or behind it
 pub record WordsOfSubcommands : Type 0 where
   pub asm : AskFor (codes "tcpsim" ∷ codes "asm" ∷ []) (of_input (Scenario Asm))
   pub dis : AskFor (codes "tcpsim" ∷ codes "dis" ∷ []) (of_input (Scenario Dis))
@@ -165,6 +169,8 @@ pub record WordsOfSubcommands : Type 0 where
   pub run_file : AskFor (codes "tcpsim" ∷ codes "run" ∷ codes "--workers" ∷ codes "3" ∷ codes "a.txt" ∷ codes "--groups=0,1" ∷ []) (Session (Scenario (Run shared)) (Some (codes "a.txt")) no_wishes)
   pub run_dashes : AskFor (codes "tcpsim" ∷ codes "run" ∷ codes "--" ∷ codes "--workers" ∷ []) (Session (Scenario (Run alone)) (Some (codes "--workers")) no_wishes)
   pub run_told : AskFor (codes "tcpsim" ∷ codes "run" ∷ codes "--progress" ∷ codes "a.txt" ∷ []) (Session (Scenario (Run alone)) (Some (codes "a.txt")) told)
+  pub figures : AskFor (codes "tcpsim" ∷ codes "figures" ∷ []) (of_input (Scenario Figures))
+  pub figures_told : AskFor (codes "tcpsim" ∷ codes "figures" ∷ codes "--progress" ∷ codes "a.txt" ∷ []) (Session (Scenario Figures) (Some (codes "a.txt")) told)
   pub asm_shown : AskFor (codes "tcpsim" ∷ codes "asm" ∷ codes "a.txt" ∷ codes "--explain" ∷ []) (Session (Scenario Asm) (Some (codes "a.txt")) shown)
   pub explain : AskFor (codes "tcpsim" ∷ codes "explain" ∷ []) (Explanation None)
   pub explain_code : AskFor (codes "tcpsim" ∷ codes "explain" ∷ codes "E4" ∷ []) (Explanation (Some (codes "E4")))
@@ -217,11 +223,12 @@ pub record WordsOfText : Type 0 where
   pub asm_help : AskForText (codes "tcpsim" ∷ codes "asm" ∷ codes "--help" ∷ [])
   pub dis_help : AskForText (codes "tcpsim" ∷ codes "dis" ∷ codes "--help" ∷ [])
   pub run_help : AskForText (codes "tcpsim" ∷ codes "run" ∷ codes "--help" ∷ [])
+  pub figures_help : AskForText (codes "tcpsim" ∷ codes "figures" ∷ codes "--help" ∷ [])
   pub debug_help : AskForText (codes "tcpsim" ∷ codes "debug" ∷ codes "--help" ∷ [])
   pub explain_help : AskForText (codes "tcpsim" ∷ codes "explain" ∷ codes "--help" ∷ [])
   pub version : AskForText (codes "tcpsim" ∷ codes "--version" ∷ [])
 
--- mistaken are the program's name alone, a second file, also one of `debug`, workers below 1 or above 64, an option of `asm`, the flag of a run behind `debug`, and a second code
+-- mistaken are the program's name alone, a second file, also one of `debug`, workers below 1 or above 64, an option of `asm` or of `figures` that only a run has, the flag of a run behind `debug`, and a second code
 pub record WordsOfMistake : Type 0 where
   pub nothing_else : AreMistaken (codes "tcpsim" ∷ [])
   pub two_files : AreMistaken (codes "tcpsim" ∷ codes "run" ∷ codes "once" ∷ codes "twice" ∷ [])
@@ -229,5 +236,6 @@ pub record WordsOfMistake : Type 0 where
   pub no_worker : AreMistaken (codes "tcpsim" ∷ codes "run" ∷ codes "--workers" ∷ codes "0" ∷ [])
   pub many_workers : AreMistaken (codes "tcpsim" ∷ codes "debug" ∷ codes "--workers" ∷ codes "65" ∷ [])
   pub asm_is_not_shared : AreMistaken (codes "tcpsim" ∷ codes "asm" ∷ codes "--groups" ∷ codes "one" ∷ [])
+  pub figures_are_not_shared : AreMistaken (codes "tcpsim" ∷ codes "figures" ∷ codes "--workers" ∷ codes "2" ∷ [])
   pub debug_is_not_told : AreMistaken (codes "tcpsim" ∷ codes "debug" ∷ codes "--progress" ∷ [])
   pub two_codes : AreMistaken (codes "tcpsim" ∷ codes "explain" ∷ codes "E1" ∷ codes "E2" ∷ [])

@@ -24,9 +24,9 @@ pub record IsSharing (rows : List Row) (sharing : SharingValue) : Type 0 where
   pub workers : option_map number_of (first_of (codes "workers") rows) ≡ Some sharing.workers
   pub groups : first_of (codes "groups") rows ≡ Some sharing.groups
 
--- the word is `asm` or `dis`, or `run` or `debug` with its options
+-- the word is `asm`, `dis` or `figures`, or `run` or `debug` with its options
 abbrev pub AreOfTask : List ℕ → List Row → Type 0
-AreOfTask word rows = (word ≡ codes "asm") ⊎ (word ≡ codes "dis") ⊎ ((word ≡ codes "run") × AreOptions rows) ⊎ ((word ≡ codes "debug") × AreOptions rows)
+AreOfTask word rows = (word ≡ codes "asm") ⊎ (word ≡ codes "dis") ⊎ (word ≡ codes "figures") ⊎ ((word ≡ codes "run") × AreOptions rows) ⊎ ((word ≡ codes "debug") × AreOptions rows)
 
 -- the word is `explain`, or that of a task
 abbrev pub AreOfSubcommand : List ℕ → List Row → Type 0

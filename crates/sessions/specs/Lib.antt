@@ -12,6 +12,7 @@ pub mod Wishes
 pub mod Worked
 pub mod Groups
 pub mod Nodes
+pub mod FiguresOutput
 pub mod Input
 pub mod Output
 pub mod Session

@@ -1,7 +1,7 @@
 -- The names of the subcommands, and which of them are shared out.
 use Rattle.std.specs.Prelude.{ℕ, List, codes, Option, None, Some}
 use Rattle.sessions.specs.Sharing.{SharingValue}
-use Rattle.sessions.specs.declared.subcommand.Subcommand.TheVariants.{Asm, Dis, Run}
+use Rattle.sessions.specs.declared.subcommand.Subcommand.TheVariants.{Asm, Dis, Run, Figures}
 use Rattle.sessions.specs.declared.subcommand.Asked.{Asked}
 use Rattle.sessions.specs.declared.subcommand.Asked.TheVariants.{Session, Explanation}
 use Rattle.sessions.specs.declared.subcommand.Task.{Task}
@@ -12,6 +12,7 @@ abbrev pub word_of : Task → List ℕ
 word_of (Scenario Asm) = codes "asm"
 word_of (Scenario Dis) = codes "dis"
 word_of (Scenario (Run sharing)) = codes "run"
+word_of (Scenario Figures) = codes "figures"
 word_of (Debug sharing) = codes "debug"
 
 -- how what it asks for is shared out, where it is
@@ -19,6 +20,7 @@ abbrev pub sharing_of : Task → Option SharingValue
 sharing_of (Scenario Asm) = None
 sharing_of (Scenario Dis) = None
 sharing_of (Scenario (Run sharing)) = Some sharing
+sharing_of (Scenario Figures) = None
 sharing_of (Debug sharing) = Some sharing
 
 -- the word that asks for it

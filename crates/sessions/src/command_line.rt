@@ -5,7 +5,7 @@ ghost use Rattle.clap.specs.declared.builder.command.Command.TheViews.{out-Comma
 ghost use Rattle.clap.specs.Kinds.{FailsBy};
 ghost use Rattle.clap.specs.Matches.{found_of};
 ghost use Rattle.clap.specs.Walk.{first_of, rule_of, rows_of};
-ghost use Rattle.sessions.specs.CommandLine.{program, top_program, workers_rule, groups_rule, file_rule, progress_rule, explain_rule, code_rule, file_shape, sharing_shape, debug_shape, run_shape, code_shape, IsBelow, word_faults, AskFor, WordsAskForOne, WordsHaveOneAnswer, WordsOfSubcommands, WordsOfText, WordsOfMistake};
+ghost use Rattle.sessions.specs.CommandLine.{program, top_program, workers_rule, groups_rule, file_rule, progress_rule, explain_rule, code_rule, file_shape, sharing_shape, debug_shape, run_shape, told_shape, code_shape, IsBelow, word_faults, AskFor, WordsAskForOne, WordsHaveOneAnswer, WordsOfSubcommands, WordsOfText, WordsOfMistake};
 ghost use Rattle.sessions.specs.Given.{AreOptions, AreOfTask, AreOfSubcommand, AreOfAsked, IsSharing};
 ghost use Rattle.sessions.specs.Wishes.{is_true, wishes_in};
 ghost use Rattle.sessions.specs.Subcommand.{word_of, asked_word, sharing_of as task_sharing};
@@ -129,6 +129,20 @@ fn file_subcommand<'a>(
         .arg(explain_flag(alloc))
 }
 
+/// A subcommand that takes a scenario's file and two flags.
+fn told_subcommand<'a>(
+    alloc: Global,
+    name: &'a str,
+    about: &'a str,
+) -> Result<Command<'a>, AllocError>
+    ensures { IfOk result (IsBelow (told_shape name.entry.now)) }
+{
+    plain_subcommand(alloc, name, about)
+        .arg(file_word(alloc))?
+        .arg(progress_flag(alloc))?
+        .arg(explain_flag(alloc))
+}
+
 /// A subcommand that takes the options on how a run is shared out.
 fn sharing_subcommand<'a>(
     alloc: Global,
@@ -198,8 +212,10 @@ fn commands<'a>(alloc: Global) -> Result<Command<'a>, AllocError>
     let with_dis = with_below(with_asm, file_subcommand(alloc, "dis", dis))?;
     let run = "Run a scenario and print its trace";
     let with_run = with_below(with_dis, run_subcommand(alloc, "run", run))?;
+    let figures = "Run a scenario and print its figures, as comma-separated values";
+    let with_figures = with_below(with_run, told_subcommand(alloc, "figures", figures))?;
     let debug = "Walk through a run by commands, forwards and backwards";
-    let with_debug = with_below(with_run, debug_subcommand(alloc, "debug", debug))?;
+    let with_debug = with_below(with_figures, debug_subcommand(alloc, "debug", debug))?;
     let explain = "Say what a code means, with an example, or list all codes";
     with_below(with_debug, code_subcommand(alloc, "explain", explain))
 }
@@ -228,6 +244,8 @@ fn task_of<'a>(word: &str, options: &ArgMatches<'a>) -> Task<'a>
         Task::Scenario(Subcommand::Asm)
     } else if word == "dis" {
         Task::Scenario(Subcommand::Dis)
+    } else if word == "figures" {
+        Task::Scenario(Subcommand::Figures)
     } else if word == "run" {
         Task::Scenario(Subcommand::Run(sharing_of(options)))
     } else {
@@ -293,8 +311,8 @@ pub fn words_have_one_answer()
     ensures { WordsHaveOneAnswer }
 {}
 
-/// The words `tcpsim asm`, `tcpsim dis`, `tcpsim run`, `tcpsim debug` and `tcpsim explain` ask for
-/// their subcommands, with a file, options or a code, or without.
+/// The words `tcpsim asm`, `tcpsim dis`, `tcpsim run`, `tcpsim figures`, `tcpsim debug` and
+/// `tcpsim explain` ask for their subcommands, with a file, options or a code, or without.
 pub fn subcommands_are_asked_for()
     ensures { WordsOfSubcommands }
 {}
@@ -305,7 +323,7 @@ pub fn help_and_version_are_asked_for()
 {}
 
 /// The program's name alone is mistaken, a second file, also one of `debug`, a number of workers that
-/// is not from 1 to 64, an option of `asm`, and a second code.
+/// is not from 1 to 64, an option of `asm` or `figures`, and a second code.
 pub fn other_words_are_mistaken()
     ensures { WordsOfMistake }
 {}

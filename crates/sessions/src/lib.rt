@@ -1,5 +1,5 @@
-//! Whole sessions: a scenario comes in on a reader, its trace, its image, its canonical text or the
-//! answers of a debugging session go out on a writer.
+//! Whole sessions: a scenario comes in on a reader, its trace, the figures of its run, its image, its
+//! canonical text or the answers of a debugging session go out on a writer.
 #![tactic(auto)]
 
 pub mod command_line;
@@ -7,6 +7,7 @@ pub mod conversion;
 pub mod debug;
 mod explain;
 pub mod fault;
+pub mod figures_table;
 pub mod groups;
 mod input;
 mod means;

@@ -17,6 +17,7 @@ use crate::conversion::{put_image, put_text};
 use crate::debug::answer_reader;
 use crate::explain::explain;
 use crate::fault::SessionFault;
+use crate::figures_table::put_figures;
 use crate::input::read_input;
 use crate::means::Means;
 use crate::notes::{NoNotes, Notes};
@@ -51,6 +52,7 @@ fn put_output<W: Sink, G: Gate, H: Threads + Wait + Sync, N: Notes>(
         Subcommand::Asm => put_image(means.alloc, scenario, writer),
         Subcommand::Dis => put_text(means.alloc, scenario, writer),
         Subcommand::Run(sharing) => run_shared(means, sharing, scenario, writer, notes),
+        Subcommand::Figures => put_figures(means.alloc, means.wishes, scenario, writer, notes),
     }
 }
 

@@ -15,6 +15,8 @@ pub enum Subcommand<'a> {
     Dis,
     /// Runs the scenario and writes its trace.
     Run(Sharing<'a>),
+    /// Runs the scenario and writes the figures of its run.
+    Figures,
 }
 
 /// What a session over an input does.

@@ -11,6 +11,7 @@ text_words = record {
   asm_help = (DisplayHelp, refl, inl refl);
   dis_help = (DisplayHelp, refl, inl refl);
   run_help = (DisplayHelp, refl, inl refl);
+  figures_help = (DisplayHelp, refl, inl refl);
   debug_help = (DisplayHelp, refl, inl refl);
   explain_help = (DisplayHelp, refl, inl refl);
   version = (DisplayVersion, refl, inr refl);

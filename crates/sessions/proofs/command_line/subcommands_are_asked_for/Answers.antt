@@ -19,6 +19,8 @@ subcommand_words = record {
   run_file = record { faultless = refl; named = refl; given = (record { workers = refl; groups = refl }, refl, refl) };
   run_dashes = record { faultless = refl; named = refl; given = (record { workers = refl; groups = refl }, refl, refl) };
   run_told = record { faultless = refl; named = refl; given = (record { workers = refl; groups = refl }, refl, refl) };
+  figures = record { faultless = refl; named = refl; given = (tt, refl, refl) };
+  figures_told = record { faultless = refl; named = refl; given = (tt, refl, refl) };
   asm_shown = record { faultless = refl; named = refl; given = (tt, refl, refl) };
   explain = record { faultless = refl; named = refl; given = refl };
   explain_code = record { faultless = refl; named = refl; given = refl };
