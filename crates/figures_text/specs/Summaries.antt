@@ -13,7 +13,7 @@ use Rattle.figures.specs.Classes.{least_of, greatest_of, percentile}
 use Rattle.figures.specs.Turns.{Turn}
 use Rattle.figures.specs.Senders.{sent_of, again_in_recovery_of, again_otherwise_of, timeouts_of, trips_of, completed_of}
 use Rattle.figures.specs.Moments.{Moment, moments, turns_at}
-use Rattle.figures.specs.Links.{port_at, waiting_at, busy_at, dropped_of, tx_of, bytes_of, waited_of, busy_of, longest_of, last_from}
+use Rattle.figures.specs.Links.{port_at, waiting_at, busy_at, dropped_of, tx_of, bytes_of, waited_of, busy_of, longest_of, waits_of, last_from}
 use Rattle.figures_text.specs.declared.summary.FlowSummary.{FlowSummary}
 use Rattle.figures_text.specs.declared.summary.LinkSummary.{LinkSummary}
 use Rattle.figures_text.specs.declared.summary.RunSummary.{RunSummary}
@@ -39,10 +39,6 @@ summary_of_turns start next ts = record {
 abbrev pub flow_summary : List Moment → State → FlowPart → FlowSummary
 flow_summary ms s flow = summary_of_turns flow.start (received_next s flow) (turns_at flow.sender ms)
 
--- how long each packet waited in a link's queue that began to be sent: none is counted yet
-abbrev pub delays_of : ℕ → ℕ → List Moment → List ℕ
-delays_of node index ms = []
-
 -- what is said of a link, by the node that it leaves, and which of that node's links it is; what waits after the last event, and a link that is busy then, count up to the run's end
 abbrev pub summary_of_exit : ℕ → ℕ → ℕ → List Moment → State → LinkSummary
 summary_of_exit node index end ms s = record {
@@ -55,9 +51,9 @@ summary_of_exit node index end ms s = record {
   busy = busy_of node index ms + busy_at (port_at s node index) * (end - last_from 0 ms);
   longest = longest_of node index ms s;
   waited = waited_of node index ms + waiting_at (port_at s node index) * (end - last_from 0 ms);
-  median = percentile 50 (delays_of node index ms);
-  high = percentile 99 (delays_of node index ms);
-  greatest = greatest_of (delays_of node index ms);
+  median = percentile 50 (waits_of node index ms);
+  high = percentile 99 (waits_of node index ms);
+  greatest = greatest_of (waits_of node index ms);
 }
 
 abbrev pub link_summary : ScenarioParts → List Moment → State → ℕ → LinkSummary

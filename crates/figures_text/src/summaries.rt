@@ -9,13 +9,13 @@ ghost use Rattle.net_machine.specs.Wiring.{from_of, exit_of as exit_is};
 ghost use Rattle.figures.specs.Turns.{Turn};
 ghost use Rattle.figures.specs.Moments.{Moment, moments, turns_at};
 ghost use Rattle.figures.specs.Senders.{AreOfTurns};
-ghost use Rattle.figures.specs.Links.{AreOfLink, last_from};
+ghost use Rattle.figures.specs.Links.{AreOfLink, waits_of, last_from};
 ghost use Rattle.figures.specs.Classes.{greatest_of, percentile};
 ghost use Rattle.figures.specs.Figures.{AreOfRun};
 ghost use Rattle.figures.specs.declared.sender.SenderFigures.{SenderFigures};
 ghost use Rattle.figures.specs.declared.links.NodeLinks.{NodeLinks};
 ghost use Rattle.figures.specs.declared.link.LinkFigures.{LinkFigures};
-ghost use Rattle.figures_text.specs.Summaries.{summary_of_turns, summary_of_exit, delays_of as delays_are, flow_summary as flow_is, link_summary as link_is, flow_summaries as flows_are, link_summaries as links_are, table_over};
+ghost use Rattle.figures_text.specs.Summaries.{summary_of_turns, summary_of_exit, flow_summary as flow_is, link_summary as link_is, flow_summaries as flows_are, link_summaries as links_are, table_over};
 
 use crate::summary::{FlowSummary, LinkSummary, RunSummary};
 use crate::table::figures_text;
@@ -104,16 +104,17 @@ struct Delays {
     greatest: Option<u64>,
 }
 
-/// The delays in the queue of a link of which this was counted: none is counted yet.
-fn delays_of(_counted: &LinkFigures) -> Delays
-    ensures median { (ms : List Moment) (s : State) (node index : ℕ) → AreOfLink ms s node index _counted.now → result.median ≡ percentile 50 (delays_are node index ms) }
-    ensures high { (ms : List Moment) (s : State) (node index : ℕ) → AreOfLink ms s node index _counted.now → result.high ≡ percentile 99 (delays_are node index ms) }
-    ensures greatest { (ms : List Moment) (s : State) (node index : ℕ) → AreOfLink ms s node index _counted.now → result.greatest ≡ greatest_of (delays_are node index ms) }
+/// The delays in the queue of a link of which this was counted.
+fn delays_of(counted: &LinkFigures) -> Delays
+    requires few { counted.now.turns ≤ 1000000000000000 }
+    ensures median { (ms : List Moment) (s : State) (node index : ℕ) → AreOfLink ms s node index counted.now → result.median ≡ percentile 50 (waits_of node index ms) }
+    ensures high { (ms : List Moment) (s : State) (node index : ℕ) → AreOfLink ms s node index counted.now → result.high ≡ percentile 99 (waits_of node index ms) }
+    ensures greatest { (ms : List Moment) (s : State) (node index : ℕ) → AreOfLink ms s node index counted.now → result.greatest ≡ greatest_of (waits_of node index ms) }
 {
     Delays {
-        median: None,
-        high: None,
-        greatest: None,
+        median: counted.waits.percentile(50),
+        high: counted.waits.percentile(99),
+        greatest: counted.waits.greatest(),
     }
 }
 
@@ -146,6 +147,7 @@ fn waited_to_end(counted: &LinkFigures, last: Time, end: Time) -> u128
 
 /// What is said of a link of which this was counted, of a run whose last event was at a moment.
 fn of_exit(counted: &LinkFigures, last: Time, end: Time) -> LinkSummary
+    requires few { counted.now.turns ≤ 1000000000000000 }
     requires moment { IsMoment last }
     requires order { counted.now.since ≤ last }
     requires end { IsMoment end }
@@ -188,6 +190,7 @@ fn link_summary(figures: &Figures, links: &[LinkPart], end: Time, number: usize)
     requires number { number < length links.now }
     requires node { from_of links.now number < length figures.now.links.items }
     requires index { (other : NodeLinks) → exit_is links.now number < length (slice_index_or figures.now.links.items (from_of links.now number) other).figures.items }
+    requires few { (other : NodeLinks) (link : LinkFigures) → (slice_index_or (slice_index_or figures.now.links.items (from_of links.now number) other).figures.items (exit_is links.now number) link).turns ≤ 1000000000000000 }
     requires moment { IsMoment figures.now.last }
     requires order { (other : NodeLinks) (link : LinkFigures) → (slice_index_or (slice_index_or figures.now.links.items (from_of links.now number) other).figures.items (exit_is links.now number) link).since ≤ figures.now.last }
     requires end { IsMoment end }
@@ -207,6 +210,7 @@ fn link_summaries(
 ) -> Result<Vec<LinkSummary>, AllocError>
     requires scenario { IsScenario scenario.now }
     requires run { AreOfRun scenario.now figures.now net.now }
+    requires few { figures.now.events ≤ 1000000000000000 }
     ensures { IfOk result (λ all. all.items ≡ links_are scenario.now (moments (opening scenario.now) net.now.position) net.now.state) }
 {
     let parts = scenario.parts();

@@ -32,6 +32,19 @@ link_summary-requires-clause-index c other =
     let under : i < length p.links = omega (arith, c.loop-number-test.true, size) in
     subst (λ (l : List LinkPart). exit_of l i < length (get_or f.links.items (from_of l i) other).figures.items) (sym same) ((link_counted p f c.args.net.now c.requires.scenario c.requires.run i under).index other)
 
+pub link_summary-requires-clause-few : goal.link_summary-requires-clause-few
+link_summary-requires-clause-few c other link =
+    let p = c.args.scenario.now in
+    let f = c.args.figures.now in
+    let i = c.loop-number.number in
+    let same : c.as_slice-links.result.now ≡ p.links = search rules in
+    let size = ap (λ (l : List LinkPart). length l) same in
+    let under : i < length p.links = omega (arith, c.loop-number-test.true, size) in
+    let turns = ((link_counted p f c.args.net.now c.requires.scenario c.requires.run i under).link other link).turns in
+    let events = c.requires.run.figures.events in
+    let few : (get_or (get_or f.links.items (from_of p.links i) other).figures.items (exit_of p.links i) link).turns ≤ 1000000000000000 = omega (arith, turns, events, c.requires.few) in
+    subst (λ (l : List LinkPart). (get_or (get_or f.links.items (from_of l i) other).figures.items (exit_of l i) link).turns ≤ 1000000000000000) (sym same) few
+
 pub link_summary-requires-clause-moment : goal.link_summary-requires-clause-moment
 link_summary-requires-clause-moment c =
     let p = c.args.scenario.now in
