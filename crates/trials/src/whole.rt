@@ -9,6 +9,7 @@ mod files;
 mod groups;
 mod networks;
 mod prompt;
+mod tables;
 mod workers;
 
 use engine_trials::hands::AllHands;

@@ -33,7 +33,7 @@ bak
 ";
 
 /// Sessions: their words and what they read.
-const SESSIONS: [(&[&str], &str); 7] = [
+const SESSIONS: [(&[&str], &str); 8] = [
     (&["tcpsim", "run"], FIRST),
     (
         &["tcpsim", "run", "--groups", "each", "--workers", "1"],
@@ -45,6 +45,7 @@ const SESSIONS: [(&[&str], &str); 7] = [
     ),
     (&["tcpsim", "asm"], FIRST),
     (&["tcpsim", "dis"], FIRST),
+    (&["tcpsim", "figures"], FIRST),
     (&["tcpsim", "debug"], SESSION),
     (
         &["tcpsim", "debug", "--groups", "each", "--workers", "2"],
