@@ -1,5 +1,5 @@
 -- The figures of all links, one event on.
-use Rattle.std.proofs.Common.{◌≡◌, ◌≢◌, ℕ, ◌<◌, ◌≤◌, List, [], ◌∷◌, ◌++◌, length, get_or, sym, ap, subst, ◌∙◌, Option, Some, arith, ⊎_elim, true}
+use Rattle.std.proofs.Common.{◌≡◌, ◌≢◌, ℕ, ◌<◌, ◌≤◌, List, [], ◌∷◌, ◌++◌, length, get_or, sym, ap, subst, ◌∙◌, Option, Some, refl, arith, ⊎_elim, Bool, true, false}
 use Rattle.std.proofs.lemmas.Bool.{cases_eq}
 use Rattle.std.proofs.lemmas.List.{length-map}
 use Rattle.node_core.specs.Part.{PartState, link_at}
@@ -10,11 +10,11 @@ use Rattle.net_machine.specs.Nodes.{parts_of, node_at}
 use Rattle.figures.specs.declared.link.LinkFigures.{LinkFigures}
 use Rattle.figures.specs.declared.links.NodeLinks.{NodeLinks}
 use Rattle.figures.specs.Moments.{Moment}
-use Rattle.figures.specs.Links.{port_at, frees, wait_of_given, TellsWait, last_from, IsLinkAfter, AreLinksAfter, AreLinksBegun, AreOfNode}
+use Rattle.figures.specs.Links.{port_at, frees, wait_of_given, TellsWait, counts_link, KeepsLinks, last_from, AreOfLink, IsLinkAfterIf, AreLinksAfter, AreLinksBegun, AreOfNode}
 use Rattle.figures.specs.Figures.{AreOfLinks}
 use Rattle.figures.proofs.Begun.{part_is}
 use Rattle.figures.proofs.Steps.{IsStep, is_step, size_stays, part_elsewhere, links_stay}
-use Rattle.figures.proofs.OfLinks.{link_begun, link_here, link_elsewhere}
+use Rattle.figures.proofs.OfLinks.{link_begun, link_here, link_elsewhere, link_untouched}
 
 -- the links before any event
 pub links_begun : (nodes : List NodeState) (s : State) (fs : List NodeLinks) → parts_of nodes ≡ s.parts → length fs ≡ length nodes →
@@ -33,7 +33,7 @@ links_begun nodes s fs parts size each =
     }
 
 module _ (ms : List Moment) (s : State) (line : TraceLine) (t : State) (is_next : step s ≡ Some (line, t)) (order : last_from 0 ms ≤ line.key.time) (nodes : List NodeState) (parts : parts_of nodes ≡ t.parts)
-    (given : Option ℕ) (tells : TellsWait s line t given) where
+    (given : Option ℕ) (tells : TellsWait s line t given) (keeps : KeepsLinks s line t) where
   abbrev m : Moment
   m = record { before = s; line = line; after = t }
 
@@ -48,17 +48,31 @@ module _ (ms : List Moment) (s : State) (line : TraceLine) (t : State) (is_next 
         each = λ i link inside. link_elsewhere ms s line t node i order apart same (get_or fs i link) (is.each i link inside);
       }
 
+  told : (node : ℕ) → line.key.node ≡ node → (i : ℕ) → i < length (part_at s node).links → frees (port_at t node i).link line.event ≡ true → given ≡ wait_of_given line.key.time (port_at s node i)
+  told node here = subst (λ n. (i : ℕ) → i < length (part_at s n).links → frees (port_at t n i).link line.event ≡ true → given ≡ wait_of_given line.key.time (port_at s n i)) here tells
+
+  kept : (node : ℕ) → line.key.node ≡ node → (i : ℕ) → i < length (part_at s node).links → counts_link i (port_at s node i).offered (port_at t node i) line ≡ false →
+      (port_at t node i ≡ port_at s node i) × (frees (port_at t node i).link line.event ≡ false)
+  kept node here =
+      subst (λ n. (i : ℕ) → i < length (part_at s n).links → counts_link i (port_at s n i).offered (port_at t n i) line ≡ false → (port_at t n i ≡ port_at s n i) × (frees (port_at t n i).link line.event ≡ false)) here keeps
+
+  -- a link of the event's node, of which the event is counted or not
+  link_now : (node i : ℕ) → line.key.node ≡ node → i < length (part_at s node).links → (f g : LinkFigures) → AreOfLink ms s node i f →
+      IsLinkAfterIf (counts_link i f.offered (port_at t node i) line) f (port_at t node i) line given g → (b : Bool) → counts_link i f.offered (port_at t node i) line ≡ b → AreOfLink (ms ++ m ∷ []) t node i g
+  link_now node i here inside f g is after true test = link_here ms s line t node i order here given (told node here i inside) f g is (after.counted test)
+  link_now node i here inside f g is after false test =
+      let still = kept node here i inside (ap (λ n. counts_link i n (port_at t node i) line) (sym is.offered) ∙ test) in
+      subst (AreOfLink (ms ++ m ∷ []) t node i) (sym (after.kept test)) (link_untouched ms s line t node i order here still.0 still.1 f is)
+
   here_node : (node : ℕ) (fs gs : List LinkFigures) → line.key.node ≡ node → node < length s.parts → length gs ≡ length fs → AreLinksAfter fs (node_at nodes node).part.links line given gs → AreOfNode ms s node fs → AreOfNode (ms ++ m ∷ []) t node gs
   here_node node fs gs here within same after is = record {
     size = same ∙ is.size ∙ sym (links_stay s line t its node within);
     each = λ i link inside.
         let old : i < length fs = omega (arith, inside, same) in
-        link_here ms s line t node i order here given (told i (omega (arith, old, is.size))) (get_or fs i link) (get_or gs i link) (is.each i link old)
-        (subst (λ (p : PartState). IsLinkAfter (get_or fs i link) (link_at p.links i).port line given (get_or gs i link)) (part_is nodes t node parts) (after i link old));
+        link_now node i here (omega (arith, old, is.size)) (get_or fs i link) (get_or gs i link) (is.each i link old)
+        (subst (λ (p : PartState). IsLinkAfterIf (counts_link i (get_or fs i link).offered (link_at p.links i).port line) (get_or fs i link) (link_at p.links i).port line given (get_or gs i link)) (part_is nodes t node parts) (after i link old))
+        (counts_link i (get_or fs i link).offered (port_at t node i) line) refl;
   }
-    where
-      told : (i : ℕ) → i < length (part_at s node).links → frees (port_at t node i).link line.event ≡ true → given ≡ wait_of_given line.key.time (port_at s node i)
-      told = subst (λ n. (i : ℕ) → i < length (part_at s n).links → frees (port_at t n i).link line.event ≡ true → given ≡ wait_of_given line.key.time (port_at s n i)) here tells
 
   pub links_step : (fs gs : List NodeLinks) → AreOfLinks ms s fs → length gs ≡ length fs →
       ((other : NodeLinks) → length (get_or gs line.key.node other).figures.items ≡ length (get_or fs line.key.node other).figures.items) →

@@ -13,12 +13,14 @@ pub mod After
 pub mod Along
 pub mod Given
 pub mod OfLinks
+pub mod OneLink
 pub mod Freed
 pub mod AllLinks
 pub mod Pushed
 pub mod Again
 pub mod Offerings
 pub mod Passages
+pub mod Kept
 pub mod Balance
 pub mod LinkLaws
 pub mod Delivered

@@ -1,5 +1,5 @@
 -- The figures of a link, one event on.
-use Rattle.std.proofs.Common.{◌≡◌, ◌≢◌, ℕ, ◌+◌, ◌-◌, ◌*◌, ◌≤◌, Bool, true, false, cond, max, List, [], ◌∷◌, ◌++◌, length-append, map, refl, sym, ap, subst, ◌∙◌, arith, eq-eqb, is_some, Option, None}
+use Rattle.std.proofs.Common.{◌≡◌, ◌≢◌, ℕ, ◌+◌, ◌-◌, ◌*◌, ◌≤◌, Bool, true, false, cond, not, ◌||◌, ◌==◌, nat_lt, max, List, [], ◌∷◌, ◌++◌, length-append, map, refl, sym, ap, subst, ◌∙◌, arith, eq-eqb, is_some, Option, Some, None}
 use Rattle.std.specs.Prelude.{option_to_list}
 use Rattle.std.proofs.Math.Nat.{mul-add, zero-mul, one-mul, mul-zero}
 use Rattle.std.proofs.lemmas.List.{map-append, append-nil}
@@ -142,26 +142,16 @@ module _ (ms : List Moment) (s : State) (line : TraceLine) (t : State) (node ind
         either true = refl
         either false = refl
 
-  -- an event at another node
-  module _ (apart : node ≢ line.key.node) (same : part_at t node ≡ part_at s node) (f : LinkFigures) (is : AreOfLink ms s node index f) where
-    no_acts : acts_at node index m ≡ []
-    no_acts = ap (λ b. cond b (acts_between (port_at s node index).offered (port_at t node index) line) []) (test_no line.key.node node (λ e. apart (sym e)))
-
-    no_wait : wait_at node index m ≡ None
-    no_wait =
-        ap (λ b. cond b (wait_in (port_at s node index).offered (port_at t node index) line (wait_of_given line.key.time (port_at s node index))) None) (test_no line.key.node node (λ e. apart (sym e)))
-
-    port_same : port_at t node index ≡ port_at s node index
-    port_same = ap (λ (p : PartState). (link_at p.links index).port) same
-
+  -- an event that does nothing at the link
+  module _ (no_acts : acts_at node index m ≡ []) (no_wait : wait_at node index m ≡ None) (port_same : port_at t node index ≡ port_at s node index) (f : LinkFigures) (is : AreOfLink ms s node index f) where
     none_dropped : (reason : DropReason) (was : ℕ) → was ≡ dropped_of reason node index ms → was ≡ dropped_of reason node index (ms ++ m ∷ [])
     none_dropped reason was before =
         let more = sum_more (λ (n : Moment). dropped_in reason (acts_at node index n)) ms m in
         let none : dropped_in reason (acts_at node index m) ≡ 0 = ap (dropped_in reason) no_acts in
         omega (arith, before, more, none)
 
-    pub link_elsewhere : AreOfLink (ms ++ m ∷ []) t node index f
-    link_elsewhere = record {
+    pub link_kept : AreOfLink (ms ++ m ∷ []) t node index f
+    link_kept = record {
       offered = is.offered ∙ ap (λ (p : PortState). p.offered) (sym port_same);
       waiting = is.waiting ∙ ap (λ (p : PortState). waiting_at p) (sym port_same);
       busy = is.busy ∙ ap (λ (p : PortState). is_some p.next_free) (sym port_same);
@@ -178,3 +168,34 @@ module _ (ms : List Moment) (s : State) (line : TraceLine) (t : State) (node ind
           (sym (given_more (wait_at node index) ms m ∙ ap (λ o. waits_of node index ms ++ option_to_list o) no_wait ∙ append-nil (waits_of node index ms))) is.waits;
       turns = let count = length-append ms (m ∷ []) in let before = is.turns in omega (arith, count, before);
     }
+
+  -- an event at another node
+  module _ (apart : node ≢ line.key.node) (same : part_at t node ≡ part_at s node) where
+    no_acts : acts_at node index m ≡ []
+    no_acts = ap (λ b. cond b (acts_between (port_at s node index).offered (port_at t node index) line) []) (test_no line.key.node node (λ e. apart (sym e)))
+
+    no_wait : wait_at node index m ≡ None
+    no_wait =
+        ap (λ b. cond b (wait_in (port_at s node index).offered (port_at t node index) line (wait_of_given line.key.time (port_at s node index))) None) (test_no line.key.node node (λ e. apart (sym e)))
+
+    pub link_elsewhere : (f : LinkFigures) → AreOfLink ms s node index f → AreOfLink (ms ++ m ∷ []) t node index f
+    link_elsewhere = link_kept no_acts no_wait (ap (λ (p : PartState). (link_at p.links index).port) same)
+
+  -- an event at the link's node that is not counted of the link
+  module _ (here : line.key.node ≡ node) (same : port_at t node index ≡ port_at s node index) (unfreed : frees (port_at t node index).link line.event ≡ false) where
+    none_between : acts_between (port_at s node index).offered (port_at t node index) line ≡ []
+    none_between =
+        ap (λ b. cond (b || not ((port_at t node index).offered == (port_at s node index).offered)) line.acts []) unfreed
+        ∙ ap (λ b. cond (not b) line.acts []) (eq-eqb (port_at t node index).offered (port_at s node index).offered (ap (λ (p : PortState). p.offered) same))
+
+    no_acts_here : acts_at node index m ≡ []
+    no_acts_here = ap (λ b. cond b (acts_between (port_at s node index).offered (port_at t node index) line) []) (eq-eqb line.key.node node here) ∙ none_between
+
+    no_wait_here : wait_at node index m ≡ None
+    no_wait_here =
+        ap (λ b. cond b (wait_in (port_at s node index).offered (port_at t node index) line (wait_of_given line.key.time (port_at s node index))) None) (eq-eqb line.key.node node here)
+        ∙ ap (λ b. cond b (wait_of_given line.key.time (port_at s node index)) (cond (nat_lt 0 (tx_in (acts_between (port_at s node index).offered (port_at t node index) line))) (Some 0) None)) unfreed
+        ∙ ap (λ acts. cond (nat_lt 0 (tx_in acts)) (Some 0) None) none_between
+
+    pub link_untouched : (f : LinkFigures) → AreOfLink ms s node index f → AreOfLink (ms ++ m ∷ []) t node index f
+    link_untouched = link_kept no_acts_here no_wait_here same

@@ -41,7 +41,7 @@ abbrev pub Passage : ℕ → PortState → PortState → Bool → List Act → T
 Passage now old new freed acts = IsFreed now old new freed acts ⊎ IsOffered now old new freed acts
 
 -- each packet that is offered is counted
-grows : (now : ℕ) (port : PortState) (packets : List Packet) → (offered_all now port packets).port.offered ≡ port.offered + length packets
+pub grows : (now : ℕ) (port : PortState) (packets : List Packet) → (offered_all now port packets).port.offered ≡ port.offered + length packets
 grows now port [] = omega arith
 grows now port (packet ∷ packets) = let first = (one_counts now port packet).offered in let rest = grows now (offered_one now port packet).port packets in omega (arith, first, rest)
 
@@ -80,7 +80,7 @@ module _ (now : ℕ) (links links' : List LinkState) (acts : List Act) (i : ℕ)
       ap (λ (ls : List LinkState). (link_at ls i).port) are ∙ ap (λ j. (link_at (set links index (record (link_at links index) { port = port })) j).port) at
       ∙ ap (λ (l : LinkState). l.port) (get_or-set_same links index (record (link_at links index) { port = port }) no_link (subst (λ j. j < length links) at inside))
 
-  changed_elsewhere : (index : ℕ) (port : PortState) → i ≢ index → links' ≡ set links index (record (link_at links index) { port = port }) → new ≡ old
+  pub changed_elsewhere : (index : ℕ) (port : PortState) → i ≢ index → links' ≡ set links index (record (link_at links index) { port = port }) → new ≡ old
   changed_elsewhere index port apart are =
       ap (λ (ls : List LinkState). (link_at ls i).port) are ∙ ap (λ (l : LinkState). l.port) (get_or-set_other links index i (record (link_at links index) { port = port }) no_link apart)
 
@@ -124,14 +124,14 @@ module _ (p : ScenarioParts) (is_scenario : IsScenario p) (n : ℕ) (lines : Lis
   abbrev pub Passes : Bool → Type 0
   Passes freed = Passage line.key.time was now_is freed (cond (freed || not (now_is.offered == was.offered)) line.acts [])
 
-  offering : (v : Event) → line.event ≡ v → Offering part line.key.time (row part line.key v) → IsOffered line.key.time was now_is false (between was.offered now_is.offered line.acts)
+  pub offering : (v : Event) → line.event ≡ v → Offering part line.key.time (row part line.key v) → IsOffered line.key.time was now_is false (between was.offered now_is.offered line.acts)
   offering v event o =
       offers line.key.time part.links (part_at t line.key.node).links line.acts i inside part (row part line.key v) refl
       (ap (λ (x : PartState). x.links) (part_here s line t is (node_there s line.key.node i inside)) ∙ ap (λ (w : Event). (row part line.key w).part.links) event)
       (is.acts ∙ ap (λ (w : Event). (row part line.key w).acts) event) o
 
   -- the links where the event is that one of them becomes free
-  free_links : (number : ℕ) → line.event ≡ Free number → (part_at t line.key.node).links ≡ set part.links (line.key.number - 3) (record (link_at part.links (line.key.number - 3)) { port = (taken line.key.time (link_at part.links (line.key.number - 3)).port).port })
+  pub free_links : (number : ℕ) → line.event ≡ Free number → (part_at t line.key.node).links ≡ set part.links (line.key.number - 3) (record (link_at part.links (line.key.number - 3)) { port = (taken line.key.time (link_at part.links (line.key.number - 3)).port).port })
   free_links number event =
       ap (λ (x : PartState). x.links) (part_here s line t is (node_there s line.key.node i inside)) ∙ ap (λ (w : Event). (row part line.key w).part.links) event
 

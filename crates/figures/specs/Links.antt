@@ -99,6 +99,24 @@ abbrev pub TellsWait : State → TraceLine → State → Option ℕ → Type 0
 TellsWait before line after given =
     (i : ℕ) → i < length (part_at before line.key.node).links → frees (port_at after line.key.node i).link line.event ≡ true → given ≡ wait_of_given line.key.time (port_at before line.key.node i)
 
+-- the event is that some link has sent a packet whole
+abbrev pub is_free : Event → Bool
+is_free (Start flow) = false
+is_free (Rto flow) = false
+is_free (DelAck flow) = false
+is_free (Free number) = true
+is_free (Arrive packet) = false
+
+-- an event is counted of the link of its node that it frees, or to which it offers packets
+abbrev pub counts_link : ℕ → ℕ → PortState → TraceLine → Bool
+counts_link index offered after line = if is_free line.event then index == line.key.number - 3 else not (after.offered == offered)
+
+-- a link of the event's node of which the event is not counted is as it was, and is not freed
+abbrev pub KeepsLinks : State → TraceLine → State → Type 0
+KeepsLinks before line after =
+    (i : ℕ) → i < length (part_at before line.key.node).links → counts_link i (port_at before line.key.node i).offered (port_at after line.key.node i) line ≡ false →
+    (port_at after line.key.node i ≡ port_at before line.key.node i) × (frees (port_at after line.key.node i).link line.event ≡ false)
+
 -- when the last event was run; an earlier moment before the first
 abbrev pub last_from : ℕ → List Moment → ℕ
 last_from since [] = since
@@ -171,6 +189,11 @@ pub record IsLinkAfter (f : LinkFigures) (port : PortState) (line : TraceLine) (
   pub waits : (xs : List ℕ) → IsTallyOf xs f.waits → IsTallyOf (xs ++ option_to_list (wait_in f.offered port line given)) g.waits
   pub turns : g.turns ≡ f.turns + 1
 
+-- the same where the event is counted of the link; where it is not, the figures are as they were
+pub record IsLinkAfterIf (counts : Bool) (f : LinkFigures) (port : PortState) (line : TraceLine) (given : Option ℕ) (g : LinkFigures) : Type 0 where
+  pub counted : counts ≡ true → IsLinkAfter f port line given g
+  pub kept : counts ≡ false → g ≡ f
+
 -- the links of a node, of each of which nothing is counted yet
 pub record AreLinksBegun (links : List LinkState) (fs : List LinkFigures) : Type 0 where
   pub size : length fs ≡ length links
@@ -178,7 +201,8 @@ pub record AreLinksBegun (links : List LinkState) (fs : List LinkFigures) : Type
 
 -- the links of a node, each after an event at it
 abbrev pub AreLinksAfter : List LinkFigures → List LinkState → TraceLine → Option ℕ → List LinkFigures → Type 0
-AreLinksAfter old links line given new = (i : ℕ) (other : LinkFigures) → i < length old → IsLinkAfter (slice_index_or old i other) (link_at links i).port line given (slice_index_or new i other)
+AreLinksAfter old links line given new =
+    (i : ℕ) (other : LinkFigures) → i < length old → IsLinkAfterIf (counts_link i (slice_index_or old i other).offered (link_at links i).port line) (slice_index_or old i other) (link_at links i).port line given (slice_index_or new i other)
 
 -- the figures of all links of a node after these events
 pub record AreOfNode (ms : List Moment) (s : State) (node : ℕ) (fs : List LinkFigures) : Type 0 where

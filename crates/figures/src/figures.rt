@@ -108,7 +108,7 @@ impl Figures {
     ghost use Rattle.node_core.specs.TraceLine.{shown};
     ghost use Rattle.table_run.specs.State.{State, opening, step, due};
     ghost use Rattle.figures.specs.Moments.{Moment};
-    ghost use Rattle.figures.specs.Links.{TellsWait};
+    ghost use Rattle.figures.specs.Links.{TellsWait, KeepsLinks};
     ghost use Rattle.figures.specs.Figures.{AreAfter, AreOfLinks, AreFigures, Follows, AreOfRun, AreOfSomeRun};
     ghost use Rattle.scenario_image.specs.declared.parts.ScenarioParts.{ScenarioParts};
     ghost use Rattle.scenario_image.specs.Scenario.{IsScenario};
@@ -136,7 +136,7 @@ impl Figures {
         requires follows { Follows self.old (shown line.now) net.now.state }
         requires given { IfSome given (λ wait. wait < 2 ^ 50) }
         ensures senders { (ms : List Moment) (s : State) → AreAfter ms s self.old → step s ≡ Some (shown line.now, net.now.state) → AreAfter (ms ++ record { before = s; line = shown line.now; after = net.now.state } ∷ []) net.now.state self.new }
-        ensures links { (ms : List Moment) (s : State) → AreFigures ms s self.old → step s ≡ Some (shown line.now, net.now.state) → TellsWait s (shown line.now) net.now.state given → AreOfLinks (ms ++ record { before = s; line = shown line.now; after = net.now.state } ∷ []) net.now.state self.new.links.items }
+        ensures links { (ms : List Moment) (s : State) → AreFigures ms s self.old → step s ≡ Some (shown line.now, net.now.state) → TellsWait s (shown line.now) net.now.state given → KeepsLinks s (shown line.now) net.now.state → AreOfLinks (ms ++ record { before = s; line = shown line.now; after = net.now.state } ∷ []) net.now.state self.new.links.items }
         ensures last { self.new.last ≡ line.now.key.time }
         ensures events { self.new.events ≡ self.old.events + 1 }
     {

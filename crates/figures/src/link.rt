@@ -1,5 +1,5 @@
 //! What is counted of a link.
-ghost use Rattle.std.specs.Prelude.{◌≡◌, ◌+◌, ◌-◌, ◌*◌, ◌<◌, ◌≤◌, ◌^◌, IfOk, IfSome, if◌then◌else◌};
+ghost use Rattle.std.specs.Prelude.{◌≡◌, ◌+◌, ◌-◌, ◌*◌, ◌<◌, ◌≤◌, ◌^◌, ◌==◌, not, IfOk, IfSome, if◌then◌else◌};
 
 use crate::tally::Tally;
 use crate::told::{told_at, wait_in};
@@ -69,7 +69,7 @@ fn area(waiting: usize, passed: Time) -> u128
 impl LinkFigures {
     ghost use Rattle.sim_time.specs.Moment.{IsMoment};
     ghost use Rattle.node_core.specs.TraceLine.{shown};
-    ghost use Rattle.figures.specs.Links.{IsLinkBegun, IsLinkAfter};
+    ghost use Rattle.figures.specs.Links.{IsLinkBegun, IsLinkAfter, IsLinkAfterIf};
 
     /// Nothing is counted yet of a link.
     pub fn new(alloc: Global, port: &Port) -> Result<LinkFigures, AllocError>
@@ -120,6 +120,20 @@ impl LinkFigures {
         self.waiting = port.queue().len();
         self.busy = port.next_free().is_some();
         self.longest = self.longest.max(self.waiting);
+    }
+
+    /// The same, where the event frees no link, so that it is counted where packets were offered.
+    #[inline(always)]
+    pub fn after_offers(&mut self, port: &Port, line: &Line, given: Option<Time>)
+        requires few { self.old.turns < 1000000000000000 }
+        requires moment { IsMoment line.now.key.time }
+        requires order { self.old.since ≤ line.now.key.time }
+        requires given { IfSome given (λ wait. wait < 2 ^ 50) }
+        ensures { IsLinkAfterIf (not (port.now.offered == self.old.offered)) self.old port.now (shown line.now) given self.new }
+    {
+        if port.offered() != self.offered {
+            self.after(port, line, given);
+        }
     }
 
     /// How many packets waited, times for how many nanoseconds, up to a moment.

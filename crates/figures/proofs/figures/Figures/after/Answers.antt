@@ -49,16 +49,16 @@ count_links-requires-clause-sizes c =
     sizes_are R.so_far R.before (shown c.args.line.now) c.args.net.now.state R.next c.nodes.result.now c.nodes.ensures.parts c.args.self.now.links.items c.args.self.now.links.items refl R.figures.links
 
 pub returns-in-Some-sender_at-clause-links : goal.returns-in-Some-sender_at-clause-links
-returns-in-Some-sender_at-clause-links c = λ ms s is next tells.
-    links_counted ms s (shown c.args.line.now) c.args.net.now.state next (omega (arith, is.last, c.requires.order)) c.nodes.result.now c.nodes.ensures.parts c.args.given tells c.args.self.now.links.items c.count_links.new.all.items c.args.self.now.links.items refl is.links
+returns-in-Some-sender_at-clause-links c = λ ms s is next tells keeps.
+    links_counted ms s (shown c.args.line.now) c.args.net.now.state next (omega (arith, is.last, c.requires.order)) c.nodes.result.now c.nodes.ensures.parts c.args.given tells keeps c.args.self.now.links.items c.count_links.new.all.items c.args.self.now.links.items refl is.links
     c.count_links.ensures.size c.count_links.ensures.sizes c.count_links.ensures.here c.count_links.ensures.elsewhere
 
 pub returns-in_default-sender_at-clause-links : goal.returns-in_default-sender_at-clause-links
-returns-in_default-sender_at-clause-links c = λ ms s is next tells.
-    links_counted ms s (shown c.args.line.now) c.args.net.now.state next (omega (arith, is.last, c.requires.order)) c.nodes.result.now c.nodes.ensures.parts c.args.given tells c.args.self.now.links.items c.count_links.new.all.items c.args.self.now.links.items refl is.links
+returns-in_default-sender_at-clause-links c = λ ms s is next tells keeps.
+    links_counted ms s (shown c.args.line.now) c.args.net.now.state next (omega (arith, is.last, c.requires.order)) c.nodes.result.now c.nodes.ensures.parts c.args.given tells keeps c.args.self.now.links.items c.count_links.new.all.items c.args.self.now.links.items refl is.links
     c.count_links.ensures.size c.count_links.ensures.sizes c.count_links.ensures.here c.count_links.ensures.elsewhere
 
 pub returns-in_default-clause-links : goal.returns-in_default-clause-links
-returns-in_default-clause-links c = λ ms s is next tells.
-    links_counted ms s (shown c.args.line.now) c.args.net.now.state next (omega (arith, is.last, c.requires.order)) c.nodes.result.now c.nodes.ensures.parts c.args.given tells c.args.self.now.links.items c.count_links.new.all.items c.args.self.now.links.items refl is.links
+returns-in_default-clause-links c = λ ms s is next tells keeps.
+    links_counted ms s (shown c.args.line.now) c.args.net.now.state next (omega (arith, is.last, c.requires.order)) c.nodes.result.now c.nodes.ensures.parts c.args.given tells keeps c.args.self.now.links.items c.count_links.new.all.items c.args.self.now.links.items refl is.links
     c.count_links.ensures.size c.count_links.ensures.sizes c.count_links.ensures.here c.count_links.ensures.elsewhere

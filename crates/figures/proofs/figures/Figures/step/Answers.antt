@@ -6,6 +6,7 @@ use Rattle.net_machine.specs.declared.net.StepFault.{StepFault}
 use Rattle.net_machine.specs.declared.net.StepFault.TheVariants.{CountFull}
 use Rattle.figures.proofs.Along.{step_run, together, end_is_moment, is_moment, is_later, has_stepped, was_due}
 use Rattle.figures.proofs.Freed.{tells_in_run}
+use Rattle.figures.proofs.Kept.{keeps_in_run}
 use Rattle.figures.proofs.figures.Figures.step.Goals as goal
 
 fired_is_no_fault : (fired : Bool) (fault : StepFault) → (let told : Result Bool StepFault = Ok fired in told ≡ Err fault) → ⊥
@@ -50,7 +51,7 @@ returns-then-fired-clause-figures c = λ p of.
     (λ ms is next.
     let before : State = c.args.net.now.state in
     together ms before line t f c.after.new.self is (c.after.ensures.senders ms before is.senders next)
-    (c.after.ensures.links ms before is next (tells_in_run f c.args.net.now line t c.next_wait-given.result c.requires next c.next_wait-given.ensures.value)) c.after.ensures.events c.after.ensures.last)
+    (c.after.ensures.links ms before is next (tells_in_run f c.args.net.now line t c.next_wait-given.result c.requires next c.next_wait-given.ensures.value) (keeps_in_run f c.args.net.now line t c.requires next)) c.after.ensures.events c.after.ensures.last)
 
 pub returns-then-fired-clause-goes_on : goal.returns-then-fired-clause-goes_on
 returns-then-fired-clause-goes_on c =
