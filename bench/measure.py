@@ -45,7 +45,7 @@ BARS = (
 DHAT = ('valgrind', '--tool=dhat', '--dhat-out-file=/dev/null')
 Case = namedtuple('Case', 'name segments path')
 Run = namedtuple('Run', 'name segments events packets written resident seconds instructions heap')
-Cost = namedtuple('Cost', 'name what events an_event bar')
+Cost = namedtuple('Cost', 'name what events an_event bar figures')
 
 
 def text(segments, delack=0, losses='', end=10**15, link='100000000 1000000 droptail 20', window=44):
@@ -59,10 +59,10 @@ def case(name, segments, scenario):
     return Case(name, segments, saved(f'{name} {segments}', scenario))
 
 
-def run(path, before=()):
-    """A whole run, its trace thrown away; what `before` (valgrind) wrote."""
+def run(path, before=(), subcommand='run'):
+    """A whole run, its trace or its figures thrown away; what `before` (valgrind) wrote."""
     with open(path) as scenario:
-        done = subprocess.run([*before, PROGRAM, 'run'], stdin=scenario, stdout=subprocess.DEVNULL,
+        done = subprocess.run([*before, PROGRAM, subcommand], stdin=scenario, stdout=subprocess.DEVNULL,
                               stderr=subprocess.PIPE, text=True, env=ENVIRONMENT, check=False)
     if done.returncode != 0:
         sys.exit(f'{path}: status {done.returncode}: {done.stderr.strip()}')
@@ -107,22 +107,26 @@ def seconds(path):
 
 def costs(names, jobs):
     """What an event of each scenario costs: the instructions of its run less those of a run that ends
-    where its last flow starts, divided by the events that lie between both."""
+    where its last flow starts, divided by the events that lie between both; and the same of its figures."""
     bars = [bar for bar in BARS if bar[0] in names]
     paths = [saved(name + ' started', disassemble(started(SCENARIOS[name]())).decode()) for name, *_ in bars]
     paths += [saved(name, disassemble(SCENARIOS[name]()).decode()) for name, *_ in bars]
     events = [watch(path)[0] for path in paths]
     with ThreadPoolExecutor(jobs) as pool:
-        counts = list(pool.map(lambda path: instructions(run(path, CALLGRIND)), paths))
+        counts, figures = (list(pool.map(lambda path: instructions(run(path, CALLGRIND, subcommand)), paths))
+                           for subcommand in ('run', 'figures'))
     for at, (name, what, bar) in enumerate(bars):
-        (few, many), (start, whole) = events[at::len(bars)], counts[at::len(bars)]
-        yield Cost(name, what, many, (whole - start) / (many - few), bar)
+        (few, many), an_event = events[at::len(bars)], []
+        for start, whole in (counts[at::len(bars)], figures[at::len(bars)]):
+            an_event.append((whole - start) / (many - few))
+        yield Cost(name, what, many, an_event[0], bar, an_event[1])
 
 
 def cost_table(rows):
-    yield from table(('Scenario', 'Events', 'Instructions an event', 'At most', 'Within'),
+    yield from table(('Scenario', 'Events', 'Instructions an event', 'At most', 'Within', 'Of `figures`'),
                      [(f'`{r.name}`: {r.what}', f'{r.events:,}', f'{r.an_event:,.0f}', f'{r.bar:,}',
-                       'yes' if r.an_event <= r.bar else f'no, by {r.an_event - r.bar:,.0f}') for r in rows])
+                       'yes' if r.an_event <= r.bar else f'no, by {r.an_event - r.bar:,.0f}', f'{r.figures:,.0f}')
+                      for r in rows])
 
 
 def measured(cases, jobs):
@@ -171,8 +175,8 @@ def report(start, runs, crowded, networks):
                      [(f'{w:,}', f'{r.events:,}', f'{an_event(r):,.1f}', f'{r.heap:,}')
                       for w, r in zip(UNDER_WAY, crowded)])
     yield ('What an event costs in scenarios of each kind (bench/scenarios.py), and what it is to cost at most. '
-           'Text of the trace included; taken off is a run of the same scenario that ends where its last flow '
-           'starts.\n')
+           'Text of the trace included, which `figures` does not make; taken off is a run of the same scenario that '
+           'ends where its last flow starts.\n')
     yield from cost_table(networks)
     yield '## What this machine took, for information\n'
     yield f'{processor()}; seconds are the least of three runs; resident memory has the C library in it.\n'
