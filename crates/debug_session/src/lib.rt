@@ -25,4 +25,3 @@ pub use refusal::Refusal;
 pub use reply::answer;
 pub use said::Said;
 pub use session::{SessionFault, run_commands, run_session};
-pub use typed::read_typed;

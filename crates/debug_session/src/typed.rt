@@ -50,7 +50,7 @@ fn command_typed(limits: Limits, name: Option<Name>, rest: &[u8]) -> Result<Comm
 }
 
 /// The command that a line says, or why it is refused; nothing where the line has no words.
-pub fn read_typed(limits: Limits, line: &[u8]) -> Option<Result<Command, Refusal>>
+pub(crate) fn read_typed(limits: Limits, line: &[u8]) -> Option<Result<Command, Refusal>>
     ensures { result ≡ typed_reading limits line.now }
 {
     let (word, rest) = next_word(line)?;

@@ -10,6 +10,7 @@ mod groups;
 mod networks;
 mod prompt;
 mod tables;
+mod typed;
 mod workers;
 
 use engine_trials::hands::AllHands;

@@ -14,7 +14,7 @@ use window_engine::{OverWrite, Sink};
 
 /// The file `one.txt`, and lines that are typed: after them the input ends, or breaks.
 #[derive(Drop)]
-struct Typist {
+pub(super) struct Typist {
     /// What is given of the file next.
     rest: &'static str,
     lines: &'static [&'static str],
@@ -25,7 +25,7 @@ struct Typist {
 }
 
 impl Typist {
-    fn new(lines: &'static [&'static str], breaks: bool) -> Typist {
+    pub(super) fn new(lines: &'static [&'static str], breaks: bool) -> Typist {
         Typist {
             rest: "",
             lines,
@@ -110,7 +110,7 @@ impl Notes for Told {
 
 /// How a session over the file ends into which these lines are typed: its status and its note, its
 /// answers, how many lines are asked for, and the numbers of the codes that lines are refused with.
-fn expect_typed(
+pub(super) fn expect_typed(
     rt: &(impl Abort + AllocGlobal + Threads + Wait + Sync),
     words: &[&str],
     mut typist: Typist,
@@ -140,7 +140,7 @@ fn expect_typed(
 }
 
 /// How a session is shared out. Its answers are the same.
-const SHARED: [&[&str]; 3] = [
+pub(super) const SHARED: [&[&str]; 3] = [
     &["tcpsim", "debug", "one.txt"],
     &[
         "tcpsim",
@@ -191,8 +191,7 @@ fn a_line_that_is_refused_is_told_beside_the_answers(rt: HostRuntime) -> Result<
         &[
             "bak",
             "step 3",
-            "",
-            "back",
+            "back x",
             "back 2",
             "quit 1",
             "back 9",
@@ -201,7 +200,7 @@ fn a_line_that_is_refused_is_told_beside_the_answers(rt: HostRuntime) -> Result<
         ],
         false,
     );
-    expect_typed(&rt, SHARED[0], lines, (0, ""), ANSWERS, 10, b"1213")
+    expect_typed(&rt, SHARED[0], lines, (0, ""), ANSWERS, 9, b"1323")
 }
 
 #[test]
