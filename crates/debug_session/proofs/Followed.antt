@@ -3,25 +3,26 @@ use Rattle.std.proofs.Common.{◌≡◌, [], List, ℕ, Option, Some, None, Ok, 
 use Rattle.table_run.specs.State.{State}
 use Rattle.debug_session.specs.declared.command.Command.{Command}
 use Rattle.debug_session.specs.declared.command.Limits.{Limits}
+use Rattle.debug_session.specs.declared.command.Typed.{Typed}
+use Rattle.debug_session.specs.declared.command.Typed.TheVariants.{Plain}
 use Rattle.debug_session.specs.declared.refusal.Refusal.{Refusal}
 use Rattle.debug_session.specs.Answers.{refusal_line}
-use Rattle.debug_session.specs.Grammar.{Reading}
-use Rattle.debug_session.specs.Prompt.{AtPrompt, ObeysTyped, MovesAgain, FollowsTyped, AnswersTyped}
-use Rattle.debug_session.specs.TypedGrammar.{typed_reading}
+use Rattle.debug_session.specs.Prompt.{AtPrompt, ObeysAtPrompt, MovesAgain, FollowsTyped, AnswersTyped}
+use Rattle.debug_session.specs.TypedGrammar.{TypedReading, typed_reading}
 
 pub nothing_again : (start : State) (old : AtPrompt) (out : List ℕ) → old.last ≡ None → out ≡ [] → MovesAgain start old.last old old out
 nothing_again start old out none told = subst (λ (m : Option Command). MovesAgain start m old old out) (sym none) (record { same = refl; told = told })
 
-pub done_again : (start : State) (old new : AtPrompt) (out : List ℕ) (move : Command) → old.last ≡ Some move → ObeysTyped start move old new out → MovesAgain start old.last old new out
+pub done_again : (start : State) (old new : AtPrompt) (out : List ℕ) (move : Command) → old.last ≡ Some move → ObeysAtPrompt start (Plain move) old new out → MovesAgain start old.last old new out
 done_again start old new out move is obeys = subst (λ (m : Option Command). MovesAgain start m old new out) (sym is) obeys
 
 module _ (limits : Limits) (start : State) (line : List ℕ) (old new : AtPrompt) (out : List ℕ) where
   pub is_again : None ≡ typed_reading limits line → MovesAgain start old.last old new out → AnswersTyped limits start line old new out
-  is_again read again = subst (λ (r : Option Reading). FollowsTyped start r old new out) read again
+  is_again read again = subst (λ (r : Option TypedReading). FollowsTyped start r old new out) read again
 
-  pub is_obeyed : (asked : Command) → Some (Ok asked) ≡ typed_reading limits line → ObeysTyped start asked old new out → AnswersTyped limits start line old new out
-  is_obeyed asked read obeys = subst (λ (r : Option Reading). FollowsTyped start r old new out) read obeys
+  pub is_obeyed : (asked : Typed) → Some (Ok asked) ≡ typed_reading limits line → ObeysAtPrompt start asked old new out → AnswersTyped limits start line old new out
+  is_obeyed asked read obeys = subst (λ (r : Option TypedReading). FollowsTyped start r old new out) read obeys
 
 pub is_refused : (limits : Limits) (start : State) (line : List ℕ) (old : AtPrompt) (out : List ℕ) (refusal : Refusal) → Some (Err refusal) ≡ typed_reading limits line → out ≡ refusal_line refusal
     → AnswersTyped limits start line old old out
-is_refused limits start line old out refusal read told = subst (λ (r : Option Reading). FollowsTyped start r old old out) read (record { same = refl; told = told })
+is_refused limits start line old out refusal read told = subst (λ (r : Option TypedReading). FollowsTyped start r old old out) read (record { same = refl; told = told })

@@ -1,6 +1,8 @@
 pub mod Words
 pub mod Times
 pub mod Followed
+pub mod Listed
+pub mod Deleting
 pub mod Parted
 pub mod Moved
 pub mod Setting

@@ -17,7 +17,7 @@ decided P true h = inl h
 decided P false h = inr h
 
 -- a debugger whose breakpoints alone changed
-stands : (old new : Debugging) → new ≡ record old { breaks = new.breaks } → (breaks : List Break) → new.breaks ≡ breaks → standing new ≡ record { shown = old.shown; breaks = breaks }
+pub stands : (old new : Debugging) → new ≡ record old { breaks = new.breaks } → (breaks : List Break) → new.breaks ≡ breaks → standing new ≡ record { shown = old.shown; breaks = breaks }
 stands old new same breaks is = let shown : new.shown ≡ old.shown = ap (λ (d : Debugging). d.shown) same in λ i. record { shown = shown i; breaks = is i }
 
 pub set_done : (b : Break) (old new : Debugging) (n : ℕ) (out : List ℕ) → Contains old.breaks b ⊎ (¬ Contains old.breaks b) → length old.breaks ≤ 64

@@ -11,7 +11,7 @@ use Rattle.debug_session.specs.declared.command.Command.{Command}
 use Rattle.debug_session.specs.declared.command.Command.TheVariants.{Step, Back, Until, Run, State, SetBreak, Clear}
 use Rattle.debug_session.specs.declared.command.Limits.{Limits}
 use Rattle.debug_session.specs.declared.refusal.Refusal.{Refusal}
-use Rattle.debug_session.specs.declared.refusal.Refusal.TheVariants.{B1, B2, B3, B4, M}
+use Rattle.debug_session.specs.declared.refusal.Refusal.TheVariants.{B1, B2, B3, B4, B5, M}
 use Rattle.debug_session.specs.Grammar.{Reading, reading}
 
 -- the state that is shown with its position, and the breakpoints that are set
@@ -27,6 +27,7 @@ refusal_code B1 = codes "B1"
 refusal_code B2 = codes "B2"
 refusal_code B3 = codes "B3"
 refusal_code B4 = codes "B4"
+refusal_code B5 = codes "B5"
 refusal_code M = codes "M"
 
 abbrev pub refusal_line : Refusal → List ℕ

@@ -7,4 +7,7 @@ pub mod Told
 pub mod Names
 pub mod Times
 pub mod TypedGrammar
+pub mod Numbered
+pub mod Help
+pub mod TypedAnswers
 pub mod Prompt

@@ -2,21 +2,24 @@
 use Rattle.std.specs.Prelude.{ℕ, nat_eq, Bool, if◌then◌else◌, List, codes, Option, None, Some}
 use Rattle.std.specs.List.{starts_with}
 use Rattle.debug_session.specs.declared.name.Name.{Name}
-use Rattle.debug_session.specs.declared.name.Name.TheVariants.{Step, Back, Break, Run, Until, State, Clear, Quit}
+use Rattle.debug_session.specs.declared.name.Name.TheVariants.{Step, Back, Break, Breaks, Run, Until, State, Delete, Clear, Help, Quit}
 
 -- a word is the beginning of a name, or all of it
 abbrev pub begins : List ℕ → List ℕ → Bool
 begins word name = starts_with nat_eq name word
 
--- so `s` means step, `sta` state, `b` back and `br` break
+-- so `s` means step, `sta` state, `b` back, `br` break, and `breaks` alone breaks
 abbrev pub name_of : List ℕ → Option Name
 name_of word =
     if begins word (codes "step") then Some Step
     else (if begins word (codes "back") then Some Back
     else (if begins word (codes "break") then Some Break
+    else (if begins word (codes "breaks") then Some Breaks
     else (if begins word (codes "run") then Some Run
     else (if begins word (codes "until") then Some Until
     else (if begins word (codes "state") then Some State
+    else (if begins word (codes "delete") then Some Delete
     else (if begins word (codes "clear") then Some Clear
+    else (if begins word (codes "help") then Some Help
     else (if begins word (codes "quit") then Some Quit
-    else None)))))))
+    else None))))))))))

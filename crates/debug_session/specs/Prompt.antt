@@ -3,17 +3,17 @@ use Rattle.std.specs.Prelude.{◌≡◌, ◌⊎◌, ℕ, nat_lt, nat_eq, Bool, t
 use Rattle.std.specs.List.{list_all, starts_with}
 use Rattle.table_run.specs.State.{State}
 use Rattle.debug_session.specs.declared.command.Command.{Command}
-use Rattle.debug_session.specs.declared.command.Command.TheVariants.{Step, Back, Until, Run, SetBreak, Clear}
-use Rattle.debug_session.specs.declared.command.Command.TheVariants as command
 use Rattle.debug_session.specs.declared.command.Limits.{Limits}
+use Rattle.debug_session.specs.declared.command.Typed.{Typed as TypedCommand}
+use Rattle.debug_session.specs.declared.command.Typed.TheVariants.{Plain}
 use Rattle.debug_session.specs.declared.dialogue.Dialogue.{Dialogue}
 use Rattle.debug_session.specs.declared.refusal.Refusal.TheVariants.{B2}
-use Rattle.debug_session.specs.Answers.{Standing, standing, Obeys, refusal_line}
-use Rattle.debug_session.specs.Grammar.{Reading}
+use Rattle.debug_session.specs.Answers.{Standing, standing, refusal_line}
 use Rattle.debug_session.specs.Input.{words_in}
 use Rattle.debug_session.specs.Names.{begins}
 use Rattle.debug_session.specs.Taking.{Takes}
-use Rattle.debug_session.specs.TypedGrammar.{typed_reading}
+use Rattle.debug_session.specs.TypedAnswers.{ObeysTyped, last_after}
+use Rattle.debug_session.specs.TypedGrammar.{TypedReading, typed_reading}
 
 -- where a session at a prompt stands, with the last move: the last of `step`, `back`, `run` and `until` that was read
 pub record AtPrompt : Type 0 where
@@ -46,30 +46,20 @@ quits (first ∷ second ∷ more) = false
 abbrev pub is_quit : List ℕ → Bool
 is_quit line = if is_long line then false else quits (words_in line)
 
--- the last move, once a command was read
-abbrev pub last_after : Command → Option Command → Option Command
-last_after (Step count) last = Some (Step count)
-last_after (Back count) last = Some (Back count)
-last_after (Until time) last = Some (Until time)
-last_after Run last = Some Run
-last_after command.State last = last
-last_after (SetBreak b) last = last
-last_after Clear last = last
-
 -- a command is done, or refused for want of memory or of workers; a move is the last one either way
-pub record ObeysTyped (start : State) (asked : Command) (old new : AtPrompt) (out : List ℕ) : Type 0 where
-  pub obeyed : Obeys start asked old.standing new.standing out
+pub record ObeysAtPrompt (start : State) (asked : TypedCommand) (old new : AtPrompt) (out : List ℕ) : Type 0 where
+  pub obeyed : ObeysTyped start asked old.standing new.standing out
   pub last : new.last ≡ last_after asked old.last
 
 -- the last move is done again, where there was one
 abbrev pub MovesAgain : State → Option Command → AtPrompt → AtPrompt → List ℕ → Type 0
 MovesAgain start None old new out = Rests old new out []
-MovesAgain start (Some move) old new out = ObeysTyped start move old new out
+MovesAgain start (Some move) old new out = ObeysAtPrompt start (Plain move) old new out
 
-abbrev pub FollowsTyped : State → Option Reading → AtPrompt → AtPrompt → List ℕ → Type 0
+abbrev pub FollowsTyped : State → Option TypedReading → AtPrompt → AtPrompt → List ℕ → Type 0
 FollowsTyped start None old new out = MovesAgain start old.last old new out
 FollowsTyped start (Some (Err refusal)) old new out = Rests old new out (refusal_line refusal)
-FollowsTyped start (Some (Ok asked)) old new out = ObeysTyped start asked old new out
+FollowsTyped start (Some (Ok asked)) old new out = ObeysAtPrompt start asked old new out
 
 -- what a line says that is typed is followed; a line of no words does the last move again
 abbrev pub AnswersTyped : Limits → State → List ℕ → AtPrompt → AtPrompt → List ℕ → Type 0

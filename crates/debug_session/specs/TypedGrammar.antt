@@ -1,12 +1,15 @@
 -- The commands that are typed at a prompt, and which refusals their words meet.
-use Rattle.std.specs.Prelude.{ℕ, List, [], ◌∷◌, Option, None, Some, ok_or, Result, Ok, Err}
+use Rattle.std.specs.Prelude.{ℕ, if◌then◌else◌, List, [], ◌∷◌, Option, None, Some, ok_or, Result, Ok, Err}
+use Rattle.scenario_asm.specs.Numbers.{is_numeral}
 use Rattle.debug_session.specs.declared.command.Command.TheVariants.{Step, Back, Until, Run, State, Clear}
 use Rattle.debug_session.specs.declared.command.Limits.{Limits}
+use Rattle.debug_session.specs.declared.command.Typed.{Typed}
+use Rattle.debug_session.specs.declared.command.Typed.TheVariants.{Plain, Breaks, Delete, Help, HelpOn}
 use Rattle.debug_session.specs.declared.name.Name.{Name}
 use Rattle.debug_session.specs.declared.name.Name.TheVariants as name
 use Rattle.debug_session.specs.declared.refusal.Refusal.{Refusal}
-use Rattle.debug_session.specs.declared.refusal.Refusal.TheVariants.{B1, B2, B3}
-use Rattle.debug_session.specs.Grammar.{Word, Reading, one_number, with_number, alone, breakpoint}
+use Rattle.debug_session.specs.declared.refusal.Refusal.TheVariants.{B1, B2, B3, B5}
+use Rattle.debug_session.specs.Grammar.{Word, Reading, number_below, one_number, with_number, alone, breakpoint}
 use Rattle.debug_session.specs.Input.{words_in}
 use Rattle.debug_session.specs.Names.{name_of}
 use Rattle.debug_session.specs.Times.{moment_in}
@@ -22,23 +25,61 @@ one_moment [] = Err B2
 one_moment (word ∷ []) = ok_or (moment_in word) B3
 one_moment (first ∷ second ∷ more) = Err B2
 
+-- the number of a breakpoint that is the only word: there are at most 64
+abbrev pub break_number : Word → Result ℕ Refusal
+break_number word = if is_numeral word then ok_or (number_below 65 word) B5 else Err B3
+
+abbrev pub one_break_number : List Word → Result ℕ Refusal
+one_break_number [] = Err B2
+one_break_number (word ∷ []) = break_number word
+one_break_number (first ∷ second ∷ more) = Err B2
+
+-- a command, or why there is none
+abbrev pub TypedReading : Type 0
+TypedReading = Result Typed Refusal
+
+abbrev pub plain : Reading → TypedReading
+plain (Ok asked) = Ok (Plain asked)
+plain (Err refusal) = Err refusal
+
+abbrev pub deletes : Result ℕ Refusal → TypedReading
+deletes (Ok i) = Ok (Delete i)
+deletes (Err refusal) = Err refusal
+
+-- no word
+abbrev pub typed_alone : Typed → List Word → TypedReading
+typed_alone asked [] = Ok asked
+typed_alone asked (word ∷ words) = Err B2
+
+-- the words behind `help`: none, or one that begins a name
+abbrev pub help_named : Option Name → List Word → TypedReading
+help_named None words = Err B1
+help_named (Some name) words = typed_alone (HelpOn name) words
+
+abbrev pub help_asked : List Word → TypedReading
+help_asked [] = Ok Help
+help_asked (word ∷ words) = help_named (name_of word) words
+
 -- a command by its name and the words behind it: `quit` has none where it ends the session
-abbrev pub command_typed : Limits → Option Name → List Word → Reading
+abbrev pub command_typed : Limits → Option Name → List Word → TypedReading
 command_typed limits None words = Err B1
-command_typed limits (Some name.Step) words = with_number Step (number_or 1 1000000000000001 words)
-command_typed limits (Some name.Back) words = with_number Back (number_or 1 1000000000000001 words)
-command_typed limits (Some name.Break) words = breakpoint limits words
-command_typed limits (Some name.Run) words = alone Run words
-command_typed limits (Some name.Until) words = with_number Until (one_moment words)
-command_typed limits (Some name.State) words = alone State words
-command_typed limits (Some name.Clear) words = alone Clear words
+command_typed limits (Some name.Step) words = plain (with_number Step (number_or 1 1000000000000001 words))
+command_typed limits (Some name.Back) words = plain (with_number Back (number_or 1 1000000000000001 words))
+command_typed limits (Some name.Break) words = plain (breakpoint limits words)
+command_typed limits (Some name.Breaks) words = typed_alone Breaks words
+command_typed limits (Some name.Run) words = plain (alone Run words)
+command_typed limits (Some name.Until) words = plain (with_number Until (one_moment words))
+command_typed limits (Some name.State) words = plain (alone State words)
+command_typed limits (Some name.Delete) words = deletes (one_break_number words)
+command_typed limits (Some name.Clear) words = plain (alone Clear words)
+command_typed limits (Some name.Help) words = help_asked words
 command_typed limits (Some name.Quit) words = Err B2
 
 -- nothing where there are no words
-abbrev pub typed_of : Limits → List Word → Option Reading
+abbrev pub typed_of : Limits → List Word → Option TypedReading
 typed_of limits [] = None
 typed_of limits (word ∷ words) = Some (command_typed limits (name_of word) words)
 
 -- what a line says that is typed and doesn't end the session
-abbrev pub typed_reading : Limits → List ℕ → Option Reading
+abbrev pub typed_reading : Limits → List ℕ → Option TypedReading
 typed_reading limits line = typed_of limits (words_in line)

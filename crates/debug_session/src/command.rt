@@ -2,6 +2,7 @@
 ghost use Rattle.std.specs.Prelude.{◌≡◌};
 ghost use Rattle.debug_session.specs.Sessions.{limits_of};
 
+use crate::name::Name;
 use debugger::Break;
 use scenario_image::Scenario;
 use sim_time::Time;
@@ -23,6 +24,21 @@ pub enum Command {
     SetBreak(Break),
     /// To stop nowhere.
     Clear,
+}
+
+/// What is asked of a session at a prompt.
+#[derive(Clone, Copy, Debug, PartialEq, Eq)]
+pub enum Typed {
+    /// What a session whose lines are all there from the start is asked too.
+    Plain(Command),
+    /// Nothing but to see the breakpoints.
+    Breaks,
+    /// To take away the breakpoint of this number.
+    Delete(u64),
+    /// Nothing but to see what can be typed.
+    Help,
+    /// Nothing but to see how a command is used.
+    HelpOn(Name),
 }
 
 /// The numbers of a scenario's nodes and flows are below these.

@@ -12,14 +12,20 @@ pub enum Name {
     Back,
     /// A breakpoint is set.
     Break,
+    /// The breakpoints are shown.
+    Breaks,
     /// Events are run until a breakpoint matches.
     Run,
     /// Events are run until a moment.
     Until,
     /// The state is shown.
     State,
+    /// A breakpoint is taken away.
+    Delete,
     /// All breakpoints are taken away.
     Clear,
+    /// What can be typed is shown.
+    Help,
     /// The session ends.
     Quit,
 }
@@ -41,14 +47,20 @@ pub(crate) fn name_of(word: &[u8]) -> Option<Name>
         Some(Name::Back)
     } else if begins(word, b"break") {
         Some(Name::Break)
+    } else if begins(word, b"breaks") {
+        Some(Name::Breaks)
     } else if begins(word, b"run") {
         Some(Name::Run)
     } else if begins(word, b"until") {
         Some(Name::Until)
     } else if begins(word, b"state") {
         Some(Name::State)
+    } else if begins(word, b"delete") {
+        Some(Name::Delete)
     } else if begins(word, b"clear") {
         Some(Name::Clear)
+    } else if begins(word, b"help") {
+        Some(Name::Help)
     } else if begins(word, b"quit") {
         Some(Name::Quit)
     } else {

@@ -2,15 +2,16 @@
 ghost use Rattle.std.specs.Prelude.{◌≡◌, false};
 ghost use Rattle.debug_session.specs.Input.{words_in};
 ghost use Rattle.debug_session.specs.Prompt as prompt;
+ghost use Rattle.debug_session.specs.TypedAnswers as answers;
 
-use crate::command::{Command, Limits};
+use crate::command::{Command, Limits, Typed};
 use crate::dialogue::Dialogue;
 use crate::grammar::one_word;
 use crate::name::begins;
+use crate::reading::read_typed;
 use crate::refusal::Refusal;
-use crate::reply::obey;
 use crate::said::Said;
-use crate::typed::read_typed;
+use crate::typed_reply::obey_typed;
 use std::sync::Wait;
 use std::thread::Threads;
 use window_engine::Gate;
@@ -50,29 +51,38 @@ pub fn is_refusal(said: &[u8]) -> bool
 }
 
 /// The last move, once a command was read.
-fn last_after(command: Command, last: Option<Command>) -> Option<Command>
-    ensures { result ≡ prompt.last_after command last }
+fn last_after(asked: Typed, last: Option<Command>) -> Option<Command>
+    ensures { result ≡ answers.last_after asked last }
 {
-    match command {
-        Command::Step(_) | Command::Back(_) | Command::Until(_) | Command::Run => Some(command),
-        Command::State | Command::SetBreak(_) | Command::Clear => last,
+    match asked {
+        Typed::Plain(Command::Step(count)) => Some(Command::Step(count)),
+        Typed::Plain(Command::Back(count)) => Some(Command::Back(count)),
+        Typed::Plain(Command::Until(time)) => Some(Command::Until(time)),
+        Typed::Plain(Command::Run) => Some(Command::Run),
+        Typed::Plain(Command::State) => last,
+        Typed::Plain(Command::SetBreak(_)) => last,
+        Typed::Plain(Command::Clear) => last,
+        Typed::Breaks => last,
+        Typed::Delete(_) => last,
+        Typed::Help => last,
+        Typed::HelpOn(_) => last,
     }
 }
 
-/// Does what a command asks for. A move is the last one from then on.
+/// Does what is asked for. A move is the last one from then on.
 #[tactic(none)]
-fn obey_typed<R: Threads + Wait + Sync, G: Gate>(
+fn obey_at_prompt<R: Threads + Wait + Sync, G: Gate>(
     rt: &R,
     gate: &G,
     dialogue: &mut Dialogue,
-    command: Command,
+    asked: Typed,
     said: &mut Said,
 )
-    ensures obeys { prompt.ObeysTyped dialogue.old.debugger.start command (prompt.at_prompt dialogue.old) (prompt.at_prompt dialogue.new) said.new }
+    ensures obeys { prompt.ObeysAtPrompt dialogue.old.debugger.start asked (prompt.at_prompt dialogue.old) (prompt.at_prompt dialogue.new) said.new }
     ensures start { dialogue.new.debugger.start ≡ dialogue.old.debugger.start }
 {
-    dialogue.last = last_after(command, dialogue.last);
-    obey(rt, gate, &mut dialogue.debugger, command, said);
+    dialogue.last = last_after(asked, dialogue.last);
+    obey_typed(rt, gate, &mut dialogue.debugger, asked, said);
 }
 
 /// Does the last move again, where there was one.
@@ -88,7 +98,7 @@ fn move_again<R: Threads + Wait + Sync, G: Gate>(
 {
     match dialogue.last {
         None => said.clear(),
-        Some(command) => obey_typed(rt, gate, dialogue, command, said),
+        Some(command) => obey_at_prompt(rt, gate, dialogue, Typed::Plain(command), said),
     }
 }
 
@@ -108,7 +118,7 @@ fn follow_typed<R: Threads + Wait + Sync, G: Gate>(
     match read_typed(limits, line) {
         None => move_again(rt, gate, dialogue, said),
         Some(Err(refusal)) => said.say_refused(refusal),
-        Some(Ok(command)) => obey_typed(rt, gate, dialogue, command, said),
+        Some(Ok(asked)) => obey_at_prompt(rt, gate, dialogue, asked, said),
     }
 }
 

@@ -12,6 +12,8 @@ pub enum Refusal {
     B3,
     /// As many breakpoints are set as there may be.
     B4,
+    /// No breakpoint has this number.
+    B5,
     /// There was no memory, as many events were run as there may be, or a worker could not be
     /// started or did not come back.
     M,

@@ -1,16 +1,21 @@
 //! The answer to a command.
-ghost use Rattle.std.specs.Prelude.{◌≡◌, ◌≤◌, ◌+◌, ◌++◌, [], OnOk, OnErr, length, drop, decimal};
+ghost use Rattle.std.specs.Prelude.{◌≡◌, ◌<◌, ◌≤◌, ◌+◌, ◌++◌, [], OnOk, OnErr, length, drop, decimal};
 ghost use Rattle.trace_text.specs.Dump.{dump_bytes};
 ghost use Rattle.debug_session.specs.Answers.{refusal_line, break_line, clear_line};
+ghost use Rattle.debug_session.specs.Help.{help_text, help_on};
+ghost use Rattle.debug_session.specs.Numbered.{set_line, deleted_line, listing};
 
+use crate::help::{append_help, append_help_on};
+use crate::name::Name;
+use crate::numbered::{append_listing, put_numbered};
 use crate::refusal::Refusal;
-use debugger::Debugger;
+use debugger::{Break, Debugger};
 use itoa::write_digits;
 use std::alloc::{AllocError, Global};
 use std::marker::Model;
 
 /// The room for a short answer, in bytes.
-const ROOM: usize = 32;
+pub(crate) const ROOM: usize = 64;
 
 /// The answer to a command, seen as its bytes. Short answers take no memory.
 #[derive(Drop)]
@@ -32,11 +37,11 @@ impl Model for Said {
 
     ghost view = { λ s. if s.is_short then drop s.start s.short else s.dump.items };
 
-    ghost invariant = { λ s. (s.start ≤ 32) × (length s.short ≡ 32) };
+    ghost invariant = { λ s. (s.start ≤ 64) × (length s.short ≡ 64) };
 }
 
 // Writes a text so that it ends at `end`, and answers where it starts.
-fn put_text<const N: usize>(bytes: &mut [u8], end: usize, text: &[u8; N]) -> usize
+pub(crate) fn put_text<const N: usize>(bytes: &mut [u8], end: usize, text: &[u8; N]) -> usize
     requires within { end ≤ length bytes.old }
     requires room { N ≤ end }
     ensures written { drop result bytes.new ≡ text.now ++ drop end bytes.old }
@@ -48,7 +53,7 @@ fn put_text<const N: usize>(bytes: &mut [u8], end: usize, text: &[u8; N]) -> usi
 }
 
 // Writes a number so that it ends at `end`, and answers where it starts.
-fn put_count(bytes: &mut [u8], end: usize, n: usize) -> usize
+pub(crate) fn put_count(bytes: &mut [u8], end: usize, n: usize) -> usize
     requires within { end ≤ length bytes.old }
     requires room { 20 ≤ end }
     ensures written { drop result bytes.new ≡ decimal n ++ drop end bytes.old }
@@ -91,7 +96,7 @@ impl Said {
 
     /// Answers a short text.
     fn say<const N: usize>(&mut self, text: &[u8; N])
-        requires { N ≤ 32 }
+        requires { N ≤ 64 }
         ensures { self.new ≡ text.now }
     {
         let mut line = [0; ROOM];
@@ -109,6 +114,7 @@ impl Said {
             Refusal::B2 => self.say(b"refused B2\n"),
             Refusal::B3 => self.say(b"refused B3\n"),
             Refusal::B4 => self.say(b"refused B4\n"),
+            Refusal::B5 => self.say(b"refused B5\n"),
             Refusal::M => self.say(b"refused M\n"),
         }
     }
@@ -131,6 +137,58 @@ impl Said {
         self.short = line;
         self.start = start;
         self.is_short = true;
+    }
+
+    /// Answers a breakpoint with its number.
+    pub(crate) fn say_break(&mut self, number: u64, b: Break)
+        ensures { self.new ≡ set_line number b }
+    {
+        let mut line = [0; ROOM];
+        self.start = put_numbered(&mut line, b"break ", number, b);
+        self.short = line;
+        self.is_short = true;
+    }
+
+    /// Answers that a breakpoint is taken away, with the number that it had.
+    pub(crate) fn say_deleted(&mut self, number: u64, b: Break)
+        ensures { self.new ≡ deleted_line number b }
+    {
+        let mut line = [0; ROOM];
+        self.start = put_numbered(&mut line, b"deleted ", number, b);
+        self.short = line;
+        self.is_short = true;
+    }
+
+    /// Answers a line for each breakpoint. Where memory is refused, the answer is empty.
+    pub(crate) fn say_breaks(&mut self, breaks: &[Break]) -> Result<(), AllocError>
+        ensures ok { OnOk result (self.new ≡ listing breaks.now) }
+        ensures err { OnErr result (0 < length breaks.now) }
+    {
+        if breaks.is_empty() {
+            self.say(b"no breakpoint\n");
+            return Ok(());
+        }
+        self.dump.clear();
+        self.is_short = false;
+        append_listing(&mut self.dump, breaks)
+    }
+
+    /// Answers how all commands are used.
+    pub(crate) fn say_help(&mut self) -> Result<(), AllocError>
+        ensures { OnOk result (self.new ≡ help_text) }
+    {
+        self.dump.clear();
+        self.is_short = false;
+        append_help(&mut self.dump)
+    }
+
+    /// Answers how a command is used.
+    pub(crate) fn say_help_on(&mut self, name: Name) -> Result<(), AllocError>
+        ensures { OnOk result (self.new ≡ help_on name) }
+    {
+        self.dump.clear();
+        self.is_short = false;
+        append_help_on(&mut self.dump, name)
     }
 
     /// Answers the dump of the state that is shown. Where memory is refused, the answer is empty.

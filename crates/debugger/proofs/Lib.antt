@@ -5,3 +5,4 @@ pub mod Faults
 pub mod Batches
 pub mod Aims
 pub mod Alone
+pub mod TakenOut

@@ -1,5 +1,5 @@
 -- Which lines of the trace a breakpoint matches.
-use Rattle.std.specs.Prelude.{◌≡◌, ℕ, Bool, true, false, IsTrue, List, Any, Option, None, Some}
+use Rattle.std.specs.Prelude.{◌≡◌, ℕ, Bool, true, false, IsTrue, List, ◌∷◌, ◌++◌, length, Any, Option, None, Some}
 use Rattle.std.specs.List.{list_any}
 use Rattle.packet_chain.specs.declared.packet.Kind.{Kind}
 use Rattle.packet_chain.specs.declared.packet.Kind.TheVariants.{Data, Ack}
@@ -47,3 +47,11 @@ Matches Drop line = IsTrue (list_any is_drop line.acts)
 -- one of the breakpoints matches a line
 abbrev pub IsHit : List Break → TraceLine → Type 0
 IsHit breaks line = Any (λ b. Matches b line) breaks
+
+-- the breakpoint at an index was taken out, and the others stay in their order
+pub record IsTakenOut (old new : List Break) (index : ℕ) (b : Break) : Type 0 where
+  pub before : List Break
+  pub after : List Break
+  pub was : old ≡ before ++ b ∷ after
+  pub at : length before ≡ index
+  pub left : new ≡ before ++ after

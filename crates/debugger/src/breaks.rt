@@ -2,7 +2,7 @@
 ghost use Rattle.std.specs.Prelude.{◌≡◌, ◌↔◌, ◌<◌, ◌≤◌, [], ◌∷◌, ◌++◌, Contains, IsTrue, MatchBool, IfOk, IfErr, OnErr, length};
 ghost use Rattle.std.specs.List.{list_any};
 ghost use Rattle.node_core.specs.TraceLine.{shown};
-ghost use Rattle.debugger.specs.Breaks.{flow_of, kind_of, is_drop, Matches, IsHit};
+ghost use Rattle.debugger.specs.Breaks.{flow_of, kind_of, is_drop, Matches, IsHit, IsTakenOut};
 
 use node_core::{Event, Line};
 use packet_chain::Kind;
@@ -171,6 +171,22 @@ impl Breaks {
             Ok(()) => Ok(self.items.len()),
             Err(_) => Err(BreakFault::NoMemory),
         }
+    }
+
+    /// Those that are set.
+    pub fn as_slice(&self) -> &[Break]
+        ensures value { result.now ≡ self.now }
+        ensures few { length self.now ≤ 64 }
+    {
+        self.items.as_slice()
+    }
+
+    /// Takes the one at an index away.
+    pub fn delete(&mut self, index: usize) -> Break
+        requires { index < length self.old }
+        ensures { IsTakenOut self.old self.new index result }
+    {
+        self.items.remove(index)
     }
 
     /// Sets none.

@@ -3,6 +3,7 @@ ghost use Rattle.std.specs.Prelude.{◌≡◌, ◌≢◌, ◌-◌, ◌<◌, ◌�
 ghost use Rattle.table_run.specs.State.{opening};
 ghost use Rattle.net_machine.specs.Run.{Reached};
 ghost use Rattle.debugger.specs.Moves.{Passes, StepGoesTo, RunGoesTo, UntilGoesTo, IsTooLong};
+ghost use Rattle.debugger.specs.Breaks.{IsTakenOut};
 ghost use Rattle.debugger.specs.Debugging.{opened, HasMoved};
 ghost use Rattle.trace_text.specs.Dump.{dump_bytes};
 
@@ -256,6 +257,23 @@ impl Debugger {
         ensures err { OnErr result (self.new ≡ self.old) }
     {
         self.breaks.add(b)
+    }
+
+    /// The breakpoints that are set, in the order in which they were.
+    pub fn breaks(&self) -> &[Break]
+        ensures value { result.now ≡ self.now.breaks }
+        ensures few { length self.now.breaks ≤ 64 }
+    {
+        self.breaks.as_slice()
+    }
+
+    /// Takes the breakpoint at an index away.
+    pub fn delete_break(&mut self, index: usize) -> Break
+        requires { index < length self.old.breaks }
+        ensures same { self.new ≡ record self.old { breaks = self.new.breaks } }
+        ensures taken { IsTakenOut self.old.breaks self.new.breaks index result }
+    {
+        self.breaks.delete(index)
     }
 
     /// Takes all breakpoints away.

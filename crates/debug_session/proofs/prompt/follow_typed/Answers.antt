@@ -19,8 +19,8 @@ returns-in-Some-Err-clause-start g c = refl
 
 pub returns-in-Some-Ok-clause-answers : goal.returns-in-Some-Ok-clause-answers
 returns-in-Some-Ok-clause-answers g c =
-    is_obeyed c.args.limits c.args.dialogue.now.debugger.start c.args.line.now (at_prompt c.args.dialogue.now) (at_prompt c.obey_typed.new.dialogue) c.obey_typed.new.said c.in-Some-Ok.command
-    (ap (λ r. Some r) (sym c.in-Some-Ok.field-0-is) ∙ c.in-Some-Ok.ensures) c.obey_typed.ensures.obeys
+    is_obeyed c.args.limits c.args.dialogue.now.debugger.start c.args.line.now (at_prompt c.args.dialogue.now) (at_prompt c.obey_at_prompt.new.dialogue) c.obey_at_prompt.new.said c.in-Some-Ok.asked
+    (ap (λ r. Some r) (sym c.in-Some-Ok.field-0-is) ∙ c.in-Some-Ok.ensures) c.obey_at_prompt.ensures.obeys
 
 pub returns-in-Some-Ok-clause-start : goal.returns-in-Some-Ok-clause-start
-returns-in-Some-Ok-clause-start g c = c.obey_typed.ensures.start
+returns-in-Some-Ok-clause-start g c = c.obey_at_prompt.ensures.start

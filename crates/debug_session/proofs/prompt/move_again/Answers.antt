@@ -11,7 +11,7 @@ returns-in-None-clause-start g c = refl
 
 pub returns-in-Some-clause-moves : goal.returns-in-Some-clause-moves
 returns-in-Some-clause-moves g c =
-    done_again c.args.dialogue.now.debugger.start (at_prompt c.args.dialogue.now) (at_prompt c.obey_typed.new.dialogue) c.obey_typed.new.said c.in-Some.command c.in-Some.is c.obey_typed.ensures.obeys
+    done_again c.args.dialogue.now.debugger.start (at_prompt c.args.dialogue.now) (at_prompt c.obey_at_prompt.new.dialogue) c.obey_at_prompt.new.said c.in-Some.command c.in-Some.is c.obey_at_prompt.ensures.obeys
 
 pub returns-in-Some-clause-start : goal.returns-in-Some-clause-start
-returns-in-Some-clause-start g c = c.obey_typed.ensures.start
+returns-in-Some-clause-start g c = c.obey_at_prompt.ensures.start

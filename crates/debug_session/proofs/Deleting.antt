@@ -1,0 +1,95 @@
+-- What a session at a prompt answers where a breakpoint is set, or deleted.
+use Rattle.std.proofs.Common.{◌≡◌, ◌<◌, ◌≤◌, ◌+◌, ◌⊎◌, ◌++◌, ◌∷◌, ◌∙◌, [], ℕ, List, length, inl, inr, ⊎_elim, refl, sym, ap, subst, arith, length-append, Option, Some, None}
+use Rattle.std.proofs.lemmas.Bool.{cases_lt}
+use Rattle.std.specs.List.{Contains}
+use Rattle.table_run.specs.State.{State as NetState}
+use Rattle.debugger.specs.declared.breaks.Break.{Break}
+use Rattle.debugger.specs.Breaks.{IsTakenOut}
+use Rattle.debugger.specs.Debugging.{Debugging}
+use Rattle.debug_session.specs.declared.command.Command.{Command}
+use Rattle.debug_session.specs.declared.command.Command.TheVariants.{Step, Back, Until, Run, State, SetBreak, Clear}
+use Rattle.debug_session.specs.declared.command.Typed.TheVariants.{Plain, Breaks, Delete, Help, HelpOn}
+use Rattle.debug_session.specs.declared.name.Name.{Name}
+use Rattle.debug_session.specs.declared.refusal.Refusal.TheVariants.{B4, B5, M}
+use Rattle.debug_session.specs.Answers.{Standing, standing, Obeys, refusal_line}
+use Rattle.debug_session.specs.Help.{help_text, help_on}
+use Rattle.debug_session.specs.Numbered.{IsNumber, HasNumber, set_line, deleted_line, listing}
+use Rattle.debug_session.specs.Told.{break_of}
+use Rattle.debug_session.specs.TypedAnswers.{ObeysTyped}
+use Rattle.debug_session.proofs.Setting.{stands}
+
+pub set_again : (b : Break) (d : Debugging) (out : List ℕ) → (i : ℕ) × IsNumber d.breaks b i × (out ≡ set_line i b) → ObeysTyped d.start (Plain (SetBreak b)) (standing d) (standing d) out
+set_again b d out has = inl (inl (has.0, has.1, record { same = refl; told = has.2 }))
+
+module _ (b : Break) (old new : Debugging) (out : List ℕ) (hasn't : ¬ Contains old.breaks b) (known : length old.breaks ≤ 64) where
+  fewer : (length old.breaks ≡ 64 → ⊥) → length old.breaks < 64
+  fewer full = ⊎_elim (λ (under : length old.breaks < 64). under) (λ (past : 64 ≤ length old.breaks). absurd (full (omega (arith, past, known)))) (cases_lt (length old.breaks) 64)
+
+  pub set_joined : (n : ℕ) → new ≡ record old { breaks = new.breaks } → n ≡ length new.breaks → new.breaks ≡ old.breaks ++ b ∷ [] → (length old.breaks ≡ 64 → ⊥) → out ≡ set_line n b
+      → ObeysTyped old.start (Plain (SetBreak b)) (standing old) (standing new) out
+  set_joined n same count joined full told =
+      inl (inr (inl (record {
+        fresh = hasn't;
+        few = fewer full;
+        joined = stands old new same (old.breaks ++ b ∷ []) joined;
+        told = told ∙ ap (λ i. set_line i b) (count ∙ ap length joined ∙ length-append old.breaks (b ∷ []));
+      })))
+
+  pub set_full : new ≡ old → (length old.breaks < 64 → ⊥) → out ≡ refusal_line B4 → ObeysTyped old.start (Plain (SetBreak b)) (standing old) (standing new) out
+  set_full same room told =
+      let many : length old.breaks ≡ 64 = ⊎_elim (λ (under : length old.breaks < 64). absurd (room under)) (λ (past : 64 ≤ length old.breaks). omega (arith, past, known)) (cases_lt (length old.breaks) 64) in
+      inl (inr (inr (hasn't, many, record { same = ap standing same; told = told })))
+
+  pub set_refused : new ≡ old → (length old.breaks ≡ 64 → ⊥) → out ≡ refusal_line M → ObeysTyped old.start (Plain (SetBreak b)) (standing old) (standing new) out
+  set_refused same full told = inr ((hasn't, fewer full), record { same = ap standing same; told = told })
+
+pub taken_away : (number index : ℕ) (b : Break) (old new : Debugging) (out : List ℕ) → number ≡ index + 1 → new ≡ record old { breaks = new.breaks } → IsTakenOut old.breaks new.breaks index b → out ≡ deleted_line number b
+    → ObeysTyped old.start (Delete number) (standing old) (standing new) out
+taken_away number index b old new out count same taken told =
+    inl (inl (record { index = index; b = b; number = count; taken = taken; same = stands old new same new.breaks refl; told = told }))
+
+pub none_to_take : (number : ℕ) (d : Debugging) (out : List ℕ) → (number < 1) ⊎ (length d.breaks < number) → out ≡ refusal_line B5 → ObeysTyped d.start (Delete number) (standing d) (standing d) out
+none_to_take number d out outside told = inl (inr (hasn't, record { same = refl; told = told }))
+  where
+    hasn't : ¬ HasNumber d.breaks number
+    hasn't has = ⊎_elim (λ (low : number < 1). omega (arith, low, has.above)) (λ (high : length d.breaks < number). omega (arith, high, has.upto)) outside
+
+-- the commands that are answered as in a session whose lines are all there
+pub plain_obeyed : (start : NetState) (asked : Command) (old new : Standing) (out : List ℕ) → break_of asked ≡ None → Obeys start asked old new out → ObeysTyped start (Plain asked) old new out
+plain_obeyed start (Step count) old new out none obeys = obeys
+plain_obeyed start (Back count) old new out none obeys = obeys
+plain_obeyed start (Until time) old new out none obeys = obeys
+plain_obeyed start Run old new out none obeys = obeys
+plain_obeyed start State old new out none obeys = obeys
+plain_obeyed start (SetBreak b) old new out none obeys = absurd (some_none b none)
+  where
+    some_none : (c : Break) → Some c ≡ None → ⊥
+    some_none c e = cc
+plain_obeyed start Clear old new out none obeys = obeys
+
+pub is_set_break : (asked : Command) (b : Break) → break_of asked ≡ Some b → SetBreak b ≡ asked
+is_set_break (SetBreak c) b is = ap (λ (o : Option Break). from o) (sym is)
+  where
+    from : Option Break → Command
+    from (Some d) = SetBreak d
+    from None = SetBreak c
+is_set_break (Step count) b is = absurd cc
+is_set_break (Back count) b is = absurd cc
+is_set_break (Until time) b is = absurd cc
+is_set_break Run b is = absurd cc
+is_set_break State b is = absurd cc
+is_set_break Clear b is = absurd cc
+
+-- what help tells
+pub help_told : (d : Debugging) (out : List ℕ) → (out ≡ help_text) ⊎ (out ≡ refusal_line M) → ObeysTyped d.start Help (standing d) (standing d) out
+help_told d out told = ⊎_elim (λ (t : out ≡ help_text). inl (record { same = refl; told = t })) (λ (t : out ≡ refusal_line M). inr (tt, record { same = refl; told = t })) told
+
+pub help_on_told : (d : Debugging) (name : Name) (out : List ℕ) → (out ≡ help_on name) ⊎ (out ≡ refusal_line M) → ObeysTyped d.start (HelpOn name) (standing d) (standing d) out
+help_on_told d name out told = ⊎_elim (λ (t : out ≡ help_on name). inl (record { same = refl; told = t })) (λ (t : out ≡ refusal_line M). inr (tt, record { same = refl; told = t })) told
+
+-- what is told of the breakpoints
+pub breaks_told : (d : Debugging) (breaks : List Break) (out : List ℕ) → breaks ≡ d.breaks → out ≡ listing breaks → ObeysTyped d.start Breaks (standing d) (standing d) out
+breaks_told d breaks out same told = inl (record { same = refl; told = told ∙ ap listing same })
+
+pub breaks_refused : (d : Debugging) (breaks : List Break) (out : List ℕ) → breaks ≡ d.breaks → 0 < length breaks → out ≡ refusal_line M → ObeysTyped d.start Breaks (standing d) (standing d) out
+breaks_refused d breaks out same some told = inr (subst (λ (bs : List Break). 0 < length bs) same some, record { same = refl; told = told })

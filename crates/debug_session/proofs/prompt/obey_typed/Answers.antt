@@ -1,7 +1,0 @@
-use Rattle.debug_session.proofs.prompt.obey_typed.Goals as goal
-
-pub returns-clause-obeys : goal.returns-clause-obeys
-returns-clause-obeys g c = record { obeyed = c.obey.ensures.obeyed; last = c.last_after-dialogue.ensures }
-
-pub returns-clause-start : goal.returns-clause-start
-returns-clause-start g c = c.obey.ensures.start

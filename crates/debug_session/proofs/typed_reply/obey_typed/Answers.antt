@@ -1,0 +1,42 @@
+use Rattle.std.proofs.Common.{refl, sym, subst}
+use Rattle.debug_session.specs.declared.command.Typed.{Typed}
+use Rattle.debug_session.specs.Answers.{standing}
+use Rattle.debug_session.specs.TypedAnswers.{ObeysTyped}
+use Rattle.debug_session.proofs.Deleting.{help_told, help_on_told}
+use Rattle.debug_session.proofs.typed_reply.obey_typed.Goals as goal
+
+pub returns-in-Plain-clause-obeyed : goal.returns-in-Plain-clause-obeyed
+returns-in-Plain-clause-obeyed g c =
+    subst (λ (k : Typed). ObeysTyped c.args.debugger.now.start k (standing c.args.debugger.now) (standing c.obey_plain.new.debugger) c.obey_plain.new.said) (sym c.in-Plain.is) c.obey_plain.ensures.obeyed
+
+pub returns-in-Plain-clause-start : goal.returns-in-Plain-clause-start
+returns-in-Plain-clause-start g c = c.obey_plain.ensures.start
+
+pub returns-in-Breaks-clause-obeyed : goal.returns-in-Breaks-clause-obeyed
+returns-in-Breaks-clause-obeyed g c =
+    subst (λ (k : Typed). ObeysTyped c.args.debugger.now.start k (standing c.args.debugger.now) (standing c.args.debugger.now) c.tell_breaks.new.said) (sym c.in-Breaks.is) c.tell_breaks.ensures
+
+pub returns-in-Breaks-clause-start : goal.returns-in-Breaks-clause-start
+returns-in-Breaks-clause-start g c = refl
+
+pub returns-in-Delete-clause-obeyed : goal.returns-in-Delete-clause-obeyed
+returns-in-Delete-clause-obeyed g c =
+    subst (λ (k : Typed). ObeysTyped c.args.debugger.now.start k (standing c.args.debugger.now) (standing c.delete.new.debugger) c.delete.new.said) (sym c.in-Delete.is) c.delete.ensures.obeyed
+
+pub returns-in-Delete-clause-start : goal.returns-in-Delete-clause-start
+returns-in-Delete-clause-start g c = c.delete.ensures.start
+
+pub returns-in-Help-clause-obeyed : goal.returns-in-Help-clause-obeyed
+returns-in-Help-clause-obeyed g c =
+    subst (λ (k : Typed). ObeysTyped c.args.debugger.now.start k (standing c.args.debugger.now) (standing c.args.debugger.now) c.tell_help.new.said) (sym c.in-Help.is) (help_told c.args.debugger.now c.tell_help.new.said c.tell_help.ensures)
+
+pub returns-in-Help-clause-start : goal.returns-in-Help-clause-start
+returns-in-Help-clause-start g c = refl
+
+pub returns-in-HelpOn-clause-obeyed : goal.returns-in-HelpOn-clause-obeyed
+returns-in-HelpOn-clause-obeyed g c =
+    subst (λ (k : Typed). ObeysTyped c.args.debugger.now.start k (standing c.args.debugger.now) (standing c.args.debugger.now) c.tell_help_on.new.said) (sym c.in-HelpOn.is)
+    (help_on_told c.args.debugger.now c.in-HelpOn.name c.tell_help_on.new.said c.tell_help_on.ensures)
+
+pub returns-in-HelpOn-clause-start : goal.returns-in-HelpOn-clause-start
+returns-in-HelpOn-clause-start g c = refl

@@ -1,0 +1,42 @@
+-- What the commands of a prompt are for.
+use Rattle.std.specs.Prelude.{ℕ, List, [], ◌∷◌, ◌++◌, codes}
+use Rattle.std.specs.List.{flat_map}
+use Rattle.debug_session.specs.declared.name.Name.{Name}
+use Rattle.debug_session.specs.declared.name.Name.TheVariants.{Step, Back, Break, Breaks, Run, Until, State, Delete, Clear, Help, Quit}
+
+-- how a command is used
+abbrev pub usage : Name → List ℕ
+usage Step = codes "step [K]     run the next K events (1)\n"
+usage Back = codes "back [K]     take the last K events back (1)\n"
+usage Run = codes "run          run until a breakpoint matches, or to the end\n"
+usage Until = codes "until T      run all events before the moment T, as 1.5s, 20ms or 10000ns\n"
+usage State = codes "state        show the state\n"
+usage Break = codes "break COND   stop where COND matches: node N, flow F, kind K, drop\n"
+usage Breaks = codes "breaks       list the breakpoints\n"
+usage Delete = codes "delete I     take breakpoint I away\n"
+usage Clear = codes "clear        take all breakpoints away\n"
+usage Help = codes "help [NAME]  show this, or how NAME is used\n"
+usage Quit = codes "quit         end the session\n"
+
+abbrev pub example : Name → List ℕ
+example Step = codes "step 10\n"
+example Back = codes "back 10\n"
+example Run = codes "run\n"
+example Until = codes "until 20ms\n"
+example State = codes "state\n"
+example Break = codes "break kind rto\n"
+example Breaks = codes "breaks\n"
+example Delete = codes "delete 1\n"
+example Clear = codes "clear\n"
+example Help = codes "help until\n"
+example Quit = codes "quit\n"
+
+abbrev pub all_names : List Name
+all_names = Step ∷ Back ∷ Run ∷ Until ∷ State ∷ Break ∷ Breaks ∷ Delete ∷ Clear ∷ Help ∷ Quit ∷ []
+
+-- one line a command, and one on the empty line
+abbrev pub help_text : List ℕ
+help_text = flat_map usage all_names ++ codes "(an empty line does the last move again)\n"
+
+abbrev pub help_on : Name → List ℕ
+help_on name = usage name ++ example name

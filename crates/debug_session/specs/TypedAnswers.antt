@@ -1,0 +1,79 @@
+-- What a session at a prompt answers to a command, and where it stands afterwards.
+use Rattle.std.specs.Prelude.{◌≡◌, ◌<◌, ◌+◌, ◌⊎◌, ℕ, List, [], ◌∷◌, ◌++◌, length, Contains, Option, Some}
+use Rattle.table_run.specs.State.{State as NetState}
+use Rattle.debugger.specs.declared.breaks.Break.{Break}
+use Rattle.debugger.specs.Breaks.{IsTakenOut}
+use Rattle.debug_session.specs.declared.command.Command.{Command}
+use Rattle.debug_session.specs.declared.command.Command.TheVariants.{Step, Back, Until, Run, State, SetBreak, Clear}
+use Rattle.debug_session.specs.declared.command.Typed.{Typed}
+use Rattle.debug_session.specs.declared.command.Typed.TheVariants.{Plain, Breaks, Delete, Help, HelpOn}
+use Rattle.debug_session.specs.declared.refusal.Refusal.TheVariants.{B4, B5, M}
+use Rattle.debug_session.specs.Answers.{Standing, Stays, Does, CanBeRefused, refusal_line}
+use Rattle.debug_session.specs.Help.{help_text, help_on}
+use Rattle.debug_session.specs.Numbered.{IsNumber, HasNumber, set_line, deleted_line, listing}
+
+-- a breakpoint that is not set yet joins the others, as the last of them
+pub record JoinsLast (b : Break) (old new : Standing) (out : List ℕ) : Type 0 where
+  pub fresh : ¬ Contains old.breaks b
+  pub few : length old.breaks < 64
+  pub joined : new ≡ record old { breaks = old.breaks ++ b ∷ [] }
+  pub told : out ≡ set_line (length old.breaks + 1) b
+
+-- a breakpoint is set: one that is set already keeps its number, and there are at most 64
+abbrev pub SetsNumbered : Break → Standing → Standing → List ℕ → Type 0
+SetsNumbered b old new out =
+    ((i : ℕ) × IsNumber old.breaks b i × Stays old new out (set_line i b))
+    ⊎ JoinsLast b old new out
+    ⊎ (¬ Contains old.breaks b × (length old.breaks ≡ 64) × Stays old new out (refusal_line B4))
+
+-- the breakpoint of a number is taken away, and the later ones move up
+pub record TakesAway (i : ℕ) (old new : Standing) (out : List ℕ) : Type 0 where
+  pub index : ℕ
+  pub b : Break
+  pub number : i ≡ index + 1
+  pub taken : IsTakenOut old.breaks new.breaks index b
+  pub same : new ≡ record old { breaks = new.breaks }
+  pub told : out ≡ deleted_line i b
+
+abbrev pub Deletes : ℕ → Standing → Standing → List ℕ → Type 0
+Deletes i old new out = TakesAway i old new out ⊎ (¬ HasNumber old.breaks i × Stays old new out (refusal_line B5))
+
+-- a command is done: those that a session whose lines are all there has are done as there, but for the answer of `break`
+abbrev pub DoesTyped : NetState → Typed → Standing → Standing → List ℕ → Type 0
+DoesTyped start (Plain (Step count)) old new out = Does start (Step count) old new out
+DoesTyped start (Plain (Back count)) old new out = Does start (Back count) old new out
+DoesTyped start (Plain (Until time)) old new out = Does start (Until time) old new out
+DoesTyped start (Plain Run) old new out = Does start Run old new out
+DoesTyped start (Plain State) old new out = Does start State old new out
+DoesTyped start (Plain (SetBreak b)) old new out = SetsNumbered b old new out
+DoesTyped start (Plain Clear) old new out = Does start Clear old new out
+DoesTyped start Breaks old new out = Stays old new out (listing old.breaks)
+DoesTyped start (Delete i) old new out = Deletes i old new out
+DoesTyped start Help old new out = Stays old new out help_text
+DoesTyped start (HelpOn name) old new out = Stays old new out (help_on name)
+
+-- the command can be refused for want of memory or of workers, or as too many events were run
+abbrev pub TypedCanBeRefused : Typed → Standing → Type 0
+TypedCanBeRefused (Plain asked) old = CanBeRefused asked old
+TypedCanBeRefused (Delete i) old = ⊥
+TypedCanBeRefused Breaks old = 0 < length old.breaks
+TypedCanBeRefused Help old = Unit {0}
+TypedCanBeRefused (HelpOn name) old = Unit {0}
+
+-- a command is done, or refused for want of memory or of workers
+abbrev pub ObeysTyped : NetState → Typed → Standing → Standing → List ℕ → Type 0
+ObeysTyped start asked old new out = DoesTyped start asked old new out ⊎ (TypedCanBeRefused asked old × Stays old new out (refusal_line M))
+
+-- the last move, once a command was read
+abbrev pub last_after : Typed → Option Command → Option Command
+last_after (Plain (Step count)) last = Some (Step count)
+last_after (Plain (Back count)) last = Some (Back count)
+last_after (Plain (Until time)) last = Some (Until time)
+last_after (Plain Run) last = Some Run
+last_after (Plain State) last = last
+last_after (Plain (SetBreak b)) last = last
+last_after (Plain Clear) last = last
+last_after Breaks last = last
+last_after (Delete i) last = last
+last_after Help last = last
+last_after (HelpOn name) last = last

@@ -1,0 +1,125 @@
+//! From a line that is typed to a command.
+ghost use Rattle.std.specs.Prelude.{◌≡◌, ◌<◌, ◌≤◌, ◌^◌, ◌-◌, IfOk};
+ghost use Rattle.debug_session.specs.Grammar.{breakpoint};
+ghost use Rattle.debug_session.specs.Input.{words_in};
+ghost use Rattle.debug_session.specs.TypedGrammar.{number_or, one_moment, break_number, one_break_number, plain, typed_alone, help_asked, command_typed, typed_reading};
+
+use crate::command::{Command, Limits, Typed};
+use crate::cut::next_word;
+use crate::grammar::{AMOUNTS, alone, breakpoint, is_numeral, number_below, one_number, one_word};
+use crate::moment::moment_in;
+use crate::name::{Name, name_of};
+use crate::refusal::Refusal;
+
+/// The greatest number that a breakpoint can have.
+const MOST_BREAKS: u64 = 64;
+
+/// The number below a bound that is the only word of a line, or the usual one where there is none.
+fn number_or(usual: u64, line: &[u8], bound: u64) -> Result<u64, Refusal>
+    requires { bound ≤ 2 ^ 64 - 1 }
+    ensures { result ≡ number_or usual bound (words_in line.now) }
+{
+    match next_word(line) {
+        None => Ok(usual),
+        Some(_) => one_number(line, bound),
+    }
+}
+
+/// The moment that is the only word of a line.
+fn one_moment(line: &[u8]) -> Result<u64, Refusal>
+    ensures { result ≡ one_moment (words_in line.now) }
+{
+    match one_word(line) {
+        None => Err(Refusal::B2),
+        Some(word) => moment_in(word).ok_or(Refusal::B3),
+    }
+}
+
+/// The number of a breakpoint that is the only word of a line.
+fn one_break_number(line: &[u8]) -> Result<u64, Refusal>
+    ensures { result ≡ one_break_number (words_in line.now) }
+{
+    match one_word(line) {
+        None => Err(Refusal::B2),
+        Some(word) => break_number(word),
+    }
+}
+
+/// The number of a breakpoint that a word is.
+fn break_number(word: &[u8]) -> Result<u64, Refusal>
+    ensures { result ≡ break_number word.now }
+{
+    if is_numeral(word) {
+        number_below(word, MOST_BREAKS + 1).ok_or(Refusal::B5)
+    } else {
+        Err(Refusal::B3)
+    }
+}
+
+/// What a session whose lines are all there from the start is asked too.
+fn plain(read: Result<Command, Refusal>) -> Result<Typed, Refusal>
+    ensures { result ≡ plain read }
+{
+    match read {
+        Ok(command) => Ok(Typed::Plain(command)),
+        Err(refusal) => Err(refusal),
+    }
+}
+
+/// What is asked, where a line has no word.
+fn typed_alone(asked: Typed, line: &[u8]) -> Result<Typed, Refusal>
+    ensures { result ≡ typed_alone asked (words_in line.now) }
+{
+    match next_word(line) {
+        None => Ok(asked),
+        Some(_) => Err(Refusal::B2),
+    }
+}
+
+/// What is asked by the words behind `help`.
+fn help_asked(line: &[u8]) -> Result<Typed, Refusal>
+    ensures { result ≡ help_asked (words_in line.now) }
+{
+    match next_word(line) {
+        None => Ok(Typed::Help),
+        Some((word, rest)) => match name_of(word) {
+            None => Err(Refusal::B1),
+            Some(name) => typed_alone(Typed::HelpOn(name), rest),
+        },
+    }
+}
+
+/// How many events are asked for.
+fn count_typed(line: &[u8]) -> Result<u64, Refusal>
+    ensures { result ≡ number_or 1 1000000000000001 (words_in line.now) }
+{
+    number_or(1, line, AMOUNTS)
+}
+
+/// The command of a name, with the words behind it.
+fn command_typed(limits: Limits, name: Option<Name>, rest: &[u8]) -> Result<Typed, Refusal>
+    ensures { result ≡ command_typed limits name (words_in rest.now) }
+{
+    match name {
+        None => Err(Refusal::B1),
+        Some(Name::Step) => Ok(Typed::Plain(Command::Step(count_typed(rest)?))),
+        Some(Name::Back) => Ok(Typed::Plain(Command::Back(count_typed(rest)?))),
+        Some(Name::Break) => plain(breakpoint(limits, rest)),
+        Some(Name::Breaks) => typed_alone(Typed::Breaks, rest),
+        Some(Name::Run) => plain(alone(Command::Run, rest)),
+        Some(Name::Until) => Ok(Typed::Plain(Command::Until(one_moment(rest)?))),
+        Some(Name::State) => plain(alone(Command::State, rest)),
+        Some(Name::Delete) => Ok(Typed::Delete(one_break_number(rest)?)),
+        Some(Name::Clear) => plain(alone(Command::Clear, rest)),
+        Some(Name::Help) => help_asked(rest),
+        Some(Name::Quit) => Err(Refusal::B2),
+    }
+}
+
+/// The command that a line says, or why it is refused; nothing where the line has no words.
+pub(crate) fn read_typed(limits: Limits, line: &[u8]) -> Option<Result<Typed, Refusal>>
+    ensures { result ≡ typed_reading limits line.now }
+{
+    let (word, rest) = next_word(line)?;
+    Some(command_typed(limits, name_of(word), rest))
+}
