@@ -32,7 +32,7 @@ with open({model!r} + '/tcpsim_model.py') as file:
 '''
 at_prompt = prompt.Prompt
 right = {name: getattr(place, name) for place, name in (
-    (at_prompt, 'answer'), (at_prompt, 'quits'), (prompt, 'time_in'))}
+    (at_prompt, 'answer'), (at_prompt, 'quits'), (at_prompt, 'on_break'), (prompt, 'time_in'))}
 
 
 def empty_lines_do_nothing(self, line):
@@ -55,6 +55,11 @@ def times_may_begin_with_zeros(word):
     return right['time_in'](word.lstrip(b'0') or b'0' if b'.' not in word else word)
 
 
+def the_last_number_is_answered(self, words):
+    right['on_break'](self, words)
+    return self.named(len(self.debugger.breaks) - 1)
+
+
 # What is wrong in each program: since which step it can be, and what is changed.
 FAULTS = {
     'a long line is read': (1, prompt, 'MOST_LINE', 10**9),
@@ -66,6 +71,10 @@ FAULTS = {
     'an empty line does nothing': (1, at_prompt, 'answer', empty_lines_do_nothing),
     'a refused line takes the last move away': (1, at_prompt, 'answer', refused_lines_count_as_moves),
     'quit may have words behind': (1, at_prompt, 'quits', quit_may_have_words_behind),
+    'one that is set answers the last number': (2, at_prompt, 'on_break', the_last_number_is_answered),
+    'a line is missing in help': (2, prompt, 'LAST_OF_HELP', ''),
+    'breaks is break': (2, prompt, 'NAMES', {b'breaks': 2, **prompt.NAMES}),
+    'a 64th breakpoint is refused': (1, debugger, 'MOST_BREAKS', 63),
 }
 
 

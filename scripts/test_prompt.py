@@ -44,6 +44,8 @@ LINES = {
     0: HUNT,
     1: [b'b', b's', b'', b'st 2', b'  ', b'sta', b'u 3.08ms', b'until 3080us', b'', b'unti 3080000ns', b'u 1s', b'br kind rto',
         b'brea flow 0', b'cl', b'break drop', b'r', b'break', b'', b'ru', b'back 3', b'', b'until 0.0000000001s', b'', b'c', b'ba 99'],
+    2: [b'breaks', b'br node 0', b'break drop', b'brea kind rto', b'break drop', b'breaks', b'delete 2', b'd 3', b'breaks', b'd 1', b'del 1',
+        b'breaks', b'help', b'h until', b'help h', b'he br', b'help breaks', b'clear'],
 }
 REFUSALS = {
     0: [(b'bak 1', b'B1'), (b'step 01', b'B3'), (b'break flow 1', b'B3'), (b'run 1', b'B2'), (b'break', b'B2')],
@@ -51,6 +53,8 @@ REFUSALS = {
         (b'until 1 s', b'B2'), (b'until 1.5', b'B3'), (b'u 1.0ns', b'B3'), (b'u 1.0000us', b'B3'), (b'u .5s', b'B3'), (b'u 5.s', b'B3'),
         (b'u 01s', b'B3'), (b'u 1000000.000000001s', b'B3'), (b'u 1S', b'B3'), (b'br n 0', b'B1'), (b'br kind', b'B2'),
         (b'break drop 1', b'B2'), (b'clear x', b'B2'), (b'step\t1', b'B1'), (b'quit now', b'B2')],
+    2: [(b'breaks 1', b'B2'), (b'delete', b'B2'), (b'd 1 2', b'B2'), (b'd 01', b'B3'), (b'd x', b'B3'), (b'd 0', b'B5'), (b'd 1', b'B5'),
+        (b'delete 99999999999999999999999', b'B5'), (b'help stepp', b'B1'), (b'h x y', b'B1'), (b'h s t', b'B2')],
 }
 
 

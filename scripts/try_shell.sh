@@ -541,14 +541,17 @@ else
   fail 'the answers of docs/DEBUGGING.md' 'are others'
 fi
 printf 'TCB\n---\n' > "$work/session"
-# At the prompt, where all commands are there: the same answers, and a prompt before each line.
+# At the prompt, where all commands are there: a prompt before each line, and the same answers whatever the options
+# say. What they are scripts/test_prompt.py knows.
 hunt=two_timeouts_in_a_row
+"$program" debug "$examples/$hunt.txt" < "$examples/$hunt.commands" > "$work/at_prompt" 2> "$work/note"
 for options in '' '--groups each --workers 2'; do
   "$program" debug "$examples/$hunt.txt" $options < "$examples/$hunt.commands" > "$work/out" 2> "$work/note"; status=$?
   sed 's/.*/(tcpsim) /' "$examples/$hunt.commands" | tr -d '\n' > "$work/expected"
   printf '(tcpsim) ' >> "$work/expected"
-  ended "the hunt $hunt at the prompt, debug $options" 0 "$work/expected" "$work/out.$hunt"
+  ended "the hunt $hunt at the prompt, debug $options" 0 "$work/expected" "$work/at_prompt"
 done
+if [ -s "$work/at_prompt" ]; then pass 'answers at the prompt'; else fail 'answers at the prompt' 'none came'; fi
 run debug "$work/none" < "$first"; told 'debug of a file that is not there' 3 "cannot read $work/none"
 "$program" debug < "$work/session" > "$work/out" 2> "$work/note"; status=$?
 told 'debug of an image' 1 'refused E2 line 1'

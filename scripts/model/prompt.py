@@ -5,17 +5,35 @@ The grammar was made in steps. A session of fewer than all `STEPS` stands for a 
 none reads lines as a session whose commands are all there (`debugger.obey`).
 
 1. Names cut short, counts left out, times with units, the last move again by an empty line.
+2. Breakpoints by their numbers, and help.
 """
 import re
 
 from debugger import MOST, Debugger, breakpoint_of, number_to, obey, set_breakpoint, words_in, words_wanted
 from scenario import Refused
+from text import NUMBER
 
-STEPS = 1
+STEPS = 2
 PROMPT = '(tcpsim) '
 MOST_LINE = 65_536      # bytes
 # The names that a first word can begin, the first of them first, and the step that each came with.
-NAMES = {b'step': 1, b'back': 1, b'break': 1, b'run': 1, b'until': 1, b'state': 1, b'clear': 1, b'quit': 1}
+NAMES = {b'step': 1, b'back': 1, b'break': 1, b'breaks': 2, b'run': 1, b'until': 1, b'state': 1, b'delete': 2, b'clear': 1,
+         b'help': 2, b'quit': 1}
+# Of each name in the order of `help`: how it is used, what it does, and an example.
+HELP = {
+    b'step': ('step [K]', 'run the next K events (1)', 'step 10'),
+    b'back': ('back [K]', 'take the last K events back (1)', 'back 10'),
+    b'run': ('run', 'run until a breakpoint matches, or to the end', 'run'),
+    b'until': ('until T', 'run all events before the moment T, as 1.5s, 20ms or 10000ns', 'until 20ms'),
+    b'state': ('state', 'show the state', 'state'),
+    b'break': ('break COND', 'stop where COND matches: node N, flow F, kind K, drop', 'break kind rto'),
+    b'breaks': ('breaks', 'list the breakpoints', 'breaks'),
+    b'delete': ('delete I', 'take breakpoint I away', 'delete 1'),
+    b'clear': ('clear', 'take all breakpoints away', 'clear'),
+    b'help': ('help [NAME]', 'show this, or how NAME is used', 'help until'),
+    b'quit': ('quit', 'end the session', 'quit'),
+}
+LAST_OF_HELP = '(an empty line does the last move again)\n'
 PLACES = {b'ns': 0, b'us': 3, b'ms': 6, b's': 9}     # of a time's unit: how many digits a nanosecond is behind it
 TIME = re.compile(rb'(0|[1-9][0-9]*)(?:(?:\.([0-9]+))?(ns|us|ms|s))?')
 
@@ -43,6 +61,17 @@ def count_in(words, most, default):
     """The one number that may stand behind a name."""
     at_most(words, 1)
     return number_to(most, words[0]) if words else default
+
+
+def words_of(breakpoint):
+    """A breakpoint's words behind `break`."""
+    sort, value = breakpoint
+    return sort.decode() + ('' if value is None else f' {value}')
+
+
+def usage(name):
+    used, what, _ = HELP[name]
+    return f'{used:12} {what}\n'
 
 
 class Prompt:
@@ -118,8 +147,35 @@ class Prompt:
         return breakpoint_of(words, self.debugger.scenario)
 
     def on_break(self, words):
-        set_breakpoint(self.debugger, self.breakpoint(words))
-        return f'break {len(self.debugger.breaks)}\n'
+        new = self.breakpoint(words)
+        set_breakpoint(self.debugger, new)
+        if self.steps < 2:
+            return f'break {len(self.debugger.breaks)}\n'
+        return self.named(self.debugger.breaks.index(new))
+
+    def named(self, place):
+        """The line of a breakpoint, by its place from 0."""
+        return f'break {place + 1}: {words_of(self.debugger.breaks[place])}\n'
+
+    def on_breaks(self, words):
+        at_most(words, 0)
+        return ''.join(map(self.named, range(len(self.debugger.breaks)))) or 'no breakpoint\n'
+
+    def on_delete(self, words):
+        if len(words) != 1:
+            raise Refused('B2')
+        if not NUMBER.fullmatch(words[0]):
+            raise Refused('B3')
+        if len(words[0]) > 2 or not 1 <= int(words[0]) <= len(self.debugger.breaks):
+            raise Refused('B5')
+        return f'deleted {words[0].decode()}: {words_of(self.debugger.breaks.pop(int(words[0]) - 1))}\n'
+
+    def on_help(self, words):
+        if not words:
+            return ''.join(usage(name) for name in HELP if NAMES[name] <= self.steps) + LAST_OF_HELP
+        name = self.name_of(words[0])
+        at_most(words, 1)
+        return f'{usage(name)}{HELP[name][2]}\n'
 
 
 def typed(scenario, lines, steps=STEPS):

@@ -1,6 +1,6 @@
 """Random lines that are typed at a prompt: valid ones, names cut short, times in each unit, refused ones, empty
 lines, long ones, and spaces of all kinds."""
-from debugger import KINDS, MOST
+from debugger import KINDS, MOST, MOST_BREAKS
 from prompt import MOST_LINE, NAMES, PLACES
 
 # Numbers and times of a wrong form or out of range, and some at a bound.
@@ -66,6 +66,11 @@ def words_behind(pick, name, scenario, moments):
         return [time(pick, moments, scenario.end)]
     if name == b'break':
         return condition(pick, scenario)
+    if name == b'delete':
+        return [number(pick, 0, 1, 1, 1, 2, 2, 3, 5, 64, 65, 100)]
+    if name == b'help':
+        return pick.choice(([], [cut_short(pick, pick.choice(list(NAMES)))], [cut_short(pick, pick.choice(list(NAMES)))],
+                            [pick.choice(NO_COMMANDS[:-3])]))
     return []
 
 
@@ -132,9 +137,12 @@ def many_breaks(pick, scenario):
 
 def any_session(pick, scenario, moments, steps):
     """The bytes that are typed."""
-    lines = [any_line(pick, scenario, moments, steps) for _ in range(pick.choice((0, 1, 2, 5, 10, 20, 40, 40)))]
-    if pick.random() < 0.1:
-        many = many_breaks(pick, scenario)
+    count = 300 if pick.random() < 0.01 else pick.choice((0, 1, 2, 5, 10, 20, 40, 40))
+    lines = [any_line(pick, scenario, moments, steps) for _ in range(count)]
+    many = many_breaks(pick, scenario)
+    if pick.random() < (0.5 if len(many) > MOST_BREAKS else 0.05):
         lines[:0] = many
         lines[len(many) // 2:len(many) // 2] = [any_line(pick, scenario, moments, steps) for _ in range(5)]
+        if steps >= 2:
+            lines += [b'breaks'] + [b'delete %d' % pick.randint(1, len(many)) for _ in range(5)] + [b'breaks', pick.choice(many)]
     return b'\n'.join(lines) + pick.choice((b'', b'\n'))

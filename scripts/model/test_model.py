@@ -822,6 +822,41 @@ class Prompts(Case):
             self.assertEqual(self.where('s', line, 's'), [1])
         self.assertEqual(self.typed(ONE_SEGMENT), ('', []))
 
+    def test_breakpoints_by_number(self):
+        self.assertEqual(self.typed(ONE_SEGMENT, 'breaks', 'br node 1', 'break flow 0', 'break kind ack', 'break drop', 'br flow 0',
+                                    'd 2', 'breaks', 'd 3', 'del 1', 'breaks', 'br node 1', 'clear', 'breaks')[0],
+                         'no breakpoint\nbreak 1: node 1\nbreak 2: flow 0\nbreak 3: kind ack\nbreak 4: drop\nbreak 2: flow 0\n'
+                         'deleted 2: flow 0\nbreak 1: node 1\nbreak 2: kind ack\nbreak 3: drop\ndeleted 3: drop\n'
+                         'deleted 1: node 1\nbreak 1: kind ack\nbreak 2: node 1\nclear\nno breakpoint\n')
+        self.refuses('B2', 'breaks 1', 'd', 'd 1 1', 'help s t')
+        self.refuses('B3', 'd 01', 'd -1', 'd node')
+        self.refuses('B5', 'd 0', 'd 1', 'd 18446744073709551616', 'd ' + '9' * 5000)
+        self.refuses('B1', 'help x', 'help stepp', 'help x y')
+
+    def test_help(self):
+        out, notes = self.typed(ONE_SEGMENT, 'help', steps=2)
+        self.assertEqual((out.splitlines(), notes), ([
+            'step [K]     run the next K events (1)',
+            'back [K]     take the last K events back (1)',
+            'run          run until a breakpoint matches, or to the end',
+            'until T      run all events before the moment T, as 1.5s, 20ms or 10000ns',
+            'state        show the state',
+            'break COND   stop where COND matches: node N, flow F, kind K, drop',
+            'breaks       list the breakpoints',
+            'delete I     take breakpoint I away',
+            'clear        take all breakpoints away',
+            'help [NAME]  show this, or how NAME is used',
+            'quit         end the session',
+            '(an empty line does the last move again)'], []))
+        for word in ('u', 'unt', 'until'):
+            self.assertEqual(self.typed(ONE_SEGMENT, f'help {word}')[0].splitlines(),
+                             ['until T      run all events before the moment T, as 1.5s, 20ms or 10000ns', 'until 20ms'])
+        self.assertTrue(self.typed(ONE_SEGMENT, 'h breaks')[0].startswith('breaks '))
+        # Each example is a line that is not refused, but for what is not there.
+        for name, (used, _, example) in prompt.HELP.items():
+            self.assertTrue(example.encode().startswith(name))
+            self.assertIn(self.typed(ONE_SEGMENT, example)[1], ([], ['refused', 'B5']))
+
 
 if __name__ == '__main__':
     unittest.main()
