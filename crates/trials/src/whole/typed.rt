@@ -10,18 +10,7 @@ use std::test::Fail;
 fn names_are_cut_short(rt: HostRuntime) -> Result<(), Fail> {
     let lines = Typist::new(
         &[
-            "",
-            "u 2.08ms",
-            "bak",
-            "u 1.5",
-            "b 2",
-            "step 1 2",
-            "",
-            "u 1.0ns",
-            "q x",
-            "r",
-            "q",
-            "r",
+            "", "u 2.08ms", "bak", "u 1.5", "b 2", "step 1 2", "", "u 1.0ns", "q x", "r", "q", "r",
         ],
         false,
     );
