@@ -1,17 +1,31 @@
 //! How long packets wait at a link before they begin to be sent.
-ghost use Rattle.std.specs.Prelude.{◌≡◌, ◌-◌, ◌<◌, ◌≤◌, ◌^◌, ℕ, Some, IfSome};
+ghost use Rattle.std.specs.Prelude.{◌≡◌, ◌-◌, ◌<◌, ◌≤◌, ◌^◌, ℕ, length, Some, IfSome};
 ghost use Rattle.sim_time.specs.Moment.{IsMoment};
 ghost use Rattle.sim_time.specs.declared.key.Key.{Key};
+ghost use Rattle.aqm.specs.Queue.{taken_from};
 ghost use Rattle.node_core.specs.declared.event.Event.{Event};
 ghost use Rattle.node_core.specs.Part.{link_at};
 ghost use Rattle.table_run.specs.State.{due};
 ghost use Rattle.net_machine.specs.Nodes.{node_at};
 ghost use Rattle.figures.specs.Links.{port_at, wait_of_given};
 
+use aqm::Queue;
 use net_machine::Net;
 use node_core::{Alarm, Node};
 use port::Port;
 use sim_time::{Key, Time};
+
+// How many packets a queue drops where it is taken from at `now`: none where it drops only what comes.
+#[inline(always)]
+fn drops_of(queue: &Queue, now: Time) -> usize
+    requires { IsMoment now }
+    ensures value { result ≡ length (taken_from queue.now now).dropped }
+{
+    match queue {
+        Queue::DropTail(_) => 0,
+        Queue::Codel(_) => queue.drops_at(now),
+    }
+}
 
 // For how long the packet has waited that is given where a link takes from its queue, if one is.
 fn wait_of(port: &Port, now: Time) -> Option<Time>
@@ -20,7 +34,7 @@ fn wait_of(port: &Port, now: Time) -> Option<Time>
     ensures most { IfSome result (λ wait. wait ≤ now) }
 {
     let queue = port.queue();
-    let drops = queue.drops_at(now);
+    let drops = drops_of(queue, now);
     match queue.packets().nth(drops) {
         Some((_, entered)) => Some(now.saturating_sub(entered)),
         None => None,

@@ -10,11 +10,11 @@ use Rattle.figures.proofs.waits.wait_of.Goals as goal
 pub returns-in-Some-clause-value : goal.returns-in-Some-clause-value
 returns-in-Some-clause-value c =
     ap Some c.saturating_sub.ensures ∙ ap (option_map {U = ℕ} (λ (cell : Stamped). c.args.now - cell.1)) (sym c.in-Some.is)
-    ∙ wait_is c.args.port.now c.args.now c.drops_at-drops.result c.packets.result c.nth.result c.nth.new.self (c.packets.ensures.rest ∙ ap waiting_in c.queue-queue.ensures)
-    (c.drops_at-drops.ensures.value ∙ ap (λ (q : Queue). length (taken_from q c.args.now).dropped) c.queue-queue.ensures) c.nth.ensures.ran
+    ∙ wait_is c.args.port.now c.args.now c.drops_of-drops.result c.packets.result c.nth.result c.nth.new.self (c.packets.ensures.rest ∙ ap waiting_in c.queue-queue.ensures)
+    (c.drops_of-drops.ensures.value ∙ ap (λ (q : Queue). length (taken_from q c.args.now).dropped) c.queue-queue.ensures) c.nth.ensures.ran
 
 pub returns-in-None-clause-value : goal.returns-in-None-clause-value
 returns-in-None-clause-value c =
     ap (option_map {U = ℕ} (λ (cell : Stamped). c.args.now - cell.1)) (sym c.in-None.is)
-    ∙ wait_is c.args.port.now c.args.now c.drops_at-drops.result c.packets.result c.nth.result c.nth.new.self (c.packets.ensures.rest ∙ ap waiting_in c.queue-queue.ensures)
-    (c.drops_at-drops.ensures.value ∙ ap (λ (q : Queue). length (taken_from q c.args.now).dropped) c.queue-queue.ensures) c.nth.ensures.ran
+    ∙ wait_is c.args.port.now c.args.now c.drops_of-drops.result c.packets.result c.nth.result c.nth.new.self (c.packets.ensures.rest ∙ ap waiting_in c.queue-queue.ensures)
+    (c.drops_of-drops.ensures.value ∙ ap (λ (q : Queue). length (taken_from q c.args.now).dropped) c.queue-queue.ensures) c.nth.ensures.ran
