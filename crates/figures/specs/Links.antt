@@ -69,6 +69,15 @@ bytes_by (Dropped reason packet) = 0
 abbrev pub bytes_in : List Act → ℕ
 bytes_in acts = sum_by bytes_by acts
 
+-- the only act is that a packet of so many bytes begins to be sent
+pub record IsSentAlone (acts : List Act) (bytes : ℕ) : Type 0 where
+  pub lost : dropped_in Lost acts ≡ 0
+  pub full : dropped_in Full acts ≡ 0
+  pub codel : dropped_in Codel acts ≡ 0
+  pub sent : tx_in acts ≡ 1
+  pub bytes_are : bytes_in acts ≡ bytes
+  pub most : bytes ≤ 9040
+
 abbrev pub dropped_of : DropReason → ℕ → ℕ → List Moment → ℕ
 dropped_of reason node index ms = sum_by (λ m. dropped_in reason (acts_at node index m)) ms
 
@@ -171,6 +180,23 @@ pub record AreOfLink (ms : List Moment) (s : State) (node index : ℕ) (f : Link
   pub longest : f.longest ≡ longest_of node index ms s
   pub waits : IsTallyOf (waits_of node index ms) f.waits
   pub turns : f.turns ≤ length ms
+
+-- an event at its node with these acts at the link is counted, and no time
+pub record IsCountedOf (f : LinkFigures) (acts : List Act) (g : LinkFigures) : Type 0 where
+  pub lost : g.lost ≡ f.lost + dropped_in Lost acts
+  pub full : g.full ≡ f.full + dropped_in Full acts
+  pub codel : g.codel ≡ f.codel + dropped_in Codel acts
+  pub sent : g.sent ≡ f.sent + tx_in acts
+  pub bytes : g.bytes ≡ f.bytes + bytes_in acts
+  pub turns : g.turns ≡ f.turns + 1
+  pub offered : g.offered ≡ f.offered
+  pub waiting : g.waiting ≡ f.waiting
+  pub busy : g.busy ≡ f.busy
+  pub since : g.since ≡ f.since
+  pub waited : g.waited ≡ f.waited
+  pub busy_for : g.busy_for ≡ f.busy_for
+  pub longest : g.longest ≡ f.longest
+  pub waits : g.waits ≡ f.waits
 
 -- what a link's figures are after an event at its node; where the event frees a link, the packet that is sent has waited so long
 pub record IsLinkAfter (f : LinkFigures) (port : PortState) (line : TraceLine) (given : Option ℕ) (g : LinkFigures) : Type 0 where

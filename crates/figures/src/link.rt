@@ -2,8 +2,8 @@
 ghost use Rattle.std.specs.Prelude.{◌≡◌, ◌+◌, ◌-◌, ◌*◌, ◌<◌, ◌≤◌, ◌^◌, ◌==◌, not, IfOk, IfSome, if◌then◌else◌};
 
 use crate::tally::Tally;
-use crate::told::{told_at, wait_in};
-use node_core::Line;
+use crate::told::{is_at, sent_alone, told_by, wait_in};
+use node_core::{Act, Line};
 use port::Port;
 use sim_time::Time;
 use std::alloc::{AllocError, Global};
@@ -69,7 +69,7 @@ fn area(waiting: usize, passed: Time) -> u128
 impl LinkFigures {
     ghost use Rattle.sim_time.specs.Moment.{IsMoment};
     ghost use Rattle.node_core.specs.TraceLine.{shown};
-    ghost use Rattle.figures.specs.Links.{IsLinkBegun, IsLinkAfter, IsLinkAfterIf};
+    ghost use Rattle.figures.specs.Links.{acts_between, tx_in, IsCountedOf, IsLinkBegun, IsLinkAfter, IsLinkAfterIf};
 
     /// Nothing is counted yet of a link.
     pub fn new(alloc: Global, port: &Port) -> Result<LinkFigures, AllocError>
@@ -93,6 +93,45 @@ impl LinkFigures {
         })
     }
 
+    // One more event was run at its node, with these acts at it; answers how many packets began to be sent.
+    #[inline(always)]
+    fn count(&mut self, acts: &[Act]) -> u64
+        requires few { self.old.turns < 1000000000000000 }
+        ensures sent { result ≡ tx_in acts.now }
+        ensures counted { IsCountedOf self.old acts.now self.new }
+    {
+        self.turns += 1;
+        if let Some(bytes) = sent_alone(acts) {
+            self.sent += 1;
+            self.bytes += u128::from(bytes);
+            return 1;
+        }
+        if acts.is_empty() {
+            return 0;
+        }
+        let told = told_by(acts);
+        self.lost += u128::from(told.lost);
+        self.full += u128::from(told.full);
+        self.codel += u128::from(told.codel);
+        self.sent += u128::from(told.sent);
+        self.bytes += told.bytes;
+        told.sent
+    }
+
+    // One more event was run at its node, of which the line tells.
+    #[inline(always)]
+    fn count_at(&mut self, port: &Port, line: &Line) -> u64
+        requires few { self.old.turns < 1000000000000000 }
+        ensures sent { result ≡ tx_in (acts_between self.old.offered port.now (shown line.now)) }
+        ensures counted { IsCountedOf self.old (acts_between self.old.offered port.now (shown line.now)) self.new }
+    {
+        if is_at(self.offered, port, line) {
+            self.count(line.acts.as_slice())
+        } else {
+            self.count(&[])
+        }
+    }
+
     /// An event was run at its node, of which the line tells, and it is `port` now. Where the event
     /// frees a link, the packet that is sent then has waited for `given`.
     pub fn after(&mut self, port: &Port, line: &Line, given: Option<Time>)
@@ -104,18 +143,12 @@ impl LinkFigures {
     {
         let now = line.key.time;
         let passed = now - self.since;
-        let told = told_at(self.offered, port, line);
-        let wait = wait_in(port, line, told.sent, given);
-        self.turns += 1;
+        let sent = self.count_at(port, line);
+        let wait = wait_in(port, line, sent, given);
         self.waits.note_some(wait);
         self.since = now;
         self.waited += area(self.waiting, passed);
         self.busy_for += u128::from(busy_for(self.busy, passed));
-        self.lost += u128::from(told.lost);
-        self.full += u128::from(told.full);
-        self.codel += u128::from(told.codel);
-        self.sent += u128::from(told.sent);
-        self.bytes += told.bytes;
         self.offered = port.offered();
         self.waiting = port.queue().len();
         self.busy = port.next_free().is_some();

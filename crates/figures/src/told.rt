@@ -1,8 +1,8 @@
 //! What an event's acts tell of a link.
-ghost use Rattle.std.specs.Prelude.{◌≡◌, ◌*◌, ◌≤◌, ◌<◌, ◌^◌, ℕ, IfSome, length};
+ghost use Rattle.std.specs.Prelude.{◌≡◌, ◌*◌, ◌≤◌, ◌<◌, ◌^◌, ℕ, [], if◌then◌else◌, IfSome, length};
 ghost use Rattle.port.specs.declared.acts.DropReason.TheVariants.{Lost, Full, Codel};
 ghost use Rattle.node_core.specs.TraceLine.{shown};
-ghost use Rattle.figures.specs.Links.{frees as frees_is, acts_between, dropped_in, tx_in, bytes_in, wait_in as wait_is};
+ghost use Rattle.figures.specs.Links.{frees as frees_is, acts_between, dropped_in, tx_in, bytes_in, wait_in as wait_is, IsSentAlone};
 
 use node_core::{Act, DropReason, Event, Line};
 use port::Port;
@@ -23,8 +23,8 @@ pub struct Told {
     pub bytes: u128,
 }
 
-// What some acts tell of the link that they are at.
-fn told_by(acts: &[Act]) -> Told
+/// What some acts tell of the link that they are at.
+pub fn told_by(acts: &[Act]) -> Told
     ensures lost { result.lost ≡ dropped_in Lost acts.now }
     ensures full { result.full ≡ dropped_in Full acts.now }
     ensures codel { result.codel ≡ dropped_in Codel acts.now }
@@ -63,19 +63,25 @@ fn frees(event: &Event, link: u16) -> bool
     }
 }
 
-/// What an event tells of a link of its node, of which so many packets were offered before.
-pub fn told_at(offered: u128, port: &Port, line: &Line) -> Told
-    ensures lost { result.lost ≡ dropped_in Lost (acts_between offered port.now (shown line.now)) }
-    ensures full { result.full ≡ dropped_in Full (acts_between offered port.now (shown line.now)) }
-    ensures codel { result.codel ≡ dropped_in Codel (acts_between offered port.now (shown line.now)) }
-    ensures sent { result.sent ≡ tx_in (acts_between offered port.now (shown line.now)) }
-    ensures bytes { result.bytes ≡ bytes_in (acts_between offered port.now (shown line.now)) }
-    ensures most { result.bytes ≤ 2 ^ 64 * 9040 }
+/// Whether an event frees a link of its node, of which so many packets were offered before, or offers packets to
+/// it: its acts are then all at that link.
+pub fn is_at(offered: u128, port: &Port, line: &Line) -> bool
+    ensures { acts_between offered port.now (shown line.now) ≡ (if result then (shown line.now).acts else []) }
 {
-    if frees(&line.event, port.link()) || port.offered() != offered {
-        told_by(line.acts.as_slice())
-    } else {
-        told_by(&[])
+    frees(&line.event, port.link()) || port.offered() != offered
+}
+
+/// The bytes of the packet that begins to be sent, where that is the only act.
+#[inline(always)]
+pub fn sent_alone(acts: &[Act]) -> Option<u64>
+    ensures { IfSome result (λ bytes. IsSentAlone acts.now bytes) }
+{
+    if acts.len() != 1 {
+        return None;
+    }
+    match &acts[0] {
+        Act::Tx(_, packet) => Some(u64::from(packet.bytes.get())),
+        Act::Dropped(_, _) => None,
     }
 }
 
