@@ -23,7 +23,7 @@ fn drops_of(queue: &Queue, now: Time) -> usize
 {
     match queue {
         Queue::DropTail(_) => 0,
-        Queue::Codel(_) => queue.drops_at(now),
+        Queue::Codel(codel) => codel.drops_at(now),
     }
 }
 
