@@ -32,7 +32,8 @@ with open({model!r} + '/tcpsim_model.py') as file:
 '''
 at_prompt = prompt.Prompt
 right = {name: getattr(place, name) for place, name in (
-    (at_prompt, 'answer'), (at_prompt, 'quits'), (at_prompt, 'on_break'), (prompt, 'time_in'))}
+    (at_prompt, 'answer'), (at_prompt, 'quits'), (at_prompt, 'on_break'), (at_prompt, 'where'), (prompt, 'time_in'),
+    (prompt, 'numbered'))}
 
 
 def empty_lines_do_nothing(self, line):
@@ -60,6 +61,11 @@ def the_last_number_is_answered(self, words):
     return self.named(len(self.debugger.breaks) - 1)
 
 
+def the_last_that_matches(self):
+    line = self.debugger.lines[-1]
+    return ([''] + [self.named(place) for place, it in enumerate(self.debugger.breaks) if debugger.matches(it, line)])[-1]
+
+
 # What is wrong in each program: since which step it can be, and what is changed.
 FAULTS = {
     'a long line is read': (1, prompt, 'MOST_LINE', 10**9),
@@ -74,6 +80,11 @@ FAULTS = {
     'one that is set answers the last number': (2, at_prompt, 'on_break', the_last_number_is_answered),
     'a line is missing in help': (2, prompt, 'LAST_OF_HELP', ''),
     'breaks is break': (2, prompt, 'NAMES', {b'breaks': 2, **prompt.NAMES}),
+    'eleven lines are shown': (3, prompt, 'MOST_SHOWN', 11),
+    'a thousand lines are too many': (3, prompt, 'MOST_LINES', 999),
+    'lines are shown in another order': (3, prompt, 'numbered', lambda *of: right['numbered'](*of)[::-1]),
+    'the end is not told': (3, at_prompt, 'where', lambda self: right['where'](self).replace(', the end', '')),
+    'the last that matches is told': (3, at_prompt, 'what_matched', the_last_that_matches),
     'a 64th breakpoint is refused': (1, debugger, 'MOST_BREAKS', 63),
 }
 

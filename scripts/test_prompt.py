@@ -46,6 +46,8 @@ LINES = {
         b'brea flow 0', b'cl', b'break drop', b'r', b'break', b'', b'ru', b'back 3', b'', b'until 0.0000000001s', b'', b'c', b'ba 99'],
     2: [b'breaks', b'br node 0', b'break drop', b'brea kind rto', b'break drop', b'breaks', b'delete 2', b'd 3', b'breaks', b'd 1', b'del 1',
         b'breaks', b'help', b'h until', b'help h', b'he br', b'help breaks', b'clear'],
+    3: [b'lines', b'b 99', b'l', b'lines 1000', b's', b'l', b's 10', b's 11', b'l 3', b'lines 0', b'back 10', b'back 11', b'b 0', b's 0',
+        b'br kind free', b'br flow 0', b'br node 1', b's 4', b'', b'r', b'b', b'u 4s', b'd 1', b'', b'r', b'', b'', b'state', b'l 1000'],
 }
 REFUSALS = {
     0: [(b'bak 1', b'B1'), (b'step 01', b'B3'), (b'break flow 1', b'B3'), (b'run 1', b'B2'), (b'break', b'B2')],
@@ -55,6 +57,7 @@ REFUSALS = {
         (b'break drop 1', b'B2'), (b'clear x', b'B2'), (b'step\t1', b'B1'), (b'quit now', b'B2')],
     2: [(b'breaks 1', b'B2'), (b'delete', b'B2'), (b'd 1 2', b'B2'), (b'd 01', b'B3'), (b'd x', b'B3'), (b'd 0', b'B5'), (b'd 1', b'B5'),
         (b'delete 99999999999999999999999', b'B5'), (b'help stepp', b'B1'), (b'h x y', b'B1'), (b'h s t', b'B2')],
+    3: [(b'lines 1 2', b'B2'), (b'l 1001', b'B3'), (b'l 01', b'B3'), (b'l x', b'B3')],
 }
 
 

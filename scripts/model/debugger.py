@@ -27,27 +27,35 @@ class Debugger:
     def __init__(self, scenario):
         self.scenario = scenario
         self.net = Network(scenario)
+        self.lines = []             # of all events up to the position
         self.breaks = []            # in the order in which they were set
 
+    def event(self):
+        """Runs the event that is due; answers its line, or None where none is."""
+        line = self.net.step()
+        if line is not None:
+            self.lines.append(line)
+        return line
+
     def step(self, count):
-        while count > 0 and self.net.step() is not None:
+        while count > 0 and self.event() is not None:
             count -= 1
 
     def back(self, count):
         target = max(self.net.position - count, 0)
-        self.net = Network(self.scenario)
+        self.net, self.lines = Network(self.scenario), []
         self.step(target)
 
     def run(self):
         """To the next position whose last line matches a breakpoint, else to the end."""
-        while (line := self.net.step()) is not None:
+        while (line := self.event()) is not None:
             if any(matches(b, line) for b in self.breaks):
                 return
 
     def until(self, time):
         """All events of a time below `time` (and below the end)."""
         while (event := self.net.due()) is not None and event[0] < time:
-            self.net.step()
+            self.event()
 
 
 def number_to(most, word):

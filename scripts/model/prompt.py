@@ -6,19 +6,23 @@ none reads lines as a session whose commands are all there (`debugger.obey`).
 
 1. Names cut short, counts left out, times with units, the last move again by an empty line.
 2. Breakpoints by their numbers, and help.
+3. A move answers the lines that it passed in the place of the dump; lines that were run before.
 """
 import re
 
-from debugger import MOST, Debugger, breakpoint_of, number_to, obey, set_breakpoint, words_in, words_wanted
+from debugger import MOST, Debugger, breakpoint_of, matches, number_to, obey, set_breakpoint, words_in, words_wanted
 from scenario import Refused
+from simulate import line_text
 from text import NUMBER
 
-STEPS = 2
+STEPS = 3
 PROMPT = '(tcpsim) '
 MOST_LINE = 65_536      # bytes
+MOST_SHOWN = 10         # lines that a move passed
+MOST_LINES = 1_000      # of `lines`
 # The names that a first word can begin, the first of them first, and the step that each came with.
-NAMES = {b'step': 1, b'back': 1, b'break': 1, b'breaks': 2, b'run': 1, b'until': 1, b'state': 1, b'delete': 2, b'clear': 1,
-         b'help': 2, b'quit': 1}
+NAMES = {b'step': 1, b'back': 1, b'break': 1, b'breaks': 2, b'run': 1, b'until': 1, b'state': 1, b'lines': 3, b'delete': 2,
+         b'clear': 1, b'help': 2, b'quit': 1}
 # Of each name in the order of `help`: how it is used, what it does, and an example.
 HELP = {
     b'step': ('step [K]', 'run the next K events (1)', 'step 10'),
@@ -30,6 +34,7 @@ HELP = {
     b'breaks': ('breaks', 'list the breakpoints', 'breaks'),
     b'delete': ('delete I', 'take breakpoint I away', 'delete 1'),
     b'clear': ('clear', 'take all breakpoints away', 'clear'),
+    b'lines': ('lines [K]', 'show the last K lines of the trace (10)', 'lines 20'),
     b'help': ('help [NAME]', 'show this, or how NAME is used', 'help until'),
     b'quit': ('quit', 'end the session', 'quit'),
 }
@@ -74,6 +79,16 @@ def usage(name):
     return f'{used:12} {what}\n'
 
 
+def numbered(lines, after, to):
+    """The texts of the lines that follow a position, up to another."""
+    return [line_text(n, lines[n - 1]) for n in range(after + 1, to + 1)]
+
+
+def shown(passed):
+    more = len(passed) - MOST_SHOWN
+    return ''.join(passed[:MOST_SHOWN]) + (f'.. {more} more\n' if more > 0 else '')
+
+
 class Prompt:
     def __init__(self, scenario, steps=STEPS):
         self.debugger, self.steps = Debugger(scenario), steps
@@ -107,8 +122,26 @@ class Prompt:
 
     def move(self, name, *numbers):
         self.last = name, *numbers
+        before, position = self.debugger.lines, self.debugger.net.position
         getattr(self.debugger, name)(*numbers)
-        return self.debugger.net.dump()
+        if self.steps < 3:
+            return self.debugger.net.dump()
+        now = self.debugger.net.position
+        passed = numbered(self.debugger.lines, position, now) if now > position else numbered(before, now, position)[::-1]
+        return shown(passed) + self.where() + (self.what_matched() if now > position else '')
+
+    def where(self):
+        """The line that says where in the run the session is."""
+        net = self.debugger.net
+        time = self.debugger.lines[-1].time if net.position else 0
+        return f'at {net.position} of the run, time {time} ns{"" if net.due() else ", the end"}\n'
+
+    def what_matched(self):
+        """The line of the first breakpoint that matches the last line, if one does."""
+        for place, breakpoint in enumerate(self.debugger.breaks):
+            if matches(breakpoint, self.debugger.lines[-1]):
+                return self.named(place)
+        return ''
 
     # For each name: what its line answers, of the words behind the name.
 
@@ -130,6 +163,10 @@ class Prompt:
     def on_state(self, words):
         at_most(words, 0)
         return self.debugger.net.dump()
+
+    def on_lines(self, words):
+        now = self.debugger.net.position
+        return ''.join(numbered(self.debugger.lines, max(now - count_in(words, MOST_LINES, 10), 0), now))
 
     def on_clear(self, words):
         at_most(words, 0)

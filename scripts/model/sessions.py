@@ -66,6 +66,8 @@ def words_behind(pick, name, scenario, moments):
         return [time(pick, moments, scenario.end)]
     if name == b'break':
         return condition(pick, scenario)
+    if name == b'lines':
+        return [number(pick, 0, 1, 3, 9, 10, 11, 40, 999, 1000, 1001)] if pick.random() < 0.6 else []
     if name == b'delete':
         return [number(pick, 0, 1, 1, 1, 2, 2, 3, 5, 64, 65, 100)]
     if name == b'help':

@@ -13,6 +13,7 @@ sys.path.insert(0, HERE)
 import figures  # noqa: E402
 import image  # noqa: E402
 import prompt  # noqa: E402
+import simulate  # noqa: E402
 import tcpsim_model  # noqa: E402
 from queues import COUNT_STOPS, Codel, gap  # noqa: E402
 from receiver import Receiver  # noqa: E402
@@ -832,6 +833,41 @@ class Prompts(Case):
         self.refuses('B3', 'd 01', 'd -1', 'd node')
         self.refuses('B5', 'd 0', 'd 1', 'd 18446744073709551616', 'd ' + '9' * 5000)
         self.refuses('B1', 'help x', 'help stepp', 'help x y')
+
+    def test_moves_answer_the_lines_that_they_passed(self):
+        lines = ONE_SEGMENT_TRACE.splitlines(keepends=True)
+        given = ()
+        for line, answer in (
+                ('s', lines[0] + 'at 1 of the run, time 0 ns\n'),
+                ('s 2', ''.join(lines[1:3]) + 'at 3 of the run, time 2040000 ns\n'),
+                ('s 0', 'at 3 of the run, time 2040000 ns\n'),
+                ('b 2', lines[2] + lines[1] + 'at 1 of the run, time 0 ns\n'),
+                ('b', lines[0] + 'at 0 of the run, time 0 ns\n'), ('', 'at 0 of the run, time 0 ns\n'), ('l', ''),
+                ('u 2.04ms', ''.join(lines[:2]) + 'at 2 of the run, time 1040000 ns\n'),
+                ('br node 1', 'break 1: node 1\n'), ('br kind free', 'break 2: kind free\n'),
+                ('r', lines[2] + 'at 3 of the run, time 2040000 ns\nbreak 1: node 1\n'),
+                ('s', lines[3] + 'at 4 of the run, time 2080000 ns\nbreak 1: node 1\n'),
+                ('s 0', 'at 4 of the run, time 2080000 ns\n'), ('d 1', 'deleted 1: node 1\n'),
+                ('b', lines[3] + 'at 3 of the run, time 2040000 ns\n'),
+                ('u 1s', ''.join(lines[3:5]) + 'at 5 of the run, time 3080000 ns, the end\n'),
+                ('r', 'at 5 of the run, time 3080000 ns, the end\n'), ('l 2', ''.join(lines[3:5])), ('l', ''.join(lines[:5])),
+                ('l 0', ''), ('b 2', lines[4] + lines[3] + 'at 3 of the run, time 2040000 ns\n'),
+                ('s', lines[3] + 'at 4 of the run, time 2080000 ns\nbreak 1: kind free\n')):
+            before, given = self.typed(ONE_SEGMENT, *given)[0], (*given, line)
+            self.assertEqual(self.typed(ONE_SEGMENT, *given)[0], before + answer, line)
+        self.refuses('B2', 'lines 1 1')
+        self.refuses('B3', 'l 1001', 'lines -1')
+
+    def test_at_most_ten_lines_are_shown(self):
+        with open(os.path.join(HERE, '..', '..', 'examples', 'two_timeouts_in_a_row.txt'), encoding='ascii') as file:
+            text = file.read()
+        lines = list(simulate.trace(assemble(text.encode())))
+        for count, more in ((10, ''), (11, '.. 1 more\n'), (25, '.. 15 more\n')):
+            forwards, back = self.typed(text, f's {count}')[0], self.typed(text, f's {count}', f'b {count}')[0]
+            self.assertTrue(forwards.startswith(''.join(lines[:10]) + more + f'at {count} of the run'))
+            self.assertEqual(back, forwards + ''.join(lines[:count][::-1][:10]) + more + 'at 0 of the run, time 0 ns\n')
+        self.assertEqual(self.typed(text, 's 20', 'l 4')[0].splitlines(True)[-4:], lines[16:20])
+        self.assertEqual(self.typed(text, 's 20', 'l')[0].splitlines(True)[-10:], lines[10:20])
 
     def test_help(self):
         out, notes = self.typed(ONE_SEGMENT, 'help', steps=2)
