@@ -32,7 +32,8 @@ with open({model!r} + '/tcpsim_model.py') as file:
 '''
 at_prompt = prompt.Prompt
 right = {name: getattr(place, name) for place, name in (
-    (at_prompt, 'answer'), (at_prompt, 'quits'), (at_prompt, 'on_break'), (at_prompt, 'where'), (prompt, 'time_in'),
+    (at_prompt, 'answer'), (at_prompt, 'quits'), (at_prompt, 'on_break'), (at_prompt, 'where'), (at_prompt, 'of_node'),
+    (at_prompt, 'of_flow'), (prompt, 'time_in'),
     (prompt, 'numbered'))}
 
 
@@ -66,6 +67,10 @@ def the_last_that_matches(self):
     return ([''] + [self.named(place) for place, it in enumerate(self.debugger.breaks) if debugger.matches(it, line)])[-1]
 
 
+def only_ends_and_events(self, flow):
+    return ''.join(line for line in right['of_flow'](self, flow).splitlines(keepends=True) if not line.startswith('link'))
+
+
 # What is wrong in each program: since which step it can be, and what is changed.
 FAULTS = {
     'a long line is read': (1, prompt, 'MOST_LINE', 10**9),
@@ -85,6 +90,8 @@ FAULTS = {
     'lines are shown in another order': (3, prompt, 'numbered', lambda *of: right['numbered'](*of)[::-1]),
     'the end is not told': (3, at_prompt, 'where', lambda self: right['where'](self).replace(', the end', '')),
     'the last that matches is told': (3, at_prompt, 'what_matched', the_last_that_matches),
+    'a node has its neighbour\'s line': (4, at_prompt, 'of_node', lambda self, node: right['of_node'](self, max(node - 1, 0))),
+    'packets that wait are left out': (4, at_prompt, 'of_flow', only_ends_and_events),
     'a 64th breakpoint is refused': (1, debugger, 'MOST_BREAKS', 63),
 }
 

@@ -48,6 +48,8 @@ LINES = {
         b'breaks', b'help', b'h until', b'help h', b'he br', b'help breaks', b'clear'],
     3: [b'lines', b'b 99', b'l', b'lines 1000', b's', b'l', b's 10', b's 11', b'l 3', b'lines 0', b'back 10', b'back 11', b'b 0', b's 0',
         b'br kind free', b'br flow 0', b'br node 1', b's 4', b'', b'r', b'b', b'u 4s', b'd 1', b'', b'r', b'', b'', b'state', b'l 1000'],
+    4: [b'back 99', b'state flow 0', b'step', b'state', b'state node 0', b'sta node 1', b'state link 0', b'sta link 1', b'state flow 0', b'',
+        b's 20', b'sta flow 0', b'u 9s', b'sta flow 0'],
 }
 REFUSALS = {
     0: [(b'bak 1', b'B1'), (b'step 01', b'B3'), (b'break flow 1', b'B3'), (b'run 1', b'B2'), (b'break', b'B2')],
@@ -58,6 +60,8 @@ REFUSALS = {
     2: [(b'breaks 1', b'B2'), (b'delete', b'B2'), (b'd 1 2', b'B2'), (b'd 01', b'B3'), (b'd x', b'B3'), (b'd 0', b'B5'), (b'd 1', b'B5'),
         (b'delete 99999999999999999999999', b'B5'), (b'help stepp', b'B1'), (b'h x y', b'B1'), (b'h s t', b'B2')],
     3: [(b'lines 1 2', b'B2'), (b'l 1001', b'B3'), (b'l 01', b'B3'), (b'l x', b'B3')],
+    4: [(b'state 1', b'B1'), (b'state kind rto', b'B1'), (b'state n 1', b'B1'), (b'state flows 1 2', b'B1'), (b'state node', b'B2'),
+        (b'state link 0 1', b'B2'), (b'state node 2', b'B3'), (b'state link 2', b'B3'), (b'state flow 1', b'B3'), (b'state flow 00', b'B3')],
 }
 
 

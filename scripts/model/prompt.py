@@ -7,6 +7,7 @@ none reads lines as a session whose commands are all there (`debugger.obey`).
 1. Names cut short, counts left out, times with units, the last move again by an empty line.
 2. Breakpoints by their numbers, and help.
 3. A move answers the lines that it passed in the place of the dump; lines that were run before.
+4. Parts of a state: of a node, of a link, of a flow.
 """
 import re
 
@@ -15,7 +16,7 @@ from scenario import Refused
 from simulate import line_text
 from text import NUMBER
 
-STEPS = 3
+STEPS = 4
 PROMPT = '(tcpsim) '
 MOST_LINE = 65_536      # bytes
 MOST_SHOWN = 10         # lines that a move passed
@@ -161,8 +162,31 @@ class Prompt:
         return self.move('until', time_in(words[0]))
 
     def on_state(self, words):
-        at_most(words, 0)
-        return self.debugger.net.dump()
+        if not words or self.steps < 4:
+            at_most(words, 0)
+            return self.debugger.net.dump()
+        parts, scenario = {b'node': self.of_node, b'link': self.of_link, b'flow': self.of_flow}, self.debugger.scenario
+        if words[0] not in parts:
+            raise Refused('B1')
+        if len(words) != 2:
+            raise Refused('B2')
+        count = {b'node': len(scenario.nodes), b'link': len(scenario.links), b'flow': len(scenario.flows)}[words[0]]
+        return parts[words[0]](number_to(count - 1, words[1]))
+
+    def of_node(self, node):
+        return self.debugger.net.dump_node(node)
+
+    def of_link(self, link):
+        return self.debugger.net.dump_link(self.debugger.net.ports[link])
+
+    def of_flow(self, flow):
+        """The lines of the dump of its ends, of the links where packets of it wait, and of its pending events, which
+        are its alarms and its packets under way."""
+        net, ends = self.debugger.net, self.debugger.scenario.flows[flow]
+        lines = [net.dump_node(node) for node in sorted((ends.sender, ends.receiver))]
+        lines += [net.dump_link(port) for port in net.ports if any(packet[0] == flow for packet, _ in port.queue.entries)]
+        lines += [line for of, line in net.dump_events() if of == flow]
+        return ''.join(lines)
 
     def on_lines(self, words):
         now = self.debugger.net.position

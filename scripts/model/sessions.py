@@ -58,6 +58,13 @@ def condition(pick, scenario):
     return words
 
 
+def part(pick, scenario):
+    """The words of a part of a state, most of them right."""
+    counts = {b'node': len(scenario.nodes), b'link': len(scenario.links), b'flow': len(scenario.flows)}
+    sort = pick.choice((b'node', b'link', b'flow', b'flow')) if pick.random() < 0.92 else pick.choice((b'nod', b'l', b'flows', b'kind', b'drop'))
+    return [sort, number(pick, *(pick.randrange(counts.get(sort, 2)) for _ in range(4)), counts.get(sort, 1))]
+
+
 def words_behind(pick, name, scenario, moments):
     """Words that go with a name."""
     if name in (b'step', b'back'):
@@ -66,6 +73,8 @@ def words_behind(pick, name, scenario, moments):
         return [time(pick, moments, scenario.end)]
     if name == b'break':
         return condition(pick, scenario)
+    if name == b'state' and pick.random() < 0.65:
+        return part(pick, scenario)
     if name == b'lines':
         return [number(pick, 0, 1, 3, 9, 10, 11, 40, 999, 1000, 1001)] if pick.random() < 0.6 else []
     if name == b'delete':

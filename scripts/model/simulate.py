@@ -196,16 +196,20 @@ class Network:
         return (f'link {port.number} offered={port.offered} sent={port.sent} queue={entries or "-"}'
                 f'{port.queue.dump()}\n')
 
+    def dump_events(self):
+        """The pending events in the order of their keys: of each its flow (None for `free`) and its line."""
+        last = None
+        for event in sorted(self.pending, key=lambda event: event[:4]):
+            if not self.is_stale(event) and event[:4] != last:
+                kind, names, flow = self.naming(event)
+                yield flow, f'event {event[0]} {event[1]} {event[2]} {event[3]} {kind} {names}\n'
+                last = event[:4]
+
     def dump(self):
         out = [f'at {self.position}\n']
         out += [self.dump_node(node) for node in range(len(self.kinds))]
         out += [self.dump_link(port) for port in self.ports]
-        last = None
-        for event in sorted(self.pending, key=lambda event: event[:4]):
-            if not self.is_stale(event) and event[:4] != last:
-                kind, names, _ = self.naming(event)
-                out.append(f'event {event[0]} {event[1]} {event[2]} {event[3]} {kind} {names}\n')
-                last = event[:4]
+        out += [line for _, line in self.dump_events()]
         return ''.join(out)
 
 

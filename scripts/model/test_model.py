@@ -800,7 +800,7 @@ class Prompts(Case):
         self.refuses('B1', 'x', 'steps', 'stepp 1', 'S', 'w', 'break no 1', 'br k rto', 'ste\tp', '#')
 
     def test_words(self):
-        self.refuses('B2', 'step 1 2', 'back 1 1', 'run 1', 'until', 'until 1 s', 'state x', 'clear 1', 'break', 'br drop 1',
+        self.refuses('B2', 'step 1 2', 'back 1 1', 'run 1', 'until', 'until 1 s', 'clear 1', 'break', 'br drop 1',
                      'quit now', 'q 1', 'x' * 65_537, ' ' * 65_537)
         self.refuses('B3', 'step 01', 'back -1', 'step 1000000000000001', 'break node 2', 'br kind tx')
         self.assertEqual(self.where('step 1000000000000000'), [5])
@@ -868,6 +868,22 @@ class Prompts(Case):
             self.assertEqual(back, forwards + ''.join(lines[:count][::-1][:10]) + more + 'at 0 of the run, time 0 ns\n')
         self.assertEqual(self.typed(text, 's 20', 'l 4')[0].splitlines(True)[-4:], lines[16:20])
         self.assertEqual(self.typed(text, 's 20', 'l')[0].splitlines(True)[-10:], lines[10:20])
+
+    def test_parts_of_a_state(self):
+        dump = self.typed(CODEL, 's', 'state')[0].splitlines(True)[2:]
+        self.assertEqual(''.join(dump), CODEL_DUMP)
+        for line, part in (('state node 0', dump[1:2]), ('sta node 1', dump[2:3]), ('state link 0', dump[3:4]), ('state link 1', dump[4:5]),
+                           ('state flow 0', [line for line in dump[1:] if 'free' not in line and 'link 1' not in line])):
+            self.assertEqual(self.typed(CODEL, 's', line)[0].splitlines(True)[2:], part)
+        for flow in ('0', '1'):
+            dump, part = (self.typed(EQUAL_TIMES, 's 3', line)[0].splitlines()[4:] for line in ('state', f'state flow {flow}'))
+            self.assertEqual([line for line in part if line.startswith('event')],
+                             [line for line in dump if line.startswith('event') and ' free ' not in line and line.split()[6] == flow])
+            self.assertEqual([line for line in part if line.startswith('node')],
+                             [line for line in dump if line.startswith('node') and line.split()[3:4] == [flow]])
+        self.refuses('B1', 'state 1', 'state kind rto', 'state no 0', 'state x y z')
+        self.refuses('B2', 'state node', 'state link 0 0')
+        self.refuses('B3', 'state node 2', 'state link 2', 'state flow 1', 'state flow 00', 'state node s')
 
     def test_help(self):
         out, notes = self.typed(ONE_SEGMENT, 'help', steps=2)
