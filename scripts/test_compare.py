@@ -71,6 +71,11 @@ def only_ends_and_events(self, flow):
     return ''.join(line for line in right['of_flow'](self, flow).splitlines(keepends=True) if not line.startswith('link'))
 
 
+def back_to_where_it_is(self):
+    stops = [n for n, line in enumerate(self.lines, 1) if any(debugger.matches(it, line) for it in self.breaks)]
+    self.back(self.net.position - (stops[-1] if stops else 0))
+
+
 # What is wrong in each program: since which step it can be, and what is changed.
 FAULTS = {
     'a long line is read': (1, prompt, 'MOST_LINE', 10**9),
@@ -92,6 +97,8 @@ FAULTS = {
     'the last that matches is told': (3, at_prompt, 'what_matched', the_last_that_matches),
     'a node has its neighbour\'s line': (4, at_prompt, 'of_node', lambda self, node: right['of_node'](self, max(node - 1, 0))),
     'packets that wait are left out': (4, at_prompt, 'of_flow', only_ends_and_events),
+    'r is reverse': (5, prompt, 'NAMES', {b'reverse': 5, **prompt.NAMES}),
+    'reverse stops where it is': (5, debugger.Debugger, 'reverse', back_to_where_it_is),
     'a 64th breakpoint is refused': (1, debugger, 'MOST_BREAKS', 63),
 }
 

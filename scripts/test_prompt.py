@@ -50,6 +50,8 @@ LINES = {
         b'br kind free', b'br flow 0', b'br node 1', b's 4', b'', b'r', b'b', b'u 4s', b'd 1', b'', b'r', b'', b'', b'state', b'l 1000'],
     4: [b'back 99', b'state flow 0', b'step', b'state', b'state node 0', b'sta node 1', b'state link 0', b'sta link 1', b'state flow 0', b'',
         b's 20', b'sta flow 0', b'u 9s', b'sta flow 0'],
+    5: [b'clear', b'reverse', b'', b'u 9s', b're', b'br kind rto', b'u 9s', b'rev', b'', b's', b'', b'', b'br drop', b'u 9s', b'reve', b'', b'', b'',
+        b'', b'r', b'', b're', b's 3', b'b', b're', b'', b'c'],
 }
 REFUSALS = {
     0: [(b'bak 1', b'B1'), (b'step 01', b'B3'), (b'break flow 1', b'B3'), (b'run 1', b'B2'), (b'break', b'B2')],
@@ -62,6 +64,7 @@ REFUSALS = {
     3: [(b'lines 1 2', b'B2'), (b'l 1001', b'B3'), (b'l 01', b'B3'), (b'l x', b'B3')],
     4: [(b'state 1', b'B1'), (b'state kind rto', b'B1'), (b'state n 1', b'B1'), (b'state flows 1 2', b'B1'), (b'state node', b'B2'),
         (b'state link 0 1', b'B2'), (b'state node 2', b'B3'), (b'state link 2', b'B3'), (b'state flow 1', b'B3'), (b'state flow 00', b'B3')],
+    5: [(b'reverse 1', b'B2'), (b'rev drop', b'B2'), (b'reverses', b'B1')],
 }
 
 

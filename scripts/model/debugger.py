@@ -52,6 +52,11 @@ class Debugger:
             if any(matches(b, line) for b in self.breaks):
                 return
 
+    def reverse(self):
+        """Back to the last position before this one whose line a breakpoint matches, else to the beginning."""
+        stops = [n for n, line in enumerate(self.lines[:-1], 1) if any(matches(b, line) for b in self.breaks)]
+        self.back(self.net.position - (stops[-1] if stops else 0))
+
     def until(self, time):
         """All events of a time below `time` (and below the end)."""
         while (event := self.net.due()) is not None and event[0] < time:

@@ -8,6 +8,7 @@ none reads lines as a session whose commands are all there (`debugger.obey`).
 2. Breakpoints by their numbers, and help.
 3. A move answers the lines that it passed in the place of the dump; lines that were run before.
 4. Parts of a state: of a node, of a link, of a flow.
+5. Back to where a breakpoint matches.
 """
 import re
 
@@ -16,19 +17,20 @@ from scenario import Refused
 from simulate import line_text
 from text import NUMBER
 
-STEPS = 4
+STEPS = 5
 PROMPT = '(tcpsim) '
 MOST_LINE = 65_536      # bytes
 MOST_SHOWN = 10         # lines that a move passed
 MOST_LINES = 1_000      # of `lines`
 # The names that a first word can begin, the first of them first, and the step that each came with.
-NAMES = {b'step': 1, b'back': 1, b'break': 1, b'breaks': 2, b'run': 1, b'until': 1, b'state': 1, b'lines': 3, b'delete': 2,
-         b'clear': 1, b'help': 2, b'quit': 1}
+NAMES = {b'step': 1, b'back': 1, b'break': 1, b'breaks': 2, b'run': 1, b'reverse': 5, b'until': 1, b'state': 1, b'lines': 3,
+         b'delete': 2, b'clear': 1, b'help': 2, b'quit': 1}
 # Of each name in the order of `help`: how it is used, what it does, and an example.
 HELP = {
     b'step': ('step [K]', 'run the next K events (1)', 'step 10'),
     b'back': ('back [K]', 'take the last K events back (1)', 'back 10'),
     b'run': ('run', 'run until a breakpoint matches, or to the end', 'run'),
+    b'reverse': ('reverse', 'go back until a breakpoint matches, or to the beginning', 'reverse'),
     b'until': ('until T', 'run all events before the moment T, as 1.5s, 20ms or 10000ns', 'until 20ms'),
     b'state': ('state', 'show the state', 'state'),
     b'break': ('break COND', 'stop where COND matches: node N, flow F, kind K, drop', 'break kind rto'),
@@ -129,7 +131,8 @@ class Prompt:
             return self.debugger.net.dump()
         now = self.debugger.net.position
         passed = numbered(self.debugger.lines, position, now) if now > position else numbered(before, now, position)[::-1]
-        return shown(passed) + self.where() + (self.what_matched() if now > position else '')
+        stops = now > position or name == 'reverse' and now > 0
+        return shown(passed) + self.where() + (self.what_matched() if stops else '')
 
     def where(self):
         """The line that says where in the run the session is."""
@@ -155,6 +158,10 @@ class Prompt:
     def on_run(self, words):
         at_most(words, 0)
         return self.move('run')
+
+    def on_reverse(self, words):
+        at_most(words, 0)
+        return self.move('reverse')
 
     def on_until(self, words):
         if len(words) != 1:

@@ -126,7 +126,7 @@ def any_line(pick, scenario, moments, steps):
         return pick.choice((b'', b'', b'', b' ', b'   '))
     if chance < 0.17:
         return pick.choice(NO_COMMANDS)
-    weights = {b'quit': 0.08, b'clear': 0.5, b'run': 2, b'step': 2, b'break': 2, b'until': 2}
+    weights = {b'quit': 0.08, b'clear': 0.5, b'run': 2, b'reverse': 2, b'step': 2, b'break': 2, b'until': 2}
     names = [name for name, step in NAMES.items() if step <= max(steps, 1) or pick.random() < 0.05]
     name = pick.choices(names, [weights.get(name, 1) for name in names])[0]
     words = [cut_short(pick, name) if steps else name, *words_behind(pick, name, scenario, moments)]

@@ -885,6 +885,21 @@ class Prompts(Case):
         self.refuses('B2', 'state node', 'state link 0 0')
         self.refuses('B3', 'state node 2', 'state link 2', 'state flow 1', 'state flow 00', 'state node s')
 
+    def test_reverse(self):
+        lines = ONE_SEGMENT_TRACE.splitlines(keepends=True)
+        start, given = 'at 0 of the run, time 0 ns\n', ()
+        for line, answer in (
+                ('re', start), ('u 1s', ''.join(lines[:5]) + 'at 5 of the run, time 3080000 ns, the end\n'),
+                ('reverse', ''.join(lines[4::-1]) + start), ('br kind free', 'break 1: kind free\n'), ('br node 1', 'break 2: node 1\n'),
+                ('u 1s', ''.join(lines[:5]) + 'at 5 of the run, time 3080000 ns, the end\n'),
+                ('rev', lines[4] + 'at 4 of the run, time 2080000 ns\nbreak 1: kind free\n'),
+                ('', lines[3] + 'at 3 of the run, time 2040000 ns\nbreak 2: node 1\n'),
+                ('', lines[2] + 'at 2 of the run, time 1040000 ns\nbreak 1: kind free\n'),
+                ('', lines[1] + lines[0] + start), ('', start), ('c', 'clear\n')):
+            before, given = self.typed(ONE_SEGMENT, *given)[0], (*given, line)
+            self.assertEqual(self.typed(ONE_SEGMENT, *given)[0], before + answer, line)
+        self.refuses('B2', 'reverse 1', 're drop')
+
     def test_help(self):
         out, notes = self.typed(ONE_SEGMENT, 'help', steps=2)
         self.assertEqual((out.splitlines(), notes), ([
