@@ -16,7 +16,7 @@ Usage: scripts/compare.py [--kind texts,runs,images,debug,prompt,auto,figures] [
                                                                   (tcpsim figures)
 
 --options gives random --groups and --workers besides. --steps N is for a program whose prompt has the first N steps
-of its grammar (scripts/model/prompt.py), else all.
+of its grammar (scripts/model/prompt.py); left out, as many as the built one has.
 
 What differs is printed, the smallest case first, each made smaller by leaving out what isn't needed.
 The status is 1 where anything differs.
@@ -421,7 +421,7 @@ def arguments():
     parser.add_argument('--jobs', type=int, default=2)
     parser.add_argument('--program', default=PROGRAM)
     parser.add_argument('--options', action='store_true')
-    parser.add_argument('--steps', type=int, default=prompt.STEPS)
+    parser.add_argument('--steps', type=int, default=prompt.BUILT)
     parser.add_argument('--shrink', type=float, default=SHRINKING, help='seconds for making a case that differs smaller')
     parser.add_argument('--systematic', action='store_true', help='only the systematic inputs')
     parser.add_argument('--random', action='store_true', help='only the random inputs')

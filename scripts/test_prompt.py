@@ -34,7 +34,7 @@ PROGRAM = os.path.join(TOP, 'crates', 'tcpsim', 'out', 'tcpsim')
 PROMPT = b'(tcpsim) '
 LONGEST = 60        # seconds that a session may take
 MOST_LINE = 65_536  # bytes of a line
-STEPS = prompt.STEPS
+STEPS = prompt.BUILT
 
 ONE = os.path.join(TOP, 'examples', 'one_segment.txt')
 TWO = os.path.join(TOP, 'examples', 'two_timeouts_in_a_row.txt')

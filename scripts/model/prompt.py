@@ -18,6 +18,8 @@ from simulate import line_text
 from text import NUMBER
 
 STEPS = 5
+# How many of them the program has.
+BUILT = 2
 PROMPT = '(tcpsim) '
 MOST_LINE = 65_536      # bytes
 MOST_SHOWN = 10         # lines that a move passed

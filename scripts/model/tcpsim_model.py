@@ -54,7 +54,7 @@ def options_of(words):
                 raise WrongWords
             value = rest.pop(0)
         given[name] = value
-    workers, steps = given.get('--workers', '1'), given.get('--steps', str(prompt.STEPS))
+    workers, steps = given.get('--workers', '1'), given.get('--steps', str(prompt.BUILT))
     if not NUMBER.fullmatch(workers.encode()) or not 1 <= int(workers) <= 64:
         raise WrongWords
     if not NUMBER.fullmatch(steps.encode()) or int(steps) > prompt.STEPS:
