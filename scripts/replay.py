@@ -26,7 +26,7 @@ HERE = os.path.dirname(os.path.realpath(__file__))
 PARTS = os.path.join(HERE, 'replay_page')
 OWN_NAME = os.path.basename(sys.argv[0]) or 'replay.py'
 SCRIPTS = ('record.js', 'words.js', 'layout.js', 'net.js', 'charts.js', 'page.js')
-D3 = '/usr/share/javascript/d3/d3.min.js'       # version 3, as Debian has it
+LIBRARY = '/usr/share/javascript/d3/d3.min.js'       # version 3, as Debian has it
 MOST_EVENTS = 200_000
 UNITS = {'s': 10**9, 'ms': 10**6, 'us': 10**3, 'ns': 1, '': 10**9}
 IN_A_TRACE = b'abcdefghijklmnopqrstuvwxyz0123456789 =:\n'
@@ -396,11 +396,11 @@ def for_script(value):
 
 
 def read_d3():
-    if not os.path.exists(D3):
+    if not os.path.exists(LIBRARY):
         raise Unreadable('d3 is not installed: apt-get install libjs-d3')
-    text = read_part(D3)
+    text = read_part(LIBRARY)
     if 'version:"3.' not in text[:200]:
-        raise Unreadable(f'{D3} is not version 3 of d3: apt-get install libjs-d3')
+        raise Unreadable(f'{LIBRARY} is not version 3 of d3: apt-get install libjs-d3')
     return text
 
 
@@ -417,7 +417,7 @@ def page(title, scenario, text, part):
     holes = {
         'TITLE': html.escape(title),
         'STYLE': read_part(os.path.join(PARTS, 'page.css')),
-        'D3': read_d3().replace('</script', '<\\/script'),
+        'LIBRARY': read_d3().replace('</script', '<\\/script'),
         'FACTS': for_script(facts),
         'TRACE': packed,
         'SCRIPT': '\n'.join(read_part(os.path.join(PARTS, name)) for name in SCRIPTS)}

@@ -29,7 +29,7 @@ EXAMPLES = os.path.join(TOP, 'examples')
 MODEL = os.path.join(TOP, 'scripts', 'model', 'tcpsim_model.py')
 PICTURES = os.path.join(TOP, 'docs', 'pictures')
 CHROMIUM = next((path for path in map(shutil.which, ('chromium', 'chromium-browser', 'google-chrome')) if path), None)
-HAS_D3 = os.path.exists(replay.D3)
+HAS_D3 = os.path.exists(replay.LIBRARY)
 WITH_D3 = unittest.skipUnless(HAS_D3, 'no d3: apt-get install libjs-d3')
 IN_BROWSER = unittest.skipUnless(CHROMIUM and HAS_D3, 'no Chromium or no d3: apt-get install chromium libjs-d3')
 # A queue that overflows, a timeout, CoDel, three routers; of each the events that its pictures show.
@@ -480,13 +480,13 @@ class Pages(Folder):
         self.assertIn('line 6', done.stderr)
 
     def test_without_d3(self):
-        known, replay.D3 = replay.D3, '/no/d3.js'
+        known, replay.LIBRARY = replay.LIBRARY, '/no/d3.js'
         try:
             with self.assertRaises(Unreadable) as refused:
                 replay.read_d3()
             self.assertIn('apt-get install libjs-d3', str(refused.exception))
         finally:
-            replay.D3 = known
+            replay.LIBRARY = known
 
 
 # ---- the page in a browser
