@@ -33,8 +33,8 @@ with open({model!r} + '/tcpsim_model.py') as file:
 at_prompt = prompt.Prompt
 right = {name: getattr(place, name) for place, name in (
     (at_prompt, 'answer'), (at_prompt, 'quits'), (at_prompt, 'on_break'), (at_prompt, 'where'), (at_prompt, 'of_node'),
-    (at_prompt, 'of_flow'), (prompt, 'time_in'),
-    (prompt, 'numbered'))}
+    (at_prompt, 'of_flow'), (prompt, 'time_in'), (prompt, 'numbered'), (prompt.Marked, 'is_met'), (prompt, 'standing'),
+    (prompt, 'waiting'))}
 
 
 def empty_lines_do_nothing(self, line):
@@ -63,8 +63,8 @@ def the_last_number_is_answered(self, words):
 
 
 def the_last_that_matches(self):
-    line = self.debugger.lines[-1]
-    return ([''] + [self.named(place) for place, it in enumerate(self.debugger.breaks) if debugger.matches(it, line)])[-1]
+    now = self.debugger.net.position
+    return ([''] + [self.named(place) for place, it in enumerate(self.debugger.breaks) if self.debugger.is_matched(it, now)])[-1]
 
 
 def only_ends_and_events(self, flow):
@@ -72,8 +72,28 @@ def only_ends_and_events(self, flow):
 
 
 def back_to_where_it_is(self):
-    stops = [n for n, line in enumerate(self.lines, 1) if any(debugger.matches(it, line) for it in self.breaks)]
+    stops = [position for position in range(1, self.net.position + 1) if self.stops_at(position)]
     self.back(self.net.position - (stops[-1] if stops else 0))
+
+
+def matches_either(self, breakpoint, position):
+    return any(self.is_met(*condition, position) for condition in breakpoint)
+
+
+def drops_are_at_no_link(self, sort, value, position):
+    acts = self.lines[position - 1].acts
+    return right['is_met'](self, sort, value, position) and (sort != b'link' or any(' tx=' in act for act in acts))
+
+
+def stalls_match_as_long_as_they_last(self):
+    line = debugger.Debugger.event(self)
+    if line is not None:
+        self.marks.append((self.net.touched, self.stalled()))
+    return line
+
+
+def names_the_congestion_window(net, flow):
+    return right['standing'](net, flow).replace('rwnd', 'cwnd')
 
 
 # What is wrong in each program: since which step it can be, and what is changed.
@@ -99,6 +119,12 @@ FAULTS = {
     'packets that wait are left out': (4, at_prompt, 'of_flow', only_ends_and_events),
     'r is reverse': (5, prompt, 'NAMES', {b'reverse': 5, **prompt.NAMES}),
     'reverse stops where it is': (5, debugger.Debugger, 'reverse', back_to_where_it_is),
+    'a breakpoint of two conditions matches either': (6, prompt.Marked, 'is_matched', matches_either),
+    'conditions are told in another order': (6, prompt, 'CONDITIONS', prompt.CONDITIONS[::-1]),
+    'a drop is at no link': (6, prompt.Marked, 'is_met', drops_are_at_no_link),
+    'a stall that goes on matches again': (7, prompt.Marked, 'event', stalls_match_as_long_as_they_last),
+    'why names cwnd where rwnd binds': (8, prompt, 'standing', names_the_congestion_window),
+    'places are told from 0': (8, prompt, 'waiting', lambda net, flow: [it.replace('place 1 ', 'place 0 ') for it in right['waiting'](net, flow)]),
     'a 64th breakpoint is refused': (1, debugger, 'MOST_BREAKS', 63),
 }
 

@@ -26,7 +26,7 @@ def read(*path):
 
 
 def session():
-    return prompt.Prompt(scenario_in(read(TWO)))
+    return prompt.Prompt(scenario_in(read(TWO)), last_step())
 
 
 def refusal(line):

@@ -46,15 +46,22 @@ class Debugger:
         self.net, self.lines = Network(self.scenario), []
         self.step(target)
 
+    def is_matched(self, breakpoint, position):
+        """Whether a breakpoint matches at a position from 1 to the present one."""
+        return matches(breakpoint, self.lines[position - 1])
+
+    def stops_at(self, position):
+        return any(self.is_matched(it, position) for it in self.breaks)
+
     def run(self):
-        """To the next position whose last line matches a breakpoint, else to the end."""
-        while (line := self.event()) is not None:
-            if any(matches(b, line) for b in self.breaks):
+        """To the next position at which a breakpoint matches, else to the end."""
+        while self.event() is not None:
+            if self.stops_at(self.net.position):
                 return
 
     def reverse(self):
-        """Back to the last position before this one whose line a breakpoint matches, else to the beginning."""
-        stops = [n for n, line in enumerate(self.lines[:-1], 1) if any(matches(b, line) for b in self.breaks)]
+        """Back to the last position before this one at which a breakpoint matches, else to the beginning."""
+        stops = [position for position in range(1, self.net.position) if self.stops_at(position)]
         self.back(self.net.position - (stops[-1] if stops else 0))
 
     def until(self, time):

@@ -9,15 +9,18 @@ none reads lines as a session whose commands are all there (`debugger.obey`).
 3. A move answers the lines that it passed in the place of the dump; lines that were run before.
 4. Parts of a state: of a node, of a link, of a flow.
 5. Back to where a breakpoint matches.
+6. Breakpoints of several conditions, each sort once, which a line has to meet all.
+7. Breakpoints where a flow is stalled and was not before.
+8. What a flow waits for.
 """
 import re
 
 from debugger import MOST, Debugger, breakpoint_of, matches, number_to, obey, set_breakpoint, words_in, words_wanted
 from scenario import Refused
-from simulate import line_text
+from simulate import DELACK, RTO, START, line_text
 from text import NUMBER
 
-STEPS = 5
+STEPS = 8
 # How many of them the program has.
 BUILT = 2
 PROMPT = '(tcpsim) '
@@ -26,7 +29,10 @@ MOST_SHOWN = 10         # lines that a move passed
 MOST_LINES = 1_000      # of `lines`
 # The names that a first word can begin, the first of them first, and the step that each came with.
 NAMES = {b'step': 1, b'back': 1, b'break': 1, b'breaks': 2, b'run': 1, b'reverse': 5, b'until': 1, b'state': 1, b'lines': 3,
-         b'delete': 2, b'clear': 1, b'help': 2, b'quit': 1}
+         b'delete': 2, b'clear': 1, b'help': 2, b'quit': 1, b'why': 8}
+# The conditions of a breakpoint, in the order in which its words are told.
+CONDITIONS = (b'node', b'flow', b'kind', b'drop', b'link', b'byte')
+MOST_BYTE = 9 * 10**12      # of the greatest flow
 # Of each name in the order of `help`: how it is used, what it does, and an example.
 HELP = {
     b'step': ('step [K]', 'run the next K events (1)', 'step 10'),
@@ -40,6 +46,7 @@ HELP = {
     b'delete': ('delete I', 'take breakpoint I away', 'delete 1'),
     b'clear': ('clear', 'take all breakpoints away', 'clear'),
     b'lines': ('lines [K]', 'show the last K lines of the trace (10)', 'lines 20'),
+    b'why': ('why F', 'tell what flow F waits for', 'why 0'),
     b'help': ('help [NAME]', 'show this, or how NAME is used', 'help until'),
     b'quit': ('quit', 'end the session', 'quit'),
 }
@@ -75,6 +82,8 @@ def count_in(words, most, default):
 
 def words_of(breakpoint):
     """A breakpoint's words behind `break`."""
+    if isinstance(breakpoint[0], tuple):
+        return ' '.join(map(words_of, breakpoint))
     sort, value = breakpoint
     return sort.decode() + ('' if value is None else f' {value}')
 
@@ -94,9 +103,135 @@ def shown(passed):
     return ''.join(passed[:MOST_SHOWN]) + (f'.. {more} more\n' if more > 0 else '')
 
 
+# What a flow waits for: first how it stands, then where its packets are, then its alarms.
+
+def why(net, flow):
+    """What `why` answers of a flow of the net."""
+    lines = [f'flow {flow} {standing(net, flow)}']
+    lines += [f'{head}: {", ".join(found)}' for head, found in (
+        ('waits', waiting(net, flow)), ('under way', under_way(net, flow)), ('alarms', alarms(net, flow))) if found]
+    return ''.join(line + '\n' for line in lines)
+
+
+def standing(net, flow):
+    """How a flow stands: the first of these that holds."""
+    sender = net.flows[flow].sender
+    end = net.ends[sender]
+    if START in net.alarms[sender]:
+        return f'is not started: it starts at {net.alarms[sender][START]} ns'
+    if end.una == end.total:
+        return f'is complete: all {end.total} bytes are acknowledged'
+    if net.is_stalled(flow):
+        return f'is stalled: {end.dups} duplicate acknowledgements, and {awaited(net, flow)}'
+    if end.nxt == end.total:
+        return f'has sent all {end.total} bytes: {end.una} are acknowledged'
+    flight = end.nxt - end.una
+    if flight + end.mss > min(end.cwnd, end.rwnd):
+        window, size = ('cwnd', end.cwnd) if end.cwnd <= end.rwnd else ('rwnd', end.rwnd)
+        return f'sends no more: {flight} bytes in flight, a segment of {end.mss}, {window} {size}'
+    return f'may send at its next acknowledgement: {flight} bytes in flight, a segment of {end.mss}, cwnd {end.cwnd}'
+
+
+def awaited(net, flow):
+    """What goes on with a flow that is stalled: the first of its alarms."""
+    found = own_alarms(net, flow)
+    if not found:
+        return 'nothing goes on with it'
+    time, number = found[0]
+    return f'its {"retransmission timer" if number == RTO else "delayed acknowledgement"} is due at {time} ns'
+
+
+def own_alarms(net, flow):
+    """A flow's alarms, of its sender and its receiver, in the order of their times: time and number of each."""
+    ends = net.flows[flow]
+    found = [(net.alarms[node][number], number) for node, numbers in ((ends.sender, (START, RTO)), (ends.receiver, (DELACK,)))
+             for number in numbers if number in net.alarms[node]]
+    return sorted(found)
+
+
+def alarms(net, flow):
+    return [f'{("start", "rto", "delack")[number]} at {time} ns' for time, number in own_alarms(net, flow)]
+
+
+def waiting(net, flow):
+    """The packets of a flow that wait, queue by queue, each with its place there from 1."""
+    return [f'{sort_of(packet)} at place {place} of link {port.number}' for port in net.ports
+            for place, (packet, _) in enumerate(port.queue.entries, 1) if packet[0] == flow]
+
+
+def under_way(net, flow):
+    """The packets of a flow on their way over a link, in the order in which they arrive."""
+    return [f'{sort_of(packet)} to node {node} at {time} ns' for time, node, source, _, packet in sorted(net.pending, key=lambda it: it[:4])
+            if source != 0 and packet[0] == flow]
+
+
+def sort_of(packet):
+    return f'{"ack" if packet[1] else "data"} {packet[2]}'
+
+
+def conditions_in(words, scenario):
+    """The conditions that the words behind `break` are, in their order; of each its sort and its value."""
+    found = {}
+    while words:
+        sort, wanted = words[0], 1 if words[0] == b'drop' else 2
+        if sort not in CONDITIONS:
+            raise Refused('B1')
+        if len(words) < wanted or sort in found:
+            raise Refused('B2')
+        found[sort], words = words[:wanted], words[wanted:]
+    if not found:
+        raise Refused('B2')
+    values = {sort: value_of(found[sort], scenario) for sort in found}
+    return tuple((sort, values[sort]) for sort in CONDITIONS if sort in values)
+
+
+def value_of(words, scenario):
+    if words[0] in (b'node', b'flow', b'kind', b'drop'):
+        return breakpoint_of([b'break', *words], scenario)[1]
+    return number_to(len(scenario.links) - 1 if words[0] == b'link' else MOST_BYTE, words[1])
+
+
+class Marked(Debugger):
+    """A debugger that marks each event with the links where packets were sent or dropped, and with the flows that
+    are stalled after it and were not before."""
+
+    def __init__(self, scenario):
+        super().__init__(scenario)
+        self.marks = []
+
+    def stalled(self):
+        return {flow for flow in range(len(self.scenario.flows)) if self.net.is_stalled(flow)}
+
+    def event(self):
+        before = self.stalled()
+        line = super().event()
+        if line is not None:
+            self.marks.append((self.net.touched, self.stalled() - before))
+        return line
+
+    def back(self, count):
+        self.marks = self.marks[:0]
+        super().back(count)
+
+    def is_matched(self, breakpoint, position):
+        if not isinstance(breakpoint[0], tuple):
+            return super().is_matched(breakpoint, position)
+        return all(self.is_met(*condition, position) for condition in breakpoint)
+
+    def is_met(self, sort, value, position):
+        line, (links, stalled) = self.lines[position - 1], self.marks[position - 1]
+        if sort == b'stall':
+            return bool(stalled) if value is None else value in stalled
+        if sort == b'link':
+            return value in links
+        if sort == b'byte':
+            return line.kind in ('data', 'ack') and int(line.names.split()[1]) == value
+        return matches((sort, value), line)
+
+
 class Prompt:
     def __init__(self, scenario, steps=STEPS):
-        self.debugger, self.steps = Debugger(scenario), steps
+        self.debugger, self.steps = Marked(scenario), steps
         self.last = None        # the last move: its name and its numbers
 
     def name_of(self, word):
@@ -145,7 +280,7 @@ class Prompt:
     def what_matched(self):
         """The line of the first breakpoint that matches the last line, if one does."""
         for place, breakpoint in enumerate(self.debugger.breaks):
-            if matches(breakpoint, self.debugger.lines[-1]):
+            if self.debugger.is_matched(breakpoint, self.debugger.net.position):
                 return self.named(place)
         return ''
 
@@ -209,8 +344,18 @@ class Prompt:
     def on_quit(self, words):
         raise Refused('B2')         # alone on its line it ends the session
 
+    def on_why(self, words):
+        if len(words) != 1:
+            raise Refused('B2')
+        return why(self.debugger.net, number_to(len(self.debugger.scenario.flows) - 1, words[0]))
+
     def breakpoint(self, words):
-        """The breakpoint of `break`'s words, which stand as in a session whose commands are all there."""
+        """The breakpoint of `break`'s words, which stood as in a session whose commands are all there."""
+        if self.steps >= 7 and words[:1] == [b'stall']:
+            at_most(words, 2)
+            return ((b'stall', number_to(len(self.debugger.scenario.flows) - 1, words[1]) if words[1:] else None),)
+        if self.steps >= 6:
+            return conditions_in(words, self.debugger.scenario)
         words = [b'break', *words]
         if len(words) != words_wanted(words):
             raise Refused('B2')

@@ -45,17 +45,34 @@ def time(pick, moments, end):
     return b'%d' % whole + (b'.' + digits if digits else b'') + unit
 
 
-def condition(pick, scenario):
+def breakpoint_of(pick, scenario, steps):
     """The words of a breakpoint, most of them right."""
-    sort = pick.choice((b'node', b'node', b'flow', b'flow', b'kind', b'kind', b'drop'))
+    if steps >= 7 and pick.random() < 0.3:
+        return [b'stall'] + [number(pick, pick.randrange(len(scenario.flows)))] * pick.choice((0, 1, 1))
+    words = condition(pick, scenario, steps)
+    while steps >= 6 and pick.random() < 0.4:
+        words += condition(pick, scenario, steps)
+    return words
+
+
+def condition(pick, scenario, steps):
+    """The words of one condition of a breakpoint, most of them right."""
+    sorts = (b'node', b'node', b'flow', b'flow', b'kind', b'kind', b'drop')
+    sort = pick.choice(sorts if steps < 6 else (*sorts, b'link', b'link', b'byte'))
     if pick.random() < 0.1:
-        sort = pick.choice((b'nod', b'n', b'f', b'link', b'kinds', b'queue', b'Drop', b'tx', b'break', b''))
+        sort = pick.choice((b'nod', b'n', b'f', b'link', b'kinds', b'queue', b'Drop', b'tx', b'break', b'', b'stall', b'byt'))
     words = [sort]
     if sort != b'drop' or pick.random() < 0.05:
-        counts = {b'node': len(scenario.nodes), b'flow': len(scenario.flows)}
-        words.append(pick.choice(KINDS + (b'tx', b'Rto', b'rt')) if sort == b'kind' else
-                     number(pick, pick.randrange(counts.get(sort, 2)), pick.randrange(counts.get(sort, 2) + 1)))
+        words.append(pick.choice(KINDS + (b'tx', b'Rto', b'rt')) if sort == b'kind' else value_of(pick, sort, scenario))
     return words
+
+
+def value_of(pick, sort, scenario):
+    """The number behind the sort of a condition."""
+    if sort == b'byte':
+        return number(pick, pick.choice(scenario.flows).mss * pick.choice((0, 1, 2, 3, 8)), pick.choice((1, 9 * 10**12, 9 * 10**12 + 1)))
+    count = {b'node': len(scenario.nodes), b'flow': len(scenario.flows), b'link': len(scenario.links)}.get(sort, 2)
+    return number(pick, pick.randrange(count), pick.randrange(count + 1))
 
 
 def part(pick, scenario):
@@ -65,14 +82,16 @@ def part(pick, scenario):
     return [sort, number(pick, *(pick.randrange(counts.get(sort, 2)) for _ in range(4)), counts.get(sort, 1))]
 
 
-def words_behind(pick, name, scenario, moments):
+def words_behind(pick, name, scenario, moments, steps):
     """Words that go with a name."""
     if name in (b'step', b'back'):
         return [number(pick, 0, 1, 1, 2, 5, 12, 40, 300, MOST)] if pick.random() < 0.6 else []
     if name == b'until':
         return [time(pick, moments, scenario.end)]
     if name == b'break':
-        return condition(pick, scenario)
+        return breakpoint_of(pick, scenario, steps)
+    if name == b'why':
+        return [number(pick, *(pick.randrange(len(scenario.flows)) for _ in range(5)), len(scenario.flows))]
     if name == b'state' and pick.random() < 0.65:
         return part(pick, scenario)
     if name == b'lines':
@@ -129,7 +148,7 @@ def any_line(pick, scenario, moments, steps):
     weights = {b'quit': 0.08, b'clear': 0.5, b'run': 2, b'reverse': 2, b'step': 2, b'break': 2, b'until': 2}
     names = [name for name, step in NAMES.items() if step <= max(steps, 1) or pick.random() < 0.05]
     name = pick.choices(names, [weights.get(name, 1) for name in names])[0]
-    words = [cut_short(pick, name) if steps else name, *words_behind(pick, name, scenario, moments)]
+    words = [cut_short(pick, name) if steps else name, *words_behind(pick, name, scenario, moments, steps)]
     if name == b'quit' and pick.random() < 0.5:
         words.append(b'now')
     if pick.random() < 0.06:

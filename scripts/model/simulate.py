@@ -55,6 +55,8 @@ class Network:
                 self.ports[number] = Port(number, scenario.links[number], place)
                 self.own_ports[node].append(self.ports[number])
         self.routes = {(router, to): self.ports[link] for router, to, link in scenario.routes}
+        self.inside = [0] * len(scenario.flows)     # of each flow: its packets that wait or are under way
+        self.touched = set()                        # the links over which the last event sent, or where it dropped
         for number, flow in enumerate(self.flows):
             self.ends[flow.sender] = Sender(flow.mss, flow.segments, flow.rwnd, flow.newreno, flow.iw10)
             self.ends[flow.receiver] = Receiver(flow.mss, flow.delack)
@@ -91,17 +93,23 @@ class Network:
 
     def offer(self, port, packet, now, acts):
         port.offered += 1
+        self.inside[packet[0]] += 1
         if port.offered in port.lose:
-            acts.append(f' drop=lost:{packet[0]}:{packet[2]}')
+            self.drop('lost', port, packet, acts)
         elif not port.queue.offer(packet, now):
-            acts.append(f' drop=full:{packet[0]}:{packet[2]}')
+            self.drop('full', port, packet, acts)
         elif not port.busy:
             self.take(port, now, acts)
+
+    def drop(self, reason, port, packet, acts):
+        self.inside[packet[0]] -= 1
+        self.touched.add(port.number)
+        acts.append(f' drop={reason}:{packet[0]}:{packet[2]}')
 
     def take(self, port, now, acts):
         dropped, packet = port.queue.take(now)
         for lost in dropped:
-            acts.append(f' drop=codel:{lost[0]}:{lost[2]}')
+            self.drop('codel', port, lost, acts)
         if packet is None:
             port.busy = False
             return
@@ -111,6 +119,7 @@ class Network:
         node = self.scenario.links[port.number].source
         self.set_alarm(node, port.alarm, free)
         heappush(self.pending, (free + port.delay, port.to, port.number + 1, port.sent, packet))
+        self.touched.add(port.number)
         acts.append(f' tx={port.number}:{packet[0]}:{packet[2]}')
 
     # The rows: what each event does. Each answers the acts in their order.
@@ -164,10 +173,12 @@ class Network:
             return None
         heappop(self.pending)
         now, node, source, number, packet = event
+        self.touched = set()
         if source == 0:
             del self.alarms[node][number]
             acts = self.alarm(node, now, number)
         else:
+            self.inside[packet[0]] -= 1
             acts = self.arrive(node, now, packet)
         self.position += 1
         end = self.ends[node]
@@ -182,6 +193,13 @@ class Network:
             return 'free', str(self.own_ports[node][number - FIRST_FREE].number), None
         flow = self.flow_at[node]
         return ('start', 'rto', 'delack')[number], str(flow), flow
+
+    def is_stalled(self, flow):
+        """Whether a flow has begun, is not all acknowledged, and has no packet in the net: nothing but an alarm of its
+        own goes on with it."""
+        sender = self.flows[flow].sender
+        end = self.ends[sender]
+        return START not in self.alarms[sender] and end.una < end.total and self.inside[flow] == 0
 
     # The dump of a state.
 

@@ -797,10 +797,10 @@ class Prompts(Case):
                          [1, 2, 3, 2, 1, 1, 5, 5, 5, 0])
         self.assertEqual(self.typed(ONE_SEGMENT, 'br drop', 'brea drop', 'c', 'break node 1', steps=1)[0],
                          'break 1\nbreak 1\nclear\nbreak 1\n')
-        self.refuses('B1', 'x', 'steps', 'stepp 1', 'S', 'w', 'break no 1', 'br k rto', 'ste\tp', '#')
+        self.refuses('B1', 'x', 'steps', 'stepp 1', 'S', 'y', 'break no 1', 'br k rto', 'ste\tp', '#')
 
     def test_words(self):
-        self.refuses('B2', 'step 1 2', 'back 1 1', 'run 1', 'until', 'until 1 s', 'clear 1', 'break', 'br drop 1',
+        self.refuses('B2', 'step 1 2', 'back 1 1', 'run 1', 'until', 'until 1 s', 'clear 1', 'break', 'br drop link',
                      'quit now', 'q 1', 'x' * 65_537, ' ' * 65_537)
         self.refuses('B3', 'step 01', 'back -1', 'step 1000000000000001', 'break node 2', 'br kind tx')
         self.assertEqual(self.where('step 1000000000000000'), [5])
@@ -899,6 +899,60 @@ class Prompts(Case):
             before, given = self.typed(ONE_SEGMENT, *given)[0], (*given, line)
             self.assertEqual(self.typed(ONE_SEGMENT, *given)[0], before + answer, line)
         self.refuses('B2', 'reverse 1', 're drop')
+
+    def example(self, name, *lines):
+        with open(os.path.join(HERE, '..', '..', 'examples', name), encoding='ascii') as file:
+            return self.typed(file.read(), *lines)[0].splitlines()
+
+    def test_breakpoints_of_several_conditions(self):
+        answers = self.typed(ONE_SEGMENT, 'br kind free node 1', 'break node 1 kind free', 'br drop link 1 byte 7 flow 0', 'r')[0]
+        self.assertEqual(answers.splitlines()[:3], ['break 1: node 1 kind free', 'break 1: node 1 kind free',
+                                                    'break 2: flow 0 drop link 1 byte 7'])
+        # One condition alone is met before: node 0 by events 1 and 2, a free link by event 2.
+        self.assertEqual(answers.splitlines()[-2:], ['at 4 of the run, time 2080000 ns', 'break 1: node 1 kind free'])
+        # A link is met where a packet is sent over it or is dropped there; a byte is the first of a segment or of what is awaited.
+        for words, positions in (('link 0', (1, 5)), ('link 1', (3, 5)), ('byte 0', (3, 5)), ('byte 1000', (5, 5)), ('byte 1', (5, 5))):
+            found = self.typed(ONE_SEGMENT, f'break {words}', 'r', 'r')[0].splitlines()
+            self.assertEqual([int(line.split()[1]) for line in found if line.startswith('at ')], [*positions], words)
+        found = self.example('two_timeouts_in_a_row.txt', 'break link 0 drop kind rto', 'r')
+        self.assertEqual(found[-2:], ['at 26 of the run, time 1006200000 ns', 'break 1: kind rto drop link 0'])
+        self.refuses('B1', 'break drop 1', 'break node 0 no 1', 'break node 0 stall')
+        self.refuses('B2', 'break', 'break node', 'break node 0 flow', 'break drop drop', 'break node 0 node 1')
+        self.refuses('B3', 'break link 2', 'break drop node 2', 'break byte 9000000000001')
+
+    def test_stalls(self):
+        # All segments from 4000 on were lost but those that brought two duplicates, and the next is lost again: it is one stall.
+        for words in ('stall', 'stall 0'):
+            found = self.example('two_timeouts_in_a_row.txt', f'break {words}', 'r', 'r', 're')
+            places = [line for line in found if line.startswith(('at ', 'break '))]
+            self.assertEqual(places, [f'break 1: {words}', 'at 25 of the run, time 9280000 ns', f'break 1: {words}',
+                                      'at 51 of the run, time 3017520000 ns, the end', 'at 25 of the run, time 9280000 ns',
+                                      f'break 1: {words}'])
+        self.refuses('B2', 'break stall 0 0')
+        self.refuses('B3', 'break stall 1', 'break stall drop')
+
+    def test_why(self):
+        for count, lines in (
+                (0, ['flow 0 is not started: it starts at 0 ns', 'alarms: start at 0 ns']),
+                (1, ['flow 0 has sent all 1000 bytes: 0 are acknowledged', 'under way: data 0 to node 1 at 2040000 ns',
+                     'alarms: rto at 1000000000 ns']),
+                (3, ['flow 0 has sent all 1000 bytes: 0 are acknowledged', 'under way: ack 1000 to node 0 at 3080000 ns',
+                     'alarms: rto at 1000000000 ns']),
+                (5, ['flow 0 is complete: all 1000 bytes are acknowledged'])):
+            self.assertEqual(self.typed(ONE_SEGMENT, f's {count}', 'why 0')[0].splitlines()[-len(lines):], lines, count)
+        for count, lines in (
+                (25, ['flow 0 is stalled: 2 duplicate acknowledgements, and its retransmission timer is due at 1006200000 ns',
+                      'alarms: rto at 1006200000 ns']),
+                (31, ['flow 0 sends no more: 2000 bytes in flight, a segment of 1000, cwnd 2000',
+                      'waits: data 6000 at place 1 of link 0', 'under way: data 5000 to node 1 at 3011320000 ns',
+                      'alarms: rto at 7009280000 ns'])):
+            self.assertEqual(self.example('two_timeouts_in_a_row.txt', f's {count}', 'w 0')[-len(lines):], lines, count)
+        small = ONE_SEGMENT.replace(' 1000 1 0 64000 0', ' 1000 3 0 1999 0')
+        self.assertNotEqual(small, ONE_SEGMENT)
+        self.assertEqual(self.typed(small, 's', 'why 0')[0].splitlines()[2],
+                         'flow 0 sends no more: 1000 bytes in flight, a segment of 1000, rwnd 1999')
+        self.refuses('B2', 'why', 'why 0 0')
+        self.refuses('B3', 'why 1', 'why f')
 
     def test_help(self):
         out, notes = self.typed(ONE_SEGMENT, 'help', steps=2)
