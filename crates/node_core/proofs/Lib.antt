@@ -5,6 +5,10 @@ pub mod Fresh
 pub mod Runs
 pub mod Passages
 pub mod Steps
+pub mod Follows
+pub mod Carried
+pub mod Decisions
+pub mod Due
 pub mod Numbered
 pub mod OneFlow
 pub mod AtFirst

@@ -1,5 +1,5 @@
 -- Runs of segments, and an agenda whose event has left.
-use Rattle.std.proofs.Common.{◌≡◌, ℕ, zero, suc, ◌+◌, ◌-◌, ◌*◌, ◌<◌, ◌≤◌, ◌==◌, cond, true, false, List, [], ◌∷◌, ◌++◌, set, map, length, Option, Some, None, refl, sym, ap, subst, ◌∙◌, arith, append_assoc, length-append}
+use Rattle.std.proofs.Common.{◌≡◌, ℕ, zero, suc, ◌+◌, ◌-◌, ◌*◌, ◌<◌, ◌≤◌, ◌==◌, cond, true, false, List, [], ◌∷◌, ◌++◌, set, map, length, Option, Some, None, refl, sym, ap, subst, ◌∙◌, arith, append_assoc, append-nil, length-append}
 use Rattle.std.specs.Prelude.{option_to_list}
 use Rattle.std.proofs.Math.Nat.{suc-mul}
 use Rattle.std.proofs.lemmas.List.{length-map, length-set, map-append}
@@ -8,7 +8,9 @@ use Rattle.packet_chain.specs.declared.packet.Packet.{Packet}
 use Rattle.sim_time.specs.declared.key.Key.{Key}
 use Rattle.reno_sender.specs.Sending.{spaced}
 use Rattle.reno_sender.specs.PlanView.{PlanView, sent_of}
-use Rattle.node_core.specs.Links.{packets_of, behind_first}
+use Rattle.reno_sender.specs.declared.fields.SenderFields.{SenderFields}
+use Rattle.node_core.specs.Links.{packets_of}
+use Rattle.node_core.specs.Row.{data_packet}
 use Rattle.node_core.specs.AgendaState.{cleared}
 
 -- the next number of a run stays below what the last one's end stays below
@@ -36,49 +38,51 @@ one_at_most : (resent : Option ℕ) → length (option_to_list resent) ≤ 1
 one_at_most None = omega arith
 one_at_most (Some x) = omega arith
 
-pub few_cells : (f : ℕ → Packet) (cells : List Stamped) (resent : Option ℕ) (first step count : ℕ) → packets_of cells ≡ map f (option_to_list resent ++ spaced first step count) → length cells ≤ count + 1
-few_cells f cells resent first step count e =
-    let all = option_to_list resent ++ spaced first step count in
-    let same : length (packets_of cells) ≡ length (map f all) = ap length e in
-    omega (arith, same, length-map cells (λ (c : Stamped). c.0), length-map all f, length-append (option_to_list resent) (spaced first step count), length_spaced first step count, one_at_most resent)
-
 pub length_cleared : (key : Key) (alarms : List (Option ℕ)) → length (cleared key alarms) ≡ length alarms
 length_cleared key alarms = elim (key.source == 0) as (λ b. length (cond b (set alarms key.number None) alarms) ≡ length alarms) [ true ↦ length-set alarms key.number None | false ↦ refl ]
 
--- a run without its first number
-behind_run : (first step count : ℕ) → 0 < count → behind_first (spaced first step count) ≡ spaced (first + step) step (count - 1)
-behind_run first step zero some = absurd (omega (arith, some))
-behind_run first step (suc n) some = ap (spaced (first + step) step) {x = n} {y = suc n - 1} (omega arith)
+run_ends : (first step n : ℕ) → spaced first step (suc n) ≡ spaced first step n ++ (first + n * step) ∷ []
+run_ends first step zero = ap (λ x. x ∷ []) {x = first} {y = first + 0 * step} (omega arith)
+run_ends first step (suc n) =
+    let e : first + step + n * step ≡ first + suc n * step = omega (arith, suc-mul n step) in
+    ap (λ ps. first ∷ ps) (run_ends (first + step) step n ∙ ap (λ x. spaced (first + step) step n ++ x ∷ []) e)
 
--- a run that has a first number
-run_begins : (first step count : ℕ) → 0 < count → spaced first step count ≡ first ∷ behind_first (spaced first step count)
-run_begins first step zero some = absurd (omega (arith, some))
-run_begins first step (suc n) some = refl
+-- the last number of a run
+spaced_last : (first step count : ℕ) → 0 < count → spaced first step count ≡ spaced first step (count - 1) ++ (first + (count - 1) * step) ∷ []
+spaced_last first step zero some = absurd (omega (arith, some))
+spaced_last first step (suc n) some = run_ends first step n ∙ ap (λ k. spaced first step k ++ (first + k * step) ∷ []) {x = n} {y = suc n - 1} (omega arith)
 
--- a plan that sends nothing again, without its first number
-pub later_run : (p : PlanView) → p.resent ≡ None → 0 < p.count → behind_first (sent_of p) ≡ spaced (p.first + p.fields.mss) p.fields.mss (p.count - 1)
-later_run p none some = ap (λ r. behind_first (option_to_list r ++ spaced p.first p.fields.mss p.count)) none ∙ behind_run p.first p.fields.mss p.count some
+-- a plan's segments, the last beside its cells
+pub all_but_last : (f : ℕ → Packet) (p : PlanView) (cells : List Stamped) (last : Packet) → 0 < p.count → packets_of cells ≡ map f (option_to_list p.resent ++ spaced p.first p.fields.mss (p.count - 1)) → last ≡ f (p.first + (p.count - 1) * p.fields.mss)
+    → packets_of cells ++ last ∷ [] ≡ map f (sent_of p)
+all_but_last f p cells last some cells_are last_is =
+    let again = option_to_list p.resent in
+    let run = spaced p.first p.fields.mss (p.count - 1) in
+    let number = p.first + (p.count - 1) * p.fields.mss in
+    ap (λ ps. ps ++ last ∷ []) cells_are ∙ ap (λ x. map f (again ++ run) ++ x ∷ []) last_is ∙ sym (map-append f (again ++ run) (number ∷ []))
+    ∙ ap (map f) (append_assoc again run (number ∷ [])) ∙ ap (λ ns. map f (again ++ ns)) (sym (spaced_last p.first p.fields.mss p.count some))
 
--- what is sent again comes first
-pub resent_first : (f : ℕ → Packet) (p : PlanView) (n : ℕ) (later : List Packet) → p.resent ≡ Some n → later ≡ map f (behind_first (sent_of p)) → f n ∷ later ≡ map f (sent_of p)
-resent_first f p n later is rest =
+-- a plan that has no run
+pub none_but_again : (f : ℕ → Packet) (p : PlanView) (again : List Packet) → p.count ≡ 0 → again ≡ map f (option_to_list p.resent) → again ≡ map f (sent_of p)
+none_but_again f p again none is = is ∙ ap (map f) (sym (append-nil (option_to_list p.resent))) ∙ ap (λ n. map f (option_to_list p.resent ++ spaced p.first p.fields.mss n)) (sym none)
+
+-- how many packets a plan has
+pub few_sent : (f : ℕ → Packet) (p : PlanView) → length (map f (sent_of p)) ≤ p.count + 1
+few_sent f p =
     let run = spaced p.first p.fields.mss p.count in
-    ap (λ ps. f n ∷ ps) (rest ∙ ap (λ r. map f (behind_first (option_to_list r ++ run))) is) ∙ sym (ap (λ r. map f (option_to_list r ++ run)) is)
+    omega (arith, length-map (sent_of p) f, length-append (option_to_list p.resent) run, length_spaced p.first p.fields.mss p.count, one_at_most p.resent)
 
--- where nothing is, the run's first number does
-pub run_first : (f : ℕ → Packet) (p : PlanView) (later : List Packet) → p.resent ≡ None → 0 < p.count → later ≡ map f (behind_first (sent_of p)) → f p.first ∷ later ≡ map f (sent_of p)
-run_first f p later none some rest =
-    let run = spaced p.first p.fields.mss p.count in
-    ap (λ ps. f p.first ∷ ps) (rest ∙ ap (λ r. map f (behind_first (option_to_list r ++ run))) none) ∙ ap (map f) (sym (run_begins p.first p.fields.mss p.count some)) ∙ sym (ap (λ r. map f (option_to_list r ++ run)) none)
+-- cells are no more than all packets
+pub few_in_cells : (cells : List Stamped) (last : Option Packet) (packets : List Packet) → packets_of cells ++ option_to_list last ≡ packets → length cells ≤ length packets
+few_in_cells cells last packets e =
+    let same : length (packets_of cells ++ option_to_list last) ≡ length packets = ap length e in
+    omega (arith, same, length-append (packets_of cells) (option_to_list last), length-map cells (λ (c : Stamped). c.0))
 
-behind_less : {A : Type 0} (xs : List A) → length (behind_first xs) ≤ length xs
-behind_less [] = omega arith
-behind_less (x ∷ xs) = omega arith
-
--- how many cells the later packets of a plan have
-pub few_later : (f : ℕ → Packet) (cells : List Stamped) (p : PlanView) → packets_of cells ≡ map f (behind_first (sent_of p)) → length cells ≤ p.count + 1
-few_later f cells p e =
-    let run = spaced p.first p.fields.mss p.count in
-    let all = sent_of p in
-    let same : length (packets_of cells) ≡ length (map f (behind_first all)) = ap length e in
-    omega (arith, same, length-map cells (λ (c : Stamped). c.0), length-map (behind_first all) f, behind_less all, length-append (option_to_list p.resent) run, length_spaced p.first p.fields.mss p.count, one_at_most p.resent)
+-- a run of a plan, as its fields are read
+pub read_run : (flow : ℕ) (p : PlanView) (fields : SenderFields) (resent : Option ℕ) (first count : ℕ) (less : ℕ → ℕ) → fields ≡ p.fields → resent ≡ p.resent → first ≡ p.first → count ≡ p.count
+    → map (data_packet flow fields.mss) (option_to_list resent ++ spaced first fields.mss (less count)) ≡ map (data_packet flow p.fields.mss) (option_to_list p.resent ++ spaced p.first p.fields.mss (less p.count))
+read_run flow p fields resent first count less fields_are resent_is first_is count_is =
+    ap (λ (f : SenderFields). map (data_packet flow f.mss) (option_to_list resent ++ spaced first f.mss (less count))) fields_are
+    ∙ ap (λ r. map (data_packet flow p.fields.mss) (option_to_list r ++ spaced first p.fields.mss (less count))) resent_is
+    ∙ ap (λ n. map (data_packet flow p.fields.mss) (option_to_list p.resent ++ spaced n p.fields.mss (less count))) first_is
+    ∙ ap (λ n. map (data_packet flow p.fields.mss) (option_to_list p.resent ++ spaced p.first p.fields.mss (less n))) count_is

@@ -1,5 +1,5 @@
 -- From what was done to a link and an agenda to the rows.
-use Rattle.std.proofs.Common.{◌≡◌, ◌≢◌, ◌⊎◌, ℕ, zero, suc, ◌+◌, ◌<◌, cond, true, false, List, [], ◌∷◌, ◌++◌, get_or, set, map, length, Option, Some, None, refl, sym, ap, ◌∙◌, arith, append-nil, ⊎_elim}
+use Rattle.std.proofs.Common.{◌≡◌, ◌≢◌, ◌⊎◌, ℕ, zero, suc, ◌+◌, ◌<◌, cond, true, false, List, [], ◌∷◌, ◌++◌, get_or, set, map, length, Option, Some, None, refl, sym, ap, subst, ◌∙◌, arith, append-nil, ⊎_elim}
 use Rattle.std.proofs.lemmas.Bool.{ne_eqb}
 use Rattle.std.proofs.lemmas.List.{length-set, map-set, set-get_or, get_or-set_same, get_or-set_other, length-map}
 use Rattle.std.proofs.Math.ListN.{get_or-map}
@@ -165,77 +165,65 @@ has_link (Sends flow fields) links i new some = omega (arith, some, length-set l
 has_link (Receives flow state) links i new some = omega (arith, some, length-set links i new)
 has_link (Routes table) links i new some = tt
 
--- a row of the sender's table
-module _ (flow : ℕ) (fields planned : SenderFields) (sent : List ℕ) (links : List LinkState) (before : AgendaState) (is : IsInStep (Sends flow fields) links before) (key : Key) (at : key.node ≡ before.owner.node) (timed : IsTimed before key 1) where
-  abbrev sender_packets : List Packet
-  sender_packets = map (data_packet flow planned.mss) sent
-
+-- packets of a sender pass its link, and its timer moves
+module _ (flow : ℕ) (fields planned : SenderFields) (links : List LinkState) (before : AgendaState) (is : IsInStep (Sends flow fields) links before) (key : Key) (at : key.node ≡ before.owner.node) (timed : IsTimed before key 1) where
   long : 3 < length before.alarms
   long = omega (arith, ap length is.alarms, length-map links (λ (l : LinkState). l.port.next_free), is.linked)
 
-  pub sender_runs : (link new : LinkState) → link ≡ link_at links 0 → new ≡ record link { port = (offered_all key.time link.port sender_packets).port }
-      → (after : AgendaState) → after ≡ passed (moved_to (after_take before key) 1 planned.deadline) 0 (offered_all key.time link.port sender_packets)
-      → (chains : List (List Stamped)) (chain filled : List Stamped) → chain ≡ get_or chains 0 [] → filled ≡ chain ++ departed (offered_all key.time link.port sender_packets).departure
-      → HasRun key (sender_row (part (Sends flow fields) links) key flow fields (record { fields = planned; sent = sent })) (Sends flow planned) (set links 0 new) before after chains (set chains 0 filled)
-  sender_runs link new link_is new_is after after_is chains chain filled chain_is filled_is =
-      let old = link_at links 0 in
-      let step = offered_all key.time old.port sender_packets in
+  pub sender_runs : (step : PortStep) → step.port.link ≡ (link_at links 0).port.link → (all : List LinkState) (after : AgendaState) (chains filled : List (List Stamped))
+      → all ≡ set links 0 (record (link_at links 0) { port = step.port }) → after ≡ passed (moved_to (after_take before key) 1 planned.deadline) 0 step → filled ≡ put_out (leaving_over 0 step.departure) chains
+      → HasRun key (with_step (part (Sends flow fields) links) (Sends flow planned) (timer_moved (alarm_key key.node Retransmission) (Rto flow) fields.deadline planned.deadline) 0 step) (Sends flow planned) all before after chains filled
+  sender_runs step same all after chains filled all_is after_is out_is =
       let moved = sender_alarms before key (get_or before.alarms 0 None) fields.deadline None planned.deadline (frees_of links) is.alarms timed in
       let set_it : List Change = alarm_set (numbered_key before.owner.node 1) (alarm_event before.owner 1) planned.deadline in
       let gone = fin.remove before.pending key in
-      step_runs (Sends flow fields) links before is key 0 is.linked (Sends flow planned)
-      (timer_moved (alarm_key key.node Retransmission) (Rto flow) fields.deadline planned.deadline) step new (moved_to (after_take before key) 1 planned.deadline) after moved.0 (get_or (frees_of links) 0 None) chains (set chains 0 filled)
-      refl (has_link (Sends flow planned) links 0 new is.linked)
-      (new_is ∙ ap (λ (l : LinkState). record l { port = (offered_all key.time l.port sender_packets).port }) link_is) (all_link key.time old.port sender_packets) refl refl
+      let new : LinkState = record (link_at links 0) { port = step.port } in
+      let timers = timer_moved (alarm_key key.node Retransmission) (Rto flow) fields.deadline planned.deadline in
+      subst (λ (l : List LinkState). HasRun key (with_step (part (Sends flow fields) links) (Sends flow planned) timers 0 step) (Sends flow planned) l before after chains filled) (sym all_is)
+      (step_runs (Sends flow fields) links before is key 0 is.linked (Sends flow planned) timers step new (moved_to (after_take before key) 1 planned.deadline) after moved.0 (get_or (frees_of links) 0 None) chains filled
+      refl (has_link (Sends flow planned) links 0 new is.linked) refl same refl refl
       (timer_out before key 1 (omega arith) (omega (arith, long)) at timed set_it
       ∙ ap (λ (d : Option ℕ). apply (alarm_cleared (numbered_key before.owner.node 1) d ++ set_it) gone) (ap (λ (a : List (Option ℕ)). get_or a 1 None) is.alarms)
       ∙ ap (λ f. apply (alarm_cleared (numbered_key before.owner.node 1) fields.deadline ++ alarm_set (numbered_key before.owner.node 1) (Rto f) planned.deadline) gone) is.flow
       ∙ ap (λ n. apply (timer_moved (numbered_key n 1) (Rto flow) fields.deadline planned.deadline) gone) (sym at))
       (moved.1 ∙ ap (λ f. moved.0 ∷ planned.deadline ∷ None ∷ f) (sym (set-get_or (frees_of links) 0 None)))
-      (after_is ∙ ap (λ (l : LinkState). passed (moved_to (after_take before key) 1 planned.deadline) 0 (offered_all key.time l.port sender_packets)) link_is)
-      (ap (set chains 0) (filled_is ∙ ap (λ (c : List Stamped). c ++ departed (offered_all key.time link.port sender_packets).departure) chain_is ∙ ap (λ (l : LinkState). get_or chains 0 [] ++ departed (offered_all key.time l.port sender_packets).departure) link_is) ∙ put_is chains 0 step.departure)
+      after_is out_is)
 
--- a row of the receiver's table
-module _ (flow : ℕ) (state answered : ReceiverState) (reply : Reply) (links : List LinkState) (before : AgendaState) (is : IsInStep (Receives flow state) links before) (key : Key) (at : key.node ≡ before.owner.node) (timed : IsTimed before key 2) where
+-- packets of a receiver pass its link, and its timer moves
+module _ (flow : ℕ) (state answered : ReceiverState) (links : List LinkState) (before : AgendaState) (is : IsInStep (Receives flow state) links before) (key : Key) (at : key.node ≡ before.owner.node) (timed : IsTimed before key 2) where
   long_there : 3 < length before.alarms
   long_there = omega (arith, ap length is.alarms, length-map links (λ (l : LinkState). l.port.next_free), is.linked)
 
-  pub receiver_runs : (link new : LinkState) → link ≡ link_at links 0 → new ≡ record link { port = (offered_all key.time link.port (ack_of flow reply)).port }
-      → (after : AgendaState) → after ≡ passed (moved_to (after_take before key) 2 answered.alarm) 0 (offered_all key.time link.port (ack_of flow reply))
-      → (chains : List (List Stamped)) (chain filled : List Stamped) → chain ≡ get_or chains 0 [] → filled ≡ chain ++ departed (offered_all key.time link.port (ack_of flow reply)).departure
-      → HasRun key (receiver_row (part (Receives flow state) links) key flow state (record { state = answered; reply = reply })) (Receives flow answered) (set links 0 new) before after chains (set chains 0 filled)
-  receiver_runs link new link_is new_is after after_is chains chain filled chain_is filled_is =
-      let old = link_at links 0 in
-      let step = offered_all key.time old.port (ack_of flow reply) in
+  pub receiver_runs : (step : PortStep) → step.port.link ≡ (link_at links 0).port.link → (all : List LinkState) (after : AgendaState) (chains filled : List (List Stamped))
+      → all ≡ set links 0 (record (link_at links 0) { port = step.port }) → after ≡ passed (moved_to (after_take before key) 2 answered.alarm) 0 step → filled ≡ put_out (leaving_over 0 step.departure) chains
+      → HasRun key (with_step (part (Receives flow state) links) (Receives flow answered) (timer_moved (alarm_key key.node DelayedAcknowledgement) (DelAck flow) state.alarm answered.alarm) 0 step) (Receives flow answered) all before after chains filled
+  receiver_runs step same all after chains filled all_is after_is out_is =
       let moved = receiver_alarms before key (get_or before.alarms 0 None) None state.alarm answered.alarm (frees_of links) is.alarms timed in
       let set_it : List Change = alarm_set (numbered_key before.owner.node 2) (alarm_event before.owner 2) answered.alarm in
       let gone = fin.remove before.pending key in
-      step_runs (Receives flow state) links before is key 0 is.linked (Receives flow answered)
-      (timer_moved (alarm_key key.node DelayedAcknowledgement) (DelAck flow) state.alarm answered.alarm) step new (moved_to (after_take before key) 2 answered.alarm) after moved.0 (get_or (frees_of links) 0 None) chains (set chains 0 filled)
-      refl (has_link (Receives flow answered) links 0 new is.linked)
-      (new_is ∙ ap (λ (l : LinkState). record l { port = (offered_all key.time l.port (ack_of flow reply)).port }) link_is) (all_link key.time old.port (ack_of flow reply)) refl refl
+      let new : LinkState = record (link_at links 0) { port = step.port } in
+      let timers = timer_moved (alarm_key key.node DelayedAcknowledgement) (DelAck flow) state.alarm answered.alarm in
+      subst (λ (l : List LinkState). HasRun key (with_step (part (Receives flow state) links) (Receives flow answered) timers 0 step) (Receives flow answered) l before after chains filled) (sym all_is)
+      (step_runs (Receives flow state) links before is key 0 is.linked (Receives flow answered) timers step new (moved_to (after_take before key) 2 answered.alarm) after moved.0 (get_or (frees_of links) 0 None) chains filled
+      refl (has_link (Receives flow answered) links 0 new is.linked) refl same refl refl
       (timer_out before key 2 (omega arith) (omega (arith, long_there)) at timed set_it
       ∙ ap (λ (d : Option ℕ). apply (alarm_cleared (numbered_key before.owner.node 2) d ++ set_it) gone) (ap (λ (a : List (Option ℕ)). get_or a 2 None) is.alarms)
       ∙ ap (λ f. apply (alarm_cleared (numbered_key before.owner.node 2) state.alarm ++ alarm_set (numbered_key before.owner.node 2) (DelAck f) answered.alarm) gone) is.flow
       ∙ ap (λ n. apply (timer_moved (numbered_key n 2) (DelAck flow) state.alarm answered.alarm) gone) (sym at))
       (moved.1 ∙ ap (λ f. moved.0 ∷ None ∷ answered.alarm ∷ f) (sym (set-get_or (frees_of links) 0 None)))
-      (after_is ∙ ap (λ (l : LinkState). passed (moved_to (after_take before key) 2 answered.alarm) 0 (offered_all key.time l.port (ack_of flow reply))) link_is)
-      (ap (set chains 0) (filled_is ∙ ap (λ (c : List Stamped). c ++ departed (offered_all key.time link.port (ack_of flow reply)).departure) chain_is ∙ ap (λ (l : LinkState). get_or chains 0 [] ++ departed (offered_all key.time l.port (ack_of flow reply)).departure) link_is) ∙ put_is chains 0 step.departure)
+      after_is out_is)
 
 -- packets pass a link, and no timer moves
 module _ (role : Role) (links : List LinkState) (before : AgendaState) (is : IsInStep role links before) (key : Key) (index : ℕ) (within : index < length links) where
-  pub pass_runs : (step_of : PortState → PortStep) (start was : Option ℕ) → cleared key before.alarms ≡ start ∷ deadline_of role ∷ delayed_of role ∷ set (frees_of links) index was
-      → (step_of (link_at links index).port).port.link ≡ (link_at links index).port.link
-      → (link new : LinkState) → link ≡ link_at links index → new ≡ record link { port = (step_of link.port).port }
-      → (after : AgendaState) → after ≡ passed (after_take before key) index (step_of link.port)
-      → (chains : List (List Stamped)) (chain filled : List Stamped) → chain ≡ get_or chains index [] → filled ≡ chain ++ departed (step_of link.port).departure
-      → HasRun key (with_step (part role links) role [] index (step_of (link_at links index).port)) role (set links index new) before after chains (set chains index filled)
-  pass_runs step_of start was alarms same_link link new link_is new_is after after_is chains chain filled chain_is filled_is =
-      step_runs role links before is key index within role [] (step_of (link_at links index).port) new (after_take before key) after start was chains (set chains index filled)
-      refl (has_link role links index new is.linked)
-      (new_is ∙ ap (λ (l : LinkState). record l { port = (step_of l.port).port }) link_is) same_link refl refl refl alarms
-      (after_is ∙ ap (λ (l : LinkState). passed (after_take before key) index (step_of l.port)) link_is)
-      (ap (set chains index) (filled_is ∙ ap (λ (c : List Stamped). c ++ departed (step_of link.port).departure) chain_is ∙ ap (λ (l : LinkState). get_or chains index [] ++ departed (step_of l.port).departure) link_is) ∙ put_is chains index (step_of (link_at links index).port).departure)
+  pub pass_runs : (start was : Option ℕ) → cleared key before.alarms ≡ start ∷ deadline_of role ∷ delayed_of role ∷ set (frees_of links) index was
+      → (step : PortStep) → step.port.link ≡ (link_at links index).port.link → (all : List LinkState) (after : AgendaState) (chains filled : List (List Stamped))
+      → all ≡ set links index (record (link_at links index) { port = step.port }) → after ≡ passed (after_take before key) index step → filled ≡ put_out (leaving_over index step.departure) chains
+      → HasRun key (with_step (part role links) role [] index step) role all before after chains filled
+  pass_runs start was alarms step same all after chains filled all_is after_is out_is =
+      let new : LinkState = record (link_at links index) { port = step.port } in
+      subst (λ (l : List LinkState). HasRun key (with_step (part role links) role [] index step) role l before after chains filled) (sym all_is)
+      (step_runs role links before is key index within role [] step new (after_take before key) after start was chains filled
+      refl (has_link role links index new is.linked) refl same refl refl refl alarms after_is out_is)
 
   -- a packet that came in is offered
   pub arrival_alarms : key.source ≢ 0 → cleared key before.alarms ≡ get_or before.alarms 0 None ∷ deadline_of role ∷ delayed_of role ∷ set (frees_of links) index (get_or (frees_of links) index None)
@@ -282,12 +270,3 @@ quiet_runs role links before is key timed after after_is chains =
   where
     keeps : (start : Option ℕ) → cleared key before.alarms ≡ alarms_of start role links → after.alarms ≡ alarms_of (get_or after.alarms 0 None) role links
     keeps start e = let all = ap (λ (s : AgendaState). s.alarms) after_is ∙ e in all ∙ ap (λ s. alarms_of s role links) (sym (ap (λ (a : List (Option ℕ)). get_or a 0 None) all))
-
-pub alarm_at : (role : Role) (links : List LinkState) (before : AgendaState) → IsInStep role links before → (index : ℕ) → get_or before.alarms (3 + index) None ≡ (link_at links index).port.next_free
-alarm_at role links before is index =
-    ap (λ (a : List (Option ℕ)). get_or a (3 + index) None) is.alarms
-    ∙ ap (λ n. get_or (alarms_of (get_or before.alarms 0 None) role links) n None) {x = 3 + index} {y = suc (suc (suc index))} (omega arith)
-    ∙ get_or-map (λ (l : LinkState). l.port.next_free) links index no_link
-
-pub same_answered : {s t : ReceiverState} {r q : Reply} → s ≡ t → r ≡ q → ◌≡◌ {A = Answered} (record { state = s; reply = r }) (record { state = t; reply = q })
-same_answered e f i = record { state = e i; reply = f i }

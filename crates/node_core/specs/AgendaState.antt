@@ -8,7 +8,9 @@ use Rattle.ranking.specs.Gathered.{gathered}
 use Rattle.node_core.specs.declared.event.Event.{Event}
 use Rattle.node_core.specs.declared.event.Event.TheVariants.{Start, Rto, DelAck, Free, Arrive}
 use Rattle.node_core.specs.Pending.{Events}
-use Rattle.node_core.specs.Alarms.{numbered_key}
+use Rattle.node_core.specs.declared.alarm.Alarm.{Alarm}
+use Rattle.node_core.specs.declared.alarm.Alarm.TheVariants.{Start as FlowStarts, Retransmission, DelayedAcknowledgement}
+use Rattle.node_core.specs.Alarms.{first_free, alarm_number, numbered_key}
 use Rattle.node_core.specs.WireState.{WireState, pending_on, came_over, arrivals}
 
 -- an incoming link: its number, and how many packets have come to the node over it, those that are still to be taken among them
@@ -25,10 +27,10 @@ pub record Owner : Type 0 where
 -- what an alarm of a number announces
 abbrev pub alarm_event : Owner → ℕ → Event
 alarm_event owner number =
-    if number == 0 then Start owner.flow
-    else (if number == 1 then Rto owner.flow
-    else (if number == 2 then DelAck owner.flow
-    else Free (slice_index_or owner.exits (number - 3) 0)))
+    if number == alarm_number FlowStarts then Start owner.flow
+    else (if number == alarm_number Retransmission then Rto owner.flow
+    else (if number == alarm_number DelayedAcknowledgement then DelAck owner.flow
+    else Free (slice_index_or owner.exits (number - first_free) 0)))
 
 -- when each alarm is due, by its number, where it is set; the incoming links in their order; what is pending
 pub record AgendaState : Type 0 where
@@ -36,6 +38,10 @@ pub record AgendaState : Type 0 where
   pub alarms : List (Option ℕ)
   pub incoming : List Incoming
   pub pending : Events
+
+-- when an alarm is due, where it is set
+abbrev pub alarm_at : AgendaState → Alarm → Option ℕ
+alarm_at agenda alarm = slice_index_or agenda.alarms (alarm_number alarm) None
 
 -- what an alarm's slot has
 abbrev pub alarm_map : Owner → ℕ → Option ℕ → Events
@@ -113,7 +119,7 @@ fresh_wire node link = record { node = node; link = link; taken = 0; under_way =
 abbrev pub fresh_agenda : Owner → List ℕ → AgendaState
 fresh_agenda owner links = record {
   owner = owner;
-  alarms = replicate (3 + length owner.exits) None;
+  alarms = replicate (first_free + length owner.exits) None;
   incoming = map (λ (link : ℕ). record { link = link; came = 0 }) links;
   pending = nothing_due Event;
 }
@@ -127,10 +133,10 @@ pub record IsAlarm (agenda : AgendaState) (key : Key) (number : ℕ) : Type 0 wh
 
 -- what an event that is the next says of the alarms: an arrival is none of them
 abbrev pub IsDueAs : AgendaState → Key → Event → Type 0
-IsDueAs agenda key (Start flow) = IsAlarm agenda key 0
-IsDueAs agenda key (Rto flow) = IsAlarm agenda key 1
-IsDueAs agenda key (DelAck flow) = IsAlarm agenda key 2
-IsDueAs agenda key (Free link) = (3 ≤ key.number) × IsAlarm agenda key key.number
+IsDueAs agenda key (Start flow) = IsAlarm agenda key (alarm_number FlowStarts)
+IsDueAs agenda key (Rto flow) = IsAlarm agenda key (alarm_number Retransmission)
+IsDueAs agenda key (DelAck flow) = IsAlarm agenda key (alarm_number DelayedAcknowledgement)
+IsDueAs agenda key (Free link) = (first_free ≤ key.number) × IsAlarm agenda key key.number
 IsDueAs agenda key (Arrive packet) = key.source ≢ 0
 
 -- an event that is the next is the node's own, and an alarm or an arrival

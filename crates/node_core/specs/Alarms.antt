@@ -6,12 +6,16 @@ use Rattle.node_core.specs.declared.alarm.Alarm.TheVariants.{Start, Retransmissi
 use Rattle.node_core.specs.declared.event.Event.{Event}
 use Rattle.node_core.specs.Pending.{Change}
 
--- the flow's start is 0, the retransmission timer 1, the delayed acknowledgement 2, and 3 + i the i-th link that becomes free
+-- the number of the alarm of a node's first outgoing link
+abbrev pub first_free : ℕ
+first_free = 3
+
+-- the flow's start is 0, the retransmission timer 1, the delayed acknowledgement 2, and then come the links that become free
 abbrev pub alarm_number : Alarm → ℕ
 alarm_number Start = 0
 alarm_number Retransmission = 1
 alarm_number DelayedAcknowledgement = 2
-alarm_number (Free index) = 3 + index
+alarm_number (Free index) = first_free + index
 
 -- the key of the alarm of a number, set for a time
 abbrev pub numbered_key : ℕ → ℕ → ℕ → Key

@@ -15,6 +15,8 @@ pub mod InStep
 pub mod Passing
 pub mod Node
 pub mod Running
+pub mod Decided
+pub mod CarriedOut
 pub mod NodeCode
 pub mod NodeOf
 pub mod Ready

@@ -1,23 +1,24 @@
 -- What passes one of a node's links, and what that changes of the node's agenda.
-use Rattle.std.specs.Prelude.{◌+◌, ℕ, List, [], ◌∷◌, ◌++◌, slice_index_or, slice_set, Option, None, Some}
+use Rattle.std.specs.Prelude.{ℕ, List, [], ◌∷◌, ◌++◌, slice_index_or, slice_set, Option, None, Some}
 use Rattle.std.specs.FinMap as map
 use Rattle.sim_time.specs.declared.key.Key.{Key}
 use Rattle.ranking.specs.Keyed.{apply}
 use Rattle.port.specs.Port.{Departure, PortStep}
+use Rattle.node_core.specs.declared.alarm.Alarm.TheVariants.{Free as BecomesFree}
 use Rattle.node_core.specs.declared.event.Event.TheVariants.{Free}
 use Rattle.node_core.specs.Pending.{Change}
-use Rattle.node_core.specs.Alarms.{numbered_key, alarm_cleared, alarm_set}
+use Rattle.node_core.specs.Alarms.{alarm_number, alarm_key, numbered_key, alarm_cleared, alarm_set}
 use Rattle.node_core.specs.AgendaState.{AgendaState, alarm_event, cleared}
 
 -- the link of an index and a number is busy from now on, where a packet departs over it
 abbrev pub busied : ℕ → ℕ → ℕ → Option Departure → List Change
 busied node index link None = []
-busied node index link (Some departure) = (numbered_key node (3 + index) departure.free, Some (Free link)) ∷ []
+busied node index link (Some departure) = (alarm_key node (BecomesFree index) departure.free, Some (Free link)) ∷ []
 
 -- the agenda, once this was done at the link of an index
 abbrev pub passed : AgendaState → ℕ → PortStep → AgendaState
 passed agenda index step = record agenda {
-  alarms = slice_set agenda.alarms (3 + index) step.port.next_free;
+  alarms = slice_set agenda.alarms (alarm_number (BecomesFree index)) step.port.next_free;
   pending = apply (busied agenda.owner.node index step.port.link step.departure) agenda.pending;
 }
 

@@ -1,5 +1,5 @@
 -- What a node needs so that its event can be run.
-use Rattle.std.specs.Prelude.{◌≡◌, ℕ, ◌%◌, ◌<◌, ◌≤◌, ◌^◌, length, Option, Some}
+use Rattle.std.specs.Prelude.{◌≡◌, ℕ, ◌+◌, ◌%◌, ◌<◌, ◌≤◌, ◌^◌, length, Option, Some, IsSome}
 use Rattle.std.specs.List.{AllByRecursion}
 use Rattle.packet_chain.specs.declared.packet.Packet.{Packet}
 use Rattle.packet_chain.specs.declared.packet.Kind.{Kind}
@@ -14,6 +14,8 @@ use Rattle.node_core.specs.declared.event.Event.TheVariants.{Start, Rto, DelAck,
 use Rattle.node_core.specs.declared.role.Role.{Role}
 use Rattle.node_core.specs.declared.role.Role.TheVariants.{Sends, Receives, Routes}
 use Rattle.node_core.specs.RouteTable.{exit_for}
+use Rattle.node_core.specs.Alarms.{first_free}
+use Rattle.node_core.specs.InStep.{deadline_of, delayed_of}
 use Rattle.node_core.specs.Part.{LinkState, PartState}
 
 -- an acknowledgement has to be one for the sender
@@ -54,3 +56,25 @@ pub record IsRunnable (part : PartState) (k : Key) (v : Event) : Type 0 where
   pub moment : IsMoment k.time
   pub can : CanRun part k.time v
   pub links : AllByRecursion LinkCan part.links
+
+-- the timer that ends is one that the role has set
+abbrev pub IsSetBy : Role → Event → Type 0
+IsSetBy role (Start flow) = Unit {0}
+IsSetBy role (Rto flow) = IsSome (deadline_of role)
+IsSetBy role (DelAck flow) = IsSome (delayed_of role)
+IsSetBy role (Free link) = Unit {0}
+IsSetBy role (Arrive packet) = Unit {0}
+
+-- a flow's end can take a packet
+abbrev pub EndTakes : Role → ℕ → Packet → Type 0
+EndTakes (Sends flow fields) now x = SenderTakes fields now x.kind x.number
+EndTakes (Receives flow state) now x = ReceiverTakes state x.kind x.number
+EndTakes (Routes table) now x = Unit {0}
+
+-- the link that is free is one of the node's
+abbrev pub IsOfLink : ℕ → ℕ → Event → Type 0
+IsOfLink number links (Start flow) = Unit {0}
+IsOfLink number links (Rto flow) = Unit {0}
+IsOfLink number links (DelAck flow) = Unit {0}
+IsOfLink number links (Free link) = (first_free ≤ number) × (number < first_free + links)
+IsOfLink number links (Arrive packet) = Unit {0}

@@ -13,7 +13,7 @@ ghost use Rattle.packet_chain.specs.declared.packet.Packet.{Packet};
 ghost use Rattle.node_core.specs.declared.event.Event.{Event};
 ghost use Rattle.node_core.specs.declared.event.Event.TheVariants.{Arrive};
 
-use crate::alarm::{Alarm, OWN_ALARMS};
+use crate::alarm::{Alarm, FIRST_FREE};
 use crate::event::Event;
 use crate::wire::Wire;
 use packet_chain::{PacketCell, PacketChain};
@@ -122,7 +122,7 @@ impl Agenda {
         requires apart { AreApart links.now }
         ensures { IfOk result (λ agenda. agenda ≡ fresh_agenda (record { node = node; flow = flow; exits = exits.items }) links.now) }
     {
-        let alarms = OWN_ALARMS + exits.len();
+        let alarms = FIRST_FREE + exits.len();
         Ok(Agenda {
             node,
             flow,
@@ -139,6 +139,11 @@ impl Agenda {
         ensures { result ≡ self.now.owner.node }
     {
         self.node
+    }
+
+    /// What a node's packets and copies take their memory from.
+    pub(crate) fn alloc(&self) -> Global {
+        self.alloc
     }
 
     /// The number of an incoming link.
@@ -243,7 +248,7 @@ impl Agenda {
             0 => Event::Start(self.flow),
             1 => Event::Rto(self.flow),
             2 => Event::DelAck(self.flow),
-            _ => Event::Free(self.exits.get(number - OWN_ALARMS).copied().unwrap_or(0)),
+            _ => Event::Free(self.exits.get(number - FIRST_FREE).copied().unwrap_or(0)),
         }
     }
 

@@ -2,8 +2,8 @@
 ghost use Rattle.std.specs.Prelude.{◌≡◌, ◌<◌};
 ghost use Rattle.node_core.specs.Alarms.{alarm_number};
 
-/// How many alarms a node has besides those of its outgoing links.
-pub(crate) const OWN_ALARMS: usize = 3;
+/// The number of the alarm of a node's first outgoing link: those before it are the node's own.
+pub(crate) const FIRST_FREE: usize = 3;
 
 /// An alarm of a node: it is set at one moment at most.
 #[derive(Clone, Copy, Debug, PartialEq, Eq)]
@@ -28,7 +28,7 @@ impl Alarm {
             Alarm::Start => 0,
             Alarm::Retransmission => 1,
             Alarm::DelayedAcknowledgement => 2,
-            Alarm::Free(index) => OWN_ALARMS as u64 + u64::from(index),
+            Alarm::Free(index) => FIRST_FREE as u64 + u64::from(index),
         }
     }
 }

@@ -1,13 +1,22 @@
 //! The packets of a flow, in cells.
-ghost use Rattle.std.specs.Prelude.{◌≡◌, ◌+◌, ◌*◌, ◌^◌, ◌<◌, ◌≤◌, [], ◌∷◌, ◌++◌, IfOk, OnOk, length, map, option_to_list};
+ghost use Rattle.std.specs.Prelude.{◌≡◌, ◌+◌, ◌*◌, ◌^◌, ◌<◌, ◌≤◌, ◌++◌, IfOk, OnOk, length, map, option_to_list};
 ghost use Rattle.reno_sender.specs.PlanView.{sent_of};
 ghost use Rattle.reno_sender.specs.Sending.{spaced};
-ghost use Rattle.node_core.specs.Links.{packets_of, behind_first};
+ghost use Rattle.node_core.specs.Links.{packets_of};
 ghost use Rattle.node_core.specs.Row.{data_packet, ack_packet};
 
 use packet_chain::{Kind, Packet, PacketBytes, PacketCell, PacketChain};
 use reno_sender::Plan;
 use std::alloc::{AllocError, Global};
+
+/// Whose packets are made, and what their cells take their memory from.
+#[derive(Clone, Copy)]
+pub(crate) struct Origin {
+    /// The heap of their cells.
+    pub(crate) alloc: Global,
+    /// The number of their flow.
+    pub(crate) flow: u16,
+}
 
 // The segment of this number.
 fn segment(flow: u16, mss: u64, number: u64) -> Packet
@@ -36,9 +45,8 @@ pub(crate) fn acknowledgement(flow: u16, number: u64) -> Packet
 
 // Puts so many segments at the end, from the first on.
 fn push_run(
-    alloc: Global,
+    origin: Origin,
     cells: &mut PacketChain,
-    flow: u16,
     mss: u64,
     first: u64,
     count: u64,
@@ -46,11 +54,11 @@ fn push_run(
     requires mss { mss ≤ 9000 }
     requires numbers { first + count * mss < 2 ^ 63 }
     requires few { length cells.old + count ≤ 2 ^ 49 }
-    ensures { OnOk result (packets_of cells.new ≡ packets_of cells.old ++ map (data_packet flow mss) (spaced first mss count)) }
+    ensures { OnOk result (packets_of cells.new ≡ packets_of cells.old ++ map (data_packet origin.flow mss) (spaced first mss count)) }
 {
     let mut number = first;
     for _made in 0..count {
-        let cell = PacketCell::new(alloc, segment(flow, mss, number))?;
+        let cell = PacketCell::new(origin.alloc, segment(origin.flow, mss, number))?;
         cells.push_back(cell);
         number += mss;
     }
@@ -59,8 +67,7 @@ fn push_run(
 
 /// The segment that is sent again, if one is, and then so many segments from the first on.
 pub(crate) fn segments(
-    alloc: Global,
-    flow: u16,
+    origin: Origin,
     mss: u64,
     resent: Option<u64>,
     first: u64,
@@ -69,74 +76,41 @@ pub(crate) fn segments(
     requires mss { mss ≤ 9000 }
     requires numbers { first + count * mss < 2 ^ 63 }
     requires few { count ≤ 2 ^ 40 }
-    ensures { IfOk result (λ cells. packets_of cells ≡ map (data_packet flow mss) (option_to_list resent ++ spaced first mss count)) }
+    ensures { IfOk result (λ cells. packets_of cells ≡ map (data_packet origin.flow mss) (option_to_list resent ++ spaced first mss count)) }
 {
-    let mut cells = PacketChain::new(alloc);
+    let mut cells = PacketChain::new(origin.alloc);
     if let Some(number) = resent {
-        let cell = PacketCell::new(alloc, segment(flow, mss, number))?;
+        let cell = PacketCell::new(origin.alloc, segment(origin.flow, mss, number))?;
         cells.push_back(cell);
     }
-    push_run(alloc, &mut cells, flow, mss, first, count)?;
+    push_run(origin, &mut cells, mss, first, count)?;
     Ok(cells)
 }
 
-/// The segments of a plan but the first.
-pub(crate) fn later_segments(
-    alloc: Global,
-    flow: u16,
+/// The segments of a plan: all but the last in cells of their own, and the last, if there is one.
+pub(crate) fn but_last(
+    origin: Origin,
     plan: &Plan,
-) -> Result<PacketChain, AllocError>
-    ensures { IfOk result (λ cells. packets_of cells ≡ map (data_packet flow plan.now.fields.mss) (behind_first (sent_of plan.now))) }
+) -> Result<(PacketChain, Option<Packet>), AllocError>
+    ensures { IfOk result (λ made. packets_of made.0 ++ option_to_list made.1 ≡ map (data_packet origin.flow plan.now.fields.mss) (sent_of plan.now)) }
 {
     let (mss, first, count) = (plan.as_fields().mss, plan.first(), plan.count());
-    if plan.resent().is_some() {
-        return segments(alloc, flow, mss, None, first, count);
-    }
     if count == 0 {
-        return Ok(PacketChain::new(alloc));
+        let cells = PacketChain::new(origin.alloc);
+        return Ok((cells, again(origin.flow, mss, plan.resent())));
     }
-    segments(alloc, flow, mss, None, first + mss, count - 1)
+    let cells = segments(origin, mss, plan.resent(), first, count - 1)?;
+    let last = segment(origin.flow, mss, first + (count - 1) * mss);
+    Ok((cells, Some(last)))
 }
 
-// A segment, in this cell, and others behind it.
-fn in_front(alloc: Global, cell: PacketCell, segment: Packet, mut later: PacketChain) -> PacketChain
-    requires { length later ≤ 2 ^ 40 }
-    ensures { packets_of result ≡ segment ∷ packets_of later }
+// The segment that is sent again, if one is.
+fn again(flow: u16, mss: u64, resent: Option<u64>) -> Option<Packet>
+    requires { mss ≤ 9000 }
+    ensures { option_to_list result ≡ map (data_packet flow mss) (option_to_list resent) }
 {
-    let mut cells = alone(alloc, cell, segment);
-    cells.append(&mut later);
-    cells
-}
-
-/// The segments of a plan: the first, if there is one, takes this cell, and the later ones are in
-/// theirs.
-pub(crate) fn segments_from(
-    alloc: Global,
-    flow: u16,
-    plan: &Plan,
-    cell: PacketCell,
-    later: PacketChain,
-) -> PacketChain
-    requires few { length later ≤ 2 ^ 40 }
-    requires later { packets_of later ≡ map (data_packet flow plan.now.fields.mss) (behind_first (sent_of plan.now)) }
-    ensures { packets_of result ≡ map (data_packet flow plan.now.fields.mss) (sent_of plan.now) }
-{
-    let mss = plan.as_fields().mss;
-    if let Some(number) = plan.resent() {
-        return in_front(alloc, cell, segment(flow, mss, number), later);
+    match resent {
+        Some(number) => Some(segment(flow, mss, number)),
+        None => None,
     }
-    if plan.count() == 0 {
-        return later;
-    }
-    in_front(alloc, cell, segment(flow, mss, plan.first()), later)
-}
-
-/// A chain of one cell, which gets this packet.
-pub(crate) fn alone(alloc: Global, mut cell: PacketCell, packet: Packet) -> PacketChain
-    ensures { packets_of result ≡ packet ∷ [] }
-{
-    cell.set_packet(packet);
-    let mut cells = PacketChain::new(alloc);
-    cells.push_back(cell);
-    cells
 }

@@ -1,234 +1,148 @@
-//! What each event does, by what its node does.
-ghost use Rattle.std.specs.Prelude.{◌≡◌, ◌≢◌, ◌+◌, ◌-◌, ◌^◌, ◌<◌, ◌≤◌, ◌++◌, All, None, Some, OnOk, OnErr, IfOk, length};
-ghost use Rattle.std.specs.Option.{option_map};
-ghost use Rattle.std.specs.List.{AllByRecursion};
+//! What is decided of each event, by what its node does.
+ghost use Rattle.std.specs.Prelude.{◌≡◌, ◌≤◌, ℕ, List, IfOk, OnErr, IsSome, length};
 ghost use Rattle.sim_time.specs.Moment.{IsMoment};
-ghost use Rattle.ranking.specs.Keyed.{next_key, least};
-ghost use Rattle.node_core.specs.declared.event.Event.TheVariants.{Arrive};
-ghost use Rattle.node_core.specs.AgendaState.{IsAlarm, IsDueAs};
-ghost use Rattle.node_core.specs.InStep.{IsInStep};
-ghost use Rattle.node_core.specs.Ready.{LinkCan, Takes, CanRun};
-ghost use Rattle.node_core.specs.Running.{HasRun, part};
-ghost use Rattle.node_core.specs.Row.{Leaving, start_row, rto_row, delack_row, arrival_row, row};
+ghost use Rattle.node_core.specs.declared.event.Event.TheVariants.{Start, Rto, DelAck, Arrive};
+ghost use Rattle.node_core.specs.Decided.{IsDecided};
+ghost use Rattle.node_core.specs.InStep.{HasItsLink, deadline_of, delayed_of};
+ghost use Rattle.node_core.specs.Part.{LinkState};
+ghost use Rattle.node_core.specs.Ready.{CanRun, EndTakes, IsExit, IsOfLink, IsSetBy, Takes};
+ghost use Rattle.node_core.specs.Running.{part};
 
-use crate::agenda::Agenda;
+use crate::cells::Origin;
+use crate::decision::Decision;
 use crate::event::Event;
-use crate::fire::{run_ack, run_sender};
+use crate::line::Line;
 use crate::link::Link;
-use crate::outbox::Outbox;
-use crate::receiver_node::{run_data, run_delayed};
+use crate::receiver_node::{answer_data, answer_delayed};
 use crate::role::Role;
-use crate::router_node::{run_free, run_router};
+use crate::router_node::{free_link, pass_packet};
+use crate::sender_node::{send_for_ack, send_plan};
 use packet_chain::{Kind, Packet};
 use port::Acts;
 use sim_time::Key;
 use std::alloc::{AllocError, Global};
 
 /// The flow starts.
-pub(crate) fn run_start(
+pub(crate) fn decide_start(
     alloc: Global,
     role: &mut Role,
-    links: &mut Vec<Link>,
     key: Key,
-    agenda: &mut Agenda,
     acts: &mut Acts,
-    out: &mut Outbox,
-) -> Result<Option<u16>, AllocError>
-    requires moment { IsMoment key.time }
-    requires in_step { IsInStep role.old links.old.items agenda.old }
-    requires next { next_key agenda.old.pending ≡ Some key }
-    requires at_node { key.node ≡ agenda.old.owner.node }
-    requires alarm { IsAlarm agenda.old key 0 }
-    requires can { AllByRecursion LinkCan links.old.items }
-    requires chains { length links.old.items ≤ length out.old }
-    requires room { All (λ chain. length chain < 1000000000000000) out.old }
-    ensures ran { OnOk result (HasRun key (start_row (part role.old links.old.items) role.old key) role.new links.new.items agenda.old agenda.new out.old out.new) }
-    ensures acts { OnOk result (acts.new.acts ≡ acts.old.acts ++ (start_row (part role.old links.old.items) role.old key).acts) }
-    ensures leaving { IfOk result (λ index. index ≡ option_map (λ (leaving : Leaving). leaving.index) (start_row (part role.old links.old.items) role.old key).leaving) }
-    ensures same_role { OnErr result (role.new ≡ role.old) }
-    ensures same_links { OnErr result (links.new.items ≡ links.old.items) }
-    ensures same_agenda { OnErr result (agenda.new ≡ agenda.old) }
-    ensures same_out { OnErr result (out.new ≡ out.old) }
+) -> Result<Decision, AllocError>
+    requires { IsMoment key.time }
+    ensures decided { (flow : ℕ) (links : List LinkState) → HasItsLink role.old links → IfOk result (IsDecided role.old role.new links key (Start flow) acts.new.room) }
+    ensures same { OnErr result (role.new ≡ role.old) }
+    ensures acts { acts.new.acts ≡ acts.old.acts }
 {
     match role {
         Role::Sends(flow, sender) => {
             let plan = sender.start(key.time);
-            run_sender(alloc, *flow, sender, &plan, links, key, agenda, acts, out)
+            send_plan(Origin { alloc, flow: *flow }, sender, &plan, acts)
         }
-        Role::Receives(_, _) | Role::Routes(_) => {
-            let _cell = agenda.take(key);
-            Ok(None)
-        }
+        Role::Receives(_, _) | Role::Routes(_) => Ok(Decision::Leave),
     }
 }
 
 /// The retransmission timer ends.
-pub(crate) fn run_timeout(
+pub(crate) fn decide_timeout(
     alloc: Global,
     role: &mut Role,
-    links: &mut Vec<Link>,
     key: Key,
-    agenda: &mut Agenda,
     acts: &mut Acts,
-    out: &mut Outbox,
-) -> Result<Option<u16>, AllocError>
+) -> Result<Decision, AllocError>
     requires moment { IsMoment key.time }
-    requires in_step { IsInStep role.old links.old.items agenda.old }
-    requires next { next_key agenda.old.pending ≡ Some key }
-    requires at_node { key.node ≡ agenda.old.owner.node }
-    requires alarm { IsAlarm agenda.old key 1 }
-    requires can { AllByRecursion LinkCan links.old.items }
-    requires chains { length links.old.items ≤ length out.old }
-    requires room { All (λ chain. length chain < 1000000000000000) out.old }
-    ensures ran { OnOk result (HasRun key (rto_row (part role.old links.old.items) role.old key) role.new links.new.items agenda.old agenda.new out.old out.new) }
-    ensures acts { OnOk result (acts.new.acts ≡ acts.old.acts ++ (rto_row (part role.old links.old.items) role.old key).acts) }
-    ensures leaving { IfOk result (λ index. index ≡ option_map (λ (leaving : Leaving). leaving.index) (rto_row (part role.old links.old.items) role.old key).leaving) }
-    ensures same_role { OnErr result (role.new ≡ role.old) }
-    ensures same_links { OnErr result (links.new.items ≡ links.old.items) }
-    ensures same_agenda { OnErr result (agenda.new ≡ agenda.old) }
-    ensures same_out { OnErr result (out.new ≡ out.old) }
+    requires set { IsSome (deadline_of role.old) }
+    ensures decided { (flow : ℕ) (links : List LinkState) → HasItsLink role.old links → IfOk result (IsDecided role.old role.new links key (Rto flow) acts.new.room) }
+    ensures same { OnErr result (role.new ≡ role.old) }
+    ensures acts { acts.new.acts ≡ acts.old.acts }
 {
     match role {
         Role::Sends(flow, sender) => {
             let plan = sender.on_rto(key.time);
-            run_sender(alloc, *flow, sender, &plan, links, key, agenda, acts, out)
+            send_plan(Origin { alloc, flow: *flow }, sender, &plan, acts)
         }
-        Role::Receives(_, _) | Role::Routes(_) => {
-            let _cell = agenda.take(key);
-            Ok(None)
-        }
+        Role::Receives(_, _) | Role::Routes(_) => Ok(Decision::Leave),
     }
 }
 
 /// A delayed acknowledgement is due.
-pub(crate) fn run_delack(
+pub(crate) fn decide_delayed(
     alloc: Global,
     role: &mut Role,
-    links: &mut Vec<Link>,
-    key: Key,
-    agenda: &mut Agenda,
     acts: &mut Acts,
-    out: &mut Outbox,
-) -> Result<Option<u16>, AllocError>
-    requires moment { IsMoment key.time }
-    requires in_step { IsInStep role.old links.old.items agenda.old }
-    requires next { next_key agenda.old.pending ≡ Some key }
-    requires at_node { key.node ≡ agenda.old.owner.node }
-    requires alarm { IsAlarm agenda.old key 2 }
-    requires can { AllByRecursion LinkCan links.old.items }
-    requires chains { length links.old.items ≤ length out.old }
-    requires room { All (λ chain. length chain < 1000000000000000) out.old }
-    ensures ran { OnOk result (HasRun key (delack_row (part role.old links.old.items) role.old key) role.new links.new.items agenda.old agenda.new out.old out.new) }
-    ensures acts { OnOk result (acts.new.acts ≡ acts.old.acts ++ (delack_row (part role.old links.old.items) role.old key).acts) }
-    ensures leaving { IfOk result (λ index. index ≡ option_map (λ (leaving : Leaving). leaving.index) (delack_row (part role.old links.old.items) role.old key).leaving) }
-    ensures same_role { OnErr result (role.new ≡ role.old) }
-    ensures same_links { OnErr result (links.new.items ≡ links.old.items) }
-    ensures same_agenda { OnErr result (agenda.new ≡ agenda.old) }
-    ensures same_out { OnErr result (out.new ≡ out.old) }
+) -> Result<Decision, AllocError>
+    requires { IsSome (delayed_of role.old) }
+    ensures decided { (key : Key) (flow : ℕ) (links : List LinkState) → HasItsLink role.old links → IfOk result (IsDecided role.old role.new links key (DelAck flow) acts.new.room) }
+    ensures same { OnErr result (role.new ≡ role.old) }
+    ensures acts { acts.new.acts ≡ acts.old.acts }
 {
     match role {
         Role::Receives(flow, receiver) => {
-            run_delayed(alloc, *flow, receiver, links, key, agenda, acts, out)
+            answer_delayed(Origin { alloc, flow: *flow }, receiver, acts)
         }
-        Role::Sends(_, _) | Role::Routes(_) => {
-            let _cell = agenda.take(key);
-            Ok(None)
-        }
+        Role::Sends(_, _) | Role::Routes(_) => Ok(Decision::Leave),
     }
 }
 
 /// A packet arrives.
-pub(crate) fn run_arrival(
+pub(crate) fn decide_arrival(
     alloc: Global,
     role: &mut Role,
-    links: &mut Vec<Link>,
-    key: Key,
     packet: Packet,
-    agenda: &mut Agenda,
+    key: Key,
     acts: &mut Acts,
-    out: &mut Outbox,
-) -> Result<Option<u16>, AllocError>
+) -> Result<Decision, AllocError>
     requires moment { IsMoment key.time }
-    requires in_step { IsInStep role.old links.old.items agenda.old }
-    requires next { next_key agenda.old.pending ≡ Some key }
-    requires at_node { key.node ≡ agenda.old.owner.node }
-    requires other { key.source ≢ 0 }
-    requires arrives { least agenda.old.pending ≡ Some (key, Arrive packet) }
-    requires takes { Takes (part role.old links.old.items) role.old key.time packet }
-    requires can { AllByRecursion LinkCan links.old.items }
-    requires chains { length links.old.items ≤ length out.old }
-    requires room { All (λ chain. length chain < 1000000000000000) out.old }
-    ensures ran { OnOk result (HasRun key (arrival_row (part role.old links.old.items) role.old key packet) role.new links.new.items agenda.old agenda.new out.old out.new) }
-    ensures acts { OnOk result (acts.new.acts ≡ acts.old.acts ++ (arrival_row (part role.old links.old.items) role.old key packet).acts) }
-    ensures leaving { IfOk result (λ index. index ≡ option_map (λ (leaving : Leaving). leaving.index) (arrival_row (part role.old links.old.items) role.old key packet).leaving) }
-    ensures same_role { OnErr result (role.new ≡ role.old) }
-    ensures same_links { OnErr result (links.new.items ≡ links.old.items) }
-    ensures same_agenda { OnErr result (agenda.new ≡ agenda.old) }
-    ensures same_out { OnErr result (out.new ≡ out.old) }
+    requires takes { EndTakes role.old key.time packet }
+    ensures decided { (links : List LinkState) → HasItsLink role.old links → Takes (part role.old links) role.old key.time packet → IfOk result (IsDecided role.old role.new links key (Arrive packet) acts.new.room) }
+    ensures same { OnErr result (role.new ≡ role.old) }
+    ensures acts { acts.new.acts ≡ acts.old.acts }
 {
     match role {
         Role::Sends(flow, sender) => match packet.kind {
             Kind::Ack => {
-                let number = packet.number;
-                run_ack(alloc, *flow, sender, number, links, key, agenda, acts, out)
+                let origin = Origin { alloc, flow: *flow };
+                send_for_ack(origin, sender, packet.number, key.time, acts)
             }
-            Kind::Data => {
-                let _cell = agenda.take(key);
-                Ok(None)
-            }
+            Kind::Data => Ok(Decision::Leave),
         },
         Role::Receives(flow, receiver) => match packet.kind {
             Kind::Data => {
-                let number = packet.number;
-                run_data(
-                    alloc, *flow, receiver, number, links, key, agenda, acts, out,
-                )
+                let origin = Origin { alloc, flow: *flow };
+                answer_data(origin, receiver, packet.number, key.time, acts)
             }
-            Kind::Ack => {
-                let _cell = agenda.take(key);
-                Ok(None)
-            }
+            Kind::Ack => Ok(Decision::Leave),
         },
-        Role::Routes(table) => { run_router(alloc, table, packet, links, key, agenda, acts, out) }
+        Role::Routes(table) => pass_packet(table, packet, acts),
     }
 }
 
-/// Runs the event of the least key.
-pub(crate) fn run(
+/// Decides what a line's event does: the role takes the event, and all memory is taken.
+pub(crate) fn decide(
     alloc: Global,
     role: &mut Role,
-    links: &mut Vec<Link>,
-    key: Key,
-    event: &Event,
-    agenda: &mut Agenda,
-    acts: &mut Acts,
-    out: &mut Outbox,
-) -> Result<Option<u16>, AllocError>
-    requires moment { IsMoment key.time }
-    requires in_step { IsInStep role.old links.old.items agenda.old }
-    requires next { next_key agenda.old.pending ≡ Some key }
-    requires at_node { key.node ≡ agenda.old.owner.node }
-    requires due { IsDueAs agenda.old key event.now }
-    requires least { least agenda.old.pending ≡ Some (key, event.now) }
-    requires runs { CanRun (part role.old links.old.items) key.time event.now }
-    requires can { AllByRecursion LinkCan links.old.items }
-    requires chains { length links.old.items ≤ length out.old }
-    requires room { All (λ chain. length chain < 1000000000000000) out.old }
-    ensures ran { OnOk result (HasRun key (row (part role.old links.old.items) key event.now) role.new links.new.items agenda.old agenda.new out.old out.new) }
-    ensures acts { OnOk result (acts.new.acts ≡ acts.old.acts ++ (row (part role.old links.old.items) key event.now).acts) }
-    ensures leaving { IfOk result (λ index. index ≡ option_map (λ (leaving : Leaving). leaving.index) (row (part role.old links.old.items) key event.now).leaving) }
-    ensures same_role { OnErr result (role.new ≡ role.old) }
-    ensures same_links { OnErr result (links.new.items ≡ links.old.items) }
-    ensures same_agenda { OnErr result (agenda.new ≡ agenda.old) }
-    ensures same_out { OnErr result (out.new ≡ out.old) }
+    links: &Vec<Link>,
+    line: &mut Line,
+) -> Result<Decision, AllocError>
+    requires moment { IsMoment line.old.key.time }
+    requires set { IsSetBy role.old line.old.event }
+    requires own { IsOfLink line.old.key.number (length links.now.items) line.old.event }
+    requires takes { CanRun (part role.old links.now.items) line.old.key.time line.old.event }
+    requires linked { HasItsLink role.old links.now.items }
+    requires few { length links.now.items ≤ 1024 }
+    ensures decided { IfOk result (IsDecided role.old role.new links.now.items line.old.key line.old.event line.new.acts.room) }
+    ensures same { OnErr result (role.new ≡ role.old) }
+    ensures acts { line.new.acts.acts ≡ line.old.acts.acts }
+    ensures key { line.new.key ≡ line.old.key }
+    ensures event { line.new.event ≡ line.old.event }
 {
-    match event {
-        Event::Start(_) => run_start(alloc, role, links, key, agenda, acts, out),
-        Event::Rto(_) => run_timeout(alloc, role, links, key, agenda, acts, out),
-        Event::DelAck(_) => run_delack(alloc, role, links, key, agenda, acts, out),
-        Event::Free(_) => run_free(role, links, key, agenda, acts, out),
-        Event::Arrive(packet) => {
-            run_arrival(alloc, role, links, key, *packet, agenda, acts, out)
-        }
+    let key = line.key;
+    let acts = &mut line.acts;
+    match &line.event {
+        Event::Start(_) => decide_start(alloc, role, key, acts),
+        Event::Rto(_) => decide_timeout(alloc, role, key, acts),
+        Event::DelAck(_) => decide_delayed(alloc, role, acts),
+        Event::Free(_) => free_link(links, key, acts),
+        Event::Arrive(packet) => decide_arrival(alloc, role, *packet, key, acts),
     }
 }

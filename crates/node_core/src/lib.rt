@@ -5,7 +5,7 @@
 mod agenda;
 pub mod alarm;
 mod cells;
-mod end_node;
+mod decision;
 pub mod event;
 mod events;
 mod fire;
@@ -20,6 +20,7 @@ mod receiver_node;
 pub mod role;
 mod router_node;
 pub mod routes;
+mod sender_node;
 pub mod wire;
 
 pub use alarm::Alarm;

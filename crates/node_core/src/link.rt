@@ -1,12 +1,13 @@
 //! An outgoing link of a node.
-ghost use Rattle.std.specs.Prelude.{◌≡◌, ◌+◌, ◌^◌, ◌<◌, ◌≤◌, ◌++◌, Some, length, map, IfOk};
+ghost use Rattle.std.specs.Prelude.{◌≡◌, ◌+◌, ◌^◌, ◌<◌, ◌≤◌, ◌++◌, Some, length, map, is_some, IfOk};
 ghost use Rattle.sim_time.specs.Moment.{IsMoment};
 ghost use Rattle.port.specs.Laws.{NothingWaitsWhereIdle};
-ghost use Rattle.port.specs.Port.{IsPort, offered_all, taken, departed};
+ghost use Rattle.port.specs.Port.{IsPort, offered_one, offered_all, taken, departed};
 ghost use Rattle.port.specs.Room.{drops_at};
 ghost use Rattle.node_core.specs.Links.{packets_of};
+ghost use Rattle.node_core.specs.Ready.{LinkCan};
 
-use packet_chain::PacketChain;
+use packet_chain::{PacketCell, PacketChain};
 use port::{Acts, Port};
 use sim_time::Time;
 use std::alloc::AllocError;
@@ -54,6 +55,33 @@ impl Link {
         ensures idle { NothingWaitsWhereIdle self.now.port }
     {
         &self.port
+    }
+
+    /// Whether it is sending a packet.
+    pub(crate) fn is_busy(&self) -> bool
+        ensures { result ≡ is_some self.now.port.next_free }
+    {
+        self.port.next_free().is_some()
+    }
+
+    /// Offers one packet. If it begins to be sent it goes to the end of `out`, with the time of its
+    /// arrival as its stamp.
+    pub(crate) fn send(
+        &mut self,
+        cell: PacketCell,
+        now: Time,
+        acts: &mut Acts,
+        out: &mut PacketChain,
+    )
+        requires moment { IsMoment now }
+        requires room { 2 ≤ acts.old.room }
+        requires can { LinkCan self.old }
+        requires chain { length out.old < 1000000000000000 }
+        ensures state { self.new ≡ record self.old { port = (offered_one now self.old.port cell.0).port } }
+        ensures departed { out.new ≡ out.old ++ departed (offered_one now self.old.port cell.0).departure }
+        ensures acts { acts.new.acts ≡ acts.old.acts ++ (offered_one now self.old.port cell.0).acts }
+    {
+        self.port.send(cell, now, acts, out);
     }
 
     /// Offers packets one after another. One that begins to be sent goes to the end of `out`, with

@@ -19,7 +19,7 @@ ghost use Rattle.node_core.specs.Opening.{node_kind};
 
 use crate::agenda::Agenda;
 use crate::event::Event;
-use crate::events::run;
+use crate::fire::run;
 use crate::line::Line;
 use crate::link::Link;
 use crate::opening::{leaving_numbers, opening_agenda, opening_links, opening_role};
@@ -226,18 +226,8 @@ impl Node {
         // Written before the event is run, it need not be kept elsewhere until then.
         line.key = key;
         line.event = event;
-        let acts = &mut line.acts;
-        acts.clear();
-        let left = run(
-            self.alloc,
-            &mut self.role,
-            &mut self.links,
-            key,
-            &line.event,
-            &mut self.agenda,
-            acts,
-            out,
-        )?;
+        line.acts.clear();
+        let left = run(&mut self.role, &mut self.links, &mut self.agenda, line, out)?;
         self.role.show(&mut line.after);
         Ok(left)
     }

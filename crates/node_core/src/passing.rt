@@ -1,81 +1,140 @@
-//! What passes a node's link.
-ghost use Rattle.std.specs.Prelude.{◌≡◌, ◌+◌, ◌^◌, ◌<◌, ◌≤◌, ◌++◌, None, Some, length, slice_index_or, is_some};
-ghost use Rattle.sim_time.specs.Moment.{IsMoment};
-ghost use Rattle.port.specs.Port.{offered_all, taken, departed};
-ghost use Rattle.port.specs.Room.{drops_at};
+//! What is done at a node's links once an event is decided, and what that changes of its agenda.
+ghost use Rattle.std.specs.Prelude.{◌≡◌, ◌+◌, ◌^◌, ◌<◌, ◌≤◌, ◌++◌, ℕ, IsSome, None, Some, length, option_to_list, slice_index_or, if◌then◌else◌, false};
+ghost use Rattle.std.specs.Option.{option_map};
+ghost use Rattle.packet_chain.specs.declared.packet.Packet.{Packet};
+ghost use Rattle.port.specs.Port.{offered_all, taken};
+ghost use Rattle.node_core.specs.declared.alarm.Alarm.TheVariants.{Free};
+ghost use Rattle.node_core.specs.Alarms.{alarm_number};
+ghost use Rattle.node_core.specs.CarriedOut.{IsNext, HasPassed};
+ghost use Rattle.node_core.specs.Decided.{CanPass, CanSend, CanTake, arriving, sent_by};
 ghost use Rattle.node_core.specs.Links.{packets_of};
-ghost use Rattle.node_core.specs.Passing.{passed, after_take};
-ghost use Rattle.node_core.specs.AgendaState.{IsAlarm};
+ghost use Rattle.node_core.specs.Part.{link_at};
+ghost use Rattle.node_core.specs.Passing.{after_take, moved_to};
 
 use crate::agenda::Agenda;
 use crate::alarm::Alarm;
+use crate::decision::Sending;
+use crate::line::Line;
 use crate::link::Link;
-use packet_chain::PacketChain;
-use port::Acts;
-use sim_time::{Key, Time};
+use crate::outbox::Outbox;
+use packet_chain::{Packet, PacketCell, PacketChain};
+use sim_time::Time;
 
-/// Offers packets to the link of an index, one after another; whether one begins to be sent.
-pub(crate) fn offer(
-    link: &mut Link,
-    index: usize,
-    cells: PacketChain,
-    agenda: &mut Agenda,
-    now: Time,
-    acts: &mut Acts,
-    out: &mut PacketChain,
-) -> bool
-    requires moment { IsMoment now }
-    requires room { length cells + 1 ≤ acts.old.room }
-    requires sent { link.old.port.sent < 1000000000000000 }
-    requires offered { link.old.port.offered + length cells ≤ 2 ^ 99 }
-    requires chain { length out.old < 1000000000000000 }
-    requires within { 3 + index < length agenda.old.alarms }
-    requires small { index < 65536 }
-    requires alarm { slice_index_or agenda.old.alarms (3 + index) None ≡ link.old.port.next_free }
-    requires exit { slice_index_or agenda.old.owner.exits index 0 ≡ link.old.port.link }
-    ensures link { link.new ≡ record link.old { port = (offered_all now link.old.port (packets_of cells)).port } }
-    ensures agenda { agenda.new ≡ passed agenda.old index (offered_all now link.old.port (packets_of cells)) }
-    ensures departed { out.new ≡ out.old ++ departed (offered_all now link.old.port (packets_of cells)).departure }
-    ensures acts { acts.new.acts ≡ acts.old.acts ++ (offered_all now link.old.port (packets_of cells)).acts }
-    ensures departs { result ≡ is_some (offered_all now link.old.port (packets_of cells)).departure }
+// The index of a link, where a packet has left over it, so that it is busy.
+fn left_over(index: u16, next_free: Option<Time>) -> Option<u16>
+    ensures { result ≡ option_map (λ (time : ℕ). index) next_free }
 {
-    let was_busy = link.port().next_free().is_some();
-    link.offer(cells, now, acts, out);
-    if was_busy {
-        return false;
+    match next_free {
+        Some(_) => Some(index),
+        None => None,
     }
-    let next_free = link.port().next_free();
-    agenda.set_alarm(Alarm::Free(index as u16), next_free);
-    next_free.is_some()
 }
 
-/// The link of an index, whose alarm is this event, has sent a packet whole, and takes the next;
-/// whether it has one. The event leaves.
-pub(crate) fn free(
-    link: &mut Link,
-    index: usize,
-    agenda: &mut Agenda,
-    key: Key,
-    acts: &mut Acts,
-    out: &mut PacketChain,
-) -> bool
-    requires moment { IsMoment key.time }
-    requires due { link.old.port.next_free ≡ Some key.time }
-    requires room { drops_at key.time link.old.port + 2 ≤ acts.old.room }
-    requires sent { link.old.port.sent < 1000000000000000 }
-    requires chain { length out.old < 1000000000000000 }
-    requires small { index < 65536 }
-    requires at_node { key.node ≡ agenda.old.owner.node }
-    requires alarm { IsAlarm agenda.old key (3 + index) }
-    requires exit { slice_index_or agenda.old.owner.exits index 0 ≡ link.old.port.link }
-    ensures link { link.new ≡ record link.old { port = (taken key.time link.old.port).port } }
-    ensures agenda { agenda.new ≡ passed (after_take agenda.old key) index (taken key.time link.old.port) }
-    ensures departed { out.new ≡ out.old ++ departed (taken key.time link.old.port).departure }
-    ensures acts { acts.new.acts ≡ acts.old.acts ++ (taken key.time link.old.port).acts }
-    ensures departs { result ≡ is_some (taken key.time link.old.port).departure }
+// Packets were offered to the link of an index: its alarm is set where it was idle before. The index,
+// where a packet has left.
+fn follow(agenda: &mut Agenda, index: u16, was_busy: bool, next_free: Option<Time>) -> Option<u16>
+    requires { alarm_number (Free index) < length agenda.old.alarms }
+    ensures agenda { agenda.new ≡ (if was_busy then agenda.old else moved_to agenda.old (alarm_number (Free index)) next_free) }
+    ensures left { result ≡ (if was_busy then None else option_map (λ (time : ℕ). index) next_free) }
 {
-    link.free(key.time, acts, out);
+    if was_busy {
+        return None;
+    }
+    agenda.set_alarm(Alarm::Free(index), next_free);
+    left_over(index, next_free)
+}
+
+/// The packet that arrives is offered to the link of an index, in its cell.
+pub(crate) fn pass_on(
+    index: u16,
+    links: &mut Vec<Link>,
+    agenda: &mut Agenda,
+    line: &mut Line,
+    out: &mut Outbox,
+) -> Option<u16>
+    requires next { IsNext line.old.key line.old.event links.old.items agenda.old out.old }
+    requires can { CanPass line.old.event links.old.items line.old.acts.room index }
+    ensures passed { HasPassed index (offered_all line.old.key.time (link_at links.old.items index).port (arriving line.old.event)) links.old.items links.new.items (after_take agenda.old line.old.key) agenda.new out.old out.new line.old.acts.acts line.new.acts.acts result }
+    ensures key { line.new.key ≡ line.old.key }
+    ensures event { line.new.event ≡ line.old.event }
+{
+    let cell = agenda.take(line.key).unwrap();
+    let place = index as usize;
+    let link = &mut links[place];
+    let was_busy = link.is_busy();
+    let chain = out.chain(place);
+    link.send(cell, line.key.time, &mut line.acts, chain);
+    follow(agenda, index, was_busy, link.port().next_free())
+}
+
+/// The link of an index, whose alarm the event is, takes the next packet from its queue.
+pub(crate) fn take_next(
+    index: u16,
+    links: &mut Vec<Link>,
+    agenda: &mut Agenda,
+    line: &mut Line,
+    out: &mut Outbox,
+) -> Option<u16>
+    requires next { IsNext line.old.key line.old.event links.old.items agenda.old out.old }
+    requires can { CanTake line.old.key line.old.event links.old.items line.old.acts.room index }
+    ensures passed { HasPassed index (taken line.old.key.time (link_at links.old.items index).port) links.old.items links.new.items (after_take agenda.old line.old.key) agenda.new out.old out.new line.old.acts.acts line.new.acts.acts result }
+    ensures key { line.new.key ≡ line.old.key }
+    ensures event { line.new.event ≡ line.old.event }
+{
+    let place = index as usize;
+    let link = &mut links[place];
+    let chain = out.chain(place);
+    link.free(line.key.time, &mut line.acts, chain);
     let next_free = link.port().next_free();
-    agenda.reset(key, Alarm::Free(index as u16), next_free);
-    next_free.is_some()
+    agenda.reset(line.key, Alarm::Free(index), next_free);
+    left_over(index, next_free)
+}
+
+// The packets of an end in cells: the last, if it has none, in that of the packet that has arrived.
+fn in_cells(
+    mut cells: PacketChain,
+    last: Option<Packet>,
+    arrived: Option<PacketCell>,
+) -> PacketChain
+    requires few { length cells ≤ 2 ^ 40 }
+    requires cell { (packet : Packet) → last ≡ Some packet → IsSome arrived }
+    ensures { packets_of result ≡ packets_of cells ++ option_to_list last }
+{
+    let Some(packet) = last else {
+        return cells;
+    };
+    let mut cell = arrived.unwrap();
+    cell.set_packet(packet);
+    cells.push_back(cell);
+    cells
+}
+
+/// The packets of a flow's end are offered to its link, and its timer moves.
+pub(crate) fn send(
+    sending: Sending,
+    links: &mut Vec<Link>,
+    agenda: &mut Agenda,
+    line: &mut Line,
+    out: &mut Outbox,
+) -> Option<u16>
+    requires next { IsNext line.old.key line.old.event links.old.items agenda.old out.old }
+    requires can { CanSend line.old.event links.old.items line.old.acts.room sending }
+    ensures passed { HasPassed 0 (offered_all line.old.key.time (link_at links.old.items 0).port (sent_by sending)) links.old.items links.new.items (moved_to (after_take agenda.old line.old.key) (alarm_number sending.alarm) sending.time) agenda.new out.old out.new line.old.acts.acts line.new.acts.acts result }
+    ensures key { line.new.key ≡ line.old.key }
+    ensures event { line.new.event ≡ line.old.event }
+{
+    let Sending {
+        cells,
+        last,
+        alarm,
+        time,
+    } = sending;
+    let arrived = agenda.take(line.key);
+    agenda.set_alarm(alarm, time);
+    let cells = in_cells(cells, last, arrived);
+    let link = &mut links[0];
+    let was_busy = link.is_busy();
+    let chain = out.chain(0);
+    link.offer(cells, line.key.time, &mut line.acts, chain);
+    follow(agenda, 0, was_busy, link.port().next_free())
 }

@@ -1,110 +1,76 @@
-//! The events of a receiver's node.
-ghost use Rattle.std.specs.Prelude.{◌≡◌, ◌≢◌, ◌+◌, ◌-◌, ◌^◌, ◌<◌, ◌≤◌, ◌++◌, ◌%◌, All, None, Some, OnOk, OnErr, IfOk, length, slice_index_or};
-ghost use Rattle.std.specs.Option.{option_map};
-ghost use Rattle.std.specs.List.{AllByRecursion};
+//! The rows of the receiver's table at a receiver's node.
+ghost use Rattle.std.specs.Prelude.{◌≡◌, ◌%◌, ◌≤◌, IfOk, OnOk, OnErr, option_to_list, true, false};
 ghost use Rattle.sim_time.specs.Moment.{IsMoment};
-ghost use Rattle.packet_chain.specs.declared.packet.Packet.{Packet};
-ghost use Rattle.ranking.specs.Keyed.{next_key, least};
 ghost use Rattle.reno_receiver.specs.Received.{data_came, alarm_came};
-ghost use Rattle.node_core.specs.declared.event.Event.TheVariants.{Arrive};
-ghost use Rattle.node_core.specs.declared.role.Role.TheVariants.{Receives};
-ghost use Rattle.node_core.specs.InStep.{IsInStep};
-ghost use Rattle.node_core.specs.Ready.{LinkCan};
-ghost use Rattle.node_core.specs.Running.{HasRun, IsTimed, part};
-ghost use Rattle.node_core.specs.Row.{Leaving, receiver_row};
+ghost use Rattle.node_core.specs.declared.alarm.Alarm.TheVariants.{DelayedAcknowledgement};
+ghost use Rattle.node_core.specs.Decided.{IsSent, OnSend};
+ghost use Rattle.node_core.specs.Row.{ack_of};
 
-use crate::agenda::Agenda;
-use crate::cells::acknowledgement;
-use crate::end_node::give_answer;
-use crate::fire::first_if;
-use crate::link::Link;
-use crate::outbox::Outbox;
-use packet_chain::PacketCell;
+use crate::alarm::Alarm;
+use crate::cells::{Origin, acknowledgement};
+use crate::decision::{Decision, Sending};
+use packet_chain::{Packet, PacketCell, PacketChain};
 use port::Acts;
 use reno_receiver::{Receiver, Reply};
-use sim_time::Key;
-use std::alloc::{AllocError, Global};
+use sim_time::Time;
+use std::alloc::AllocError;
 
-/// A segment has come: its cell takes the acknowledgement, if there is one now. The answer is the
-/// index of the link over which a packet left.
-pub(crate) fn run_data(
-    alloc: Global,
-    flow: u16,
-    receiver: &mut Receiver,
-    number: u64,
-    links: &mut Vec<Link>,
-    key: Key,
-    agenda: &mut Agenda,
-    acts: &mut Acts,
-    out: &mut Outbox,
-) -> Result<Option<u16>, AllocError>
-    requires moment { IsMoment key.time }
-    requires in_step { IsInStep (Receives flow receiver.old) links.old.items agenda.old }
-    requires next { next_key agenda.old.pending ≡ Some key }
-    requires at_node { key.node ≡ agenda.old.owner.node }
-    requires other { key.source ≢ 0 }
-    requires arrives { (packet : Packet) × (least agenda.old.pending ≡ Some (key, Arrive packet)) }
-    requires multiple { number % receiver.old.mss ≡ 0 }
-    requires greatest { number ≤ 9000000000000 }
-    requires can { AllByRecursion LinkCan links.old.items }
-    requires chains { length links.old.items ≤ length out.old }
-    requires room { All (λ chain. length chain < 1000000000000000) out.old }
-    ensures ran { OnOk result (HasRun key (receiver_row (part (Receives flow receiver.old) links.old.items) key flow receiver.old (data_came receiver.old number key.time)) (Receives flow receiver.new) links.new.items agenda.old agenda.new out.old out.new) }
-    ensures acts { OnOk result (acts.new.acts ≡ acts.old.acts ++ (receiver_row (part (Receives flow receiver.old) links.old.items) key flow receiver.old (data_came receiver.old number key.time)).acts) }
-    ensures leaving { IfOk result (λ index. index ≡ option_map (λ (leaving : Leaving). leaving.index) (receiver_row (part (Receives flow receiver.old) links.old.items) key flow receiver.old (data_came receiver.old number key.time)).leaving) }
-    ensures same_receiver { OnErr result (receiver.new ≡ receiver.old) }
-    ensures same_links { OnErr result (links.new.items ≡ links.old.items) }
-    ensures same_agenda { OnErr result (agenda.new ≡ agenda.old) }
-    ensures same_out { OnErr result (out.new ≡ out.old) }
+// The acknowledgement that a receiver gives now, if it gives one.
+fn answer(flow: u16, reply: Reply) -> Option<Packet>
+    ensures { option_to_list result ≡ ack_of flow reply }
 {
-    acts.reserve(2)?;
-    let reply = receiver.on_data(number, key.time)?;
-    let cell = agenda.take(key).unwrap();
-    let alarm = receiver.alarm();
-    let link = &mut links[0];
-    let chain = out.chain(0);
-    let departs = give_answer(
-        alloc, flow, reply, cell, alarm, link, key.time, agenda, acts, chain,
-    );
-    Ok(first_if(departs))
+    match reply {
+        Reply::AckNow(number) => Some(acknowledgement(flow, number)),
+        Reply::Wait(_) => None,
+    }
 }
 
-/// A delayed acknowledgement is due. The answer is the index of the link over which a packet left.
-pub(crate) fn run_delayed(
-    alloc: Global,
-    flow: u16,
+/// A segment has come: its cell takes the acknowledgement, if there is one now.
+pub(crate) fn answer_data(
+    origin: Origin,
     receiver: &mut Receiver,
-    links: &mut Vec<Link>,
-    key: Key,
-    agenda: &mut Agenda,
+    number: u64,
+    now: Time,
     acts: &mut Acts,
-    out: &mut Outbox,
-) -> Result<Option<u16>, AllocError>
-    requires moment { IsMoment key.time }
-    requires in_step { IsInStep (Receives flow receiver.old) links.old.items agenda.old }
-    requires next { next_key agenda.old.pending ≡ Some key }
-    requires at_node { key.node ≡ agenda.old.owner.node }
-    requires timed { IsTimed agenda.old key 2 }
-    requires can { AllByRecursion LinkCan links.old.items }
-    requires chains { length links.old.items ≤ length out.old }
-    requires room { All (λ chain. length chain < 1000000000000000) out.old }
-    ensures ran { OnOk result (HasRun key (receiver_row (part (Receives flow receiver.old) links.old.items) key flow receiver.old (alarm_came receiver.old)) (Receives flow receiver.new) links.new.items agenda.old agenda.new out.old out.new) }
-    ensures acts { OnOk result (acts.new.acts ≡ acts.old.acts ++ (receiver_row (part (Receives flow receiver.old) links.old.items) key flow receiver.old (alarm_came receiver.old)).acts) }
-    ensures leaving { IfOk result (λ index. index ≡ option_map (λ (leaving : Leaving). leaving.index) (receiver_row (part (Receives flow receiver.old) links.old.items) key flow receiver.old (alarm_came receiver.old)).leaving) }
-    ensures same_receiver { OnErr result (receiver.new ≡ receiver.old) }
-    ensures same_links { OnErr result (links.new.items ≡ links.old.items) }
-    ensures same_agenda { OnErr result (agenda.new ≡ agenda.old) }
-    ensures same_out { OnErr result (out.new ≡ out.old) }
+) -> Result<Decision, AllocError>
+    requires moment { IsMoment now }
+    requires multiple { number % receiver.old.mss ≡ 0 }
+    requires greatest { number ≤ 9000000000000 }
+    ensures sends { IfOk result (OnSend (IsSent true (ack_of origin.flow (data_came receiver.old number now).reply) DelayedAcknowledgement (data_came receiver.old number now).state.alarm acts.new.room)) }
+    ensures receiver { OnOk result (receiver.new ≡ (data_came receiver.old number now).state) }
+    ensures same { OnErr result (receiver.new ≡ receiver.old) }
+    ensures acts { acts.new.acts ≡ acts.old.acts }
 {
     acts.reserve(2)?;
-    let cell = PacketCell::new(alloc, acknowledgement(flow, receiver.next()))?;
-    let reply = Reply::AckNow(receiver.on_delack());
-    let _cell = agenda.take(key);
-    let alarm = receiver.alarm();
-    let link = &mut links[0];
-    let chain = out.chain(0);
-    let departs = give_answer(
-        alloc, flow, reply, cell, alarm, link, key.time, agenda, acts, chain,
-    );
-    Ok(first_if(departs))
+    let reply = receiver.on_data(number, now)?;
+    Ok(Decision::Send(Sending {
+        cells: PacketChain::new(origin.alloc),
+        last: answer(origin.flow, reply),
+        alarm: Alarm::DelayedAcknowledgement,
+        time: receiver.alarm(),
+    }))
+}
+
+/// A delayed acknowledgement is due: it gets a cell of its own.
+pub(crate) fn answer_delayed(
+    origin: Origin,
+    receiver: &mut Receiver,
+    acts: &mut Acts,
+) -> Result<Decision, AllocError>
+    ensures sends { IfOk result (OnSend (IsSent false (ack_of origin.flow (alarm_came receiver.old).reply) DelayedAcknowledgement (alarm_came receiver.old).state.alarm acts.new.room)) }
+    ensures receiver { OnOk result (receiver.new ≡ (alarm_came receiver.old).state) }
+    ensures same { OnErr result (receiver.new ≡ receiver.old) }
+    ensures acts { acts.new.acts ≡ acts.old.acts }
+{
+    acts.reserve(2)?;
+    let cell = PacketCell::new(origin.alloc, acknowledgement(origin.flow, receiver.next()))?;
+    let mut cells = PacketChain::new(origin.alloc);
+    cells.push_back(cell);
+    let _number = receiver.on_delack();
+    Ok(Decision::Send(Sending {
+        cells,
+        last: None,
+        alarm: Alarm::DelayedAcknowledgement,
+        time: receiver.alarm(),
+    }))
 }

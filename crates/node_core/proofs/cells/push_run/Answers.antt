@@ -10,7 +10,7 @@ pub loop-made-preserved : goal.loop-made-preserved
 loop-made-preserved c =
     let kept = c.loop-made.invariant in
     let within : c.loop-made._made < c.args.count = c.loop-made-test.true in
-    let f = data_packet c.args.flow c.args.mss in
+    let f = data_packet c.args.origin.flow c.args.mss in
     let pushed : length c.push_back.new.self ≡ length (c.loop-made.cells ++ c.in_ok-cell.cell ∷ []) = ap length c.push_back.ensures in
     record {
       numbers = number_fits c.loop-made.number c.args.mss c.loop-made._made c.args.count _ within kept.numbers;

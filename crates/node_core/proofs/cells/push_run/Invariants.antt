@@ -9,5 +9,5 @@ abbrev pub invariant-loop-made : goal.invariant-loop-made
 invariant-loop-made l = record {
   numbers : l.number + (l.count - l._made) * l.mss < 2 ^ 63;
   longer : length l.cells ≡ length l.fn.cells + l._made;
-  whole : packets_of l.cells ++ map (data_packet l.flow l.mss) (spaced l.number l.mss (l.count - l._made)) ≡ packets_of l.fn.cells ++ map (data_packet l.flow l.mss) (spaced l.first l.mss l.count);
+  whole : packets_of l.cells ++ map (data_packet l.origin.flow l.mss) (spaced l.number l.mss (l.count - l._made)) ≡ packets_of l.fn.cells ++ map (data_packet l.origin.flow l.mss) (spaced l.first l.mss l.count);
 }

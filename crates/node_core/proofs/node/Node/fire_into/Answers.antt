@@ -1,19 +1,19 @@
-use Rattle.std.proofs.Common.{◌≡◌, Some, sym, subst, ◌∙◌}
+use Rattle.std.proofs.Common.{◌≡◌, ◌≤◌, Some, length, sym, subst, ◌∙◌}
 use Rattle.sim_time.specs.declared.key.Key.{Key}
 use Rattle.ranking.specs.Keyed.{least}
 use Rattle.node_core.specs.declared.event.Event.{Event}
 use Rattle.node_core.specs.Node.{NodeState}
 use Rattle.node_core.specs.Ready.{IsRunnable}
+use Rattle.node_core.proofs.Due.{is_next}
 use Rattle.node_core.proofs.node.Node.fire_into.Goals as goal
 
 abbrev Due : NodeState → Type 0
 Due s = (k : Key) (v : Event) → least s.pending ≡ Some (k, v) → IsRunnable s.part k v
 
-pub run-requires-clause-moment : goal.run-requires-clause-moment
-run-requires-clause-moment c = (subst Due (sym c.self.view_is) c.requires.due c.unwrap-event.result.0 c.unwrap-event.result.1 (sym c.least.ensures.value ∙ c.unwrap-event.ensures)).moment
-
-pub run-requires-clause-at_node : goal.run-requires-clause-at_node
-run-requires-clause-at_node c = (c.least.ensures.due c.unwrap-event.result.0 c.unwrap-event.result.1 (sym c.least.ensures.value ∙ c.unwrap-event.ensures)).at_node
-
-pub run-requires-clause-can : goal.run-requires-clause-can
-run-requires-clause-can c = (subst Due (sym c.self.view_is) c.requires.due c.unwrap-event.result.0 c.unwrap-event.result.1 (sym c.least.ensures.value ∙ c.unwrap-event.ensures)).links
+pub run-requires-clause-next : goal.run-requires-clause-next
+run-requires-clause-next c =
+    let key = c.unwrap-event.result.0 in
+    let event = c.unwrap-event.result.1 in
+    let is_least = sym c.least.ensures.value ∙ c.unwrap-event.ensures in
+    is_next c.self.inside.role c.self.inside.links.items c.self.inside.agenda c.args.out.now key event c.self.invariant (c.least.ensures.due key event is_least) (subst Due (sym c.self.view_is) c.requires.due key event is_least) is_least
+    (subst (λ (s : NodeState). length s.part.links ≤ length c.args.out.now) (sym c.self.view_is) c.requires.chains) c.requires.room

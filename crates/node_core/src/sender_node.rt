@@ -1,0 +1,72 @@
+//! The rows of the sender's table at a sender's node.
+ghost use Rattle.std.specs.Prelude.{◌≡◌, IfOk, OnOk, OnErr, map, true, false};
+ghost use Rattle.sim_time.specs.Moment.{IsMoment};
+ghost use Rattle.reno_sender.specs.Laws.{IsAckFor};
+ghost use Rattle.reno_sender.specs.PlanView.{IsPlanOf, sent_of};
+ghost use Rattle.reno_sender.specs.Table.{acknowledged};
+ghost use Rattle.node_core.specs.declared.alarm.Alarm.TheVariants.{Retransmission};
+ghost use Rattle.node_core.specs.Decided.{IsSent, OnSend};
+ghost use Rattle.node_core.specs.Row.{data_packet};
+
+use crate::alarm::Alarm;
+use crate::cells::{Origin, but_last, segments};
+use crate::decision::{Decision, Sending};
+use port::Acts;
+use reno_sender::{Plan, Sender};
+use sim_time::Time;
+use std::alloc::AllocError;
+
+/// A row at which no packet arrives: all segments of its plan get cells of their own. All memory is
+/// taken before the sender takes the event.
+pub(crate) fn send_plan(
+    origin: Origin,
+    sender: &mut Sender,
+    plan: &Plan,
+    acts: &mut Acts,
+) -> Result<Decision, AllocError>
+    requires { IsPlanOf sender.old plan.now }
+    ensures sends { IfOk result (OnSend (IsSent false (map (data_packet origin.flow plan.now.fields.mss) (sent_of plan.now)) Retransmission plan.now.fields.deadline acts.new.room)) }
+    ensures sender { OnOk result (sender.new ≡ plan.now.fields) }
+    ensures same { OnErr result (sender.new ≡ sender.old) }
+    ensures acts { acts.new.acts ≡ acts.old.acts }
+{
+    acts.reserve(plan.count() as usize + 2)?;
+    let mss = plan.as_fields().mss;
+    let cells = segments(origin, mss, plan.resent(), plan.first(), plan.count())?;
+    sender.commit(*plan);
+    Ok(Decision::Send(Sending {
+        cells,
+        last: None,
+        alarm: Alarm::Retransmission,
+        time: plan.as_fields().deadline,
+    }))
+}
+
+/// An acknowledgement has come: the last segment of the plan takes its cell. It is no part of its
+/// caller, which would clear a plan's place for each event.
+#[inline(never)]
+pub(crate) fn send_for_ack(
+    origin: Origin,
+    sender: &mut Sender,
+    number: u64,
+    now: Time,
+    acts: &mut Acts,
+) -> Result<Decision, AllocError>
+    requires moment { IsMoment now }
+    requires ack { IsAckFor sender.old number now }
+    ensures sends { IfOk result (OnSend (IsSent true (map (data_packet origin.flow (acknowledged sender.old number now).fields.mss) (acknowledged sender.old number now).sent) Retransmission (acknowledged sender.old number now).fields.deadline acts.new.room)) }
+    ensures sender { OnOk result (sender.new ≡ (acknowledged sender.old number now).fields) }
+    ensures same { OnErr result (sender.new ≡ sender.old) }
+    ensures acts { acts.new.acts ≡ acts.old.acts }
+{
+    let plan = sender.on_ack(number, now);
+    acts.reserve(plan.count() as usize + 2)?;
+    let (cells, last) = but_last(origin, &plan)?;
+    sender.commit(plan);
+    Ok(Decision::Send(Sending {
+        cells,
+        last,
+        alarm: Alarm::Retransmission,
+        time: plan.as_fields().deadline,
+    }))
+}
