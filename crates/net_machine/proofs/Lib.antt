@@ -1,4 +1,5 @@
 pub mod AtNodes
+pub mod First
 pub mod Home
 pub mod Wired
 pub mod Steps

@@ -1,5 +1,5 @@
 //! One event at a time: the least pending key below the end.
-ghost use Rattle.std.specs.Prelude.{◌≡◌, ◌≢◌, ◌+◌, if◌then◌else◌, false, IfOk, OnErr, IfErr, None, Some, Ok, Err};
+ghost use Rattle.std.specs.Prelude.{◌≡◌, ◌≢◌, ◌+◌, if◌then◌else◌, ◌<◌, false, IfOk, OnOk, OnErr, IfErr, None, Some, Ok, Err};
 ghost use Rattle.std.specs.Option.{option_map};
 ghost use Rattle.ranking.specs.Keyed.{next_key};
 ghost use Rattle.node_core.specs.TraceLine.{shown};
@@ -140,24 +140,27 @@ impl Net {
         }
     }
 
-    /// Runs the event of the least key below the end, where there is one, and tells of it in
-    /// `line`. The answer is whether there was one; `line` counts only then.
-    pub fn step_into(&mut self, line: &mut Line) -> Result<bool, StepFault>
-        ensures ok { IfOk result (λ fired. Stepped self.old (if fired then Some (shown line.new) else None) self.new) }
-        ensures full { IfErr result (λ fault. fault ≡ StepFault.CountFull → (due self.old.state ≢ None) × (self.old.position ≡ 1000000000000000)) }
-        ensures none { due self.old.state ≡ None → result ≡ Ok false }
-        ensures count { due self.old.state ≢ None → self.old.position ≡ 1000000000000000 → result ≡ Err StepFault.CountFull }
+    /// The key of the event that is due: the least, where that is below the end.
+    #[inline(always)]
+    pub fn due_key(&self) -> Option<Key>
+        ensures { result ≡ option_map (λ entry. entry.0) (due self.now.state) }
+    {
+        let (_, key) = self.nodes.first()?;
+        if key.time >= self.end {
+            return None;
+        }
+        Some(key)
+    }
+
+    /// Runs the event that is due, at this node, and tells of it in `line`.
+    #[inline(always)]
+    pub fn fire_into(&mut self, node: u16, line: &mut Line) -> Result<(), AllocError>
+        requires due { option_map (λ entry. entry.0.node) (due self.old.state) ≡ Some node }
+        requires few { self.old.position < 1000000000000000 }
+        ensures ok { OnOk result (Stepped self.old (Some (shown line.new)) self.new) }
         ensures err { OnErr result (self.new ≡ self.old) }
     {
-        let Some((place, key)) = self.nodes.first() else {
-            return Ok(false);
-        };
-        if key.time >= self.end {
-            return Ok(false);
-        }
-        if self.position == MOST_EVENTS {
-            return Err(StepFault::CountFull);
-        }
+        let place = usize::from(node);
         match self.nodes.fire_into(place, &mut self.out, line) {
             Ok(Some(index)) => {
                 let index = usize::from(index);
@@ -167,12 +170,33 @@ impl Net {
                 self.nodes
                     .deliver(usize::from(end.node), usize::from(end.index), chain);
                 self.position += 1;
-                Ok(true)
+                Ok(())
             }
             Ok(None) => {
                 self.position += 1;
-                Ok(true)
+                Ok(())
             }
+            Err(fault) => Err(fault),
+        }
+    }
+
+    /// Runs the event of the least key below the end, where there is one, and tells of it in
+    /// `line`. The answer is whether there was one; `line` counts only then.
+    pub fn step_into(&mut self, line: &mut Line) -> Result<bool, StepFault>
+        ensures ok { IfOk result (λ fired. Stepped self.old (if fired then Some (shown line.new) else None) self.new) }
+        ensures full { IfErr result (λ fault. fault ≡ StepFault.CountFull → (due self.old.state ≢ None) × (self.old.position ≡ 1000000000000000)) }
+        ensures none { due self.old.state ≡ None → result ≡ Ok false }
+        ensures count { due self.old.state ≢ None → self.old.position ≡ 1000000000000000 → result ≡ Err StepFault.CountFull }
+        ensures err { OnErr result (self.new ≡ self.old) }
+    {
+        let Some(key) = self.due_key() else {
+            return Ok(false);
+        };
+        if self.position == MOST_EVENTS {
+            return Err(StepFault::CountFull);
+        }
+        match self.fire_into(key.node, line) {
+            Ok(()) => Ok(true),
             Err(_) => Err(StepFault::NoMemory),
         }
     }
