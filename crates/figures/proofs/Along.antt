@@ -1,5 +1,5 @@
 -- The figures along a run.
-use Rattle.std.proofs.Common.{◌≡◌, ◌≢◌, ℕ, suc, ◌+◌, ◌≤◌, Bool, true, cond, List, [], ◌∷◌, ◌++◌, length-append, refl, sym, ap, subst, ◌∙◌, Option, Some, None, arith}
+use Rattle.std.proofs.Common.{◌≡◌, ◌≢◌, ℕ, suc, ◌+◌, ◌≤◌, List, [], ◌∷◌, ◌++◌, length-append, refl, sym, ap, subst, ◌∙◌, Option, Some, None, arith}
 use Rattle.std.specs.Prelude.{option_to_list}
 use Rattle.std.specs.Option.{option_map, option_and_then}
 use Rattle.std.specs.List.{AllByRecursion}
@@ -76,6 +76,26 @@ end_is_moment f r some =
     let end_is = sound.sound.end_is in
     omega (arith, end_is, most)
 
+-- the event that is due under a key
+pub record IsDueUnder (s : State) (key : Key) : Type 0 where
+  pub event : Event
+  pub is : due s ≡ Some (key, event)
+
+due_as : (s : State) (o : Option (Key × Event)) (key : Key) → due s ≡ o → Some key ≡ option_map (λ (entry : Key × Event). entry.0) o → IsDueUnder s key
+due_as s None key same is = absurd (not_some (sym is))
+due_as s (Some entry) key same is = record { event = entry.1; is = same ∙ ap (λ (k : Key). Some (k, entry.1)) (sym (same_some key entry.0 is)) }
+
+pub due_under : (s : State) (key : Key) → Some key ≡ option_map (λ (entry : Key × Event). entry.0) (due s) → IsDueUnder s key
+due_under s key is = due_as s (due s) key refl is
+
+-- the key of an event that is due is at a moment
+pub key_is_moment : (f : Figures) (r : Reached) → AreOfSomeRun f r → (key : Key) → Some key ≡ option_map (λ (entry : Key × Event). entry.0) (due r.state) → IsMoment key.time
+key_is_moment f r some key is =
+    let next = due_under r.state key is in
+    let early = (is_due r.state key next.event next.is).in_time in
+    let most = end_is_moment f r some in
+    omega (arith, early, most)
+
 module _ (f : Figures) (r : Reached) (line : TraceLine) (t : State) (some : AreOfSomeRun f r) (is : step r.state ≡ Some (line, t)) where
   abbrev sound : IsSoundRun some.scenario some.of.lines r.state
   sound = sound_run some.scenario r.position some.of.lines r.state some.is_scenario some.of.comes
@@ -94,10 +114,6 @@ module _ (f : Figures) (r : Reached) (line : TraceLine) (t : State) (some : AreO
       let later = sound.sound.not_past line.key line.event its.pending in
       let last = some.of.last in
       omega (arith, most, later, last)
-
--- what a step told that has fired
-pub has_stepped : (old new : Reached) (line : TraceLine) (fired : Bool) → fired ≡ true → Stepped old (cond fired (Some line) None) new → Stepped old (Some line) new
-has_stepped old new line fired is told = subst (λ b. Stepped old (cond b (Some line) None) new) is told
 
 -- an event that was run was due
 pub was_due : (s : State) (line : TraceLine) (t : State) → step s ≡ Some (line, t) → due s ≢ None

@@ -1,7 +1,8 @@
 -- An event that frees a link of its node is the alarm of that link.
-use Rattle.std.proofs.Common.{◌≡◌, ℕ, suc, ◌+◌, ◌-◌, ◌<◌, ◌≤◌, true, List, ◌∷◌, [], ◌++◌, length, map, get_or, sym, ap, ◌∙◌, Some, Option, arith, eqb-true, true≢false}
+use Rattle.std.proofs.Common.{◌≡◌, ℕ, suc, ◌+◌, ◌-◌, ◌<◌, ◌≤◌, true, List, ◌∷◌, [], ◌++◌, length, map, get_or, sym, ap, subst, ◌∙◌, Some, Option, arith, eqb-true, true≢false}
 use Rattle.std.proofs.Math.ListN.{get_or-map}
 use Rattle.std.specs.Option.{option_map, option_and_then}
+use Rattle.ranking.proofs.Maps.{same_some}
 use Rattle.sim_time.specs.declared.key.Key.{Key}
 use Rattle.scenario_image.specs.declared.parts.ScenarioParts.{ScenarioParts}
 use Rattle.scenario_image.specs.Scenario.{IsScenario}
@@ -75,3 +76,10 @@ module _ (p : ScenarioParts) (is_scenario : IsScenario p) (n : ℕ) (lines : Lis
 
 pub tells_in_run : (f : Figures) (r : Reached) (line : TraceLine) (t : State) (given : Option ℕ) → AreOfSomeRun f r → step r.state ≡ Some (line, t) → ((k : Key) (v : Event) → due r.state ≡ Some (k, v) → k.source ≡ 0 → 3 ≤ k.number → given ≡ wait_of_given k.time (port_at r.state k.node (k.number - 3))) → TellsWait r.state line t given
 tells_in_run f r line t given some next told = tells some.scenario some.is_scenario r.position some.of.lines r.state some.of.comes line t next given told
+
+-- what is told of the key that is due is told of the event that is due
+pub told_of_due : (s : State) (key : Key) → Some key ≡ option_map (λ (entry : Key × Event). entry.0) (due s) → (given : Option ℕ) → (key.source ≡ 0 → 3 ≤ key.number → given ≡ wait_of_given key.time (port_at s key.node (key.number - 3))) →
+    (k : Key) (v : Event) → due s ≡ Some (k, v) → k.source ≡ 0 → 3 ≤ k.number → given ≡ wait_of_given k.time (port_at s k.node (k.number - 3))
+told_of_due s key is given told k v due_is =
+    let same : key ≡ k = same_some key k (is ∙ ap (option_map (λ (entry : Key × Event). entry.0)) due_is) in
+    subst (λ (q : Key). q.source ≡ 0 → 3 ≤ q.number → given ≡ wait_of_given q.time (port_at s q.node (q.number - 3))) same told

@@ -14,6 +14,7 @@ pub mod Along
 pub mod Given
 pub mod OfLinks
 pub mod OneLink
+pub mod Counted
 pub mod Freed
 pub mod AllLinks
 pub mod Pushed
@@ -24,4 +25,5 @@ pub mod Kept
 pub mod Balance
 pub mod LinkLaws
 pub mod Delivered
+pub mod One
 pub mod AtOnce

@@ -1,24 +1,53 @@
 -- The figures of one link of a node are others, and the rest stay.
-use Rattle.std.proofs.Common.{◌≡◌, ◌≢◌, ◌+◌, ◌<◌, ◌≤◌, ℕ, List, length, get_or, set, sym, subst, ◌∙◌, arith, ⊎_elim}
+use Rattle.std.proofs.Common.{◌≡◌, ◌≢◌, ◌<◌, ◌==◌, not, ℕ, List, length, get_or, set, refl, sym, ap, subst, ◌∙◌, Option, eq-eqb, true≢false, ⊎_elim}
 use Rattle.std.proofs.lemmas.Bool.{cases_eq}
 use Rattle.std.proofs.lemmas.List.{get_or-set_same, get_or-set_other, get_or_read}
+use Rattle.port.specs.Port.{PortState}
+use Rattle.node_core.specs.Part.{LinkState, link_at}
+use Rattle.node_core.specs.TraceLine.{TraceLine}
 use Rattle.figures.specs.declared.link.LinkFigures.{LinkFigures}
+use Rattle.figures.specs.Links.{IsLinkAfter, IsLinkAfterIf, OffersToOne}
+use Rattle.figures.proofs.Counts.{test_no}
 
-module _ (old now : List LinkFigures) (at : ℕ) (x y : LinkFigures) (size : length now ≡ length old) (within : at < length old) (x_is : x ≡ get_or now at x)
-    (rest : (i : ℕ) (other : LinkFigures) → at ≤ i → get_or now i other ≡ get_or old i other) where
-  pub was : (other : LinkFigures) → get_or old at other ≡ x
-  was other = sym (get_or_read old at x within (x_is ∙ rest at x (omega arith)) other)
+abbrev pub Offered : LinkFigures → PortState → Type 0
+Offered f port = port.offered ≢ f.offered
 
-  pub is_now : (other : LinkFigures) → get_or (set now at y) at other ≡ y
-  is_now other = get_or-set_same now at y other (omega (arith, within, size))
+-- a link to which nothing was offered
+pub unoffered : (f : LinkFigures) (port : PortState) (line : TraceLine) (given : Option ℕ) → port.offered ≡ f.offered → IsLinkAfterIf (not (port.offered == f.offered)) f port line given f
+unoffered f port line given same = record {
+  counted = λ test. absurd (true≢false (sym test ∙ ap not (eq-eqb port.offered f.offered same)));
+  kept = λ _. refl;
+}
 
-  pub one_more : (P : ℕ → LinkFigures → LinkFigures → Type 0) → ((i : ℕ) (other : LinkFigures) → i < at → P i (get_or old i other) (get_or now i other)) → P at x y →
-      (i : ℕ) (other : LinkFigures) → i < at + 1 → P i (get_or old i other) (get_or (set now at y) i other)
-  one_more P before here i other under =
+-- one to which packets were offered
+pub offered_to : (f g : LinkFigures) (port : PortState) (line : TraceLine) (given : Option ℕ) → Offered f port → IsLinkAfter f port line given g → IsLinkAfterIf (not (port.offered == f.offered)) f port line given g
+offered_to f g port line given more after = record {
+  counted = λ _. after;
+  kept = λ test. absurd (true≢false (sym (ap not (test_no port.offered f.offered more)) ∙ test));
+}
+
+module _ (old : List LinkFigures) (links : List LinkState) (line : TraceLine) (given : Option ℕ) (one : OffersToOne old links) (at : ℕ) (within : at < length old) (f g : LinkFigures) (read : f ≡ get_or old at f)
+    (more : Offered f (link_at links at).port) (after : IsLinkAfter f (link_at links at).port line given g) where
+  abbrev After : ℕ → LinkFigures → LinkFigures → Type 0
+  After i x y = IsLinkAfterIf (not ((link_at links i).port.offered == x.offered)) x (link_at links i).port line given y
+
+  was : (other : LinkFigures) → get_or old at other ≡ f
+  was other = sym (get_or_read old at f within read other)
+
+  here : (other : LinkFigures) → After at (get_or old at other) (get_or (set old at g) at other)
+  here other =
+      subst (λ x. After at x (get_or (set old at g) at other)) (sym (was other))
+      (subst (After at f) (sym (get_or-set_same old at g other within)) (offered_to f g (link_at links at).port line given more after))
+
+  -- so it is of each of them
+  pub one_after : (i : ℕ) (other : LinkFigures) → i < length old → After i (get_or old i other) (get_or (set old at g) i other)
+  one_after i other inside =
       ⊎_elim
-      (λ (same : i ≡ at). subst (λ n. P n (get_or old n other) (get_or (set now at y) n other)) (sym same) (subst (λ v. P at v (get_or (set now at y) at other)) (sym (was other)) (subst (P at x) (sym (is_now other)) here)))
-      (λ (apart : i ≢ at). subst (P i (get_or old i other)) (sym (get_or-set_other now at i y other apart)) (before i other (omega (arith, under, apart))))
+      (λ (same : i ≡ at). subst (λ n. After n (get_or old n other) (get_or (set old at g) n other)) (sym same) (here other))
+      (λ (apart : i ≢ at).
+      subst (After i (get_or old i other)) (sym (get_or-set_other old at i g other apart))
+      (⊎_elim
+      (λ (none : (link_at links i).port.offered ≡ (get_or old i other).offered). unoffered (get_or old i other) (link_at links i).port line given none)
+      (λ (some : Offered (get_or old i other) (link_at links i).port). absurd (apart (one i at other other inside within some (subst (λ x. Offered x (link_at links at).port) (sym (was other)) more))))
+      (cases_eq (link_at links i).port.offered (get_or old i other).offered)))
       (cases_eq i at)
-
-  pub still : (i : ℕ) (other : LinkFigures) → at + 1 ≤ i → get_or (set now at y) i other ≡ get_or old i other
-  still i other past = get_or-set_other now at i y other (λ (same : i ≡ at). omega (arith, past, same)) ∙ rest i other (omega (arith, past))

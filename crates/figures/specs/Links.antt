@@ -1,5 +1,5 @@
 -- What is counted of a link, over the events of a run.
-use Rattle.std.specs.Prelude.{◌≡◌, ◌+◌, ◌-◌, ◌*◌, ◌==◌, ◌||◌, ◌≤◌, ◌<◌, ℕ, Bool, true, false, not, max, nat_lt, if◌then◌else◌, List, [], ◌∷◌, ◌++◌, length, map, count_by, is_some, slice_index_or, Option, Some, None, option_to_list}
+use Rattle.std.specs.Prelude.{◌≡◌, ◌≢◌, ◌+◌, ◌-◌, ◌*◌, ◌==◌, ◌||◌, ◌≤◌, ◌<◌, ℕ, Bool, true, false, not, max, nat_lt, if◌then◌else◌, List, [], ◌∷◌, ◌++◌, length, map, count_by, is_some, slice_index_or, Option, Some, None, option_to_list}
 use Rattle.std.specs.List.{sum_by, filter_map}
 use Rattle.std.specs.Option.{option_map}
 use Rattle.packet_chain.specs.Stamped.{Stamped}
@@ -181,6 +181,23 @@ pub record AreOfLink (ms : List Moment) (s : State) (node index : ℕ) (f : Link
   pub waits : IsTallyOf (waits_of node index ms) f.waits
   pub turns : f.turns ≤ length ms
 
+-- a moment has come, and the link is now as it is
+pub record IsPassed (f : LinkFigures) (port : PortState) (now : ℕ) (g : LinkFigures) : Type 0 where
+  pub offered : g.offered ≡ port.offered
+  pub waiting : g.waiting ≡ waiting_at port
+  pub busy : g.busy ≡ is_some port.next_free
+  pub since : g.since ≡ now
+  pub waited : g.waited ≡ f.waited + f.waiting * (now - f.since)
+  pub busy_for : g.busy_for ≡ f.busy_for + (if f.busy then now - f.since else 0)
+  pub longest : g.longest ≡ max f.longest (waiting_at port)
+  pub lost : g.lost ≡ f.lost
+  pub full : g.full ≡ f.full
+  pub codel : g.codel ≡ f.codel
+  pub sent : g.sent ≡ f.sent
+  pub bytes : g.bytes ≡ f.bytes
+  pub waits : g.waits ≡ f.waits
+  pub turns : g.turns ≡ f.turns
+
 -- an event at its node with these acts at the link is counted, and no time
 pub record IsCountedOf (f : LinkFigures) (acts : List Act) (g : LinkFigures) : Type 0 where
   pub lost : g.lost ≡ f.lost + dropped_in Lost acts
@@ -198,22 +215,26 @@ pub record IsCountedOf (f : LinkFigures) (acts : List Act) (g : LinkFigures) : T
   pub longest : g.longest ≡ f.longest
   pub waits : g.waits ≡ f.waits
 
--- what a link's figures are after an event at its node; where the event frees a link, the packet that is sent has waited so long
-pub record IsLinkAfter (f : LinkFigures) (port : PortState) (line : TraceLine) (given : Option ℕ) (g : LinkFigures) : Type 0 where
+-- an event at its node is counted at a moment: it did this at the link, where a packet that began to be sent has waited so long, and the link is now as it is
+pub record IsLinkCounted (f : LinkFigures) (port : PortState) (now : ℕ) (acts : List Act) (wait : Option ℕ) (g : LinkFigures) : Type 0 where
   pub offered : g.offered ≡ port.offered
   pub waiting : g.waiting ≡ waiting_at port
   pub busy : g.busy ≡ is_some port.next_free
-  pub since : g.since ≡ line.key.time
-  pub lost : g.lost ≡ f.lost + dropped_in Lost (acts_between f.offered port line)
-  pub full : g.full ≡ f.full + dropped_in Full (acts_between f.offered port line)
-  pub codel : g.codel ≡ f.codel + dropped_in Codel (acts_between f.offered port line)
-  pub sent : g.sent ≡ f.sent + tx_in (acts_between f.offered port line)
-  pub bytes : g.bytes ≡ f.bytes + bytes_in (acts_between f.offered port line)
-  pub waited : g.waited ≡ f.waited + f.waiting * (line.key.time - f.since)
-  pub busy_for : g.busy_for ≡ f.busy_for + (if f.busy then line.key.time - f.since else 0)
+  pub since : g.since ≡ now
+  pub lost : g.lost ≡ f.lost + dropped_in Lost acts
+  pub full : g.full ≡ f.full + dropped_in Full acts
+  pub codel : g.codel ≡ f.codel + dropped_in Codel acts
+  pub sent : g.sent ≡ f.sent + tx_in acts
+  pub bytes : g.bytes ≡ f.bytes + bytes_in acts
+  pub waited : g.waited ≡ f.waited + f.waiting * (now - f.since)
+  pub busy_for : g.busy_for ≡ f.busy_for + (if f.busy then now - f.since else 0)
   pub longest : g.longest ≡ max f.longest (waiting_at port)
-  pub waits : (xs : List ℕ) → IsTallyOf xs f.waits → IsTallyOf (xs ++ option_to_list (wait_in f.offered port line given)) g.waits
+  pub waits : (xs : List ℕ) → IsTallyOf xs f.waits → IsTallyOf (xs ++ option_to_list wait) g.waits
   pub turns : g.turns ≡ f.turns + 1
+
+-- what a link's figures are after an event at its node; where the event frees a link, the packet that is sent has waited so long
+abbrev pub IsLinkAfter : LinkFigures → PortState → TraceLine → Option ℕ → LinkFigures → Type 0
+IsLinkAfter f port line given g = IsLinkCounted f port line.key.time (acts_between f.offered port line) (wait_in f.offered port line given) g
 
 -- the same where the event is counted of the link; where it is not, the figures are as they were
 pub record IsLinkAfterIf (counts : Bool) (f : LinkFigures) (port : PortState) (line : TraceLine) (given : Option ℕ) (g : LinkFigures) : Type 0 where
@@ -229,6 +250,28 @@ pub record AreLinksBegun (links : List LinkState) (fs : List LinkFigures) : Type
 abbrev pub AreLinksAfter : List LinkFigures → List LinkState → TraceLine → Option ℕ → List LinkFigures → Type 0
 AreLinksAfter old links line given new =
     (i : ℕ) (other : LinkFigures) → i < length old → IsLinkAfterIf (counts_link i (slice_index_or old i other).offered (link_at links i).port line) (slice_index_or old i other) (link_at links i).port line given (slice_index_or new i other)
+
+-- packets were offered to one link of a node, of whose links this was counted before, or to none
+abbrev pub OffersToOne : List LinkFigures → List LinkState → Type 0
+OffersToOne figures links =
+    (i j : ℕ) (f g : LinkFigures) → i < length figures → j < length figures → (link_at links i).port.offered ≢ (slice_index_or figures i f).offered → (link_at links j).port.offered ≢ (slice_index_or figures j g).offered → i ≡ j
+
+-- the links of a node, each after an event at it that frees none of them
+abbrev pub AreOffersCounted : List LinkFigures → List LinkState → TraceLine → Option ℕ → List LinkFigures → Type 0
+AreOffersCounted old links line given new =
+    (i : ℕ) (other : LinkFigures) → i < length old → IsLinkAfterIf (not ((link_at links i).port.offered == (slice_index_or old i other).offered)) (slice_index_or old i other) (link_at links i).port line given (slice_index_or new i other)
+
+-- to the link of a node of this index as many packets were offered as was counted before, or others
+abbrev pub IsUnoffered : List LinkFigures → List LinkState → ℕ → Type 0
+IsUnoffered figures links i = (other : LinkFigures) → (link_at links i).port.offered ≡ (slice_index_or figures i other).offered
+
+abbrev pub IsOffered : List LinkFigures → List LinkState → ℕ → Type 0
+IsOffered figures links i = (other : LinkFigures) → (link_at links i).port.offered ≢ (slice_index_or figures i other).offered
+
+-- the index of a link of a node to which packets were offered, or one past all of them where there is none
+pub record IsFound (figures : List LinkFigures) (links : List LinkState) (at : ℕ) : Type 0 where
+  pub some : at < length figures → IsOffered figures links at
+  pub none : length figures ≤ at → (i : ℕ) → i < length figures → IsUnoffered figures links i
 
 -- the figures of all links of a node after these events
 pub record AreOfNode (ms : List Moment) (s : State) (node : ℕ) (fs : List LinkFigures) : Type 0 where

@@ -9,10 +9,11 @@ ghost use Rattle.figures.specs.declared.sender.SenderFigures.{SenderFigures};
 ghost use Rattle.figures.specs.declared.links.NodeLinks.{NodeLinks};
 ghost use Rattle.figures.specs.Links.{AreLinksBegun};
 
-use crate::links::{NodeLinks, count_links, links_begun};
+use crate::links::{NodeLinks, count_links};
 use crate::sender::SenderFigures;
 use crate::turn::Cause;
 use crate::waits::next_wait;
+use net_machine::net::MOST_EVENTS;
 use net_machine::{Net, StepFault};
 use node_core::{Event, Line, Node};
 use packet_chain::Kind;
@@ -97,8 +98,7 @@ fn all_links_begun(alloc: Global, nodes: &[Node]) -> Result<Vec<NodeLinks>, Allo
 {
     let mut all = Vec::new(alloc);
     for node in nodes {
-        let figures = links_begun(alloc, node.ports())?;
-        all.push(NodeLinks { figures })?;
+        all.push(NodeLinks::new(alloc, node.ports())?)?;
     }
     Ok(all)
 }
@@ -129,6 +129,7 @@ impl Figures {
 
     // The net has run one more event, of which the line tells. Where it frees a link, the packet
     // that is sent then has waited for `given`.
+    #[inline(always)]
     fn after(&mut self, net: &Net, line: &Line, given: Option<Time>)
         requires few { self.old.events < 1000000000000000 }
         requires moment { IsMoment line.now.key.time }
@@ -154,6 +155,7 @@ impl Figures {
 
     /// Runs the event of the least key below the end, where there is one, and tells of it in
     /// `line`, as [`Net::step_into`] does; the figures are then those of the run up to there.
+    #[inline(always)]
     pub fn step(&mut self, net: &mut Net, line: &mut Line) -> Result<bool, StepFault>
         requires { AreOfSomeRun self.old net.old }
         ensures ok { IfOk result (λ fired. Stepped net.old (if fired then Some (shown line.new) else None) net.new) }
@@ -164,11 +166,19 @@ impl Figures {
         ensures figures { (p : ScenarioParts) → AreOfRun p self.old net.old → AreOfRun p self.new net.new }
         ensures goes_on { AreOfSomeRun self.new net.new }
     {
-        let given = next_wait(net);
-        let fired = net.step_into(line)?;
-        if fired {
-            self.after(net, line, given);
+        let Some(key) = net.due_key() else {
+            return Ok(false);
+        };
+        if net.position() == MOST_EVENTS {
+            return Err(StepFault::CountFull);
         }
-        Ok(fired)
+        let given = next_wait(net, key);
+        match net.fire_into(key.node, line) {
+            Ok(()) => {
+                self.after(net, line, given);
+                Ok(true)
+            }
+            Err(_) => Err(StepFault::NoMemory),
+        }
     }
 }

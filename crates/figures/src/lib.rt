@@ -2,6 +2,7 @@
 #![tactic(auto)]
 
 pub mod classes;
+mod exits;
 pub mod figures;
 pub mod guarantees;
 mod link;

@@ -1,8 +1,8 @@
 //! What is counted of a link.
-ghost use Rattle.std.specs.Prelude.{◌≡◌, ◌+◌, ◌-◌, ◌*◌, ◌<◌, ◌≤◌, ◌^◌, ◌==◌, not, IfOk, IfSome, if◌then◌else◌};
+ghost use Rattle.std.specs.Prelude.{◌≡◌, ◌≢◌, ◌+◌, ◌-◌, ◌*◌, ◌<◌, ◌≤◌, ◌^◌, [], List, false, IfOk, IfSome, if◌then◌else◌};
 
 use crate::tally::Tally;
-use crate::told::{is_at, sent_alone, told_by, wait_in};
+use crate::told::{frees, is_at, sent_alone, told_by, wait_in};
 use node_core::{Act, Line};
 use port::Port;
 use sim_time::Time;
@@ -69,7 +69,8 @@ fn area(waiting: usize, passed: Time) -> u128
 impl LinkFigures {
     ghost use Rattle.sim_time.specs.Moment.{IsMoment};
     ghost use Rattle.node_core.specs.TraceLine.{shown};
-    ghost use Rattle.figures.specs.Links.{acts_between, tx_in, IsCountedOf, IsLinkBegun, IsLinkAfter, IsLinkAfterIf};
+    ghost use Rattle.port.specs.declared.acts.Act.{Act};
+    ghost use Rattle.figures.specs.Links.{acts_between, is_free, tx_in, IsSentAlone, IsCountedOf, IsPassed, IsLinkCounted, IsLinkBegun, IsLinkAfter};
 
     /// Nothing is counted yet of a link.
     pub fn new(alloc: Global, port: &Port) -> Result<LinkFigures, AllocError>
@@ -94,22 +95,13 @@ impl LinkFigures {
     }
 
     // One more event was run at its node, with these acts at it; answers how many packets began to be sent.
-    #[inline(always)]
     fn count(&mut self, acts: &[Act]) -> u64
         requires few { self.old.turns < 1000000000000000 }
         ensures sent { result ≡ tx_in acts.now }
         ensures counted { IsCountedOf self.old acts.now self.new }
     {
-        self.turns += 1;
-        if let Some(bytes) = sent_alone(acts) {
-            self.sent += 1;
-            self.bytes += u128::from(bytes);
-            return 1;
-        }
-        if acts.is_empty() {
-            return 0;
-        }
         let told = told_by(acts);
+        self.turns += 1;
         self.lost += u128::from(told.lost);
         self.full += u128::from(told.full);
         self.codel += u128::from(told.codel);
@@ -119,7 +111,6 @@ impl LinkFigures {
     }
 
     // One more event was run at its node, of which the line tells.
-    #[inline(always)]
     fn count_at(&mut self, port: &Port, line: &Line) -> u64
         requires few { self.old.turns < 1000000000000000 }
         ensures sent { result ≡ tx_in (acts_between self.old.offered port.now (shown line.now)) }
@@ -132,20 +123,14 @@ impl LinkFigures {
         }
     }
 
-    /// An event was run at its node, of which the line tells, and it is `port` now. Where the event
-    /// frees a link, the packet that is sent then has waited for `given`.
-    pub fn after(&mut self, port: &Port, line: &Line, given: Option<Time>)
-        requires few { self.old.turns < 1000000000000000 }
-        requires moment { IsMoment line.now.key.time }
-        requires order { self.old.since ≤ line.now.key.time }
-        requires given { IfSome given (λ wait. wait < 2 ^ 50) }
-        ensures { IsLinkAfter self.old port.now (shown line.now) given self.new }
+    // A moment has come, and it is `port` now.
+    #[inline(always)]
+    fn pass(&mut self, port: &Port, now: Time)
+        requires moment { IsMoment now }
+        requires order { self.old.since ≤ now }
+        ensures { IsPassed self.old port.now now self.new }
     {
-        let now = line.key.time;
         let passed = now - self.since;
-        let sent = self.count_at(port, line);
-        let wait = wait_in(port, line, sent, given);
-        self.waits.note_some(wait);
         self.since = now;
         self.waited += area(self.waiting, passed);
         self.busy_for += u128::from(busy_for(self.busy, passed));
@@ -155,18 +140,98 @@ impl LinkFigures {
         self.longest = self.longest.max(self.waiting);
     }
 
-    /// The same, where the event frees no link, so that it is counted where packets were offered.
+    // One more event was run at its node at a moment, which did nothing at it, and it is `port` now.
     #[inline(always)]
+    fn count_none(&mut self, port: &Port, now: Time, wait: Option<Time>)
+        requires few { self.old.turns < 1000000000000000 }
+        requires moment { IsMoment now }
+        requires order { self.old.since ≤ now }
+        requires wait { IfSome wait (λ w. w < 2 ^ 50) }
+        ensures { IsLinkCounted self.old port.now now [] wait self.new }
+    {
+        self.turns += 1;
+        self.waits.note_some(wait);
+        self.pass(port, now);
+    }
+
+    // The same of an event at which a packet of so many bytes began to be sent, which is all that it did at it.
+    #[inline(always)]
+    fn count_sent(&mut self, port: &Port, now: Time, bytes: u64, wait: Option<Time>)
+        requires few { self.old.turns < 1000000000000000 }
+        requires moment { IsMoment now }
+        requires order { self.old.since ≤ now }
+        requires wait { IfSome wait (λ w. w < 2 ^ 50) }
+        ensures { (acts : List Act) → IsSentAlone acts bytes → IsLinkCounted self.old port.now now acts wait self.new }
+    {
+        self.turns += 1;
+        self.sent += 1;
+        self.bytes += u128::from(bytes);
+        self.waits.note_some(wait);
+        self.pass(port, now);
+    }
+
+    /// An event was run at its node, of which the line tells, and it is `port` now. Where the event
+    /// frees a link, the packet that is sent then has waited for `given`.
+    #[cold]
+    #[inline(never)]
+    pub fn after(&mut self, port: &Port, line: &Line, given: Option<Time>)
+        requires few { self.old.turns < 1000000000000000 }
+        requires moment { IsMoment line.now.key.time }
+        requires order { self.old.since ≤ line.now.key.time }
+        requires given { IfSome given (λ wait. wait < 2 ^ 50) }
+        ensures { IsLinkAfter self.old port.now (shown line.now) given self.new }
+    {
+        let sent = self.count_at(port, line);
+        let wait = wait_in(port, line, sent, given);
+        self.waits.note_some(wait);
+        self.pass(port, line.key.time);
+    }
+
+    /// The same where the event most likely frees this link. Rarely more happens then than that a packet
+    /// begins to be sent.
+    #[inline(never)]
+    pub fn after_free(&mut self, port: &Port, line: &Line, given: Option<Time>)
+        requires few { self.old.turns < 1000000000000000 }
+        requires moment { IsMoment line.now.key.time }
+        requires order { self.old.since ≤ line.now.key.time }
+        requires given { IfSome given (λ wait. wait < 2 ^ 50) }
+        ensures { IsLinkAfter self.old port.now (shown line.now) given self.new }
+    {
+        if frees(&line.event, port.link()) {
+            let acts = line.acts.as_slice();
+            if acts.is_empty() {
+                self.count_none(port, line.key.time, given);
+                return;
+            }
+            if let Some(bytes) = sent_alone(acts) {
+                self.count_sent(port, line.key.time, bytes, given);
+                return;
+            }
+        }
+        self.after(port, line, given);
+    }
+
+    /// The same where the event frees no link and has offered packets to this one.
+    #[inline(never)]
     pub fn after_offers(&mut self, port: &Port, line: &Line, given: Option<Time>)
         requires few { self.old.turns < 1000000000000000 }
         requires moment { IsMoment line.now.key.time }
         requires order { self.old.since ≤ line.now.key.time }
         requires given { IfSome given (λ wait. wait < 2 ^ 50) }
-        ensures { IsLinkAfterIf (not (port.now.offered == self.old.offered)) self.old port.now (shown line.now) given self.new }
+        requires other { is_free line.now.event ≡ false }
+        requires more { port.now.offered ≢ self.old.offered }
+        ensures { IsLinkAfter self.old port.now (shown line.now) given self.new }
     {
-        if port.offered() != self.offered {
-            self.after(port, line, given);
+        let acts = line.acts.as_slice();
+        if acts.is_empty() {
+            self.count_none(port, line.key.time, None);
+            return;
         }
+        if let Some(bytes) = sent_alone(acts) {
+            self.count_sent(port, line.key.time, bytes, Some(0));
+            return;
+        }
+        self.after(port, line, given);
     }
 
     /// How many packets waited, times for how many nanoseconds, up to a moment.

@@ -1,13 +1,14 @@
 //! What is counted of the links that leave a node.
-ghost use Rattle.std.specs.Prelude.{◌≡◌, ◌≢◌, ◌<◌, ◌≤◌, ◌-◌, ◌==◌, ◌^◌, ℕ, not, length, slice_index_or, IfOk, IfSome};
+ghost use Rattle.std.specs.Prelude.{◌≡◌, ◌≢◌, ◌<◌, ◌≤◌, ◌-◌, ◌==◌, ◌^◌, ℕ, true, false, length, slice_index_or, IfOk, IfSome};
 ghost use Rattle.sim_time.specs.Moment.{IsMoment};
 ghost use Rattle.node_core.specs.Part.{link_at};
 ghost use Rattle.node_core.specs.TraceLine.{shown};
 ghost use Rattle.net_machine.specs.Nodes.{node_at};
 ghost use Rattle.figures.specs.declared.link.LinkFigures.{LinkFigures};
 ghost use Rattle.figures.specs.declared.links.NodeLinks.{NodeLinks};
-ghost use Rattle.figures.specs.Links.{is_free as free_is, IsLinkAfterIf, AreLinksBegun, AreLinksAfter};
+ghost use Rattle.figures.specs.Links.{is_free as free_is, IsLinkAfterIf, AreLinksBegun, AreLinksAfter, OffersToOne, AreOffersCounted, IsOffered, IsUnoffered, IsFound};
 
+use crate::exits::Exits;
 use crate::link::LinkFigures;
 use node_core::link::Link;
 use node_core::{Alarm, Event, Line, Node};
@@ -19,10 +20,12 @@ use std::alloc::{AllocError, Global};
 pub struct NodeLinks {
     /// Of each link, in rising number.
     pub figures: Vec<LinkFigures>,
+    /// At which of them is looked first.
+    pub exits: Exits,
 }
 
-/// Nothing is counted yet of some links.
-pub fn links_begun(alloc: Global, links: &[Link]) -> Result<Vec<LinkFigures>, AllocError>
+// Nothing is counted yet of some links.
+fn links_begun(alloc: Global, links: &[Link]) -> Result<Vec<LinkFigures>, AllocError>
     ensures { IfOk result (λ all. AreLinksBegun links.now all.items) }
 {
     let mut all = Vec::new(alloc);
@@ -43,6 +46,7 @@ fn is_free(event: &Event) -> bool
 }
 
 // An event was run that frees one of these links: the others are as they were.
+#[inline(always)]
 fn freed_after(figures: &mut [LinkFigures], links: &[Link], line: &Line, given: Option<Time>)
     requires size { length figures.old ≡ length links.now }
     requires few { (i : ℕ) (other : LinkFigures) → i < length figures.old → (slice_index_or figures.old i other).turns < 1000000000000000 }
@@ -55,46 +59,122 @@ fn freed_after(figures: &mut [LinkFigures], links: &[Link], line: &Line, given: 
     let freed = line.key.number.saturating_sub(Alarm::Free(0).number()) as usize;
     if freed < figures.len() {
         let figures = &mut figures[freed];
-        figures.after(links[freed].port(), line, given);
+        figures.after_free(links[freed].port(), line, given);
     }
 }
 
-// An event was run that frees none of these links: those to which it offered nothing are as they were.
-fn offered_after(figures: &mut [LinkFigures], links: &[Link], line: &Line, given: Option<Time>)
-    requires size { length figures.old ≡ length links.now }
-    requires few { (i : ℕ) (other : LinkFigures) → i < length figures.old → (slice_index_or figures.old i other).turns < 1000000000000000 }
-    requires moment { IsMoment line.now.key.time }
-    requires order { (i : ℕ) (other : LinkFigures) → i < length figures.old → (slice_index_or figures.old i other).since ≤ line.now.key.time }
-    requires given { IfSome given (λ wait. wait < 2 ^ 50) }
-    ensures size_stays { length figures.new ≡ length figures.old }
-    ensures figures { (i : ℕ) (other : LinkFigures) → i < length figures.old → IsLinkAfterIf (not ((link_at links.now i).port.offered == (slice_index_or figures.old i other).offered)) (slice_index_or figures.old i other) (link_at links.now i).port (shown line.now) given (slice_index_or figures.new i other) }
+// Whether packets were offered to the link of an index.
+#[inline(always)]
+fn is_offered(figures: &[LinkFigures], links: &[Link], at: usize) -> bool
+    requires size { length figures.now ≡ length links.now }
+    requires within { at < length figures.now }
+    ensures yes { result ≡ true → IsOffered figures.now links.now at }
+    ensures no { result ≡ false → IsUnoffered figures.now links.now at }
 {
-    for i in 0..figures.len() {
-        let figures = &mut figures[i];
-        figures.after_offers(links[i].port(), line, given);
-    }
+    links[at].port().offered() != figures[at].offered
 }
 
-/// An event was run at the node of some links, of which the line tells, and they are so now. Where
-/// it frees one of them, the packet that is sent then has waited for `given`.
-pub fn links_after(figures: &mut [LinkFigures], links: &[Link], line: &Line, given: Option<Time>)
-    requires size { length figures.old ≡ length links.now }
-    requires few { (i : ℕ) (other : LinkFigures) → i < length figures.old → (slice_index_or figures.old i other).turns < 1000000000000000 }
-    requires moment { IsMoment line.now.key.time }
-    requires order { (i : ℕ) (other : LinkFigures) → i < length figures.old → (slice_index_or figures.old i other).since ≤ line.now.key.time }
-    requires given { IfSome given (λ wait. wait < 2 ^ 50) }
-    ensures size_stays { length figures.new ≡ length figures.old }
-    ensures figures { AreLinksAfter figures.old links.now (shown line.now) given figures.new }
+// The index of the first link to which packets were offered, or how many links there are where there is
+// none.
+fn find_offered(figures: &[LinkFigures], links: &[Link]) -> usize
+    requires size { length figures.now ≡ length links.now }
+    ensures { IsFound figures.now links.now result }
 {
-    if is_free(&line.event) {
-        freed_after(figures, links, line, given);
-    } else {
-        offered_after(figures, links, line, given);
+    let count = figures.len();
+    for i in 0..count {
+        if is_offered(figures, links, i) {
+            return i;
+        }
+    }
+    count
+}
+
+impl NodeLinks {
+    /// Nothing is counted yet of some links.
+    pub(crate) fn new(alloc: Global, links: &[Link]) -> Result<NodeLinks, AllocError>
+        ensures { IfOk result (λ all. AreLinksBegun links.now all.figures.items) }
+    {
+        Ok(NodeLinks {
+            figures: links_begun(alloc, links)?,
+            exits: Exits::new(alloc)?,
+        })
+    }
+
+    // The index of the link to which an event has offered packets, or one past all of them where it has
+    // offered none.
+    #[inline(always)]
+    fn offered(&mut self, links: &[Link], event: &Event) -> usize
+        requires size { length self.old.figures.items ≡ length links.now }
+        ensures figures { self.new.figures ≡ self.old.figures }
+        ensures found { IsFound self.old.figures.items links.now result }
+    {
+        let first = self.exits.seen(event);
+        if first < self.figures.len() {
+            if is_offered(&self.figures, links, first) {
+                return first;
+            }
+        }
+        self.look_for(links, event)
+    }
+
+    // The same where it is not the one to which the last packet of the kind was offered.
+    #[inline(never)]
+    fn look_for(&mut self, links: &[Link], event: &Event) -> usize
+        requires size { length self.old.figures.items ≡ length links.now }
+        ensures figures { self.new.figures ≡ self.old.figures }
+        ensures found { IsFound self.old.figures.items links.now result }
+    {
+        let found = find_offered(&self.figures, links);
+        if found < self.figures.len() {
+            self.exits.note(event, found);
+        }
+        found
+    }
+
+    // An event was run that frees none of the links: those to which it offered nothing are as they were.
+    #[inline(always)]
+    fn after_offers(&mut self, links: &[Link], line: &Line, given: Option<Time>)
+        requires size { length self.old.figures.items ≡ length links.now }
+        requires few { (i : ℕ) (other : LinkFigures) → i < length self.old.figures.items → (slice_index_or self.old.figures.items i other).turns < 1000000000000000 }
+        requires moment { IsMoment line.now.key.time }
+        requires order { (i : ℕ) (other : LinkFigures) → i < length self.old.figures.items → (slice_index_or self.old.figures.items i other).since ≤ line.now.key.time }
+        requires given { IfSome given (λ wait. wait < 2 ^ 50) }
+        requires other { free_is line.now.event ≡ false }
+        requires one { OffersToOne self.old.figures.items links.now }
+        ensures size_stays { length self.new.figures.items ≡ length self.old.figures.items }
+        ensures figures { AreOffersCounted self.old.figures.items links.now (shown line.now) given self.new.figures.items }
+    {
+        let at = self.offered(links, &line.event);
+        if at < self.figures.len() {
+            let figures = &mut self.figures[at];
+            figures.after_offers(links[at].port(), line, given);
+        }
+    }
+
+    /// An event was run at the node of the links, of which the line tells, and they are so now. Where
+    /// it frees one of them, the packet that is sent then has waited for `given`.
+    #[inline(always)]
+    pub(crate) fn after(&mut self, links: &[Link], line: &Line, given: Option<Time>)
+        requires size { length self.old.figures.items ≡ length links.now }
+        requires few { (i : ℕ) (other : LinkFigures) → i < length self.old.figures.items → (slice_index_or self.old.figures.items i other).turns < 1000000000000000 }
+        requires moment { IsMoment line.now.key.time }
+        requires order { (i : ℕ) (other : LinkFigures) → i < length self.old.figures.items → (slice_index_or self.old.figures.items i other).since ≤ line.now.key.time }
+        requires given { IfSome given (λ wait. wait < 2 ^ 50) }
+        requires one { free_is line.now.event ≡ false → OffersToOne self.old.figures.items links.now }
+        ensures size_stays { length self.new.figures.items ≡ length self.old.figures.items }
+        ensures figures { AreLinksAfter self.old.figures.items links.now (shown line.now) given self.new.figures.items }
+    {
+        if is_free(&line.event) {
+            freed_after(&mut self.figures, links, line, given);
+        } else {
+            self.after_offers(links, line, given);
+        }
     }
 }
 
 /// An event was run, of which the line tells, and the nodes are so now. Where it frees a link, the
 /// packet that is sent then has waited for `given`.
+#[inline(always)]
 pub fn count_links(all: &mut Vec<NodeLinks>, nodes: &[Node], line: &Line, given: Option<Time>)
     requires size { length all.old.items ≡ length nodes.now }
     requires sizes { (node : ℕ) (other : NodeLinks) → node < length all.old.items → length (slice_index_or all.old.items node other).figures.items ≡ length (node_at nodes.now node).part.links }
@@ -102,6 +182,7 @@ pub fn count_links(all: &mut Vec<NodeLinks>, nodes: &[Node], line: &Line, given:
     requires moment { IsMoment line.now.key.time }
     requires order { (node : ℕ) (other : NodeLinks) (i : ℕ) (link : LinkFigures) → node < length all.old.items → i < length (slice_index_or all.old.items node other).figures.items → (slice_index_or (slice_index_or all.old.items node other).figures.items i link).since ≤ line.now.key.time }
     requires given { IfSome given (λ wait. wait < 2 ^ 50) }
+    requires one { free_is line.now.event ≡ false → (other : NodeLinks) → line.now.key.node < length all.old.items → OffersToOne (slice_index_or all.old.items line.now.key.node other).figures.items (node_at nodes.now line.now.key.node).part.links }
     ensures size { length all.new.items ≡ length all.old.items }
     ensures sizes { (other : NodeLinks) → length (slice_index_or all.new.items line.now.key.node other).figures.items ≡ length (slice_index_or all.old.items line.now.key.node other).figures.items }
     ensures here { (other : NodeLinks) → line.now.key.node < length all.old.items → AreLinksAfter (slice_index_or all.old.items line.now.key.node other).figures.items (node_at nodes.now line.now.key.node).part.links (shown line.now) given (slice_index_or all.new.items line.now.key.node other).figures.items }
@@ -110,6 +191,6 @@ pub fn count_links(all: &mut Vec<NodeLinks>, nodes: &[Node], line: &Line, given:
     let place = usize::from(line.key.node);
     if place < all.len() {
         let links = &mut all[place];
-        links_after(&mut links.figures, nodes[place].ports(), line, given);
+        links.after(nodes[place].ports(), line, given);
     }
 }

@@ -130,7 +130,39 @@ impl SenderFigures {
     }
 
     /// The sender has acted, and keeps `new` from then on.
+    #[inline(never)]
     pub fn turn(&mut self, new: &Sender, cause: Cause, now: Time)
+        requires few { self.old.turns < 2 ^ 60 }
+        requires moment { IsMoment now }
+        requires planned { new.now ≡ (planned_by self.old.kept cause now).fields }
+        ensures figures { (ts : List Turn) → AreOfTurns ts self.old → AreOfTurns (ts ++ record { old = self.old.kept; cause = cause; now = now } ∷ []) self.new }
+        ensures kept { self.new.kept ≡ new.now }
+        ensures turns { self.new.turns ≡ self.old.turns + 1 }
+    {
+        // Nearly all that it acts on is acknowledgements.
+        match cause {
+            Cause::Acknowledged(_) => self.act(new, cause, now),
+            Cause::Starts | Cause::TimesOut => self.act_rarely(new, cause, now),
+        }
+    }
+
+    // The same for a cause that is rare.
+    #[cold]
+    #[inline(never)]
+    fn act_rarely(&mut self, new: &Sender, cause: Cause, now: Time)
+        requires few { self.old.turns < 2 ^ 60 }
+        requires moment { IsMoment now }
+        requires planned { new.now ≡ (planned_by self.old.kept cause now).fields }
+        ensures figures { (ts : List Turn) → AreOfTurns ts self.old → AreOfTurns (ts ++ record { old = self.old.kept; cause = cause; now = now } ∷ []) self.new }
+        ensures kept { self.new.kept ≡ new.now }
+        ensures turns { self.new.turns ≡ self.old.turns + 1 }
+    {
+        self.act(new, cause, now);
+    }
+
+    // The same for any cause.
+    #[inline(always)]
+    fn act(&mut self, new: &Sender, cause: Cause, now: Time)
         requires few { self.old.turns < 2 ^ 60 }
         requires moment { IsMoment now }
         requires planned { new.now ≡ (planned_by self.old.kept cause now).fields }

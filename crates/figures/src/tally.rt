@@ -1,5 +1,5 @@
 //! Values, counted by class.
-ghost use Rattle.std.specs.Prelude.{◌≡◌, ◌≤◌, ℕ, length, slice_index};
+ghost use Rattle.std.specs.Prelude.{◌≡◌, ◌≤◌, ℕ, length, max, min, slice_index};
 
 use crate::classes::{CLASSES, class_at, class_of, top_of};
 use std::alloc::{AllocError, Global};
@@ -17,6 +17,26 @@ pub struct Tally {
     pub greatest: u64,
     ghost sized: { length counts.items ≡ 1472 },
     ghost parts: { (c : ℕ) → slice_index counts.items c ≤ count },
+}
+
+// The least so far, with one more value. It is seldom another.
+#[inline(always)]
+fn lower(least: &mut u64, value: u64)
+    ensures { least.new ≡ min least.old value }
+{
+    if value < *least {
+        *least = value;
+    }
+}
+
+// The greatest so far, with one more value. It is seldom another.
+#[inline(always)]
+fn raise(greatest: &mut u64, value: u64)
+    ensures { greatest.new ≡ max greatest.old value }
+{
+    if value > *greatest {
+        *greatest = value;
+    }
 }
 
 impl Tally {
@@ -48,8 +68,8 @@ impl Tally {
         let counts = &mut self.counts;
         counts[class] += 1;
         self.count += 1;
-        self.least = self.least.min(value);
-        self.greatest = self.greatest.max(value);
+        lower(&mut self.least, value);
+        raise(&mut self.greatest, value);
     }
 
     /// One more value, if there is one.

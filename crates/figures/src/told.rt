@@ -53,8 +53,9 @@ pub fn told_by(acts: &[Act]) -> Told
     told
 }
 
-// Whether an event is that the link of a number has sent a packet whole.
-fn frees(event: &Event, link: u16) -> bool
+/// Whether an event is that the link of a number has sent a packet whole.
+#[inline(always)]
+pub fn frees(event: &Event, link: u16) -> bool
     ensures { result ≡ frees_is link event.now }
 {
     match event {

@@ -27,7 +27,33 @@ pub struct Sent {
     pub again: u64,
 }
 
+// How many segments there are in so many bytes: most often one, and then no division is made.
+#[inline(always)]
+fn segments_in(bytes: u64, mss: u64) -> u64
+    requires { 1 ≤ mss }
+    ensures { result ≡ bytes / mss }
+{
+    if bytes == mss { 1 } else { bytes / mss }
+}
+
+// How many segments of a run from `first` up to `end` are below `high`: most often none, and then no
+// division is made.
+#[inline(always)]
+fn again_in(first: u64, end: u64, high: u64, mss: u64) -> u64
+    requires mss { 1 ≤ mss }
+    requires first { IsMultiple mss first }
+    requires end { IsMultiple mss end }
+    requires high { IsMultiple mss high }
+    ensures { result ≡ count_by (λ x. nat_lt x high) (spaced first mss ((end - first) / mss)) }
+{
+    if high <= first {
+        return 0;
+    }
+    end.min(high).saturating_sub(first) / mss
+}
+
 // A run of segments from `first` up to `end`, of which those below `high` are sent again.
+#[inline(always)]
 fn sent_in_run(first: u64, end: u64, high: u64, mss: u64) -> Sent
     requires mss { 1 ≤ mss }
     requires first { IsMultiple mss first }
@@ -44,12 +70,13 @@ fn sent_in_run(first: u64, end: u64, high: u64, mss: u64) -> Sent
         };
     }
     Sent {
-        segments: (end - first) / mss,
-        again: end.min(high).saturating_sub(first) / mss,
+        segments: segments_in(end - first, mss),
+        again: again_in(first, end, high, mss),
     }
 }
 
 // What was sent where a sender that kept `old` has acted on an acknowledgement, and keeps `new`.
+#[inline(always)]
 fn sent_on_ack(old: &SenderFields, new: &SenderFields) -> Sent
     requires old { IsSound old.now }
     requires new { IsSound new.now }
@@ -71,6 +98,7 @@ fn sent_on_ack(old: &SenderFields, new: &SenderFields) -> Sent
 }
 
 /// What was sent where a sender that kept `old` has acted, and keeps `new`.
+#[inline(always)]
 #[tactic(auto, using(crate::proofs::Sent::planned_is, crate::proofs::Sent::mss_is))]
 pub fn sent_by(old: &SenderFields, new: &SenderFields, cause: Cause, now: Time) -> Sent
     requires old { IsSound old.now }

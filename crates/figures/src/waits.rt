@@ -1,11 +1,8 @@
 //! How long packets wait at a link before they begin to be sent.
-ghost use Rattle.std.specs.Prelude.{◌≡◌, ◌-◌, ◌<◌, ◌≤◌, ◌^◌, ℕ, length, Some, IfSome};
+ghost use Rattle.std.specs.Prelude.{◌≡◌, ◌-◌, ◌<◌, ◌≤◌, ◌^◌, length, IfSome};
 ghost use Rattle.sim_time.specs.Moment.{IsMoment};
-ghost use Rattle.sim_time.specs.declared.key.Key.{Key};
 ghost use Rattle.aqm.specs.Queue.{taken_from};
-ghost use Rattle.node_core.specs.declared.event.Event.{Event};
 ghost use Rattle.node_core.specs.Part.{link_at};
-ghost use Rattle.table_run.specs.State.{due};
 ghost use Rattle.net_machine.specs.Nodes.{node_at};
 ghost use Rattle.figures.specs.Links.{port_at, wait_of_given};
 
@@ -60,16 +57,15 @@ fn wait_at(nodes: &[Node], key: Key) -> Option<Time>
     wait_of(links[index].port(), key.time)
 }
 
-/// For how long the packet has waited that the next event begins to send, where that event is that
-/// a link has sent a packet whole.
+/// For how long the packet has waited that the event of this key, which is due, begins to send, where
+/// that event is that a link has sent a packet whole.
 #[inline(always)]
-pub fn next_wait(net: &Net) -> Option<Time>
-    requires { IsMoment net.now.state.end }
-    ensures value { (k : Key) (v : Event) → due net.now.state ≡ Some (k, v) → k.source ≡ 0 → 3 ≤ k.number → result ≡ wait_of_given k.time (port_at net.now.state k.node (k.number - 3)) }
+pub fn next_wait(net: &Net, key: Key) -> Option<Time>
+    requires { IsMoment key.time }
+    ensures value { key.source ≡ 0 → 3 ≤ key.number → result ≡ wait_of_given key.time (port_at net.now.state key.node (key.number - 3)) }
     ensures most { IfSome result (λ wait. wait < 2 ^ 50) }
 {
-    let key = net.first()?;
-    if key.source != 0 || key.number < Alarm::Free(0).number() || key.time >= net.end() {
+    if key.source != 0 || key.number < Alarm::Free(0).number() {
         return None;
     }
     wait_at(net.nodes(), key)

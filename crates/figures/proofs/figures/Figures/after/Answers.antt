@@ -5,6 +5,7 @@ use Rattle.figures.specs.Figures.{IsOfNode}
 use Rattle.figures.specs.Moments.{cause_of}
 use Rattle.figures.proofs.Steps.{is_step, size_stays}
 use Rattle.figures.proofs.AllLinks.{links_counted, sizes_are}
+use Rattle.figures.proofs.One.{one_link}
 use Rattle.figures.proofs.After.{quiet, quiet_sender, planned_is, one_acted, told, within_parts}
 use Rattle.figures.proofs.figures.Figures.after.Goals as goal
 
@@ -47,6 +48,11 @@ pub count_links-requires-clause-sizes : goal.count_links-requires-clause-sizes
 count_links-requires-clause-sizes c =
     let R = c.requires.follows in
     sizes_are R.so_far R.before (shown c.args.line.now) c.args.net.now.state R.next c.nodes.result.now c.nodes.ensures.parts c.args.self.now.links.items c.args.self.now.links.items refl R.figures.links
+
+pub count_links-requires-clause-one : goal.count_links-requires-clause-one
+count_links-requires-clause-one c = λ none other within.
+    let R = c.requires.follows in
+    one_link R.before (shown c.args.line.now) c.args.net.now.state R.next R.so_far c.nodes.result.now c.nodes.ensures.parts c.args.self.now.links.items c.args.self.now.links.items refl R.figures.links none other within
 
 pub returns-in-Some-sender_at-clause-links : goal.returns-in-Some-sender_at-clause-links
 returns-in-Some-sender_at-clause-links c = λ ms s is next tells keeps.

@@ -14,7 +14,7 @@ returns-clause-tally c = λ xs is. record {
       let read = get_or_read counts c.class_of-class.result c.index_mut.result.now within c.index_mut.ensures.value 0 in
       subst (λ n. get_or (set counts c.class_of-class.result (n + 1)) class 0 ≡ in_class (xs ++ c.args.value ∷ []) class) (sym read) (class_more xs counts c.args.value c.class_of-class.result class c.class_of-class.ensures.class within (is.each class under));
   count_is = ap (λ n. n + 1) is.count_is ∙ sym (length-append xs (c.args.value ∷ []));
-  least_is = c.min-self.ensures ∙ ap (λ n. min n c.args.value) is.least_is ∙ sym (least_more (2 ^ 64 - 1) xs c.args.value);
-  greatest_is = c.max-self.ensures ∙ ap (λ n. max n c.args.value) is.greatest_is ∙ sym (greatest_more xs c.args.value);
+  least_is = c.lower.ensures ∙ ap (λ n. min n c.args.value) is.least_is ∙ sym (least_more (2 ^ 64 - 1) xs c.args.value);
+  greatest_is = c.raise.ensures ∙ ap (λ n. max n c.args.value) is.greatest_is ∙ sym (greatest_more xs c.args.value);
   below = All-append (λ x. x < 2 ^ 50) xs (c.args.value ∷ []) is.below (All-cons (λ x. x < 2 ^ 50) c.args.value [] c.requires.value (All-nil (λ x. x < 2 ^ 50)));
 }

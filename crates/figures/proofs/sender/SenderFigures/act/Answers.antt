@@ -6,7 +6,7 @@ use Rattle.figures.specs.Turns.{Turn, planned_by, planned_in, again_in, in_recov
 use Rattle.figures.specs.Senders.{trips_of}
 use Rattle.figures.specs.Tallied.{IsTallyOf}
 use Rattle.figures.proofs.Turns.{turn_more}
-use Rattle.figures.proofs.sender.SenderFigures.turn.Goals as goal
+use Rattle.figures.proofs.sender.SenderFigures.act.Goals as goal
 
 pub returns-clause-figures : goal.returns-clause-figures
 returns-clause-figures c = λ ts is.
