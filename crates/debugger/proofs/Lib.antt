@@ -6,3 +6,5 @@ pub mod Batches
 pub mod Aims
 pub mod Alone
 pub mod TakenOut
+pub mod Between
+pub mod LastEvents

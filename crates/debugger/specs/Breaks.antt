@@ -1,5 +1,5 @@
 -- Which lines of the trace a breakpoint matches.
-use Rattle.std.specs.Prelude.{◌≡◌, ℕ, Bool, true, false, IsTrue, List, ◌∷◌, ◌++◌, length, Any, Option, None, Some}
+use Rattle.std.specs.Prelude.{◌≡◌, ◌+◌, ℕ, Bool, true, false, IsTrue, List, ◌∷◌, ◌++◌, length, Any, Option, None, Some}
 use Rattle.std.specs.List.{list_any}
 use Rattle.packet_chain.specs.declared.packet.Kind.{Kind}
 use Rattle.packet_chain.specs.declared.packet.Kind.TheVariants.{Data, Ack}
@@ -12,6 +12,7 @@ use Rattle.debugger.specs.declared.breaks.EventKind.{EventKind}
 use Rattle.debugger.specs.declared.breaks.EventKind.TheVariants.{Start as StartWord, Rto as RtoWord, DelAck as DelAckWord, Free as FreeWord, Data as DataWord, Ack as AckWord}
 use Rattle.debugger.specs.declared.breaks.Break.{Break}
 use Rattle.debugger.specs.declared.breaks.Break.TheVariants.{Node, Flow, Kind as OfKind, Drop}
+use Rattle.debugger.specs.declared.breaks.Hit.{Hit}
 
 -- the flow that an event names: none where a link becomes free
 abbrev pub flow_of : Event → Option ℕ
@@ -47,6 +48,20 @@ Matches Drop line = IsTrue (list_any is_drop line.acts)
 -- one of the breakpoints matches a line
 abbrev pub IsHit : List Break → TraceLine → Type 0
 IsHit breaks line = Any (λ b. Matches b line) breaks
+
+-- a breakpoint is the first that matches a line
+pub record HitsFirst (breaks : List Break) (line : TraceLine) (hit : Hit) : Type 0 where
+  pub before : List Break
+  pub after : List Break
+  pub parted : breaks ≡ before ++ hit.breakpoint ∷ after
+  pub at : hit.number ≡ length before + 1
+  pub missed : ¬ IsHit before line
+  pub matches : Matches hit.breakpoint line
+
+-- the first that matches, or none does
+abbrev pub IsFirstHit : List Break → TraceLine → Option Hit → Type 0
+IsFirstHit breaks line None = ¬ IsHit breaks line
+IsFirstHit breaks line (Some hit) = HitsFirst breaks line hit
 
 -- the breakpoint at an index was taken out, and the others stay in their order
 pub record IsTakenOut (old new : List Break) (index : ℕ) (b : Break) : Type 0 where

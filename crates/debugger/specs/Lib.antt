@@ -1,6 +1,8 @@
 pub mod Breaks
 pub mod Faults
 pub mod Moves
+pub mod Passed
+pub mod LastEvents
 pub mod Courses
 pub mod Aims
 pub mod Debugging

@@ -1,8 +1,8 @@
 //! Breakpoints: which lines of the trace a run stops at.
-ghost use Rattle.std.specs.Prelude.{◌≡◌, ◌↔◌, ◌<◌, ◌≤◌, [], ◌∷◌, ◌++◌, Contains, IsTrue, MatchBool, IfOk, IfErr, OnErr, length};
+ghost use Rattle.std.specs.Prelude.{◌≡◌, ◌↔◌, ◌<◌, ◌≤◌, [], ◌∷◌, ◌++◌, Contains, IsTrue, MatchBool, IfOk, IfErr, OnErr, length, slice_index_or};
 ghost use Rattle.std.specs.List.{list_any};
 ghost use Rattle.node_core.specs.TraceLine.{shown};
-ghost use Rattle.debugger.specs.Breaks.{flow_of, kind_of, is_drop, Matches, IsHit, IsTakenOut};
+ghost use Rattle.debugger.specs.Breaks.{flow_of, kind_of, is_drop, Matches, IsHit, IsFirstHit, IsTakenOut};
 
 use node_core::{Event, Line};
 use packet_chain::Kind;
@@ -41,6 +41,15 @@ pub enum Break {
     Kind(EventKind),
     /// An event that drops a packet.
     Drop,
+}
+
+/// A breakpoint that matches, among those that are set.
+#[derive(Clone, Copy, Debug, PartialEq, Eq)]
+pub struct Hit {
+    /// Its number: 1 for the first that was set.
+    pub number: u64,
+    /// The breakpoint.
+    pub breakpoint: Break,
 }
 
 /// Why a breakpoint was not set.
@@ -100,6 +109,30 @@ impl Break {
             Break::Drop => has_drop(line.acts.as_slice()),
         }
     }
+}
+
+/// The breakpoint at an index.
+fn break_at(breaks: &[Break], index: usize) -> Break
+    requires { index < length breaks.now }
+    ensures { (other : Break) → slice_index_or breaks.now index other ≡ result }
+{
+    breaks[index]
+}
+
+/// The first of these breakpoints that matches a line.
+fn first_of(breaks: &[Break], line: &Line) -> Option<Hit>
+    ensures { IsFirstHit breaks.now (shown line.now) result }
+{
+    for index in 0..breaks.len() {
+        let breakpoint = break_at(breaks, index);
+        if breakpoint.matches(line) {
+            return Some(Hit {
+                number: index as u64 + 1,
+                breakpoint,
+            });
+        }
+    }
+    None
 }
 
 /// The breakpoints that are set, in the order in which they were.
@@ -194,6 +227,13 @@ impl Breaks {
         ensures { self.new ≡ [] }
     {
         self.items.clear();
+    }
+
+    /// The first of them that matches a line.
+    pub fn first_hit(&self, line: &Line) -> Option<Hit>
+        ensures { IsFirstHit self.now (shown line.now) result }
+    {
+        first_of(self.items.as_slice(), line)
     }
 
     /// Whether one of them matches a line.

@@ -7,10 +7,12 @@ mod course;
 mod crew;
 mod fault;
 pub mod moves;
+mod passed;
 pub mod reached;
 pub mod saved;
 pub mod walk;
 
-pub use breaks::{Break, BreakFault, Breaks, EventKind};
+pub use breaks::{Break, BreakFault, Breaks, EventKind, Hit};
 pub use fault::MoveFault;
 pub use moves::Debugger;
+pub use passed::{LastEvent, Order, Stretch};

@@ -1,18 +1,23 @@
 //! The debugger: it stands at a position of a scenario's run, and moves both ways.
-ghost use Rattle.std.specs.Prelude.{◌≡◌, ◌≢◌, ◌-◌, ◌<◌, ◌≤◌, [], ◌∷◌, ◌++◌, true, false, Contains, IfOk, IfErr, OnOk, OnErr, MatchBool, MatchResult, Some, None, Ok, Err, length};
-ghost use Rattle.table_run.specs.State.{opening};
+ghost use Rattle.std.specs.Prelude.{◌≡◌, ◌≢◌, ◌+◌, ◌-◌, ◌<◌, ◌≤◌, [], ◌∷◌, ◌++◌, true, false, take, Contains, IfOk, IfErr, OnOk, OnErr, MatchBool, MatchResult, Some, None, Ok, Err, is_none, length};
+ghost use Rattle.std.specs.List.{concat};
+ghost use Rattle.table_run.specs.State.{opening, due};
 ghost use Rattle.net_machine.specs.Run.{Reached};
-ghost use Rattle.debugger.specs.Moves.{Passes, StepGoesTo, RunGoesTo, UntilGoesTo, IsTooLong};
+ghost use Rattle.debugger.specs.Moves.{Passes, HasPosition, StepGoesTo, RunGoesTo, UntilGoesTo, IsTooLong};
 ghost use Rattle.debugger.specs.Breaks.{IsTakenOut};
 ghost use Rattle.debugger.specs.Debugging.{opened, HasMoved};
+ghost use Rattle.debugger.specs.LastEvents.{IsLastEvent};
+ghost use Rattle.debugger.specs.Passed.{stretch_texts};
 ghost use Rattle.trace_text.specs.Dump.{dump_bytes};
 
 use crate::aim::Aim;
 use crate::breaks::{Break, BreakFault, Breaks};
 use crate::crew::Crew;
 use crate::fault::MoveFault;
+use crate::passed::{LastEvent, Stretch, append_stretch, event_at, nearer};
 use crate::reached::{net_after, net_at};
 use crate::saved::Saved;
+use crate::walk::is_ended;
 use net_machine::Net;
 use node_core::{After, Event, Line};
 use port::Acts;
@@ -236,6 +241,42 @@ impl Debugger {
         ensures err { OnErr result (out.new.items ≡ out.old.items) }
     {
         dump_text(&self.net, out)
+    }
+
+    /// Whether no event is left behind the state that is shown.
+    pub fn is_at_end(&self) -> bool
+        ensures { result ≡ is_none (due self.now.shown.state) }
+    {
+        is_ended(&self.net)
+    }
+
+    /// Appends the lines of a stretch of the run, of which events are run again. On a fault some may
+    /// have been appended.
+    pub fn append_lines(&mut self, stretch: &Stretch, out: &mut Vec<u8>) -> Result<(), MoveFault>
+        requires { HasPosition self.old.start (stretch.now.from + stretch.now.count) }
+        ensures ok { OnOk result (out.new.items ≡ out.old.items ++ concat (stretch_texts self.old.start stretch.now)) }
+        ensures err { OnErr result (take (length out.old.items) out.new.items ≡ out.old.items) }
+        ensures same { self.new ≡ self.old }
+    {
+        let near = nearer(&self.net, &self.left, stretch.from);
+        append_stretch(near, stretch, &mut self.saved, &mut self.line, out)
+    }
+
+    /// What the last event was, which is run again.
+    pub fn last_event(&mut self) -> Result<LastEvent, MoveFault>
+        requires { 0 < self.old.shown.position }
+        ensures ok { IfOk result (IsLastEvent self.old.start self.old.breaks self.old.shown.position) }
+        ensures same { self.new ≡ self.old }
+    {
+        let position = self.net.position();
+        let near = nearer(&self.net, &self.left, position - 1);
+        event_at(
+            near,
+            position,
+            &mut self.saved,
+            &mut self.line,
+            &self.breaks,
+        )
     }
 
     /// Whether a breakpoint is set.

@@ -1,6 +1,7 @@
 //! From one state of a run to a later one.
-ghost use Rattle.std.specs.Prelude.{◌≡◌, ◌≤◌, if◌then◌else◌, IsTrue, IfOk, IfErr, OnOk};
+ghost use Rattle.std.specs.Prelude.{◌≡◌, ◌≤◌, if◌then◌else◌, IsTrue, IfOk, IfErr, OnOk, is_none};
 ghost use Rattle.node_core.specs.TraceLine.{shown};
+ghost use Rattle.table_run.specs.State.{due};
 ghost use Rattle.net_machine.specs.Run.{Stepped};
 ghost use Rattle.debugger.specs.Moves.{Passes, HasPosition, StepGoesTo, IsTooLong};
 
@@ -8,10 +9,10 @@ use crate::saved::Saved;
 use net_machine::{Net, StepFault};
 use node_core::Line;
 
-// Runs the next event, and saves the state after it where it is time to. The answer is whether
-// there was one.
+/// Runs the next event, and saves the state after it where it is time to. The answer is whether
+/// there was one.
 #[tactic(none)]
-fn run_one(net: &mut Net, saved: &mut Saved, line: &mut Line) -> Result<bool, StepFault>
+pub(crate) fn run_one(net: &mut Net, saved: &mut Saved, line: &mut Line) -> Result<bool, StepFault>
     requires { Passes saved.old net.old }
     ensures stepped { IfOk result (λ fired. Stepped net.old (if fired then Some (shown line.new) else None) net.new) }
     ensures on_run { OnOk result (Passes saved.old net.new) }
@@ -26,6 +27,16 @@ fn run_one(net: &mut Net, saved: &mut Saved, line: &mut Line) -> Result<bool, St
         }
         Ok(false) => Ok(false),
         Err(fault) => Err(fault),
+    }
+}
+
+/// Whether no event is left below the end.
+pub(crate) fn is_ended(net: &Net) -> bool
+    ensures { result ≡ is_none (due net.now.state) }
+{
+    match net.first() {
+        None => true,
+        Some(key) => !(key.time < net.end()),
     }
 }
 

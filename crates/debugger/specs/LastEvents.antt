@@ -1,0 +1,15 @@
+-- What the last event was, and which breakpoint stops at it.
+use Rattle.std.specs.Prelude.{◌≡◌, ℕ, List}
+use Rattle.node_core.specs.TraceLine.{TraceLine}
+use Rattle.table_run.specs.State.{State}
+use Rattle.debugger.specs.declared.breaks.Break.{Break}
+use Rattle.debugger.specs.declared.passed.LastEvent.{LastEvent}
+use Rattle.debugger.specs.Breaks.{IsFirstHit}
+use Rattle.debugger.specs.Moves.{GivesAt}
+
+-- the event before a position: its moment, and the first breakpoint that matches its line
+pub record IsLastEvent (start : State) (breaks : List Break) (p : ℕ) (event : LastEvent) : Type 0 where
+  pub line : TraceLine
+  pub given : GivesAt start line p
+  pub time : event.time ≡ line.key.time
+  pub first : IsFirstHit breaks line event.hit

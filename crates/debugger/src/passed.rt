@@ -1,0 +1,211 @@
+//! Lines of the trace that a run has passed, told by running again.
+ghost use Rattle.std.specs.Prelude.{◌≡◌, ◌+◌, ◌-◌, ◌<◌, ◌≤◌, ◌⊎◌, ◌++◌, take, drop, length, vec_len, Some, IfOk, OnOk, OnErr};
+ghost use Rattle.std.specs.List.{concat};
+ghost use Rattle.node_core.specs.TraceLine.{shown};
+ghost use Rattle.net_machine.specs.Run.{Stepped};
+ghost use Rattle.trace_text.specs.Line.{line_bytes};
+ghost use Rattle.debugger.specs.LastEvents.{IsLastEvent};
+ghost use Rattle.debugger.specs.Moves.{Passes, HasPosition, GivesAt};
+ghost use Rattle.debugger.specs.Passed.{beside, stretch_texts};
+
+use crate::breaks::{Breaks, Hit};
+use crate::fault::MoveFault;
+use crate::reached::net_at;
+use crate::saved::Saved;
+use crate::walk::run_one;
+use net_machine::Net;
+use node_core::Line;
+use sim_time::Time;
+use std::alloc::AllocError;
+use trace_text::line_text;
+
+/// In which order lines are told.
+#[derive(Clone, Copy, Debug, PartialEq, Eq)]
+pub enum Order {
+    /// As they came.
+    Rising,
+    /// The latest first.
+    Falling,
+}
+
+/// Lines of a run that follow each other.
+#[derive(Clone, Copy, Debug, PartialEq, Eq)]
+pub struct Stretch {
+    /// The position before the first of them.
+    pub from: u64,
+    /// How many there are.
+    pub count: u64,
+    /// In which order they are told.
+    pub order: Order,
+}
+
+/// What the last event was.
+#[derive(Clone, Copy, Debug, PartialEq, Eq)]
+pub struct LastEvent {
+    /// When it was, in nanoseconds.
+    pub time: Time,
+    /// The first breakpoint that matches it.
+    pub hit: Option<Hit>,
+}
+
+/// Of two nets of a run the one from which a position is the nearer: that before the last move, where
+/// the present one is past the position.
+pub(crate) fn nearer<'a>(present: &'a Net, left: &'a Option<Net>, target: u64) -> &'a Net
+    ensures { (result.now ≡ present.now) ⊎ (left.now ≡ Some result.now) }
+{
+    match left {
+        Some(net) if target < present.position() => net,
+        _ => present,
+    }
+}
+
+/// Runs the next event, which the run has, and saves the state after it where it is time to.
+#[tactic(none)]
+fn run_next(net: &mut Net, saved: &mut Saved, line: &mut Line) -> Result<(), MoveFault>
+    requires on_run { Passes saved.old net.old }
+    requires next { HasPosition saved.old (net.old.position + 1) }
+    ensures stepped { OnOk result (Stepped net.old (Some (shown line.new)) net.new) }
+    ensures on_run { OnOk result (Passes saved.old net.new) }
+    ensures same { saved.new ≡ saved.old }
+{
+    match run_one(net, saved, line) {
+        Ok(_) => Ok(()),
+        Err(fault) => Err(fault.into()),
+    }
+}
+
+// Puts the bytes from `end` on before those from `start` on, where the order is so.
+fn put_in_order(bytes: &mut [u8], start: usize, end: usize, order: Order)
+    requires start { start ≤ end }
+    requires end { end ≤ length bytes.old }
+    ensures { bytes.new ≡ take start bytes.old ++ beside order (take (end - start) (drop start bytes.old)) (drop (end - start) (drop start bytes.old)) }
+{
+    match order {
+        Order::Rising => {}
+        Order::Falling => bytes[start..].rotate_left(end - start),
+    }
+}
+
+/// Puts the text of a line behind what stands from a place on, or before it; or nothing.
+fn put_line(
+    out: &mut Vec<u8>,
+    start: usize,
+    order: Order,
+    number: u64,
+    line: &Line,
+) -> Result<(), AllocError>
+    requires { start ≤ vec_len out.old }
+    ensures ok { OnOk result (out.new.items ≡ take start out.old.items ++ beside order (drop start out.old.items) (line_bytes number (shown line.now))) }
+    ensures err { OnErr result (out.new.items ≡ out.old.items) }
+{
+    let end = out.len();
+    match line_text(number, line, out) {
+        Ok(()) => {
+            put_in_order(out.as_mut_slice(), start, end, order);
+            Ok(())
+        }
+        Err(fault) => Err(fault),
+    }
+}
+
+/// Runs a stretch of the run from its beginning, and appends its lines. On a fault some may have been
+/// appended.
+#[tactic(none)]
+fn run_stretch(
+    net: &mut Net,
+    stretch: &Stretch,
+    saved: &mut Saved,
+    line: &mut Line,
+    out: &mut Vec<u8>,
+) -> Result<(), MoveFault>
+    requires on_run { Passes saved.old net.old }
+    requires from { net.old.position ≡ stretch.now.from }
+    requires upto { HasPosition saved.old (stretch.now.from + stretch.now.count) }
+    ensures ok { OnOk result (out.new.items ≡ out.old.items ++ concat (stretch_texts saved.old stretch.now)) }
+    ensures err { OnErr result (take (length out.old.items) out.new.items ≡ out.old.items) }
+    ensures same { saved.new ≡ saved.old }
+{
+    let start = out.len();
+    for passed in 0..stretch.count {
+        match run_next(net, saved, line) {
+            Ok(()) => {}
+            Err(fault) => return Err(fault),
+        }
+        match put_line(out, start, stretch.order, net.position(), line) {
+            Ok(()) => {}
+            Err(_) => return Err(MoveFault::NoMemory),
+        }
+    }
+    Ok(())
+}
+
+/// Appends the lines of a stretch of the run. On a fault some may have been appended.
+#[tactic(none)]
+pub(crate) fn append_stretch(
+    present: &Net,
+    stretch: &Stretch,
+    saved: &mut Saved,
+    line: &mut Line,
+    out: &mut Vec<u8>,
+) -> Result<(), MoveFault>
+    requires on_run { Passes saved.old present.now }
+    requires upto { HasPosition saved.old (stretch.now.from + stretch.now.count) }
+    ensures ok { OnOk result (out.new.items ≡ out.old.items ++ concat (stretch_texts saved.old stretch.now)) }
+    ensures err { OnErr result (take (length out.old.items) out.new.items ≡ out.old.items) }
+    ensures same { saved.new ≡ saved.old }
+{
+    match net_at(present, stretch.from, saved, line) {
+        Ok(net) => {
+            let mut net = net;
+            run_stretch(&mut net, stretch, saved, line, out)
+        }
+        Err(fault) => Err(fault),
+    }
+}
+
+/// Runs the event before a position again, and tells of it in `line`.
+#[tactic(none)]
+fn line_at(
+    present: &Net,
+    position: u64,
+    saved: &mut Saved,
+    line: &mut Line,
+) -> Result<(), MoveFault>
+    requires on_run { Passes saved.old present.now }
+    requires some { 0 < position }
+    requires position { HasPosition saved.old position }
+    ensures given { OnOk result (GivesAt saved.old (shown line.new) position) }
+    ensures same { saved.new ≡ saved.old }
+{
+    match net_at(present, position - 1, saved, line) {
+        Ok(net) => {
+            let mut net = net;
+            run_next(&mut net, saved, line)
+        }
+        Err(fault) => Err(fault),
+    }
+}
+
+/// What the event before a position was, which is run again, and which of the breakpoints stops at it.
+#[tactic(none)]
+pub(crate) fn event_at(
+    present: &Net,
+    position: u64,
+    saved: &mut Saved,
+    line: &mut Line,
+    breaks: &Breaks,
+) -> Result<LastEvent, MoveFault>
+    requires on_run { Passes saved.old present.now }
+    requires some { 0 < position }
+    requires position { HasPosition saved.old position }
+    ensures ok { IfOk result (IsLastEvent saved.old breaks.now position) }
+    ensures same { saved.new ≡ saved.old }
+{
+    match line_at(present, position, saved, line) {
+        Ok(()) => Ok(LastEvent {
+            time: line.key.time,
+            hit: breaks.first_hit(line),
+        }),
+        Err(fault) => Err(fault),
+    }
+}
