@@ -45,7 +45,11 @@ BARS = (
 DHAT = ('valgrind', '--tool=dhat', '--dhat-out-file=/dev/null')
 Case = namedtuple('Case', 'name segments path')
 Run = namedtuple('Run', 'name segments events packets written resident seconds instructions heap')
-Cost = namedtuple('Cost', 'name what events an_event bar figures')
+Cost = namedtuple('Cost', 'name what events an_event bar figures bare')
+# What a run is without its text: the calls of `Net::step_into`, with all that these call.
+STEPS = (*CALLGRIND, '--toggle-collect=*Net*step_into*')
+# The most instructions that an event's figures are to cost above that.
+ABOVE = 120
 
 
 def text(segments, delack=0, losses='', end=10**15, link='100000000 1000000 droptail 20', window=44):
@@ -107,26 +111,36 @@ def seconds(path):
 
 def costs(names, jobs):
     """What an event of each scenario costs: the instructions of its run less those of a run that ends
-    where its last flow starts, divided by the events that lie between both; and the same of its figures."""
+    where its last flow starts, divided by the events that lie between both; and the same of its figures,
+    and of its run without the text."""
     bars = [bar for bar in BARS if bar[0] in names]
     paths = [saved(name + ' started', disassemble(started(SCENARIOS[name]())).decode()) for name, *_ in bars]
     paths += [saved(name, disassemble(SCENARIOS[name]()).decode()) for name, *_ in bars]
     events = [watch(path)[0] for path in paths]
+    kinds = (CALLGRIND, 'run'), (CALLGRIND, 'figures'), (STEPS, 'run')
     with ThreadPoolExecutor(jobs) as pool:
-        counts, figures = (list(pool.map(lambda path: instructions(run(path, CALLGRIND, subcommand)), paths))
-                           for subcommand in ('run', 'figures'))
+        counts = [list(pool.map(lambda path: instructions(run(path, before, subcommand)), paths))
+                  for before, subcommand in kinds]
     for at, (name, what, bar) in enumerate(bars):
-        (few, many), an_event = events[at::len(bars)], []
-        for start, whole in (counts[at::len(bars)], figures[at::len(bars)]):
-            an_event.append((whole - start) / (many - few))
-        yield Cost(name, what, many, an_event[0], bar, an_event[1])
+        few, many = events[at::len(bars)]
+        an_event = [(whole - start) / (many - few) for start, whole in (kind[at::len(bars)] for kind in counts)]
+        yield Cost(name, what, many, an_event[0], bar, *an_event[1:])
+
+
+def within(count, bar):
+    """Whether a count is at most a bar."""
+    return 'yes' if count <= bar else f'no, by {count - bar:,.0f}'
 
 
 def cost_table(rows):
-    yield from table(('Scenario', 'Events', 'Instructions an event', 'At most', 'Within', 'Of `figures`'),
+    yield from table(('Scenario', 'Events', 'Instructions an event', 'At most', 'Within'),
                      [(f'`{r.name}`: {r.what}', f'{r.events:,}', f'{r.an_event:,.0f}', f'{r.bar:,}',
-                       'yes' if r.an_event <= r.bar else f'no, by {r.an_event - r.bar:,.0f}', f'{r.figures:,.0f}')
-                      for r in rows])
+                       within(r.an_event, r.bar)) for r in rows])
+    yield ('The same without its text, which is what the calls of `Net::step_into` cost with all that these call, '
+           f'and what `figures` costs, which makes no text: {ABOVE} instructions more at most.\n')
+    yield from table(('Scenario', '`run` without text', '`figures`', 'At most', 'Within'),
+                     [(f'`{r.name}`', f'{r.bare:,.0f}', f'{r.figures:,.0f}', f'{r.bare + ABOVE:,.0f}',
+                       within(r.figures, r.bare + ABOVE)) for r in rows])
 
 
 def measured(cases, jobs):
@@ -175,8 +189,8 @@ def report(start, runs, crowded, networks):
                      [(f'{w:,}', f'{r.events:,}', f'{an_event(r):,.1f}', f'{r.heap:,}')
                       for w, r in zip(UNDER_WAY, crowded)])
     yield ('What an event costs in scenarios of each kind (bench/scenarios.py), and what it is to cost at most. '
-           'Text of the trace included, which `figures` does not make; taken off is a run of the same scenario that '
-           'ends where its last flow starts.\n')
+           'Text of the trace included; taken off is a run of the same scenario that ends where its last flow '
+           'starts.\n')
     yield from cost_table(networks)
     yield '## What this machine took, for information\n'
     yield f'{processor()}; seconds are the least of three runs; resident memory has the C library in it.\n'
