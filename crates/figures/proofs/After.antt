@@ -12,7 +12,7 @@ use Rattle.reno_sender.specs.declared.fields.SenderFields.{SenderFields}
 use Rattle.figures.specs.declared.turn.Cause.{Cause}
 use Rattle.figures.specs.declared.sender.SenderFigures.{SenderFigures}
 use Rattle.figures.specs.declared.figures.Figures.{Figures}
-use Rattle.figures.specs.Turns.{Turn, planned_by}
+use Rattle.figures.specs.Turns.{Turn, Keeps, HasActedFrom, planned_by}
 use Rattle.figures.specs.Senders.{AreOfTurns}
 use Rattle.figures.specs.Moments.{Moment, cause_of, turn_by, turn_at, turns_at}
 use Rattle.figures.specs.Figures.{IsOfNode, AreAfter}
@@ -83,7 +83,7 @@ module _ (ms : List Moment) (s : State) (line : TraceLine) (t : State) (is_next 
   still : (node : ℕ) (f : SenderFigures) → turn_at node m ≡ None → sender_in (part_at t node).role ≡ sender_in (part_at s node).role → IsOfNode ms s node f → IsOfNode (ms ++ m ∷ []) t node f
   still node f none same is = record {
     counted = subst (λ ts. AreOfTurns ts f) (sym (given_more (turn_at node) ms m ∙ ap (λ o. turns_at node ms ++ option_to_list o) none ∙ append-nil (turns_at node ms))) is.counted;
-    keeps = subst (λ o. IfSome o (λ found. f.kept ≡ found.1)) (sym same) is.keeps;
+    keeps = subst (λ o. IfSome o (λ found. Keeps f.kept found.1)) (sym same) is.keeps;
   }
 
   elsewhere : (node : ℕ) (f : SenderFigures) → node ≢ line.key.node → IsOfNode ms s node f → IsOfNode (ms ++ m ∷ []) t node f
@@ -127,25 +127,28 @@ module _ (ms : List Moment) (s : State) (line : TraceLine) (t : State) (is_next 
     abbrev pub has : HasActed (sender_in (part_at s line.key.node).role) (sender_in (part_at t line.key.node).role) cause line.key.time g
     has = acted (sender_in (part_at s line.key.node).role) (sender_in (part_at t line.key.node).role) cause line.key.time g (sender_here s line t is_its ∙ ap (λ c. after_event (sender_in (part_at s line.key.node).role) c line.key.time) cause_is) g_is
 
-    pub kept_was : (f : SenderFigures) → IsOfNode ms s line.key.node f → f.kept ≡ has.fields
-    kept_was f is = subst (λ o. IfSome o (λ found. f.kept ≡ found.1)) has.was is.keeps
+    pub kept_was : (f : SenderFigures) → IsOfNode ms s line.key.node f → Keeps f.kept has.fields
+    kept_was f is = subst (λ o. IfSome o (λ found. Keeps f.kept found.1)) has.was is.keeps
 
-    pub planned_is : (f : SenderFigures) → IsOfNode ms s line.key.node f → g ≡ (planned_by f.kept cause line.key.time).fields
-    planned_is f is = has.planned ∙ ap (λ (x : SenderFields). (planned_by x cause line.key.time).fields) (sym (kept_was f is))
+    pub acted_from : (f : SenderFigures) → IsOfNode ms s line.key.node f → HasActedFrom f.kept cause line.key.time g
+    acted_from f is = record { old = has.fields; kept = kept_was f is; planned = has.planned }
 
-    here_acted : (f f' : SenderFigures) → ((ts : List Turn) → AreOfTurns ts f → AreOfTurns (ts ++ record { old = f.kept; cause = cause; now = line.key.time } ∷ []) f') → f'.kept ≡ g → IsOfNode ms s line.key.node f → IsOfNode (ms ++ m ∷ []) t line.key.node f'
+    -- a turn is counted, whatever it began from
+    abbrev pub Counts : SenderFigures → SenderFigures → Type 0
+    Counts f f' = (ts : List Turn) (x : SenderFields) → Keeps f.kept x → g ≡ (planned_by x cause line.key.time).fields → AreOfTurns ts f → AreOfTurns (ts ++ record { old = x; cause = cause; now = line.key.time } ∷ []) f'
+
+    here_acted : (f f' : SenderFigures) → Counts f f' → Keeps f'.kept g → IsOfNode ms s line.key.node f → IsOfNode (ms ++ m ∷ []) t line.key.node f'
     here_acted f f' more kept is =
-        let turn : turn_at line.key.node m ≡ Some (record { old = f.kept; cause = cause; now = line.key.time }) =
+        let turn : turn_at line.key.node m ≡ Some (record { old = has.fields; cause = cause; now = line.key.time }) =
         at_node ∙ ap (λ o. turn_by o line.event line.key.time) has.was
-        ∙ ap (option_map (λ (c : Cause). record { old = has.fields; cause = c; now = line.key.time })) cause_is
-        ∙ ap (λ (x : SenderFields). Some (record { old = x; cause = cause; now = line.key.time })) (sym (kept_was f is)) in
+        ∙ ap (option_map (λ (c : Cause). record { old = has.fields; cause = c; now = line.key.time })) cause_is in
         record {
-          counted = subst (λ ts. AreOfTurns ts f') (sym (given_more (turn_at line.key.node) ms m ∙ ap (λ o. turns_at line.key.node ms ++ option_to_list o) turn)) (more (turns_at line.key.node ms) is.counted);
-          keeps = subst (λ o. IfSome o (λ found. f'.kept ≡ found.1)) (sym has.is) kept;
+          counted = subst (λ ts. AreOfTurns ts f') (sym (given_more (turn_at line.key.node) ms m ∙ ap (λ o. turns_at line.key.node ms ++ option_to_list o) turn)) (more (turns_at line.key.node ms) has.fields (kept_was f is) has.planned is.counted);
+          keeps = subst (λ o. IfSome o (λ found. Keeps f'.kept found.1)) (sym has.is) kept;
         }
 
     pub one_acted : (f g' : Figures) (before after : SenderFigures) → line.key.node < length f.senders.items → before ≡ get_or f.senders.items line.key.node before → g'.senders.items ≡ set f.senders.items line.key.node after →
-        ((ts : List Turn) → AreOfTurns ts before → AreOfTurns (ts ++ record { old = before.kept; cause = cause; now = line.key.time } ∷ []) after) → after.kept ≡ g → AreAfter ms s f → AreAfter (ms ++ m ∷ []) t g'
+        Counts before after → Keeps after.kept g → AreAfter ms s f → AreAfter (ms ++ m ∷ []) t g'
     one_acted f g' before after within before_is items more kept is =
         let size = size_stays s line t is_its in
         record {

@@ -9,6 +9,7 @@ use Rattle.table_run.specs.State.{State, no_part, part_at}
 use Rattle.net_machine.specs.Nodes.{parts_of, no_node, node_at}
 use Rattle.figures.specs.declared.sender.SenderFigures.{SenderFigures}
 use Rattle.figures.specs.declared.figures.Figures.{Figures}
+use Rattle.figures.specs.Turns.{Keeps}
 use Rattle.figures.specs.Senders.{IsBegun}
 use Rattle.figures.specs.Figures.{AreAfter}
 
@@ -25,6 +26,6 @@ begun_is nodes s f parts size each =
           let is : IsBegun (node_at nodes node).part.role (get_or f.senders.items node other) = each node other (omega (arith, within, count)) in
           record {
             counted = is.figures;
-            keeps = subst (λ (p : PartState). IfSome (sender_in p.role) (λ found. (get_or f.senders.items node other).kept ≡ found.1)) (part_is nodes s node parts) is.keeps;
+            keeps = subst (λ (p : PartState). IfSome (sender_in p.role) (λ found. Keeps (get_or f.senders.items node other).kept found.1)) (part_is nodes s node parts) is.keeps;
           };
     }

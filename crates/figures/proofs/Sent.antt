@@ -1,15 +1,16 @@
 -- What a sender sends, by what it keeps before and after.
-use Rattle.std.proofs.Common.{◌≡◌, ℕ, ◌+◌, ◌-◌, ◌*◌, ◌/◌, ◌<◌, ◌≤◌, Bool, true, false, cond, not, ◌&&◌, ◌||◌, ltb, leb, max, Option, Some, None, [], ◌∷◌, ◌++◌, refl, sym, ap, ◌∙◌, arith}
+use Rattle.std.proofs.Common.{◌≡◌, ℕ, ◌+◌, ◌-◌, ◌*◌, ◌/◌, ◌<◌, ◌≤◌, Bool, true, false, cond, not, ◌&&◌, ◌||◌, ltb, leb, max, Option, Some, None, [], ◌∷◌, ◌++◌, refl, sym, ap, subst, ◌∙◌, arith}
 use Rattle.std.proofs.lemmas.Bool.{and_parts, lt-ltb, le-ltb}
 use Rattle.std.proofs.Math.Nat.{zero-mul, one-mul, div-eq_of_eq-mul_left}
 use Rattle.reno_sender.specs.declared.fields.SenderFields.{SenderFields}
 use Rattle.reno_sender.specs.declared.fields.Timing.{Timing}
-use Rattle.reno_sender.specs.Fields.{IsSound}
+use Rattle.reno_sender.specs.Fields.{IsMultiple, IsSound}
 use Rattle.reno_sender.specs.Timer.{sampled}
 use Rattle.reno_sender.specs.Sending.{Planned, spaced, sending, fill_count}
 use Rattle.reno_sender.specs.Table.{started, acknowledged, timed_out, enters, new_acknowledgement, nothing_sent, further_duplicate, fast_retransmit, repeated_duplicate, early_duplicate, is_partial, is_below, partly, partial_acknowledgement, measured_by, with_estimate, advanced, inflated, one_more}
 use Rattle.reno_sender.proofs.RowLaws.{by_rows}
-use Rattle.figures.specs.Turns.{resends, sent_between, sent_as, planned_by}
+use Rattle.figures.specs.Turns.{Keeps, HasActedFrom, IsOfSegments, kept_of, resends, sent_between, sent_as, planned_by}
+use Rattle.figures.specs.declared.turn.Kept.{Kept}
 use Rattle.figures.specs.declared.turn.Cause.{Cause}
 use Rattle.figures.specs.declared.turn.Cause.TheVariants.{Starts, Acknowledged, TimesOut}
 
@@ -18,7 +19,7 @@ pub record IsSent (f : SenderFields) (p : Planned) : Type 0 where
   pub run : ℕ
   pub mss : p.fields.mss ≡ f.mss
   pub ends : p.fields.nxt ≡ max f.nxt p.fields.una + run * f.mss
-  pub sent : p.sent ≡ cond (resends f p.fields) (p.fields.una ∷ []) [] ++ spaced (max f.nxt p.fields.una) f.mss run
+  pub sent : p.sent ≡ cond (resends (kept_of f) p.fields) (p.fields.una ∷ []) [] ++ spaced (max f.nxt p.fields.una) f.mss run
 
 measured_mss : (o : Option Timing) (f : SenderFields) (ack now : ℕ) → (measured_by o f ack now).mss ≡ f.mss
 measured_mss None f ack now = refl
@@ -42,7 +43,7 @@ stays : (f : SenderFields) (p : Planned) (b : Bool) (k : ℕ) → f.una ≤ f.nx
 stays f p b k within mss una on ends is =
     let first : max f.nxt p.fields.una ≡ f.nxt = omega (arith, within, una) in
     let less : ltb f.una p.fields.una ≡ false = le-ltb f.una p.fields.una (omega (arith, una)) in
-    let again : resends f p.fields ≡ b = ap (λ c. p.fields.recovery && (not f.recovery || c)) less ∙ right p.fields.recovery (not f.recovery) ∙ on in
+    let again : resends (kept_of f) p.fields ≡ b = ap (λ c. p.fields.recovery && (not f.recovery || c)) less ∙ right p.fields.recovery (not f.recovery) ∙ on in
     record {
       run = k;
       mss = mss;
@@ -96,7 +97,7 @@ acknowledged_sent f ack now s =
     part : f.una < ack → is_partial f ack ≡ true → IsSent f (partial_acknowledgement f ack now)
     part less partly_is =
         let mss : (partly f ack now).mss ≡ f.mss = measured_mss f.timing f ack now in
-        let again : resends f (partly f ack now) ≡ true = moved less (partly f ack now).recovery (not f.recovery) (on partly_is) in
+        let again : resends (kept_of f) (partly f ack now) ≡ true = moved less (partly f ack now).recovery (not f.recovery) (on partly_is) in
         either_row (IsSent f) _ _ _
         (record {
           run = 1;
@@ -130,11 +131,12 @@ acknowledged_sent f ack now s =
     repeated off many = none (record f { dups = one_more f.dups }) refl refl refl refl
 
 -- the whole list that a sender sends, by what it keeps before and after
-pub list_is : (f : SenderFields) (p : Planned) → 1 ≤ f.mss → IsSent f p → p.sent ≡ sent_between f p.fields
+pub list_is : (f : SenderFields) (p : Planned) → 1 ≤ f.mss → IsSent f p → p.sent ≡ sent_between (kept_of f) p.fields
 list_is f p least is =
     let ends = is.ends in
     let run : (p.fields.nxt - max f.nxt p.fields.una) / f.mss ≡ is.run = div-eq_of_eq-mul_left {n = f.mss} {m = p.fields.nxt - max f.nxt p.fields.una} {k = is.run} least (omega (arith, ends)) in
-    is.sent ∙ ap (λ k. cond (resends f p.fields) (p.fields.una ∷ []) [] ++ spaced (max f.nxt p.fields.una) f.mss k) (sym run)
+    is.sent ∙ ap (λ k. cond (resends (kept_of f) p.fields) (p.fields.una ∷ []) [] ++ spaced (max f.nxt p.fields.una) f.mss k) (sym run)
+    ∙ ap (λ m. cond (resends (kept_of f) p.fields) (p.fields.una ∷ []) [] ++ spaced (max f.nxt p.fields.una) m ((p.fields.nxt - max f.nxt p.fields.una) / m)) (sym is.mss)
 
 started_run : (f : SenderFields) (now : ℕ) → 1 ≤ f.mss → (started f now).sent ≡ spaced f.nxt f.mss (((started f now).fields.nxt - f.nxt) / f.mss)
 unfolding started
@@ -145,11 +147,6 @@ started_run f now least =
 timed_out_una : (f : SenderFields) (now : ℕ) → (timed_out f now).sent ≡ f.una ∷ []
 unfolding timed_out
 timed_out_una f now = refl
-
-pub planned_is : (f : SenderFields) (cause : Cause) (now : ℕ) → IsSound f → (planned_by f cause now).sent ≡ sent_as f (planned_by f cause now).fields cause
-planned_is f Starts now s = started_run f now s.mss_least
-planned_is f (Acknowledged ack) now s = list_is f (acknowledged f ack now) s.mss_least (acknowledged_sent f ack now s)
-planned_is f TimesOut now s = timed_out_una f now
 
 started_mss : (f : SenderFields) (now : ℕ) → (started f now).fields.mss ≡ f.mss
 unfolding started
@@ -163,3 +160,17 @@ pub mss_is : (f : SenderFields) (cause : Cause) (now : ℕ) → IsSound f → (p
 mss_is f Starts now s = started_mss f now
 mss_is f (Acknowledged ack) now s = (acknowledged_sent f ack now s).mss
 mss_is f TimesOut now s = timed_out_mss f now
+
+pub planned_is : (f : SenderFields) (cause : Cause) (now : ℕ) → IsSound f → (planned_by f cause now).sent ≡ sent_as (kept_of f) (planned_by f cause now).fields cause
+planned_is f Starts now s = started_run f now s.mss_least ∙ ap (λ m. spaced f.nxt m (((started f now).fields.nxt - f.nxt) / m)) (sym (started_mss f now))
+planned_is f (Acknowledged ack) now s = list_is f (acknowledged f ack now) s.mss_least (acknowledged_sent f ack now s)
+planned_is f TimesOut now s = timed_out_una f now
+
+-- what was kept of a sender that has acted
+pub of_segments : (k : Kept) (cause : Cause) (now : ℕ) (g : SenderFields) → HasActedFrom k cause now g → IsOfSegments k g.mss
+of_segments k cause now g is =
+    let mss : g.mss ≡ is.old.mss = ap (λ (f : SenderFields). f.mss) is.planned ∙ mss_is is.old cause now is.kept.sound in
+    record {
+      nxt = subst (λ m. IsMultiple m k.nxt) (sym mss) (subst (IsMultiple is.old.mss) (sym (ap (λ (x : Kept). x.nxt) is.kept.is)) is.kept.sound.nxt_multiple);
+      high = subst (λ m. IsMultiple m k.high) (sym mss) (subst (IsMultiple is.old.mss) (sym (ap (λ (x : Kept). x.high) is.kept.is)) is.kept.sound.high_multiple);
+    }

@@ -11,13 +11,14 @@ use Rattle.figures.specs.declared.sender.SenderFigures.{SenderFigures}
 use Rattle.figures.specs.declared.figures.Figures.{Figures}
 use Rattle.figures.specs.Moments.{Moment, moments, turns_at}
 use Rattle.figures.specs.declared.links.NodeLinks.{NodeLinks}
+use Rattle.figures.specs.Turns.{Keeps}
 use Rattle.figures.specs.Senders.{AreOfTurns}
 use Rattle.figures.specs.Links.{last_from, AreOfNode}
 
 -- what is counted of a node's sender, and the sender's fields now
 pub record IsOfNode (ms : List Moment) (s : State) (node : ℕ) (f : SenderFigures) : Type 0 where
   pub counted : AreOfTurns (turns_at node ms) f
-  pub keeps : IfSome (sender_in (part_at s node).role) (λ found. f.kept ≡ found.1)
+  pub keeps : IfSome (sender_in (part_at s node).role) (λ found. Keeps f.kept found.1)
 
 -- the figures of each node are those of these events, after which the state is s
 pub record AreAfter (ms : List Moment) (s : State) (f : Figures) : Type 0 where

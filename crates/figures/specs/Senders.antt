@@ -4,7 +4,7 @@ use Rattle.std.specs.List.{sum_by, filter_map}
 use Rattle.std.specs.Option.{option_map}
 use Rattle.node_core.specs.declared.role.Role.{Role}
 use Rattle.node_core.specs.Part.{sender_in}
-use Rattle.figures.specs.Turns.{Turn, planned_in, again_in, in_recovery, is_timeout, sample_in, is_complete}
+use Rattle.figures.specs.Turns.{Turn, Keeps, planned_in, again_in, in_recovery, is_timeout, sample_in, is_complete}
 use Rattle.figures.specs.Tallied.{IsTallyOf}
 use Rattle.figures.specs.declared.sender.SenderFigures.{SenderFigures}
 
@@ -42,5 +42,5 @@ pub record AreOfTurns (ts : List Turn) (f : SenderFigures) : Type 0 where
 -- nothing is counted yet of a node's sender, if it has one
 pub record IsBegun (role : Role) (f : SenderFigures) : Type 0 where
   pub figures : AreOfTurns [] f
-  pub keeps : IfSome (sender_in role) (λ found. f.kept ≡ found.1)
+  pub keeps : IfSome (sender_in role) (λ found. Keeps f.kept found.1)
   pub turns : f.turns ≡ 0

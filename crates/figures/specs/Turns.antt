@@ -1,10 +1,11 @@
 -- What a sender does at its events.
-use Rattle.std.specs.Prelude.{◌-◌, ◌/◌, ◌==◌, ◌&&◌, ◌||◌, ℕ, Bool, true, false, not, max, nat_lt, nat_le, if◌then◌else◌, List, [], ◌∷◌, ◌++◌, count_by, Option, Some, None}
+use Rattle.std.specs.Prelude.{◌≡◌, ◌-◌, ◌/◌, ◌==◌, ◌&&◌, ◌||◌, ℕ, Bool, true, false, not, max, nat_lt, nat_le, if◌then◌else◌, List, [], ◌∷◌, ◌++◌, count_by, Option, Some, None}
 use Rattle.reno_sender.specs.declared.fields.SenderFields.{SenderFields}
 use Rattle.reno_sender.specs.declared.fields.Timing.{Timing}
-use Rattle.reno_sender.specs.Fields.{total}
+use Rattle.reno_sender.specs.Fields.{total, IsMultiple, IsSound}
 use Rattle.reno_sender.specs.Sending.{Planned, spaced}
 use Rattle.reno_sender.specs.Table.{started, acknowledged, timed_out}
+use Rattle.figures.specs.declared.turn.Kept.{Kept}
 use Rattle.figures.specs.declared.turn.Cause.{Cause}
 use Rattle.figures.specs.declared.turn.Cause.TheVariants.{Starts, Acknowledged, TimesOut}
 
@@ -23,19 +24,39 @@ planned_by f TimesOut now = timed_out f now
 abbrev pub planned_in : Turn → Planned
 planned_in t = planned_by t.old t.cause t.now
 
+-- what is kept of a sender from before it acts
+abbrev pub kept_of : SenderFields → Kept
+kept_of f = record { una = f.una; nxt = f.nxt; high = f.high; timing = f.timing; recovery = f.recovery }
+
+-- this is kept of these fields
+pub record Keeps (k : Kept) (f : SenderFields) : Type 0 where
+  pub is : k ≡ kept_of f
+  pub sound : IsSound f
+
+-- a sender of which this was kept has acted, and keeps g
+pub record HasActedFrom (k : Kept) (cause : Cause) (now : ℕ) (g : SenderFields) : Type 0 where
+  pub old : SenderFields
+  pub kept : Keeps k old
+  pub planned : g ≡ (planned_by old cause now).fields
+
+-- its places are whole numbers of segments
+pub record IsOfSegments (k : Kept) (mss : ℕ) : Type 0 where
+  pub nxt : IsMultiple mss k.nxt
+  pub high : IsMultiple mss k.high
+
 -- una is sent again: recovery begins, or goes on and una rises
-abbrev pub resends : SenderFields → SenderFields → Bool
-resends f g = g.recovery && (not f.recovery || nat_lt f.una g.una)
+abbrev pub resends : Kept → SenderFields → Bool
+resends k g = g.recovery && (not k.recovery || nat_lt k.una g.una)
 
 -- what is sent where a sender has acted on an acknowledgement: una, where that is sent again, and then a run up to nxt
-abbrev pub sent_between : SenderFields → SenderFields → List ℕ
-sent_between f g = (if resends f g then g.una ∷ [] else []) ++ spaced (max f.nxt g.una) f.mss ((g.nxt - max f.nxt g.una) / f.mss)
+abbrev pub sent_between : Kept → SenderFields → List ℕ
+sent_between k g = (if resends k g then g.una ∷ [] else []) ++ spaced (max k.nxt g.una) g.mss ((g.nxt - max k.nxt g.una) / g.mss)
 
 -- the same for each cause: a start sends a run from nxt on, and a timeout sends una
-abbrev pub sent_as : SenderFields → SenderFields → Cause → List ℕ
-sent_as f g Starts = spaced f.nxt f.mss ((g.nxt - f.nxt) / f.mss)
-sent_as f g (Acknowledged ack) = sent_between f g
-sent_as f g TimesOut = f.una ∷ []
+abbrev pub sent_as : Kept → SenderFields → Cause → List ℕ
+sent_as k g Starts = spaced k.nxt g.mss ((g.nxt - k.nxt) / g.mss)
+sent_as k g (Acknowledged ack) = sent_between k g
+sent_as k g TimesOut = k.una ∷ []
 
 -- the segments that it sends again: those below the greatest byte sent before
 abbrev pub again_in : Turn → ℕ
@@ -60,13 +81,13 @@ abbrev pub trip_of : Option Timing → ℕ → ℕ → Option ℕ
 trip_of None ack now = None
 trip_of (Some t) ack now = if nat_le t.number ack then Some (now - t.sent_at) else None
 
-abbrev pub sample_by : SenderFields → Cause → ℕ → Option ℕ
-sample_by f Starts now = None
-sample_by f (Acknowledged ack) now = trip_of f.timing ack now
-sample_by f TimesOut now = None
+abbrev pub sample_by : Option Timing → Cause → ℕ → Option ℕ
+sample_by timing Starts now = None
+sample_by timing (Acknowledged ack) now = trip_of timing ack now
+sample_by timing TimesOut now = None
 
 abbrev pub sample_in : Turn → Option ℕ
-sample_in t = sample_by t.old t.cause t.now
+sample_in t = sample_by t.old.timing t.cause t.now
 
 -- all bytes of its flow are acknowledged
 abbrev pub is_complete : SenderFields → Bool

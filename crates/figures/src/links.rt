@@ -108,7 +108,11 @@ impl NodeLinks {
         ensures figures { self.new.figures ≡ self.old.figures }
         ensures found { IsFound self.old.figures.items links.now result }
     {
-        let first = self.exits.seen(event);
+        let first = if self.figures.len() == 1 {
+            0
+        } else {
+            self.exits.seen(event)
+        };
         if first < self.figures.len() {
             if is_offered(&self.figures, links, first) {
                 return first;

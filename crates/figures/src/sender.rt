@@ -5,7 +5,7 @@ ghost use Rattle.figures.specs.Turns.{trip_of as trip_is, sample_by as sample_is
 ghost use Rattle.reno_sender.specs.Fields.{IsSound};
 
 use crate::tally::Tally;
-use crate::turn::{Cause, sent_by};
+use crate::turn::{Cause, Kept, kept_of, sent_by};
 use reno_sender::{Sender, SenderFields, Timing};
 use sim_time::Time;
 use std::alloc::{AllocError, Global};
@@ -13,8 +13,8 @@ use std::alloc::{AllocError, Global};
 /// What is counted of a sender.
 #[derive(Drop)]
 pub struct SenderFigures {
-    /// What it keeps.
-    pub kept: Sender,
+    /// What is kept of it from before it acts next.
+    pub kept: Kept,
     /// When all bytes of its flow were acknowledged; none before.
     pub completed: Option<Time>,
     /// The segments that it has sent, new or again.
@@ -48,12 +48,12 @@ fn trip_of(timing: Option<Timing>, ack: u64, now: Time) -> Option<u64>
 }
 
 // The sample that a sender takes where it acts.
-fn sample_by(old: &SenderFields, cause: Cause, now: Time) -> Option<u64>
-    ensures value { result ≡ sample_is old.now cause now }
+fn sample_by(timing: Option<Timing>, cause: Cause, now: Time) -> Option<u64>
+    ensures value { result ≡ sample_is timing cause now }
     ensures most { IfSome result (λ trip. trip ≤ now) }
 {
     match cause {
-        Cause::Acknowledged(ack) => trip_of(old.timing, ack, now),
+        Cause::Acknowledged(ack) => trip_of(timing, ack, now),
         Cause::Starts | Cause::TimesOut => None,
     }
 }
@@ -108,17 +108,18 @@ fn is_complete(new: &SenderFields) -> bool
 
 impl SenderFigures {
     ghost use Rattle.sim_time.specs.Moment.{IsMoment};
-    ghost use Rattle.figures.specs.Turns.{Turn, planned_by};
+    ghost use Rattle.reno_sender.specs.declared.fields.SenderFields.{SenderFields};
+    ghost use Rattle.figures.specs.Turns.{Turn, Keeps, HasActedFrom, planned_by};
     ghost use Rattle.figures.specs.Senders.{AreOfTurns};
 
     /// Nothing is counted yet of a sender that keeps these fields.
     pub fn new(alloc: Global, kept: &Sender) -> Result<SenderFigures, AllocError>
         ensures figures { IfOk result (AreOfTurns []) }
-        ensures kept { IfOk result (λ f. f.kept ≡ kept.now) }
+        ensures kept { IfOk result (λ f. Keeps f.kept kept.now) }
         ensures turns { IfOk result (λ f. f.turns ≡ 0) }
     {
         Ok(SenderFigures {
-            kept: *kept,
+            kept: kept_of(kept.as_fields()),
             completed: None,
             sent: 0,
             again_in_recovery: 0,
@@ -134,9 +135,9 @@ impl SenderFigures {
     pub fn turn(&mut self, new: &Sender, cause: Cause, now: Time)
         requires few { self.old.turns < 2 ^ 60 }
         requires moment { IsMoment now }
-        requires planned { new.now ≡ (planned_by self.old.kept cause now).fields }
-        ensures figures { (ts : List Turn) → AreOfTurns ts self.old → AreOfTurns (ts ++ record { old = self.old.kept; cause = cause; now = now } ∷ []) self.new }
-        ensures kept { self.new.kept ≡ new.now }
+        requires acted { HasActedFrom self.old.kept cause now new.now }
+        ensures figures { (ts : List Turn) (f : SenderFields) → Keeps self.old.kept f → new.now ≡ (planned_by f cause now).fields → AreOfTurns ts self.old → AreOfTurns (ts ++ record { old = f; cause = cause; now = now } ∷ []) self.new }
+        ensures kept { Keeps self.new.kept new.now }
         ensures turns { self.new.turns ≡ self.old.turns + 1 }
     {
         // Nearly all that it acts on is acknowledgements.
@@ -152,9 +153,9 @@ impl SenderFigures {
     fn act_rarely(&mut self, new: &Sender, cause: Cause, now: Time)
         requires few { self.old.turns < 2 ^ 60 }
         requires moment { IsMoment now }
-        requires planned { new.now ≡ (planned_by self.old.kept cause now).fields }
-        ensures figures { (ts : List Turn) → AreOfTurns ts self.old → AreOfTurns (ts ++ record { old = self.old.kept; cause = cause; now = now } ∷ []) self.new }
-        ensures kept { self.new.kept ≡ new.now }
+        requires acted { HasActedFrom self.old.kept cause now new.now }
+        ensures figures { (ts : List Turn) (f : SenderFields) → Keeps self.old.kept f → new.now ≡ (planned_by f cause now).fields → AreOfTurns ts self.old → AreOfTurns (ts ++ record { old = f; cause = cause; now = now } ∷ []) self.new }
+        ensures kept { Keeps self.new.kept new.now }
         ensures turns { self.new.turns ≡ self.old.turns + 1 }
     {
         self.act(new, cause, now);
@@ -165,15 +166,14 @@ impl SenderFigures {
     fn act(&mut self, new: &Sender, cause: Cause, now: Time)
         requires few { self.old.turns < 2 ^ 60 }
         requires moment { IsMoment now }
-        requires planned { new.now ≡ (planned_by self.old.kept cause now).fields }
-        ensures figures { (ts : List Turn) → AreOfTurns ts self.old → AreOfTurns (ts ++ record { old = self.old.kept; cause = cause; now = now } ∷ []) self.new }
-        ensures kept { self.new.kept ≡ new.now }
+        requires acted { HasActedFrom self.old.kept cause now new.now }
+        ensures figures { (ts : List Turn) (f : SenderFields) → Keeps self.old.kept f → new.now ≡ (planned_by f cause now).fields → AreOfTurns ts self.old → AreOfTurns (ts ++ record { old = f; cause = cause; now = now } ∷ []) self.new }
+        ensures kept { Keeps self.new.kept new.now }
         ensures turns { self.new.turns ≡ self.old.turns + 1 }
     {
-        let old = self.kept.as_fields();
         let fields = new.as_fields();
-        let sent = sent_by(old, fields, cause, now);
-        let trip = sample_by(old, cause, now);
+        let sent = sent_by(&self.kept, fields, cause);
+        let trip = sample_by(self.kept.timing, cause, now);
         self.turns += 1;
         self.trips.note_some(trip);
         self.sent += u128::from(sent.segments);
@@ -182,6 +182,6 @@ impl SenderFigures {
         self.again_otherwise += u128::from(otherwise);
         self.timeouts += timeouts_in(cause);
         self.completed = completed_by(self.completed, is_complete(fields), now);
-        self.kept = *new;
+        self.kept = kept_of(fields);
     }
 }

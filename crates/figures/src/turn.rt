@@ -2,9 +2,9 @@
 ghost use Rattle.std.specs.Prelude.{◌≡◌, ◌+◌, ◌-◌, ◌/◌, ◌≤◌, count_by, length, nat_lt};
 ghost use Rattle.reno_sender.specs.Fields.{IsSound, IsMultiple};
 ghost use Rattle.reno_sender.specs.Sending.{spaced};
-ghost use Rattle.figures.specs.Turns.{sent_between, planned_by};
+ghost use Rattle.figures.specs.Turns.{kept_of as kept_is, sent_as, sent_between, IsOfSegments};
 
-use reno_sender::SenderFields;
+use reno_sender::{SenderFields, Timing};
 use sim_time::Time;
 
 /// Why a sender acts.
@@ -16,6 +16,35 @@ pub enum Cause {
     Acknowledged(u64),
     /// Its retransmission timer ends.
     TimesOut,
+}
+
+/// What is kept of a sender from before it acts: what tells afterwards what it has sent and timed.
+#[derive(Clone, Copy, Debug, PartialEq, Eq)]
+pub struct Kept {
+    /// The first byte that is not acknowledged yet.
+    pub una: u64,
+    /// The next byte to send.
+    pub nxt: u64,
+    /// The greatest `nxt` so far.
+    pub high: u64,
+    /// The segment that is timed, if one is.
+    pub timing: Option<Timing>,
+    /// Whether the sender is in fast recovery (RFC 5681 section 3.2).
+    pub recovery: bool,
+}
+
+/// What is kept of a sender's fields.
+#[inline(always)]
+pub fn kept_of(fields: &SenderFields) -> Kept
+    ensures { result ≡ kept_is fields.now }
+{
+    Kept {
+        una: fields.una,
+        nxt: fields.nxt,
+        high: fields.high,
+        timing: fields.timing,
+        recovery: fields.recovery,
+    }
 }
 
 /// How many segments are sent, and how many of them again.
@@ -75,18 +104,17 @@ fn sent_in_run(first: u64, end: u64, high: u64, mss: u64) -> Sent
     }
 }
 
-// What was sent where a sender that kept `old` has acted on an acknowledgement, and keeps `new`.
+// What was sent where a sender of which `old` was kept has acted on an acknowledgement, and keeps `new`.
 #[inline(always)]
-fn sent_on_ack(old: &SenderFields, new: &SenderFields) -> Sent
-    requires old { IsSound old.now }
+fn sent_on_ack(old: &Kept, new: &SenderFields) -> Sent
+    requires old { IsOfSegments old.now new.now.mss }
     requires new { IsSound new.now }
-    requires mss { new.now.mss ≡ old.now.mss }
     ensures segments { result.segments ≡ length (sent_between old.now new.now) }
     ensures again { result.again ≡ count_by (λ x. nat_lt x old.now.high) (sent_between old.now new.now) }
     ensures most { result.segments ≤ new.now.nxt + 1 }
 {
     let first = old.nxt.max(new.una);
-    let run = sent_in_run(first, new.nxt, old.high, old.mss);
+    let run = sent_in_run(first, new.nxt, old.high, new.mss);
     if new.recovery && (!old.recovery || old.una < new.una) {
         Sent {
             segments: run.segments + 1,
@@ -97,18 +125,16 @@ fn sent_on_ack(old: &SenderFields, new: &SenderFields) -> Sent
     }
 }
 
-/// What was sent where a sender that kept `old` has acted, and keeps `new`.
+/// What was sent where a sender of which `old` was kept has acted, and keeps `new`.
 #[inline(always)]
-#[tactic(auto, using(crate::proofs::Sent::planned_is, crate::proofs::Sent::mss_is))]
-pub fn sent_by(old: &SenderFields, new: &SenderFields, cause: Cause, now: Time) -> Sent
-    requires old { IsSound old.now }
+pub fn sent_by(old: &Kept, new: &SenderFields, cause: Cause) -> Sent
+    requires old { IsOfSegments old.now new.now.mss }
     requires new { IsSound new.now }
-    requires planned { new.now ≡ (planned_by old.now cause now).fields }
-    ensures segments { result.segments ≡ length (planned_by old.now cause now).sent }
-    ensures again { result.again ≡ count_by (λ x. nat_lt x old.now.high) (planned_by old.now cause now).sent }
+    ensures segments { result.segments ≡ length (sent_as old.now new.now cause) }
+    ensures again { result.again ≡ count_by (λ x. nat_lt x old.now.high) (sent_as old.now new.now cause) }
 {
     match cause {
-        Cause::Starts => sent_in_run(old.nxt, new.nxt, old.high, old.mss),
+        Cause::Starts => sent_in_run(old.nxt, new.nxt, old.high, new.mss),
         Cause::Acknowledged(_) => sent_on_ack(old, new),
         Cause::TimesOut => Sent {
             segments: 1,

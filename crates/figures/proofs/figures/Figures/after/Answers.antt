@@ -6,11 +6,11 @@ use Rattle.figures.specs.Moments.{cause_of}
 use Rattle.figures.proofs.Steps.{is_step, size_stays}
 use Rattle.figures.proofs.AllLinks.{links_counted, sizes_are}
 use Rattle.figures.proofs.One.{one_link}
-use Rattle.figures.proofs.After.{quiet, quiet_sender, planned_is, one_acted, told, within_parts}
+use Rattle.figures.proofs.After.{quiet, quiet_sender, acted_from, one_acted, told, within_parts}
 use Rattle.figures.proofs.figures.Figures.after.Goals as goal
 
-pub turn-requires-clause-planned : goal.turn-requires-clause-planned
-turn-requires-clause-planned c =
+pub turn-requires-clause-acted : goal.turn-requires-clause-acted
+turn-requires-clause-acted c =
     let R = c.requires.follows in
     let line = shown c.args.line.now in
     let t : State = c.args.net.now.state in
@@ -20,7 +20,7 @@ turn-requires-clause-planned c =
     let old : IsOfNode R.so_far R.before line.key.node c.index_mut-counted.result.now =
     subst (IsOfNode R.so_far R.before line.key.node) (sym (c.index_mut-counted.ensures.value ∙ ap (λ i. get_or c.args.self.now.senders.items i c.index_mut-counted.result.now) c.from-place.ensures))
     (R.figures.senders.each line.key.node c.index_mut-counted.result.now (omega (arith, inside, size_stays R.before line t (is_step R.before line t R.next)))) in
-    planned_is R.so_far R.before line t R.next c.in-Some.cause c.in-Some-sender_at.sender.now cause here c.index_mut-counted.result.now old
+    acted_from R.so_far R.before line t R.next c.in-Some.cause c.in-Some-sender_at.sender.now cause here c.index_mut-counted.result.now old
 
 pub returns-in-Some-sender_at-clause-senders : goal.returns-in-Some-sender_at-clause-senders
 returns-in-Some-sender_at-clause-senders c = λ ms s is next.
