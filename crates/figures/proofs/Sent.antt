@@ -9,7 +9,7 @@ use Rattle.reno_sender.specs.Timer.{sampled}
 use Rattle.reno_sender.specs.Sending.{Planned, spaced, sending, fill_count}
 use Rattle.reno_sender.specs.Table.{started, acknowledged, timed_out, enters, new_acknowledgement, nothing_sent, further_duplicate, fast_retransmit, repeated_duplicate, early_duplicate, is_partial, is_below, partly, partial_acknowledgement, measured_by, with_estimate, advanced, inflated, one_more}
 use Rattle.reno_sender.proofs.RowLaws.{by_rows}
-use Rattle.figures.specs.Turns.{Keeps, HasActedFrom, IsOfSegments, kept_of, resends, sent_between, sent_as, planned_by}
+use Rattle.figures.specs.Turns.{HasActedFrom, IsOfSegments, kept_of, resends, sent_between, sent_as, planned_by}
 use Rattle.figures.specs.declared.turn.Kept.{Kept}
 use Rattle.figures.specs.declared.turn.Cause.{Cause}
 use Rattle.figures.specs.declared.turn.Cause.TheVariants.{Starts, Acknowledged, TimesOut}

@@ -1,5 +1,5 @@
 //! What is counted of a link.
-ghost use Rattle.std.specs.Prelude.{◌≡◌, ◌≢◌, ◌+◌, ◌-◌, ◌*◌, ◌<◌, ◌≤◌, ◌^◌, [], List, false, IfOk, IfSome, if◌then◌else◌};
+ghost use Rattle.std.specs.Prelude.{◌≡◌, ◌≢◌, ◌+◌, ◌-◌, ◌*◌, ◌<◌, ◌≤◌, ◌^◌, [], List, false, max, IfOk, IfSome, if◌then◌else◌};
 
 use crate::tally::Tally;
 use crate::told::{frees, is_at, sent_alone, told_by, wait_in};
@@ -56,6 +56,16 @@ fn busy_for(busy: bool, passed: Time) -> Time
     ensures most { result ≤ passed }
 {
     if busy { passed } else { 0 }
+}
+
+// The longest queue so far, where one more is seen. It is seldom another.
+#[inline(always)]
+fn note_longest(longest: &mut usize, waiting: usize)
+    ensures { longest.new ≡ max longest.old waiting }
+{
+    if waiting > *longest {
+        *longest = waiting;
+    }
 }
 
 // So many packets, times so many nanoseconds.
@@ -137,7 +147,7 @@ impl LinkFigures {
         self.offered = port.offered();
         self.waiting = port.queue().len();
         self.busy = port.next_free().is_some();
-        self.longest = self.longest.max(self.waiting);
+        note_longest(&mut self.longest, self.waiting);
     }
 
     // One more event was run at its node at a moment, which did nothing at it, and it is `port` now.

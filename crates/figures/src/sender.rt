@@ -87,14 +87,13 @@ fn timeouts_in(cause: Cause) -> u64
     }
 }
 
-// When all bytes of the flow were acknowledged, where they are now.
-fn completed_by(before: Option<Time>, complete: bool, now: Time) -> Option<Time>
-    ensures { result ≡ option_or before (if complete then Some now else None) }
+// When all bytes of the flow were acknowledged, once they are. That is seldom told anew.
+#[inline(always)]
+fn note_complete(completed: &mut Option<Time>, complete: bool, now: Time)
+    ensures { completed.new ≡ option_or completed.old (if complete then Some now else None) }
 {
-    match before {
-        Some(time) => Some(time),
-        None if complete => Some(now),
-        None => None,
+    if complete && completed.is_none() {
+        *completed = Some(now);
     }
 }
 
@@ -181,7 +180,7 @@ impl SenderFigures {
         self.again_in_recovery += u128::from(in_recovery);
         self.again_otherwise += u128::from(otherwise);
         self.timeouts += timeouts_in(cause);
-        self.completed = completed_by(self.completed, is_complete(fields), now);
+        note_complete(&mut self.completed, is_complete(fields), now);
         self.kept = kept_of(fields);
     }
 }
