@@ -57,6 +57,24 @@ pub early_below : (v : WindowValue) (entries : List ℕ) (position until : ℕ) 
     → AreBelow (window_end_by (record { entries = entries; ahead = v.ahead; net = net_at v position; failed = false }) until) lines
 early_below v entries position until lines at is early = subst (λ (e : ℕ). AreBelow (min e until) lines) (end_is v at is) early
 
+-- the same of an engine whose net is in other groups
+module _ (v u : WindowValue) (entries : List ℕ) (ahead : Option ℕ) (position until : ℕ) (at : IsAtEdge u) (is : IsWindow u) (same : reached_in u ≡ reached_in v) (between : u.ahead ≡ ahead) where
+  abbrev pub value : State → Option ℕ → EngineValue
+  value s a = record { entries = entries; ahead = a; net = record { state = s; position = position }; failed = false }
+
+  state : edge_of u ≡ edge_of v
+  state = ap (λ (r : Reached). r.state) same
+
+  pub left_apart : (w : WindowValue) → NoneBelow (min u.until until) (edge_of w) → NoneBelow (window_end_by (value (edge_of v) ahead) until) (edge_of w)
+  left_apart w none =
+      subst (λ (s : State). NoneBelow (window_end_by (value s ahead) until) (edge_of w)) state
+      (subst (λ (a : Option ℕ). NoneBelow (window_end_by (value (edge_of u) a) until) (edge_of w)) between (left_below u w entries position until at is none))
+
+  pub early_apart : (lines : List TraceLine) → AreBelow (min u.until until) lines → AreBelow (window_end_by (value (edge_of v) ahead) until) lines
+  early_apart lines early =
+      subst (λ (s : State). AreBelow (window_end_by (value s ahead) until) lines) state
+      (subst (λ (a : Option ℕ). AreBelow (window_end_by (value (edge_of u) a) until) lines) between (early_below u entries position until lines at is early))
+
 -- a window that was committed
 pub goes_on : (v w : WindowValue) (old new : ℕ) (batch : BatchValue) → old ≡ v.position → new ≡ w.position → GoesOn (reached_in v) batch (reached_in w) → GoesOn (net_at v old) batch (net_at w new)
 goes_on v w old new batch e f gone =

@@ -13,3 +13,4 @@ pub mod Between
 pub mod TooMany
 pub mod Unwritten
 pub mod Filled
+pub mod Grouped

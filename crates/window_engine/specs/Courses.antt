@@ -1,18 +1,23 @@
 -- The net on its way: what it is between windows, and what a window that was written leaves.
-use Rattle.std.specs.Prelude.{◌≡◌, ◌≤◌, ◌<◌, ◌+◌, ◌*◌, ◌^◌, ℕ, List, length, Option, Some, Result, Err}
+use Rattle.std.specs.Prelude.{◌≡◌, ◌≤◌, ◌<◌, ◌+◌, ◌*◌, ◌^◌, ℕ, false, List, length, Option, Some, Result, Err}
 use Rattle.std.specs.Io.KnownBytes.{Appends}
+use Rattle.scenario_image.specs.declared.parts.ScenarioParts.{ScenarioParts}
+use Rattle.scenario_image.specs.Scenario.{IsScenario}
 use Rattle.node_core.specs.TraceLine.{TraceLine}
 use Rattle.table_run.specs.State.{State, run}
+use Rattle.table_run.specs.Laws.{ComesTo}
 use Rattle.net_machine.specs.Run.{Reached}
-use Rattle.window_core.specs.Partition.{groups_of}
+use Rattle.window_core.specs.Lookahead.{lookahead}
+use Rattle.window_core.specs.Partition.{group_in, groups_of}
 use Rattle.window_core.specs.Sheaves.{merged}
+use Rattle.window_core.specs.Window.{WindowValue}
 use Rattle.window_core.specs.Windows.{AreBelow}
 use Rattle.window_engine.specs.declared.course.Course.{Course}
 use Rattle.window_engine.specs.declared.course.WriteFault.{WriteFault}
 use Rattle.window_engine.specs.declared.course.WriteFault.TheVariants.{Workers, Sink}
 use Rattle.window_engine.specs.declared.fault.EngineFault.{EngineFault}
 use Rattle.window_engine.specs.declared.fault.EngineFault.TheVariants.{Sink as SinkFailed}
-use Rattle.window_engine.specs.Edges.{IsAtEdge, reached_in}
+use Rattle.window_engine.specs.Edges.{IsAtEdge, edge_of, reached_in}
 use Rattle.window_engine.specs.Engines.{AreWhole, GoesOn}
 use Rattle.window_engine.specs.Failures.{counted}
 use Rattle.window_engine.specs.Outcomes.{IsOfWorkers}
@@ -26,6 +31,24 @@ pub record AtRest (c : Course) : Type 0 where
   pub few : c.position ≤ 1000000000000000
   pub end : c.end ≡ c.window.end
   pub groups : groups_of c.window.entries ≤ 64
+
+-- the window's net is one that a scenario's run comes to, whose nodes these groups have; the least delay of a link between two of the groups is this
+pub record RunsIn (groups : List ℕ) (ahead : Option ℕ) (w : WindowValue) : Type 0 where
+  pub scenario : ScenarioParts
+  pub before : List TraceLine
+  pub is_scenario : IsScenario scenario
+  pub comes : ComesTo scenario w.position before (edge_of w)
+  pub nodes : length groups ≡ length scenario.nodes
+  pub ahead_is : ahead ≡ lookahead (group_in groups) scenario.links
+
+-- the window's nodes are in these groups
+abbrev pub IsApart : List ℕ → Option ℕ → WindowValue → Type 0
+IsApart groups ahead w = (w.entries ≡ groups) × (w.ahead ≡ ahead)
+
+-- the nodes are in the groups that were asked for, unless they are all in one
+pub record HasGroups (c : Course) : Type 0 where
+  pub run : RunsIn c.groups c.ahead c.window
+  pub apart : c.pace.joined ≡ false → IsApart c.groups c.ahead c.window
 
 -- the window is at its edge, and the sheaf has the lines that lead there from a net: the events up to that net are committed, and no others
 pub record IsBehind (net : Reached) (c : Course) : Type 0 where

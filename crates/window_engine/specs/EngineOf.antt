@@ -1,13 +1,13 @@
 -- The engine that an engine's fields are.
 use Rattle.std.specs.Prelude.{◌≡◌, false}
 use Rattle.window_engine.specs.declared.engine.Engine.TheInside.{Inside}
-use Rattle.window_engine.specs.Courses.{AtRest}
+use Rattle.window_engine.specs.Courses.{AtRest, HasGroups}
 use Rattle.window_engine.specs.Edges.{edge_of}
 use Rattle.window_engine.specs.Engines.{EngineValue}
 
 abbrev pub engine_of : Inside → EngineValue
-engine_of e = record { entries = e.course.window.entries; ahead = e.course.window.ahead; net = record { state = edge_of e.course.window; position = e.course.position }; failed = e.failed }
+engine_of e = record { entries = e.course.groups; ahead = e.course.ahead; net = record { state = edge_of e.course.window; position = e.course.position }; failed = e.failed }
 
--- where no call had a fault, the net is between windows
+-- where no call had a fault, the net is between windows; the groups are those that were asked for, also while all nodes are in one
 abbrev pub IsEngineInside : Inside → Type 0
-IsEngineInside e = e.failed ≡ false → AtRest e.course
+IsEngineInside e = e.failed ≡ false → AtRest e.course × HasGroups e.course

@@ -4,7 +4,7 @@ ghost use Rattle.std.specs.Prelude.{◌≡◌, ◌<◌, ◌≤◌, ℕ, IfOk, If
 ghost use Rattle.window_core.specs.Full.{HasTooMany};
 ghost use Rattle.window_core.specs.Sheaves.{merged};
 ghost use Rattle.window_core.specs.Windows.{AreBelow};
-ghost use Rattle.window_engine.specs.Courses.{AtRest, IsBehind, Wrote, Broke, fails_after};
+ghost use Rattle.window_engine.specs.Courses.{AtRest, HasGroups, IsBehind, Wrote, Broke, fails_after};
 ghost use Rattle.window_engine.specs.Edges.{StaysNet, edge_of, reached_in};
 ghost use Rattle.window_engine.specs.Engines.{Commits, IsStop, sink_failures};
 ghost use Rattle.window_engine.specs.Outcomes.{IsOfRun};
@@ -46,7 +46,7 @@ impl Course {
         ensures full { IfErr result (λ fault. fault ≡ WriteFault.Workers EngineFault.CountFull → HasTooMany (reached_in before.now.value)) }
         ensures failures { S.failures sink.new ≡ fails_after result (S.failures sink.old) }
         ensures stays { StaysNet self.old.window self.new.window }
-        ensures end { self.new.end ≡ self.old.end }
+        ensures kept { self.new ≡ record self.old { window = self.new.window; position = self.new.position; sheaf = self.new.sheaf } }
     {
         let _began = self.window.position();
         text.clear(&self.sheaf);
@@ -87,8 +87,7 @@ impl Course {
         ensures broke { IfErr result (λ fault. (last : ℕ) → AreBelow last (merged self.old.sheaf).lines → Broke 1 last (reached_in before.now.value) self.new.position (S.contents sink.old) (S.contents sink.new) fault) }
         ensures not_full { IfErr result (λ fault. fault ≡ WriteFault.Workers EngineFault.CountFull → ⊥) }
         ensures failures { S.failures sink.new ≡ fails_after result (S.failures sink.old) }
-        ensures window { self.new.window ≡ self.old.window }
-        ensures end { self.new.end ≡ self.old.end }
+        ensures kept { self.new ≡ record self.old { position = self.new.position } }
     {
         let _reached = self.window.position();
         let made = text.make_all(&self.sheaf);
@@ -96,7 +95,8 @@ impl Course {
     }
 
     /// Runs windows by workers, and writes the lines of each while the next one runs, up to the run's
-    /// end or until no event is left below a moment. Nothing is left to write where they end.
+    /// end or until no event is left below a moment. Nothing is left to write where they end. Where
+    /// windows hold few events, all nodes are in one group for a while.
     pub(crate) fn write_behind<G: Gate, S: Sink, R: Threads + Wait + Sync>(
         &mut self,
         rt: &R,
@@ -106,15 +106,17 @@ impl Course {
         sink: &mut S,
     ) -> Result<Stop, EngineFault>
         requires rest { AtRest self.old }
+        requires groups { HasGroups self.old }
         requires workers { (0 < workers) × (workers ≤ 64) }
         ensures rest { OnOk result (AtRest self.new) }
+        ensures grouped { OnOk result (HasGroups self.new) }
         ensures commits { Commits until (reached_in self.old.window) result (record { state = edge_of self.new.window; position = self.new.position }) (S.contents sink.old) (S.contents sink.new) }
         ensures stop { IfOk result (IsStop until (edge_of self.new.window)) }
         ensures fault { IfErr result (IsOfRun workers) }
         ensures full { IfErr result (λ fault. fault ≡ EngineFault.CountFull → HasTooMany (reached_in self.old.window)) }
         ensures failures { S.failures sink.new ≡ sink_failures result (S.failures sink.old) }
-        ensures stays { StaysNet self.old.window self.new.window }
-        ensures end { self.new.end ≡ self.old.end }
+        ensures groups { self.new.groups ≡ self.old.groups }
+        ensures ahead { self.new.ahead ≡ self.old.ahead }
     {
         let Ok(mut text) = Text::new(self.alloc) else {
             return Err(EngineFault::NoMemory);
@@ -135,6 +137,7 @@ impl Course {
             let span = self.span(next, bound);
             let shared = self.sheaf.beside_most();
             let hands = hands(&self.window, workers, gate.worth(), shared, bound);
+            let whole = self.window.end() <= bound;
             let now = Snapshot::of(&self.window);
             match self.write_and_run(rt, hands, gate, bound, &before, &mut text, sink) {
                 Ok(bytes) => written += bytes,
@@ -144,6 +147,7 @@ impl Course {
             let events = self.sheaf.len();
             let aim = aim_after(events, self.sheaf.beside_most());
             slice = slice_after(span, self.busy(next, span), events, aim);
+            self.choose(gate.worth(), whole);
         }
         unreachable!()
     }

@@ -8,19 +8,20 @@ ghost use Rattle.window_core.specs.Sheaves.{merged};
 ghost use Rattle.window_core.specs.Windows.{AreBelow};
 ghost use Rattle.window_engine.specs.Edges.{IsAtEdge, StaysNet, edge_of, reached_in};
 ghost use Rattle.window_engine.specs.Engines.{Commits, GoesOn, IsNext, IsStop, next_time, sink_failures};
-ghost use Rattle.window_engine.specs.Courses.{AtRest, CanTell, Wrote, Broke, fails_after, told_as};
+ghost use Rattle.window_engine.specs.Courses.{AtRest, HasGroups, CanTell, Wrote, Broke, fails_after, told_as};
 ghost use Rattle.window_engine.specs.Outcomes.{IsOfRun};
 ghost use Rattle.window_engine.specs.Parts.{IsWhole};
 
 use crate::advance::advance_apart;
 use crate::fault::{EngineFault, Stop};
 use crate::gate::Gate;
+use crate::pace::Pace;
 use crate::sink::Sink;
-use crate::slice::{FIRST_SLICE, NARROW, slice_after};
+use crate::slice::{FIRST_SLICE, aim_alone, slice_after};
 use crate::text::Text;
 use sim_time::Time;
 use std::alloc::{AllocError, Global};
-use window_core::{Sheaf, Window};
+use window_core::{Partition, Sheaf, Window};
 
 /// Of fewer events it is not asked how they lie in their window.
 const MANY: usize = 4_096;
@@ -31,6 +32,12 @@ const MOST: usize = 16;
 /// The net on its way, with what is used again from window to window.
 #[derive(Drop)]
 pub(crate) struct Course {
+    /// The groups that were asked for.
+    pub groups: Partition,
+    /// The least delay of a link between two of them, in nanoseconds.
+    pub ahead: Option<Time>,
+    /// Whether the net's nodes are in these groups or all in one, and for how long.
+    pub pace: Pace,
     /// The net, by groups.
     pub window: Window,
     /// Events before this moment are run, in nanoseconds.
@@ -156,7 +163,7 @@ impl Course {
         ensures full { IfErr result (λ fault. fault ≡ WriteFault.Workers EngineFault.CountFull → HasTooMany (reached_in self.old.window)) }
         ensures failures { S.failures sink.new ≡ fails_after result (S.failures sink.old) }
         ensures stays { StaysNet self.old.window self.new.window }
-        ensures end { self.new.end ≡ self.old.end }
+        ensures kept { self.new ≡ record self.old { window = self.new.window; position = self.new.position; sheaf = self.new.sheaf } }
     {
         self.window.reclaim(&mut self.sheaf);
         match advance_apart(gate, until, &mut self.window, &mut self.sheaf) {
@@ -170,7 +177,7 @@ impl Course {
 
     /// Runs windows on the calling thread, and writes the lines of each before the next one, up to
     /// the run's end or until no event is left below a moment. It starts no thread and waits for
-    /// none.
+    /// none. Where windows hold few events, all nodes are in one group for a while.
     pub(crate) fn write_in_turn<G: Gate, S: Sink>(
         &mut self,
         gate: &G,
@@ -178,14 +185,16 @@ impl Course {
         sink: &mut S,
     ) -> Result<Stop, EngineFault>
         requires rest { AtRest self.old }
+        requires groups { HasGroups self.old }
         ensures rest { OnOk result (AtRest self.new) }
+        ensures grouped { OnOk result (HasGroups self.new) }
         ensures commits { Commits until (reached_in self.old.window) result (record { state = edge_of self.new.window; position = self.new.position }) (S.contents sink.old) (S.contents sink.new) }
         ensures stop { IfOk result (IsStop until (edge_of self.new.window)) }
         ensures fault { IfErr result (IsOfRun 1) }
         ensures full { IfErr result (λ fault. fault ≡ EngineFault.CountFull → HasTooMany (reached_in self.old.window)) }
         ensures failures { S.failures sink.new ≡ sink_failures result (S.failures sink.old) }
-        ensures stays { StaysNet self.old.window self.new.window }
-        ensures end { self.new.end ≡ self.old.end }
+        ensures groups { self.new.groups ≡ self.old.groups }
+        ensures ahead { self.new.ahead ≡ self.old.ahead }
     {
         let Ok(mut text) = Text::new(self.alloc) else {
             return Err(EngineFault::NoMemory);
@@ -199,11 +208,14 @@ impl Course {
             };
             let bound = until.min(next.saturating_add(slice));
             let span = self.span(next, bound);
+            let whole = self.window.end() <= bound;
             match self.write_window(gate, bound, &mut text, sink) {
                 Ok(bytes) => written += bytes,
                 Err(fault) => return Err(told(fault, written)),
             }
-            slice = slice_after(span, self.busy(next, span), self.sheaf.len(), NARROW);
+            let aim = aim_alone(self.pace.joined);
+            slice = slice_after(span, self.busy(next, span), self.sheaf.len(), aim);
+            self.choose(gate.worth(), whole);
         }
     }
 }

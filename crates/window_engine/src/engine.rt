@@ -18,6 +18,7 @@ use crate::course::Course;
 use crate::fault::{EngineFault, Stop};
 use crate::gate::Gate;
 use crate::hands::hands;
+use crate::pace::Pace;
 use crate::sink::Sink;
 use net_machine::Net;
 use scenario_image::Scenario;
@@ -77,12 +78,16 @@ impl Engine {
         ensures ahead { IfOk result (λ e. (p : ScenarioParts) (before : List TraceLine) → IsScenario p → ComesTo p net.position before net.state → e.ahead ≡ lookahead (group_in partition) p.links) }
         ensures failed { IfOk result (λ e. e.failed ≡ false) }
     {
-        let _groups = partition.groups();
+        let _many = partition.groups();
         let position = net.position();
         let end = net.end();
+        let groups = partition.copy()?;
         match Window::new(alloc, net, partition) {
             Ok(window) => Ok(Engine {
                 course: Course {
+                    groups,
+                    ahead: window.lookahead(),
+                    pace: Pace::new(),
                     window,
                     end,
                     position,
@@ -160,6 +165,14 @@ impl Engine {
             return Err(EngineFault::Failed);
         }
         let _reached = self.course.window.position();
+        match self.course.part() {
+            Ok(()) => {}
+            Err(_) => {
+                self.failed = true;
+                return Err(EngineFault::NoMemory);
+            }
+        }
+        let _parted = self.course.window.position();
         let mut batch = Batch::new(self.course.alloc, 0);
         let window = &self.course.window;
         let hands = hands(window, workers, gate.worth(), self.shared, until);
@@ -203,6 +216,14 @@ impl Engine {
             return Err(EngineFault::Failed);
         }
         let _reached = self.course.window.position();
+        match self.course.part() {
+            Ok(()) => {}
+            Err(_) => {
+                self.failed = true;
+                return Err(EngineFault::NoMemory);
+            }
+        }
+        let _parted = self.course.window.position();
         let mut lines = Batch::new(self.course.alloc, 0);
         match advance_alone(gate, until, &mut self.course.window, &mut lines) {
             Ok(()) => {}

@@ -9,7 +9,8 @@ pub trait Gate: Sync {
     fn leave(&self, piece: u64);
 
     /// How many events a thread has to have to be worth its start: a window that has fewer beside
-    /// those of its busiest group is run by the calling thread. 0: each window is run by all workers.
+    /// those of its busiest group is run by the calling thread. 0: each window is run by all workers,
+    /// and the nodes always stay in their groups.
     fn worth(&self) -> usize;
 }
 

@@ -8,7 +8,10 @@ use window_core::Batch;
 pub const FIRST_SLICE: Time = 1_000_000;
 
 /// How many events a window is to have that one thread runs: their lines stay in the near cache.
-pub(crate) const NARROW: u64 = 1_024;
+const NARROW: u64 = 1_024;
+
+/// How many events a window is to have while all nodes are in one group: a turn costs little then.
+const NARROWEST: u64 = 256;
 
 /// How many events a window is to have that threads share.
 const WIDE: u64 = 20_480;
@@ -27,6 +30,11 @@ pub(crate) fn aim_after(events: usize, shared: usize) -> u64 {
     } else {
         WIDE
     }
+}
+
+/// The same where the calling thread runs all windows, whether all nodes are in one group or not.
+pub(crate) fn aim_alone(joined: bool) -> u64 {
+    if joined { NARROWEST } else { NARROW }
 }
 
 /// The slice after a window of so many nanoseconds, run by so many workers: at the rate of its events

@@ -1,10 +1,13 @@
-use Rattle.std.proofs.Common.{◌∙◌, ◌+◌, ℕ, arith, refl, sym}
+use Rattle.std.proofs.Common.{◌∙◌, ◌+◌, ◌≡◌, ℕ, ap, arith, refl, subst, sym}
 use Rattle.window_core.specs.Sheaves.{merged}
 use Rattle.window_engine.specs.declared.course.WriteFault.TheVariants.{Workers}
 use Rattle.window_engine.specs.declared.fault.EngineFault.TheVariants.{NoMemory}
 use Rattle.window_engine.specs.declared.fault.Stop.{Stop}
 use Rattle.window_engine.specs.Edges.{edge_of, reached_in}
-use Rattle.window_engine.proofs.Edge.{stays_both}
+use Rattle.window_core.specs.Sheaves.{SheafValue}
+use Rattle.window_core.specs.Windows.{AreBelow}
+use Rattle.window_engine.specs.declared.course.Course.{Course}
+use Rattle.window_engine.proofs.Grouped.{behind_same, groups_on, groups_kept}
 use Rattle.window_engine.proofs.Writing.{broke_later, can_tell, committed, ended, fails_told, still_fits, told_of, wrote_more, wrote_no_more, wrote_none}
 use Rattle.window_engine.proofs.Whole.{below_later}
 use Rattle.window_engine.proofs.TooMany.{told_full}
@@ -17,9 +20,10 @@ loop-init g c =
       behind_by_none c.args.self.now c.new-2.result c.requires.rest c.new-2.ensures,
       wrote_none c.args.until (reached_in c.args.self.now.window) (g.S.Sink.contents c.args.sink.now),
       refl,
-      record { entries = refl; ahead = refl; end = refl },
+      refl,
       refl,
       rw (no_line c.new-2.result (c.args.self.now.position + 1) c.new-2.ensures) tt,
+      groups_kept c.args.self.now c.new-2.result c.requires.groups,
     )
 
 pub returns-in-Ok-write_rest-clause-commits : goal.returns-in-Ok-write_rest-clause-commits
@@ -80,20 +84,33 @@ returns-in-Err-write_and_run-clause-full g c =
     rw c.told-in-Err-write_and_run.ensures
     (told_full c.args.until (reached_in c.args.self.now.window) mid c.loop.written c.loop.written (contents c.args.sink.now) (contents c.loop.sink) c.in-Err-write_and_run.fault was.1 (few_before mid c.loop.self was.0) c.in-Err-write_and_run.ensures.full)
 
+-- the nodes may be in other groups after a window
+pub choose-requires-clause-groups : goal.choose-requires-clause-groups
+choose-requires-clause-groups g c =
+    let was = c.loop.invariant in
+    let wrote = c.in-Ok-write_and_run.ensures in
+    groups_on c.loop.self c.write_and_run.new.self (merged c.write_and_run.new.self.sheaf).lines was.6 wrote.kept wrote.stays wrote.behind.gone.is_run wrote.behind.gone.position
+
 pub loop-preserved : goal.loop-preserved
 loop-preserved g c =
     let contents = g.S.Sink.contents in
     let was = c.loop.invariant in
+    let now = c.write_and_run.new.self in
+    let then = c.choose.new.self in
     let wrote = c.in-Ok-write_and_run.ensures in
+    let chose = c.choose.ensures in
     let more = wrote_more c.args.until (reached_in c.args.self.now.window) (reached_in c.loop.before.value) (reached_in c.loop.self.window) c.loop.written _ (contents c.args.sink.now) (contents c.loop.sink) (contents c.write_and_run.new.sink) was.1 (wrote.wrote c.args.until was.5) in
     let upto = c.min-bound.ensures in
+    let lines : then.sheaf ≡ now.sheaf = ap (λ (x : Course). x.sheaf) chose.rest in
+    let early : AreBelow c.args.until (merged now.sheaf).lines = below_later c.min-bound.result c.args.until (merged now.sheaf).lines (omega (arith, upto)) wrote.early in
     rw c.of-now.ensures (
-      wrote.behind,
+      behind_same now then chose.same chose.rest (reached_in c.loop.self.window) wrote.behind,
       more,
       wrote.failures ∙ was.2,
-      stays_both _ _ _ was.3 wrote.stays,
-      wrote.end ∙ was.4,
-      below_later c.min-bound.result c.args.until (merged c.write_and_run.new.self.sheaf).lines (omega (arith, upto)) wrote.early,
+      ap (λ (x : Course). x.groups) chose.rest ∙ ap (λ (x : Course). x.groups) wrote.kept ∙ was.3,
+      ap (λ (x : Course). x.ahead) chose.rest ∙ ap (λ (x : Course). x.ahead) wrote.kept ∙ was.4,
+      subst (λ (s : SheafValue). AreBelow c.args.until (merged s).lines) (sym lines) early,
+      chose.groups,
     )
 
 pub told-requires : goal.told-requires

@@ -7,6 +7,6 @@ pub returns : goal.returns
 returns c =
     let e = c.self.inside in
     let none : e.failed ≡ false = ap (λ (v : EngineValue). v.failed) c.self.view_is ∙ c.requires in
-    let rest = c.self.invariant none in
+    let rest = (c.self.invariant none).0 in
     subst (λ (v : EngineValue). IfOk c.edge.result (λ net. net ≡ v.net)) c.self.view_is
     (edge_given c.edge.result e.course.window e.course.position rest.committed c.position-reached.ensures.is_window rest.edge c.edge.ensures)

@@ -12,6 +12,6 @@ returns-then-self-clause-commits g c = commits_none c.args.until c.args.self.now
 pub returns-clause-full : goal.returns-clause-full
 returns-clause-full g c =
     let e = c.self.inside in
-    let rest = c.self.invariant c.if-self.false in
+    let rest = (c.self.invariant c.if-self.false).0 in
     subst (λ (v : EngineValue). IfErr c.write_behind-outcome.result (λ fault. fault ≡ CountFull → HasTooMany v.net)) c.self.view_is
     (subst (λ (r : Reached). IfErr c.write_behind-outcome.result (λ fault. fault ≡ CountFull → HasTooMany r)) (sym (net_is e.course.window e.course.position rest.committed)) c.write_behind-outcome.ensures.full)

@@ -1,0 +1,134 @@
+//! When all nodes of the net go on in one group for a while: where windows hold few events, since each
+//! of them costs something for every group.
+ghost use Rattle.std.specs.Prelude.{◌≡◌, false};
+
+/// Over how many windows it is asked how many events they hold.
+const LOOK: u64 = 32;
+
+/// Windows of fewer events than so many for each group cost more than the same events in one group.
+const FEW: u64 = 4;
+
+/// For at least so many events all nodes stay in one group,
+const SHORTEST: u64 = 16_384;
+
+/// for so many for each pair of a node and a group, so that it costs little to part them again,
+const EACH: u64 = 32;
+
+/// and for at most so many.
+const LONGEST: u64 = 1_048_576;
+
+/// What windows held.
+#[derive(Clone, Copy, Debug, PartialEq, Eq)]
+pub enum Load {
+    /// There were too few windows to say.
+    Unknown,
+    /// Few events, so that one group costs less.
+    Few,
+    /// Many events.
+    Many,
+}
+
+/// What windows of so many groups held, of which so many ended by the lookahead, with so many events
+/// in all. A window that was to end sooner says nothing of how many events the next ones hold.
+pub fn load_of(windows: u64, events: u64, groups: usize) -> Load {
+    let many = LOOK.saturating_mul(FEW).saturating_mul(groups as u64);
+    if events >= many {
+        Load::Many
+    } else if windows >= LOOK {
+        Load::Few
+    } else {
+        Load::Unknown
+    }
+}
+
+/// For how many events so many nodes of so many groups are to be in one, where it was for so many the
+/// last time and windows held few again; 0 where it is the first time.
+pub fn next_stretch(last: u64, nodes: usize, groups: usize) -> u64 {
+    let pairs = (nodes as u64).saturating_mul(groups as u64);
+    let least = SHORTEST.max(pairs.saturating_mul(EACH));
+    last.saturating_mul(2).max(least).min(LONGEST)
+}
+
+/// Whether all nodes are in one group, and what windows held since that was chosen.
+#[derive(Clone, Copy, Debug, Drop)]
+pub(crate) struct Pace {
+    /// Whether all nodes are in one group.
+    pub joined: bool,
+    /// How many windows ended by the lookahead.
+    windows: u64,
+    /// How many events all windows held.
+    events: u64,
+    /// For how many events all nodes are in one group, or were the last time; 0 where windows held many
+    /// since then.
+    stretch: u64,
+}
+
+impl Pace {
+    /// The nodes are in their groups, and no window was run.
+    pub(crate) fn new() -> Pace
+        ensures { result.joined ≡ false }
+    {
+        Pace {
+            joined: false,
+            windows: 0,
+            events: 0,
+            stretch: 0,
+        }
+    }
+
+    /// Counts a window of so many events, which ended by the lookahead or sooner.
+    pub(crate) fn count(&mut self, events: usize, whole: bool)
+        ensures { self.new.joined ≡ self.old.joined }
+    {
+        self.windows = self.windows.saturating_add(u64::from(whole));
+        self.events = self.events.saturating_add(events as u64);
+    }
+
+    /// Forgets the windows that were counted.
+    fn clear(&mut self)
+        ensures { self.new.joined ≡ self.old.joined }
+    {
+        self.windows = 0;
+        self.events = 0;
+    }
+
+    /// Whether so many nodes of so many groups, which are in their groups, are to be in one.
+    fn is_to_join(&mut self, nodes: usize, groups: usize) -> bool
+        ensures { self.new.joined ≡ self.old.joined }
+    {
+        let load = load_of(self.windows, self.events, groups);
+        if load == Load::Unknown {
+            return false;
+        }
+        self.clear();
+        if load == Load::Many {
+            self.stretch = 0;
+            return false;
+        }
+        self.stretch = next_stretch(self.stretch, nodes, groups);
+        true
+    }
+
+    /// Whether nodes that are in one group are to be in their own.
+    fn is_to_part(&mut self) -> bool
+        ensures { self.new.joined ≡ self.old.joined }
+    {
+        if self.events < self.stretch {
+            return false;
+        }
+        self.clear();
+        true
+    }
+
+    /// Whether so many nodes are to go from their groups, so many, into one, or from one into their
+    /// groups. Where they are, windows are counted anew.
+    pub(crate) fn is_to_change(&mut self, nodes: usize, groups: usize) -> bool
+        ensures { self.new.joined ≡ self.old.joined }
+    {
+        if self.joined {
+            self.is_to_part()
+        } else {
+            self.is_to_join(nodes, groups)
+        }
+    }
+}
