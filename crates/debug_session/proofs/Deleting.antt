@@ -6,15 +6,13 @@ use Rattle.table_run.specs.State.{State as NetState}
 use Rattle.debugger.specs.declared.breaks.Break.{Break}
 use Rattle.debugger.specs.Breaks.{IsTakenOut}
 use Rattle.debugger.specs.Debugging.{Debugging}
-use Rattle.debug_session.specs.declared.command.Command.{Command}
-use Rattle.debug_session.specs.declared.command.Command.TheVariants.{Step, Back, Until, Run, State, SetBreak, Clear}
+use Rattle.debug_session.specs.declared.command.Command.TheVariants.{State, SetBreak, Clear}
 use Rattle.debug_session.specs.declared.command.Typed.TheVariants.{Plain, Breaks, Delete, Help, HelpOn}
 use Rattle.debug_session.specs.declared.name.Name.{Name}
 use Rattle.debug_session.specs.declared.refusal.Refusal.TheVariants.{B4, B5, M}
 use Rattle.debug_session.specs.Answers.{Standing, standing, Obeys, refusal_line}
 use Rattle.debug_session.specs.Help.{help_text, help_on}
 use Rattle.debug_session.specs.Numbered.{IsNumber, HasNumber, set_line, deleted_line, listing}
-use Rattle.debug_session.specs.Told.{break_of}
 use Rattle.debug_session.specs.TypedAnswers.{ObeysTyped}
 use Rattle.debug_session.proofs.Setting.{stands}
 
@@ -55,30 +53,11 @@ none_to_take number d out outside told = inl (inr (hasn't, record { same = refl;
     hasn't has = ⊎_elim (λ (low : number < 1). omega (arith, low, has.above)) (λ (high : length d.breaks < number). omega (arith, high, has.upto)) outside
 
 -- the commands that are answered as in a session whose lines are all there
-pub plain_obeyed : (start : NetState) (asked : Command) (old new : Standing) (out : List ℕ) → break_of asked ≡ None → Obeys start asked old new out → ObeysTyped start (Plain asked) old new out
-plain_obeyed start (Step count) old new out none obeys = obeys
-plain_obeyed start (Back count) old new out none obeys = obeys
-plain_obeyed start (Until time) old new out none obeys = obeys
-plain_obeyed start Run old new out none obeys = obeys
-plain_obeyed start State old new out none obeys = obeys
-plain_obeyed start (SetBreak b) old new out none obeys = absurd (some_none b none)
-  where
-    some_none : (c : Break) → Some c ≡ None → ⊥
-    some_none c e = cc
-plain_obeyed start Clear old new out none obeys = obeys
+pub state_obeyed : (start : NetState) (old new : Standing) (out : List ℕ) → Obeys start State old new out → ObeysTyped start (Plain State) old new out
+state_obeyed start old new out obeys = obeys
 
-pub is_set_break : (asked : Command) (b : Break) → break_of asked ≡ Some b → SetBreak b ≡ asked
-is_set_break (SetBreak c) b is = ap (λ (o : Option Break). from o) (sym is)
-  where
-    from : Option Break → Command
-    from (Some d) = SetBreak d
-    from None = SetBreak c
-is_set_break (Step count) b is = absurd cc
-is_set_break (Back count) b is = absurd cc
-is_set_break (Until time) b is = absurd cc
-is_set_break Run b is = absurd cc
-is_set_break State b is = absurd cc
-is_set_break Clear b is = absurd cc
+pub clear_obeyed : (start : NetState) (old new : Standing) (out : List ℕ) → Obeys start Clear old new out → ObeysTyped start (Plain Clear) old new out
+clear_obeyed start old new out obeys = obeys
 
 -- what help tells
 pub help_told : (d : Debugging) (out : List ℕ) → (out ≡ help_text) ⊎ (out ≡ refusal_line M) → ObeysTyped d.start Help (standing d) (standing d) out

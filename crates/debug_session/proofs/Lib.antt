@@ -5,6 +5,7 @@ pub mod Listed
 pub mod Deleting
 pub mod Parted
 pub mod Moved
+pub mod TypedMoving
 pub mod Setting
 pub mod Running
 pub mod Meanings

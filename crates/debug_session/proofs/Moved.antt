@@ -32,13 +32,13 @@ pub record Gone (goes : ℕ → Type 0) (old new : Debugging) (out : List ℕ) :
   pub went : Went old.start goes (standing old) (standing new) out
 
 -- the record of a change, field by field
-left_of : (old new : Debugging) (p : ℕ) → HasMoved old new p → new.left ≡ Some old.shown
+pub left_of : (old new : Debugging) (p : ℕ) → HasMoved old new p → new.left ≡ Some old.shown
 left_of old new p moved = ap (λ (d : Debugging). d.left) moved.after
 
-start_of : (old new : Debugging) (p : ℕ) → HasMoved old new p → new.start ≡ old.start
+pub start_of : (old new : Debugging) (p : ℕ) → HasMoved old new p → new.start ≡ old.start
 start_of old new p moved = ap (λ (d : Debugging). d.start) moved.after
 
-breaks_of : (old new : Debugging) (p : ℕ) → HasMoved old new p → new.breaks ≡ old.breaks
+pub breaks_of : (old new : Debugging) (p : ℕ) → HasMoved old new p → new.breaks ≡ old.breaks
 breaks_of old new p moved = ap (λ (d : Debugging). d.breaks) moved.after
 
 shown_there : (goes : ℕ → Type 0) (old new : Debugging) (p : ℕ) (out : List ℕ) → HasMoved old new p → goes p → out ≡ dump_bytes new.shown → Gone goes old new out

@@ -9,5 +9,6 @@ pub mod Times
 pub mod TypedGrammar
 pub mod Numbered
 pub mod Help
+pub mod TypedMoves
 pub mod TypedAnswers
 pub mod Prompt

@@ -2,7 +2,7 @@
 use Rattle.std.specs.Prelude.{ℕ, nat_eq, Bool, if◌then◌else◌, List, codes, Option, None, Some}
 use Rattle.std.specs.List.{starts_with}
 use Rattle.debug_session.specs.declared.name.Name.{Name}
-use Rattle.debug_session.specs.declared.name.Name.TheVariants.{Step, Back, Break, Breaks, Run, Until, State, Delete, Clear, Help, Quit}
+use Rattle.debug_session.specs.declared.name.Name.TheVariants.{Step, Back, Break, Breaks, Run, Until, State, Lines, Delete, Clear, Help, Quit}
 
 -- a word is the beginning of a name, or all of it
 abbrev pub begins : List ℕ → List ℕ → Bool
@@ -18,8 +18,9 @@ name_of word =
     else (if begins word (codes "run") then Some Run
     else (if begins word (codes "until") then Some Until
     else (if begins word (codes "state") then Some State
+    else (if begins word (codes "lines") then Some Lines
     else (if begins word (codes "delete") then Some Delete
     else (if begins word (codes "clear") then Some Clear
     else (if begins word (codes "help") then Some Help
     else (if begins word (codes "quit") then Some Quit
-    else None))))))))))
+    else None)))))))))))

@@ -1,13 +1,15 @@
--- What is told after a move, and which breakpoint a command sets, for the contracts of private steps: no definition of a session uses it.
-use Rattle.std.specs.Prelude.{◌≡◌, ◌⊎◌, List, ℕ, Option, None, Some}
+-- What is told after a move, for the contracts of private steps: no definition of a session uses it.
+use Rattle.std.specs.Prelude.{◌≡◌, ◌⊎◌, ◌-◌, List, ℕ, ◌++◌, min, nat_lt, if◌then◌else◌, Option, None, Some}
+use Rattle.table_run.specs.State.{State as NetState}
 use Rattle.net_machine.specs.Run.{Reached}
 use Rattle.trace_text.specs.Dump.{dump_bytes}
-use Rattle.debugger.specs.declared.breaks.Break.{Break}
+use Rattle.debugger.specs.declared.breaks.Hit.{Hit}
+use Rattle.debugger.specs.declared.passed.Order.TheVariants.{Rising, Falling}
+use Rattle.debugger.specs.declared.passed.Stretch.{Stretch}
 use Rattle.debugger.specs.Debugging.{Debugging}
-use Rattle.debug_session.specs.declared.command.Command.{Command}
-use Rattle.debug_session.specs.declared.command.Command.TheVariants.{Step, Back, Until, Run, State, SetBreak, Clear}
 use Rattle.debug_session.specs.declared.refusal.Refusal.TheVariants.{M}
-use Rattle.debug_session.specs.Answers.{refusal_line}
+use Rattle.debug_session.specs.Answers.{Standing, standing, refusal_line}
+use Rattle.debug_session.specs.TypedMoves.{where_line, TellsMatch, TellsMove}
 
 -- the state that the last move left is shown again
 abbrev pub GoesBack : Debugging → Debugging → Type 0
@@ -17,12 +19,23 @@ GoesBack old new = (was : Reached) → old.left ≡ Some was → new ≡ record 
 abbrev pub Told : Debugging → Debugging → List ℕ → Type 0
 Told old new out = ((new ≡ old) × (out ≡ dump_bytes old.shown)) ⊎ (GoesBack old new × (out ≡ refusal_line M))
 
--- the breakpoint that a command sets
-abbrev pub break_of : Command → Option Break
-break_of (SetBreak b) = Some b
-break_of (Step count) = None
-break_of (Back count) = None
-break_of (Until time) = None
-break_of Run = None
-break_of State = None
-break_of Clear = None
+-- a move from a position is told, or that memory was refused, and then it is undone
+abbrev pub ToldMove : ℕ → Debugging → Debugging → List ℕ → Type 0
+ToldMove m old new out = ((new ≡ old) × TellsMove old.start m (standing old) out) ⊎ (GoesBack old new × (out ≡ refusal_line M))
+
+-- where a session stands after a move, and which breakpoint stopped it, behind other bytes
+abbrev pub AddsPlace : NetState → ℕ → Standing → List ℕ → List ℕ → Type 0
+AddsPlace start m at old new = (matched : List ℕ) × TellsMatch start at.breaks m at.shown.position matched × (new ≡ old ++ (where_line start at.shown ++ matched))
+
+-- a move's answer behind other bytes
+abbrev pub AddsMove : NetState → ℕ → Standing → List ℕ → List ℕ → Type 0
+AddsMove start m at old new = (told : List ℕ) × TellsMove start m at told × (new ≡ old ++ told)
+
+-- the breakpoint that is told after a move
+abbrev pub told_hit : ℕ → ℕ → Option Hit → Option Hit
+told_hit m p hit = if nat_lt m p then hit else None
+
+-- the lines that a move shows of those that it passed
+abbrev pub shown_stretch : ℕ → ℕ → Stretch
+shown_stretch m p =
+    if nat_lt m p then record { from = m; count = min (p - m) 10; order = Rising } else record { from = m - min (m - p) 10; count = min (m - p) 10; order = Falling }

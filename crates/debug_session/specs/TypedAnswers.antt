@@ -1,16 +1,18 @@
 -- What a session at a prompt answers to a command, and where it stands afterwards.
-use Rattle.std.specs.Prelude.{◌≡◌, ◌<◌, ◌+◌, ◌⊎◌, ℕ, List, [], ◌∷◌, ◌++◌, length, Contains, Option, Some}
+use Rattle.std.specs.Prelude.{◌≡◌, ◌<◌, ◌+◌, ◌-◌, ◌⊎◌, ℕ, List, [], ◌∷◌, ◌++◌, length, Contains, Option, Some}
 use Rattle.table_run.specs.State.{State as NetState}
 use Rattle.debugger.specs.declared.breaks.Break.{Break}
 use Rattle.debugger.specs.Breaks.{IsTakenOut}
+use Rattle.debugger.specs.Moves.{StepGoesTo, RunGoesTo, UntilGoesTo}
 use Rattle.debug_session.specs.declared.command.Command.{Command}
 use Rattle.debug_session.specs.declared.command.Command.TheVariants.{Step, Back, Until, Run, State, SetBreak, Clear}
 use Rattle.debug_session.specs.declared.command.Typed.{Typed}
-use Rattle.debug_session.specs.declared.command.Typed.TheVariants.{Plain, Breaks, Delete, Help, HelpOn}
+use Rattle.debug_session.specs.declared.command.Typed.TheVariants.{Plain, Breaks, Delete, Lines, Help, HelpOn}
 use Rattle.debug_session.specs.declared.refusal.Refusal.TheVariants.{B4, B5, M}
 use Rattle.debug_session.specs.Answers.{Standing, Stays, Does, CanBeRefused, refusal_line}
 use Rattle.debug_session.specs.Help.{help_text, help_on}
 use Rattle.debug_session.specs.Numbered.{IsNumber, HasNumber, set_line, deleted_line, listing}
+use Rattle.debug_session.specs.TypedMoves.{Moves, last_lines}
 
 -- a breakpoint that is not set yet joins the others, as the last of them
 pub record JoinsLast (b : Break) (old new : Standing) (out : List ℕ) : Type 0 where
@@ -38,17 +40,18 @@ pub record TakesAway (i : ℕ) (old new : Standing) (out : List ℕ) : Type 0 wh
 abbrev pub Deletes : ℕ → Standing → Standing → List ℕ → Type 0
 Deletes i old new out = TakesAway i old new out ⊎ (¬ HasNumber old.breaks i × Stays old new out (refusal_line B5))
 
--- a command is done: those that a session whose lines are all there has are done as there, but for the answer of `break`
+-- a command is done: moves go where they go in a session whose lines are all there, and `state` and `clear` are answered as there
 abbrev pub DoesTyped : NetState → Typed → Standing → Standing → List ℕ → Type 0
-DoesTyped start (Plain (Step count)) old new out = Does start (Step count) old new out
-DoesTyped start (Plain (Back count)) old new out = Does start (Back count) old new out
-DoesTyped start (Plain (Until time)) old new out = Does start (Until time) old new out
-DoesTyped start (Plain Run) old new out = Does start Run old new out
+DoesTyped start (Plain (Step count)) old new out = Moves start (StepGoesTo start old.shown.position count) old new out
+DoesTyped start (Plain (Back count)) old new out = Moves start (λ p. p ≡ old.shown.position - count) old new out
+DoesTyped start (Plain (Until time)) old new out = Moves start (UntilGoesTo start time old.shown.position) old new out
+DoesTyped start (Plain Run) old new out = Moves start (RunGoesTo start old.breaks old.shown.position) old new out
 DoesTyped start (Plain State) old new out = Does start State old new out
 DoesTyped start (Plain (SetBreak b)) old new out = SetsNumbered b old new out
 DoesTyped start (Plain Clear) old new out = Does start Clear old new out
 DoesTyped start Breaks old new out = Stays old new out (listing old.breaks)
 DoesTyped start (Delete i) old new out = Deletes i old new out
+DoesTyped start (Lines count) old new out = Stays old new out (last_lines start old.shown.position count)
 DoesTyped start Help old new out = Stays old new out help_text
 DoesTyped start (HelpOn name) old new out = Stays old new out (help_on name)
 
@@ -57,6 +60,7 @@ abbrev pub TypedCanBeRefused : Typed → Standing → Type 0
 TypedCanBeRefused (Plain asked) old = CanBeRefused asked old
 TypedCanBeRefused (Delete i) old = ⊥
 TypedCanBeRefused Breaks old = 0 < length old.breaks
+TypedCanBeRefused (Lines count) old = Unit {0}
 TypedCanBeRefused Help old = Unit {0}
 TypedCanBeRefused (HelpOn name) old = Unit {0}
 
@@ -75,5 +79,6 @@ last_after (Plain (SetBreak b)) last = last
 last_after (Plain Clear) last = last
 last_after Breaks last = last
 last_after (Delete i) last = last
+last_after (Lines count) last = last
 last_after Help last = last
 last_after (HelpOn name) last = last

@@ -4,7 +4,7 @@ use Rattle.scenario_asm.specs.Numbers.{is_numeral}
 use Rattle.debug_session.specs.declared.command.Command.TheVariants.{Step, Back, Until, Run, State, Clear}
 use Rattle.debug_session.specs.declared.command.Limits.{Limits}
 use Rattle.debug_session.specs.declared.command.Typed.{Typed}
-use Rattle.debug_session.specs.declared.command.Typed.TheVariants.{Plain, Breaks, Delete, Help, HelpOn}
+use Rattle.debug_session.specs.declared.command.Typed.TheVariants.{Plain, Breaks, Delete, Lines, Help, HelpOn}
 use Rattle.debug_session.specs.declared.name.Name.{Name}
 use Rattle.debug_session.specs.declared.name.Name.TheVariants as name
 use Rattle.debug_session.specs.declared.refusal.Refusal.{Refusal}
@@ -46,6 +46,11 @@ abbrev pub deletes : Result ℕ Refusal → TypedReading
 deletes (Ok i) = Ok (Delete i)
 deletes (Err refusal) = Err refusal
 
+-- of `lines`: how many
+abbrev pub lists : Result ℕ Refusal → TypedReading
+lists (Ok count) = Ok (Lines count)
+lists (Err refusal) = Err refusal
+
 -- no word
 abbrev pub typed_alone : Typed → List Word → TypedReading
 typed_alone asked [] = Ok asked
@@ -70,6 +75,7 @@ command_typed limits (Some name.Breaks) words = typed_alone Breaks words
 command_typed limits (Some name.Run) words = plain (alone Run words)
 command_typed limits (Some name.Until) words = plain (with_number Until (one_moment words))
 command_typed limits (Some name.State) words = plain (alone State words)
+command_typed limits (Some name.Lines) words = lists (number_or 10 1001 words)
 command_typed limits (Some name.Delete) words = deletes (one_break_number words)
 command_typed limits (Some name.Clear) words = plain (alone Clear words)
 command_typed limits (Some name.Help) words = help_asked words

@@ -35,6 +35,8 @@ pub enum Typed {
     Breaks,
     /// To take away the breakpoint of this number.
     Delete(u64),
+    /// Nothing but to see the last so many lines of the trace.
+    Lines(u64),
     /// Nothing but to see what can be typed.
     Help,
     /// Nothing but to see how a command is used.

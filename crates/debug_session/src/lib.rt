@@ -16,6 +16,7 @@ pub mod refusal;
 mod reply;
 pub mod said;
 pub mod session;
+mod typed_move;
 mod typed_reply;
 
 pub use command::{Command, Limits, Typed};

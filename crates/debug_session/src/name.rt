@@ -20,6 +20,8 @@ pub enum Name {
     Until,
     /// The state is shown.
     State,
+    /// Lines of the trace are shown.
+    Lines,
     /// A breakpoint is taken away.
     Delete,
     /// All breakpoints are taken away.
@@ -55,6 +57,8 @@ pub(crate) fn name_of(word: &[u8]) -> Option<Name>
         Some(Name::Until)
     } else if begins(word, b"state") {
         Some(Name::State)
+    } else if begins(word, b"lines") {
+        Some(Name::Lines)
     } else if begins(word, b"delete") {
         Some(Name::Delete)
     } else if begins(word, b"clear") {

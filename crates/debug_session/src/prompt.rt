@@ -64,6 +64,7 @@ fn last_after(asked: Typed, last: Option<Command>) -> Option<Command>
         Typed::Plain(Command::Clear) => last,
         Typed::Breaks => last,
         Typed::Delete(_) => last,
+        Typed::Lines(_) => last,
         Typed::Help => last,
         Typed::HelpOn(_) => last,
     }

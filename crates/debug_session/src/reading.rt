@@ -11,6 +11,12 @@ use crate::moment::moment_in;
 use crate::name::{Name, name_of};
 use crate::refusal::Refusal;
 
+/// How many lines are shown where no number is given.
+const USUAL_LINES: u64 = 10;
+
+/// The most lines that can be asked for.
+const MOST_LINES: u64 = 1_000;
+
 /// The greatest number that a breakpoint can have.
 const MOST_BREAKS: u64 = 64;
 
@@ -96,6 +102,13 @@ fn count_typed(line: &[u8]) -> Result<u64, Refusal>
     number_or(1, line, AMOUNTS)
 }
 
+/// How many lines are asked for.
+fn lines_typed(line: &[u8]) -> Result<u64, Refusal>
+    ensures { result ≡ number_or 10 1001 (words_in line.now) }
+{
+    number_or(USUAL_LINES, line, MOST_LINES + 1)
+}
+
 /// The command of a name, with the words behind it.
 fn command_typed(limits: Limits, name: Option<Name>, rest: &[u8]) -> Result<Typed, Refusal>
     ensures { result ≡ command_typed limits name (words_in rest.now) }
@@ -109,6 +122,7 @@ fn command_typed(limits: Limits, name: Option<Name>, rest: &[u8]) -> Result<Type
         Some(Name::Run) => plain(alone(Command::Run, rest)),
         Some(Name::Until) => Ok(Typed::Plain(Command::Until(one_moment(rest)?))),
         Some(Name::State) => plain(alone(Command::State, rest)),
+        Some(Name::Lines) => Ok(Typed::Lines(lines_typed(rest)?)),
         Some(Name::Delete) => Ok(Typed::Delete(one_break_number(rest)?)),
         Some(Name::Clear) => plain(alone(Command::Clear, rest)),
         Some(Name::Help) => help_asked(rest),

@@ -1,15 +1,18 @@
 //! The answer to a command.
 ghost use Rattle.std.specs.Prelude.{◌≡◌, ◌<◌, ◌≤◌, ◌+◌, ◌++◌, [], OnOk, OnErr, length, drop, decimal};
 ghost use Rattle.trace_text.specs.Dump.{dump_bytes};
-ghost use Rattle.debug_session.specs.Answers.{refusal_line, break_line, clear_line};
+ghost use Rattle.debugger.specs.Moves.{HasPosition};
+ghost use Rattle.debug_session.specs.Answers.{standing, refusal_line, break_line, clear_line};
 ghost use Rattle.debug_session.specs.Help.{help_text, help_on};
 ghost use Rattle.debug_session.specs.Numbered.{set_line, deleted_line, listing};
+ghost use Rattle.debug_session.specs.TypedMoves.{TellsMove, last_lines};
 
 use crate::help::{append_help, append_help_on};
 use crate::name::Name;
 use crate::numbered::{append_listing, put_numbered};
 use crate::refusal::Refusal;
-use debugger::{Break, Debugger};
+use crate::typed_move::{append_last, append_move};
+use debugger::{Break, Debugger, MoveFault};
 use itoa::write_digits;
 use std::alloc::{AllocError, Global};
 use std::marker::Model;
@@ -189,6 +192,27 @@ impl Said {
         self.dump.clear();
         self.is_short = false;
         append_help_on(&mut self.dump, name)
+    }
+
+    /// Answers a move from a position. On a fault the answer is a part of that.
+    pub(crate) fn say_move(&mut self, debugger: &mut Debugger, from: u64) -> Result<(), MoveFault>
+        requires { HasPosition debugger.old.start from }
+        ensures ok { OnOk result (TellsMove debugger.old.start from (standing debugger.old) self.new) }
+        ensures same { debugger.new ≡ debugger.old }
+    {
+        self.dump.clear();
+        self.is_short = false;
+        append_move(&mut self.dump, debugger, from)
+    }
+
+    /// Answers the last so many lines of the trace. On a fault the answer is a part of that.
+    pub(crate) fn say_lines(&mut self, debugger: &mut Debugger, count: u64) -> Result<(), MoveFault>
+        ensures ok { OnOk result (self.new ≡ last_lines debugger.old.start debugger.old.shown.position count) }
+        ensures same { debugger.new ≡ debugger.old }
+    {
+        self.dump.clear();
+        self.is_short = false;
+        append_last(&mut self.dump, debugger, count)
     }
 
     /// Answers the dump of the state that is shown. Where memory is refused, the answer is empty.

@@ -1,10 +1,12 @@
 //! A session's answer to a command that is typed.
-ghost use Rattle.std.specs.Prelude.{◌≡◌, ◌<◌, ◌≤◌, ◌⊎◌, ℕ, Contains, MatchBool, length};
+ghost use Rattle.std.specs.Prelude.{◌≡◌, ◌<◌, ◌≤◌, ◌⊎◌, ℕ, Contains, IfOk, MatchBool, OnErr, length};
+ghost use Rattle.debugger.specs.Moves.{HasPosition};
 ghost use Rattle.debug_session.specs.Answers.{standing, refusal_line};
 ghost use Rattle.debug_session.specs.Help.{help_text, help_on};
 ghost use Rattle.debug_session.specs.Numbered.{IsNumber, HasNumber, set_line};
-ghost use Rattle.debug_session.specs.Told.{break_of};
+ghost use Rattle.debug_session.specs.Told.{ToldMove};
 ghost use Rattle.debug_session.specs.TypedAnswers.{ObeysTyped};
+ghost use Rattle.debug_session.specs.TypedMoves.{TellsMove};
 
 use crate::command::{Command, Typed};
 use crate::name::Name;
@@ -12,7 +14,7 @@ use crate::numbered::number_of;
 use crate::refusal::Refusal;
 use crate::reply::obey;
 use crate::said::Said;
-use debugger::{Break, BreakFault, Debugger};
+use debugger::{Break, BreakFault, Debugger, MoveFault};
 use std::sync::Wait;
 use std::thread::Threads;
 use window_engine::Gate;
@@ -108,18 +110,48 @@ fn tell_help_on(name: Name, said: &mut Said)
     }
 }
 
-/// The breakpoint that a command sets.
-fn break_of(command: Command) -> Option<Break>
-    ensures { result ≡ break_of command }
+/// Tells a move from a position. The answer is whether it could be told.
+#[tactic(none)]
+fn tell_move(debugger: &mut Debugger, from: u64, said: &mut Said) -> bool
+    requires { HasPosition debugger.old.start from }
+    ensures told { MatchBool result (TellsMove debugger.old.start from (standing debugger.old) said.new) (said.new ≡ refusal_line Refusal.M) }
+    ensures same { debugger.new ≡ debugger.old }
 {
-    match command {
-        Command::SetBreak(b) => Some(b),
-        Command::Step(_)
-        | Command::Back(_)
-        | Command::Until(_)
-        | Command::Run
-        | Command::State
-        | Command::Clear => None,
+    match said.say_move(debugger, from) {
+        Ok(()) => true,
+        Err(_) => {
+            said.say_refused(Refusal::M);
+            false
+        }
+    }
+}
+
+/// Tells what a move from a position came to. Where that cannot be told, the move is undone.
+#[tactic(none)]
+fn show_passed(debugger: &mut Debugger, from: u64, moved: Result<u64, MoveFault>, said: &mut Said)
+    requires { HasPosition debugger.old.start from }
+    ensures told { IfOk moved (λ _. ToldMove from debugger.old debugger.new said.new) }
+    ensures refused { OnErr moved ((debugger.new ≡ debugger.old) × (said.new ≡ refusal_line Refusal.M)) }
+{
+    match moved {
+        Ok(_) => {
+            if !tell_move(debugger, from, said) {
+                let _undone = debugger.undo_move();
+            }
+        }
+        Err(_) => said.say_refused(Refusal::M),
+    }
+}
+
+/// Tells the last so many lines of the trace.
+#[tactic(none)]
+fn tell_lines(debugger: &mut Debugger, count: u64, said: &mut Said)
+    ensures obeyed { ObeysTyped debugger.old.start (Typed.Lines count) (standing debugger.old) (standing debugger.new) said.new }
+    ensures start { debugger.new.start ≡ debugger.old.start }
+{
+    match said.say_lines(debugger, count) {
+        Ok(()) => {}
+        Err(_) => said.say_refused(Refusal::M),
     }
 }
 
@@ -135,9 +167,27 @@ fn obey_plain<R: Threads + Wait + Sync, G: Gate>(
     ensures obeyed { ObeysTyped debugger.old.start (Typed.Plain command) (standing debugger.old) (standing debugger.new) said.new }
     ensures start { debugger.new.start ≡ debugger.old.start }
 {
-    match break_of(command) {
-        Some(b) => set_numbered(debugger, b, said),
-        None => obey(rt, gate, debugger, command, said),
+    let from = debugger.position();
+    match command {
+        Command::Step(count) => {
+            let moved = debugger.step(count);
+            show_passed(debugger, from, moved, said);
+        }
+        Command::Back(count) => {
+            let moved = debugger.back(count);
+            show_passed(debugger, from, moved, said);
+        }
+        Command::Until(time) => {
+            let moved = debugger.until(rt, gate, time);
+            show_passed(debugger, from, moved, said);
+        }
+        Command::Run => {
+            let moved = debugger.run(rt, gate);
+            show_passed(debugger, from, moved, said);
+        }
+        Command::SetBreak(b) => set_numbered(debugger, b, said),
+        Command::State => obey(rt, gate, debugger, Command::State, said),
+        Command::Clear => obey(rt, gate, debugger, Command::Clear, said),
     }
 }
 
@@ -157,6 +207,7 @@ pub(crate) fn obey_typed<R: Threads + Wait + Sync, G: Gate>(
         Typed::Plain(command) => obey_plain(rt, gate, debugger, command, said),
         Typed::Breaks => tell_breaks(debugger, said),
         Typed::Delete(number) => delete(debugger, number, said),
+        Typed::Lines(count) => tell_lines(debugger, count, said),
         Typed::Help => tell_help(said),
         Typed::HelpOn(name) => tell_help_on(name, said),
     }

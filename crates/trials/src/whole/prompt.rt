@@ -1,7 +1,8 @@
 //! Debugging sessions at a prompt, whose lines come one by one.
 
 use crate::whole::FIRST;
-use crate::whole::debug::{ANSWERS, SESSION};
+use crate::whole::debug::SESSION;
+use crate::whole::typed::MOVED;
 use engine_trials::hands::AllHands;
 use sessions::notes::{HowFar, Notes};
 use sessions::session::run_noted;
@@ -164,7 +165,7 @@ fn lines_are_answered_to_their_end(rt: HostRuntime) -> Result<(), Fail> {
             words,
             Typist::new(&MOVES, false),
             (0, ""),
-            ANSWERS,
+            MOVED,
             5,
             b"",
         )?;
@@ -180,7 +181,7 @@ fn quit_ends_a_session(rt: HostRuntime) -> Result<(), Fail> {
         &["step 3", "back 2", "back 9", "run", " quit ", "run"],
         false,
     );
-    expect_typed(&rt, words, lines, (0, ""), ANSWERS, 5, b"")?;
+    expect_typed(&rt, words, lines, (0, ""), MOVED, 5, b"")?;
     let none = Typist::new(&["quit", "state"], true);
     expect_typed(&rt, words, none, (0, ""), "", 1, b"")
 }
@@ -200,7 +201,7 @@ fn a_line_that_is_refused_is_told_beside_the_answers(rt: HostRuntime) -> Result<
         ],
         false,
     );
-    expect_typed(&rt, SHARED[0], lines, (0, ""), ANSWERS, 9, b"1323")
+    expect_typed(&rt, SHARED[0], lines, (0, ""), MOVED, 9, b"1323")
 }
 
 #[test]
@@ -211,7 +212,7 @@ fn a_line_that_cannot_be_read_ends_a_session(rt: HostRuntime) -> Result<(), Fail
         SHARED[0],
         Typist::new(&MOVES, true),
         broken,
-        ANSWERS,
+        MOVED,
         5,
         b"",
     )?;

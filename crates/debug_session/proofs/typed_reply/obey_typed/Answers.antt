@@ -26,6 +26,13 @@ returns-in-Delete-clause-obeyed g c =
 pub returns-in-Delete-clause-start : goal.returns-in-Delete-clause-start
 returns-in-Delete-clause-start g c = c.delete.ensures.start
 
+pub returns-in-Lines-clause-obeyed : goal.returns-in-Lines-clause-obeyed
+returns-in-Lines-clause-obeyed g c =
+    subst (λ (k : Typed). ObeysTyped c.args.debugger.now.start k (standing c.args.debugger.now) (standing c.tell_lines.new.debugger) c.tell_lines.new.said) (sym c.in-Lines.is) c.tell_lines.ensures.obeyed
+
+pub returns-in-Lines-clause-start : goal.returns-in-Lines-clause-start
+returns-in-Lines-clause-start g c = c.tell_lines.ensures.start
+
 pub returns-in-Help-clause-obeyed : goal.returns-in-Help-clause-obeyed
 returns-in-Help-clause-obeyed g c =
     subst (λ (k : Typed). ObeysTyped c.args.debugger.now.start k (standing c.args.debugger.now) (standing c.args.debugger.now) c.tell_help.new.said) (sym c.in-Help.is) (help_told c.args.debugger.now c.tell_help.new.said c.tell_help.ensures)

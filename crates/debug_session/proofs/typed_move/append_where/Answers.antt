@@ -1,0 +1,42 @@
+use Rattle.std.proofs.Common.{◌≡◌, ◌≢◌, ◌<◌, ◌++◌, ◌∙◌, refl, sym, ap, subst, arith}
+use Rattle.debugger.specs.Debugging.{Debugging}
+use Rattle.debugger.specs.LastEvents.{IsLastEvent}
+use Rattle.debugger.proofs.Between.{on_ok}
+use Rattle.debug_session.specs.Answers.{standing}
+use Rattle.debug_session.specs.Told.{told_hit, AddsPlace}
+use Rattle.debug_session.specs.TypedMoves.{place_line, hit_line}
+use Rattle.debug_session.proofs.TypedMoving.{begin_told, event_told}
+use Rattle.debug_session.proofs.typed_move.append_where.Goals as goal
+
+pub returns-then-position-eq0-clause-ok : goal.returns-then-position-eq0-clause-ok
+returns-then-position-eq0-clause-ok c =
+    let d = c.args.debugger.now in
+    let out = c.args.out.now.items in
+    let all = c.append_place.new.out.items in
+    on_ok {P = all ≡ out ++ place_line 0 0 c.is_at_end-at_end.result} {Q = AddsPlace d.start c.args.from (standing d) out all} c.append_place.result
+    (λ told. begin_told d.start c.args.from (standing d) out all c.is_at_end-at_end.result c.is_at_end-at_end.ensures (omega (arith, c.position-position.ensures.count, c.if-position-eq0.true)) told)
+    c.append_place.ensures
+
+pub returns-then-position-eq0-clause-same : goal.returns-then-position-eq0-clause-same
+returns-then-position-eq0-clause-same c = refl
+
+pub last_event-requires : goal.last_event-requires
+last_event-requires c = omega (arith, c.position-position.ensures.count, c.if-position-eq0.false)
+
+pub returns-in-Ok-clause-ok : goal.returns-in-Ok-clause-ok
+returns-in-Ok-clause-ok c =
+    let d = c.args.debugger.now in
+    let out = c.args.out.now.items in
+    let all = c.append_event.new.out.items in
+    on_ok {P = all ≡ out ++ (place_line c.position-position.result c.in-Ok.event.time c.is_at_end-at_end.result ++ hit_line (told_hit c.args.from c.position-position.result c.in-Ok.event.hit))}
+    {Q = AddsPlace d.start c.args.from (standing d) out all} c.append_event.result
+    (λ told.
+    event_told d.start c.args.from (standing d) out all c.is_at_end-at_end.result c.is_at_end-at_end.ensures c.in-Ok.event c.in-Ok.ensures.ok
+    (subst (λ p. all ≡ out ++ (place_line p c.in-Ok.event.time c.is_at_end-at_end.result ++ hit_line (told_hit c.args.from p c.in-Ok.event.hit))) c.position-position.ensures.count told))
+    c.append_event.ensures
+
+pub returns-in-Ok-clause-same : goal.returns-in-Ok-clause-same
+returns-in-Ok-clause-same c = c.last_event.ensures.same
+
+pub returns-in-Err-clause-same : goal.returns-in-Err-clause-same
+returns-in-Err-clause-same c = c.last_event.ensures.same

@@ -1,0 +1,226 @@
+//! What a move that is typed answers.
+ghost use Rattle.std.specs.Prelude.{◌≡◌, ◌+◌, ◌-◌, ◌≤◌, ◌++◌, decimal, drop, length, OnOk};
+ghost use Rattle.debugger.specs.Moves.{HasPosition};
+ghost use Rattle.debug_session.specs.Answers.{standing};
+ghost use Rattle.debug_session.specs.Told.{shown_stretch, told_hit, AddsPlace, AddsMove};
+ghost use Rattle.debug_session.specs.TypedMoves.{passed, more_line, first_ten, end_words, time_words, place_line, hit_line, last_lines};
+
+use crate::numbered::put_numbered;
+use crate::said::{ROOM, put_count, put_text};
+use debugger::{Debugger, Hit, LastEvent, MoveFault, Order, Stretch};
+
+/// The most lines that a move shows.
+const MOST_SHOWN: u64 = 10;
+
+/// The room for the line of a place in the run, in bytes.
+const PLACE_ROOM: usize = 80;
+
+/// The lines that a move from one position to another shows of those that it passed.
+fn shown_stretch(from: u64, to: u64) -> Stretch
+    ensures { result ≡ shown_stretch from to }
+{
+    if from < to {
+        let count = (to - from).min(MOST_SHOWN);
+        Stretch {
+            from,
+            count,
+            order: Order::Rising,
+        }
+    } else {
+        let count = (from - to).min(MOST_SHOWN);
+        Stretch {
+            from: from - count,
+            count,
+            order: Order::Falling,
+        }
+    }
+}
+
+/// How many lines a move passed.
+fn passed_count(from: u64, to: u64) -> u64
+    ensures { result ≡ (to - from) + (from - to) }
+{
+    if from < to { to - from } else { from - to }
+}
+
+// Appends how many lines there are beside ten.
+fn append_more(out: &mut Vec<u8>, count: u64) -> Result<(), MoveFault>
+    ensures { OnOk result (out.new.items ≡ out.old.items ++ more_line count) }
+{
+    if MOST_SHOWN < count {
+        let mut line = [0; ROOM];
+        let at = put_text(&mut line, ROOM, b" more\n");
+        let at = put_count(&mut line, at, (count - MOST_SHOWN) as usize);
+        let start = put_text(&mut line, at, b".. ");
+        out.extend_from_slice(&line[start..])?;
+        Ok(())
+    } else {
+        Ok(())
+    }
+}
+
+/// Appends the lines that a move from a position passed, and how many there are beside ten.
+#[tactic(none)]
+fn append_passed(out: &mut Vec<u8>, debugger: &mut Debugger, from: u64) -> Result<(), MoveFault>
+    requires { HasPosition debugger.old.start from }
+    ensures ok { OnOk result (out.new.items ≡ out.old.items ++ first_ten (passed debugger.old.start from debugger.old.shown.position)) }
+    ensures same { debugger.new ≡ debugger.old }
+{
+    let to = debugger.position();
+    let stretch = shown_stretch(from, to);
+    match debugger.append_lines(&stretch, out) {
+        Ok(()) => append_more(out, passed_count(from, to)),
+        Err(fault) => Err(fault),
+    }
+}
+
+// Writes a text at the end of the room of a place, and answers where it starts.
+fn put_last<const N: usize>(line: &mut [u8], text: &[u8; N]) -> usize
+    requires room { length line.old ≡ 80 }
+    requires few { N ≤ 13 }
+    ensures written { drop result line.new ≡ text.now }
+    ensures short { 67 ≤ result }
+    ensures within { result ≤ 80 }
+{
+    put_text(line, PLACE_ROOM, text)
+}
+
+// Writes the end of a line, and answers where it starts.
+fn put_end(line: &mut [u8], at_end: bool) -> usize
+    requires { length line.old ≡ 80 }
+    ensures written { drop result line.new ≡ end_words at_end }
+    ensures short { 67 ≤ result }
+    ensures within { result ≤ 80 }
+{
+    if at_end {
+        put_last(line, b" ns, the end\n")
+    } else {
+        put_last(line, b" ns\n")
+    }
+}
+
+// Writes a number so that it ends at `end`, and answers where it starts.
+fn put_number(bytes: &mut [u8], end: usize, n: usize) -> usize
+    requires within { end ≤ length bytes.old }
+    requires room { 20 ≤ end }
+    ensures written { drop result bytes.new ≡ decimal n ++ drop end bytes.old }
+    ensures short { end ≤ result + 20 }
+    ensures within { result ≤ length bytes.new }
+{
+    put_count(bytes, end, n)
+}
+
+// Writes the moment of an event, and whether the run ends there, and answers where that starts.
+fn put_time(line: &mut [u8], time: u64, at_end: bool) -> usize
+    requires { length line.old ≡ 80 }
+    ensures written { drop result line.new ≡ time_words time at_end }
+    ensures short { 29 ≤ result }
+    ensures within { result ≤ 80 }
+{
+    let at = put_end(line, at_end);
+    let at = put_number(line, at, time as usize);
+    put_text(line, at, b" of the run, time ")
+}
+
+// Appends a position, the moment of the event before it, and whether the run ends there.
+fn append_place(out: &mut Vec<u8>, position: u64, time: u64, at_end: bool) -> Result<(), MoveFault>
+    ensures { OnOk result (out.new.items ≡ out.old.items ++ place_line position time at_end) }
+{
+    let mut line = [0; PLACE_ROOM];
+    let at = put_time(&mut line, time, at_end);
+    let at = put_count(&mut line, at, position as usize);
+    let start = put_text(&mut line, at, b"at ");
+    out.extend_from_slice(&line[start..])?;
+    Ok(())
+}
+
+// Appends the line of a breakpoint, where one matches.
+fn append_hit(out: &mut Vec<u8>, hit: Option<Hit>) -> Result<(), MoveFault>
+    ensures { OnOk result (out.new.items ≡ out.old.items ++ hit_line hit) }
+{
+    match hit {
+        Some(hit) => {
+            let mut line = [0; ROOM];
+            let start = put_numbered(&mut line, b"break ", hit.number, hit.breakpoint);
+            out.extend_from_slice(&line[start..])?;
+            Ok(())
+        }
+        None => Ok(()),
+    }
+}
+
+/// The breakpoint that is told after a move: only one forwards is stopped by it.
+fn told_hit(from: u64, to: u64, hit: Option<Hit>) -> Option<Hit>
+    ensures { result ≡ told_hit from to hit }
+{
+    if from < to { hit } else { None }
+}
+
+/// Appends a position with the event before it, and the breakpoint that stopped a move there.
+fn append_event(
+    out: &mut Vec<u8>,
+    from: u64,
+    position: u64,
+    event: LastEvent,
+    at_end: bool,
+) -> Result<(), MoveFault>
+    ensures { OnOk result (out.new.items ≡ out.old.items ++ (place_line position event.time at_end ++ hit_line (told_hit from position event.hit))) }
+{
+    append_place(out, position, event.time, at_end)?;
+    append_hit(out, told_hit(from, position, event.hit))
+}
+
+/// Appends where a session stands after a move from a position, and the breakpoint that stopped it.
+#[tactic(none)]
+fn append_where(out: &mut Vec<u8>, debugger: &mut Debugger, from: u64) -> Result<(), MoveFault>
+    ensures ok { OnOk result (AddsPlace debugger.old.start from (standing debugger.old) out.old.items out.new.items) }
+    ensures same { debugger.new ≡ debugger.old }
+{
+    let at_end = debugger.is_at_end();
+    let position = debugger.position();
+    if position == 0 {
+        append_place(out, 0, 0, at_end)
+    } else {
+        match debugger.last_event() {
+            Ok(event) => append_event(out, from, position, event, at_end),
+            Err(fault) => Err(fault),
+        }
+    }
+}
+
+/// Appends what a move from a position answers.
+#[tactic(none)]
+pub(crate) fn append_move(
+    out: &mut Vec<u8>,
+    debugger: &mut Debugger,
+    from: u64,
+) -> Result<(), MoveFault>
+    requires { HasPosition debugger.old.start from }
+    ensures ok { OnOk result (AddsMove debugger.old.start from (standing debugger.old) out.old.items out.new.items) }
+    ensures same { debugger.new ≡ debugger.old }
+{
+    match append_passed(out, debugger, from) {
+        Ok(()) => append_where(out, debugger, from),
+        Err(fault) => Err(fault),
+    }
+}
+
+/// Appends the last so many lines of the trace.
+#[tactic(none)]
+pub(crate) fn append_last(
+    out: &mut Vec<u8>,
+    debugger: &mut Debugger,
+    count: u64,
+) -> Result<(), MoveFault>
+    ensures ok { OnOk result (out.new.items ≡ out.old.items ++ last_lines debugger.old.start debugger.old.shown.position count) }
+    ensures same { debugger.new ≡ debugger.old }
+{
+    let position = debugger.position();
+    let from = position.saturating_sub(count);
+    let stretch = Stretch {
+        from,
+        count: position - from,
+        order: Order::Rising,
+    };
+    debugger.append_lines(&stretch, out)
+}
