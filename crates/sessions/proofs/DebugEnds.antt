@@ -19,7 +19,7 @@ use Rattle.sessions.specs.Nodes.{HasGroups, LacksGroups}
 use Rattle.sessions.specs.Session.{IsWithin}
 use Rattle.sessions.specs.Written.{Writes}
 
-abbrev Read : Type 0
+abbrev pub Read : Type 0
 Read = Result ScenarioParts SessionFault
 
 -- over a scenario a session ends so: done, where its nodes have groups; for its groups, where they haven't; hindered

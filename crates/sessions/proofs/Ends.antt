@@ -176,6 +176,10 @@ output_end Dis parts ended out made = whole_end (canonical_text parts) ended out
 output_end (Run sharing) parts ended out made = shared_end sharing.groups parts ended out made
 output_end Figures parts ended out made = table_end parts ended out made
 
+-- none of which is one of the reader
+pub output_not_read : (subcommand : Subcommand) (parts : ScenarioParts) (ended : Ended) (out : List ℕ) → IsOutput subcommand parts ended out → ended ≡ Err ReadFailed → ⊥
+output_not_read subcommand parts ended out made is = subst IsOutputEnd is (output_end subcommand parts ended out made)
+
 abbrev pub Read : Type 0
 Read = Result ScenarioParts SessionFault
 
@@ -251,6 +255,24 @@ fault_ending : (subcommand : Subcommand) (input : List ℕ) (fault : SessionFaul
 fault_ending subcommand input (Refused line fault) within has = (within, has, refl)
 fault_ending subcommand input (RefusedImage fault) within has = (within, has, refl)
 fault_ending subcommand input _ within has = absurd (no_fault (is_image input) has)
+
+-- nor is its fault one of the reader
+abbrev NotRead : SessionFault → Type 0
+NotRead fault = ◌≡◌ {A = Ended} (Err fault) (Err ReadFailed) → ⊥
+
+short_not_read : NotRead NoMemory
+short_not_read = λ e. cc
+
+fault_not_read : (input : List ℕ) (fault : SessionFault) → HasFault input fault → NotRead fault
+fault_not_read input (Refused line fault) has = λ e. cc
+fault_not_read input (RefusedImage fault) has = λ e. cc
+fault_not_read input _ has = absurd (no_fault (is_image input) has)
+
+pub refused_not_read : (input : List ℕ) (fault : SessionFault) (read : Read) → read ≡ Err fault → Reads (HasScenario input) (HasFault input) read → ◌≡◌ {A = Ended} (Err fault) (Err ReadFailed) → ⊥
+refused_not_read input fault read is says = elim (subst (λ r. IfErr r (λ f. (f ≡ NoMemory) ⊎ HasFault input f)) is says.fault) [
+  | inl short ↦ subst NotRead (sym short) short_not_read
+  | inr faulty ↦ fault_not_read input fault faulty
+]
 
 no_memory_ending : (subcommand : Subcommand) (input : List ℕ) (fault : SessionFault) → fault ≡ NoMemory → IsEnding subcommand input (Err fault) []
 no_memory_ending subcommand input fault is = subst (λ f. IsEnding subcommand input (Err f) []) (sym is) (inl refl)

@@ -89,7 +89,7 @@ file_ending groups file input (CannotRead name) before after is none = (is, none
 file_ending groups file input NoMemory before after short none = none
 file_ending groups file input _ before after faulty none = absurd faulty
 
-file_reads : (T : Type 0) (fault : SessionFault) (n : ℕ) → line_reads_after {T = T} (Err fault) n ≡ line_reads_after {T = Unit {0}} (Err fault) n
+pub file_reads : (T : Type 0) (fault : SessionFault) (n : ℕ) → line_reads_after {T = T} (Err fault) n ≡ line_reads_after {T = Unit {0}} (Err fault) n
 file_reads T ReadFailed n = refl
 file_reads T (CannotRead name) n = refl
 file_reads T _ n = refl

@@ -21,4 +21,6 @@ pub mod Prompt
 pub mod Turns
 pub mod CommandLine
 pub mod Asked
+pub mod Named
+pub mod Rest
 pub mod Given

@@ -1,65 +1,92 @@
 //! A debugging session: the commands behind a scenario text are answered.
-ghost use Rattle.std.specs.Prelude.{◌≢◌, ◌≡◌, Err};
+ghost use Rattle.std.specs.Prelude.{◌≡◌};
+ghost use Rattle.debug_session.specs.Input.{command_lines};
 ghost use Rattle.sessions.specs.Debug.{IsDebugSession, IsDebugSessionOn};
 ghost use Rattle.sessions.specs.Ended.{writes_after};
+ghost use Rattle.sessions.specs.Rest.{AreAnswered, AreReady, Begins, IsDone};
 ghost use Rattle.sessions.specs.Session.{IsWithin, Tells};
-ghost use Rattle.sessions.specs.Streams.{streams_of};
+ghost use Rattle.sessions.specs.Streams.{Streams, streams_of};
+ghost use Rattle.sessions.specs.Written.{Writes};
 
 use crate::fault::SessionFault;
 use crate::groups::groups_for;
-use crate::input::read_input;
+use crate::means::Crew;
 use crate::outcome::Outcome;
+use crate::rest::Rest;
 use crate::scenario_input::read_text;
+use crate::session::run_task;
 use crate::sharing::Sharing;
 use crate::source::Source;
-use debug_session::{run_session, split};
+use crate::subcommand::Task;
+use debug_session::split;
+use scenario_image::Scenario;
 use std::alloc::Global;
 use std::sync::Wait;
 use std::thread::Threads;
+use window_core::Partition;
 use window_engine::{Gate, Sink};
 
-/// Writes the answers to the commands of an input, where its text has a scenario whose nodes are in
-/// the groups.
-fn answer_commands<W: Sink, G: Gate, H: Threads + Wait + Sync>(
-    rt: &H,
+/// Commands behind a scenario's text, and what they are answered over.
+#[derive(Drop)]
+pub(crate) struct Commands {
+    /// The text, with the commands behind it.
+    pub input: Vec<u8>,
+    /// The scenario that the text means.
+    pub scenario: Scenario,
+    /// The group of each of its nodes.
+    pub partition: Partition,
+    /// How many workers run the groups.
+    pub workers: usize,
+}
+
+/// Begins a debugging session over an input, where its text has a scenario whose nodes are in the
+/// groups: the commands are left.
+pub(crate) fn begin_commands(
     alloc: Global,
     sharing: &Sharing,
-    gate: &G,
-    input: &[u8],
-    writer: &mut W,
-) -> Result<(), SessionFault>
-    requires { IsWithin input.now }
-    ensures session { IsDebugSession sharing.now.groups input.now result (W.contents writer.old) (W.contents writer.new) }
-    ensures failures { W.failures writer.new ≡ writes_after result (W.failures writer.old) }
-    ensures no_read { result ≢ Err SessionFault.ReadFailed }
+    input: Vec<u8>,
+) -> Result<Rest, SessionFault>
+    requires { IsWithin input.items }
+    ensures { (now : Streams) → Begins (IsDone (IsDebugSession sharing.now.groups input.items) now) result now }
 {
-    let (text, commands) = split(input);
+    let (text, _commands) = split(input.as_slice());
     let scenario = read_text(alloc, text)?;
     let partition = groups_for(alloc, sharing, &scenario)?;
     let workers = sharing.workers();
-    let answered = run_session(
-        rt, gate, alloc, &scenario, partition, workers, commands, writer,
+    Ok(Rest::Listed(Commands {
+        input,
+        scenario,
+        partition,
+        workers,
+    }))
+}
+
+/// Writes the answers to commands. Moves to a breakpoint and to a moment go by workers.
+pub(crate) fn answer_commands<W: Sink, G: Gate, H: Threads + Wait + Sync>(
+    crew: &Crew<H, G>,
+    alloc: Global,
+    commands: Commands,
+    writer: &mut W,
+) -> Result<(), SessionFault>
+    requires ready { AreReady commands }
+    ensures output { Writes (AreAnswered commands.scenario (command_lines commands.input.items) result) (W.contents writer.old) (W.contents writer.new) }
+    ensures failures { W.failures writer.new ≡ writes_after result (W.failures writer.old) }
+{
+    let Commands {
+        input,
+        scenario,
+        partition,
+        workers,
+    } = commands;
+    let (_text, lines) = split(input.as_slice());
+    let answered = debug_session::run_session(
+        crew.rt, crew.gate, alloc, &scenario, partition, workers, lines, writer,
     );
     drop(scenario);
     match answered {
         Ok(()) => Ok(()),
         Err(fault) => Err(SessionFault::from(fault)),
     }
-}
-
-/// Writes the answers to the commands on the reader.
-pub(crate) fn answer_reader<R: Source, W: Sink, G: Gate, H: Threads + Wait + Sync>(
-    rt: &H,
-    alloc: Global,
-    sharing: &Sharing,
-    gate: &G,
-    reader: &mut R,
-    writer: &mut W,
-) -> Result<(), SessionFault>
-    ensures { let seen = streams_of R.failures R.typed W.failures W.contents in IsDebugSessionOn sharing.now.groups (R.remaining reader.old) result (seen reader.old writer.old) (seen reader.new writer.new) }
-{
-    let input = read_input(alloc, reader)?;
-    answer_commands(rt, alloc, sharing, gate, input.as_slice(), writer)
 }
 
 /// A debugging session: writes the answers to the commands on the reader. Moves to a breakpoint and
@@ -74,5 +101,6 @@ pub fn run_debug<R: Source, W: Sink, G: Gate, H: Threads + Wait + Sync>(
 ) -> Outcome
     ensures { let seen = streams_of R.failures R.typed W.failures W.contents in Tells result (λ ended. IsDebugSessionOn sharing.now.groups (R.remaining reader.old) ended (seen reader.old writer.old) (seen reader.new writer.new)) }
 {
-    Outcome::from(answer_reader(rt, alloc, sharing, gate, reader, writer))
+    let same = Sharing::new(sharing.workers(), sharing.groups());
+    run_task(rt, alloc, Task::Debug(same), gate, reader, writer)
 }

@@ -1,12 +1,15 @@
 //! The input that a session is given.
 ghost use Rattle.std.specs.Prelude.{◌≡◌, ◌<◌, ◌≤◌, ◌++◌, ℕ, List, length, take, IfOk, OnErr, IfErr};
 ghost use Rattle.std.specs.Io.KnownBytes.{Consumes, IsAtEnd};
+ghost use Rattle.sessions.specs.Ended.{IsReadFault, reads_after};
+ghost use Rattle.sessions.specs.Named as named;
+ghost use Rattle.sessions.specs.Prompt.{IsFileFault, line_reads_after};
 ghost use Rattle.sessions.specs.Session.{IsWithin};
 ghost use Rattle.sessions.specs.Streams.{IsInputOf};
-ghost use Rattle.sessions.specs.Ended.{IsReadFault, reads_after};
 
 use crate::fault::SessionFault;
 use crate::source::Source;
+use crate::subcommand::OptionalWord;
 use std::alloc::{AllocError, Global};
 
 /// The most bytes of an input.
@@ -56,4 +59,55 @@ fn read_piece<R: Source>(
     let count = reader.get(room)?;
     input.extend_from_slice(&room[..count])?;
     Ok(count)
+}
+
+/// All bytes of a file, if they are few enough.
+fn read_file<R: Source>(alloc: Global, file: &str, reader: &mut R) -> Result<Vec<u8>, SessionFault>
+    ensures input { IfOk result (λ input. IsInputOf (R.bytes_of reader.old file.now) input.items) }
+    ensures within { IfOk result (λ input. IsWithin input.items) }
+    ensures faults { IfErr result (λ fault. (input : List ℕ) × IsInputOf (R.bytes_of reader.old file.now) input × IsFileFault file.now input fault) }
+    ensures typed { R.typed reader.new ≡ R.typed reader.old }
+    ensures failures { R.failures reader.new ≡ line_reads_after result (R.failures reader.old) }
+{
+    let name = String::from_str(alloc, file)?;
+    if reader.open(file).is_err() {
+        return Err(SessionFault::CannotRead(name));
+    }
+    match read_input(alloc, reader) {
+        Err(SessionFault::ReadFailed) => Err(SessionFault::CannotRead(name)),
+        other => other,
+    }
+}
+
+/// The file that a word names: none, and standard input has the bytes, where there is no word or it
+/// is `-`.
+pub(crate) fn named_file<'a>(word: &OptionalWord<'a>) -> OptionalWord<'a>
+    ensures { result ≡ named.named_file word.now }
+{
+    let Some(name) = word.get() else {
+        return OptionalWord::new(None);
+    };
+    if name == "-" {
+        OptionalWord::new(None)
+    } else {
+        OptionalWord::new(Some(name))
+    }
+}
+
+/// All bytes of a file, or of the reader where none is named, if they are few enough.
+pub(crate) fn read_named<R: Source>(
+    alloc: Global,
+    file: &OptionalWord,
+    reader: &mut R,
+) -> Result<Vec<u8>, SessionFault>
+    ensures input { IfOk result (λ input. IsInputOf (named.known_of file.now (R.remaining reader.old) (R.bytes_of reader.old)) input.items) }
+    ensures within { IfOk result (λ input. IsWithin input.items) }
+    ensures faults { IfErr result (λ fault. (input : List ℕ) × IsInputOf (named.known_of file.now (R.remaining reader.old) (R.bytes_of reader.old)) input × named.IsInputFault file.now input fault) }
+    ensures typed { R.typed reader.new ≡ R.typed reader.old }
+    ensures failures { R.failures reader.new ≡ named.input_reads_after file.now result (R.failures reader.old) }
+{
+    match file.get() {
+        Some(name) => read_file(alloc, name, reader),
+        None => read_input(alloc, reader),
+    }
 }

@@ -2,6 +2,7 @@
 //! canonical text or the answers of a debugging session go out on a writer.
 #![tactic(auto)]
 
+mod begin;
 pub mod command_line;
 pub mod conversion;
 pub mod debug;
@@ -16,6 +17,7 @@ pub mod outcome;
 mod output;
 mod progress;
 mod prompt;
+mod rest;
 mod run;
 pub mod scenario_input;
 pub mod session;

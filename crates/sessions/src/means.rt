@@ -3,11 +3,9 @@
 use crate::subcommand::Wishes;
 use std::alloc::Global;
 
-/// What a session is done with, beside its reader and its writer.
+/// What all is done with that waits for nobody, beside its reader and its writer.
 #[derive(Drop)]
-pub(crate) struct Means<'m, H, G> {
-    /// Where threads are started.
-    pub rt: &'m H,
+pub(crate) struct Means<'m, G> {
     /// Where memory is taken.
     pub alloc: Global,
     /// Who is told of the workers.
@@ -16,14 +14,11 @@ pub(crate) struct Means<'m, H, G> {
     pub wishes: Wishes,
 }
 
-impl<'m, H, G> Means<'m, H, G> {
-    /// These, and nothing is wished.
-    pub(crate) fn plain(rt: &'m H, alloc: Global, gate: &'m G) -> Means<'m, H, G> {
-        Means {
-            rt,
-            alloc,
-            gate,
-            wishes: Wishes::NONE,
-        }
-    }
+/// What is done with several workers, or by commands, is done with.
+#[derive(Drop)]
+pub(crate) struct Crew<'m, H, G> {
+    /// Where threads are started, and waited for.
+    pub rt: &'m H,
+    /// Who is told of the workers.
+    pub gate: &'m G,
 }

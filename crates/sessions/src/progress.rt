@@ -1,5 +1,5 @@
 //! How far a run is, by whole hundredths of its time.
-ghost use Rattle.std.specs.Prelude.{◌≤◌};
+ghost use Rattle.std.specs.Prelude.{◌≡◌, ◌≤◌};
 
 use crate::notes::{HowFar, Notes};
 use sim_time::Time;
@@ -11,7 +11,7 @@ pub(crate) const WHOLE: u64 = 100;
 #[derive(Drop)]
 pub(crate) struct Progress {
     /// The run's end, in nanoseconds.
-    end: Time,
+    pub end: Time,
     /// From this moment on there is more to tell; the last that there is where nothing is told.
     next: Time,
     /// Whether anything is told.
@@ -27,13 +27,20 @@ pub(crate) fn hundredths(end: Time, percent: u64) -> Time
 
 impl Progress {
     /// Of a run that ends by a moment, which is told where that is wanted.
-    pub(crate) fn new(wanted: bool, end: Time) -> Progress {
+    pub(crate) fn new(wanted: bool, end: Time) -> Progress
+        ensures { result.end ≡ end }
+    {
         let next = if wanted {
             hundredths(end, 1)
         } else {
             Time::MAX
         };
         Progress { end, next, wanted }
+    }
+
+    /// The hundredth of the run's time at which it is first told: all of it, where nothing is.
+    pub(crate) fn first(&self) -> u64 {
+        if self.wanted { 1 } else { WHOLE }
     }
 
     /// An event at a moment is done, the last of so many.

@@ -1,21 +1,25 @@
 //! A debugging session at a prompt: the scenario is a file's, and commands are typed, one a line.
-ghost use Rattle.std.specs.Prelude.{◌≡◌, ◌<◌, ◌≤◌, ℕ, List, length, IfOk, IfErr, OnOk, OnErr};
+ghost use Rattle.std.specs.Prelude.{◌≡◌, ◌<◌, ◌≤◌, length, IfOk, OnOk, OnErr, None};
 ghost use Rattle.std.specs.Io.KnownBytes.{Appends};
+ghost use Rattle.table_run.specs.State.{opening};
+ghost use Rattle.debugger.specs.Debugging.{opened};
 ghost use Rattle.debug_session.specs.Prompt.{at_prompt, put_out};
+ghost use Rattle.debug_session.specs.Sessions.{limits_of};
 ghost use Rattle.sessions.specs.Ended.{writes_after, reads_after};
-ghost use Rattle.sessions.specs.Prompt.{IsFileFault, IsOverScenario, IsPromptOn, IsPromptOver, IsTypedSession, line_reads_after};
+ghost use Rattle.sessions.specs.Prompt.{IsTypedSession};
+ghost use Rattle.sessions.specs.Rest.{Begins, IsPromptDone, WasTyped};
 ghost use Rattle.sessions.specs.Session.{IsWithin};
-ghost use Rattle.sessions.specs.Streams.{streams_of, IsInputOf};
+ghost use Rattle.sessions.specs.Streams.{Streams, streams_of};
 ghost use Rattle.sessions.specs.Turns.{IsTurn};
 ghost use Rattle.sessions.specs.Written.{Writes, IsBeginningOf};
 ghost use Rattle.window_engine.specs.Failures.{failures_after};
 
 use crate::fault::SessionFault;
 use crate::groups::groups_for;
-use crate::input::read_input;
-use crate::means::Means;
+use crate::means::Crew;
 use crate::notes::Notes;
 use crate::output::put_all;
+use crate::rest::Rest;
 use crate::scenario_input::read_scenario;
 use crate::sharing::Sharing;
 use crate::source::Source;
@@ -54,7 +58,7 @@ fn put_answer<W: Sink, N: Notes>(said: &Said, writer: &mut W, notes: &mut N) -> 
 
 /// Asks for a line, and answers it.
 fn take_turn<R: Source, W: Sink, G: Gate, H: Threads + Wait + Sync, N: Notes>(
-    means: &Means<H, G>,
+    crew: &Crew<H, G>,
     limits: Limits,
     dialogue: &mut Dialogue,
     room: &mut [u8],
@@ -78,7 +82,7 @@ fn take_turn<R: Source, W: Sink, G: Gate, H: Threads + Wait + Sync, N: Notes>(
     if is_quit(line) {
         return Ok(Turn::Quit);
     }
-    answer_typed(means.rt, means.gate, dialogue, limits, line, said);
+    answer_typed(crew.rt, crew.gate, dialogue, limits, line, said);
     put_answer(said, writer, notes)?;
     Ok(Turn::Answered)
 }
@@ -86,7 +90,7 @@ fn take_turn<R: Source, W: Sink, G: Gate, H: Threads + Wait + Sync, N: Notes>(
 /// Answers the lines that are typed, each before the next one is asked for.
 #[tactic(none)]
 fn answer_lines<R: Source, W: Sink, G: Gate, H: Threads + Wait + Sync, N: Notes>(
-    means: &Means<H, G>,
+    crew: &Crew<H, G>,
     limits: Limits,
     dialogue: &mut Dialogue,
     room: &mut [u8],
@@ -100,14 +104,27 @@ fn answer_lines<R: Source, W: Sink, G: Gate, H: Threads + Wait + Sync, N: Notes>
     ensures reads { R.failures reader.new ≡ reads_after result (R.failures reader.old) }
     ensures writes { W.failures writer.new ≡ writes_after result (W.failures writer.old) }
 {
-    for _ in means.rt.forever() {
-        match take_turn(means, limits, dialogue, room, said, reader, writer, notes)? {
+    for _ in crew.rt.forever() {
+        match take_turn(crew, limits, dialogue, room, said, reader, writer, notes)? {
             Turn::Answered => {}
             Turn::Quit => return Ok(()),
             Turn::NoLine => return Ok(()),
         }
     }
     unreachable!()
+}
+
+/// A prompt, over the scenario that it was opened for.
+#[derive(Drop)]
+pub(crate) struct Prompt {
+    /// Room for a line, and for one byte more than it may have.
+    pub room: Vec<u8>,
+    /// Who is asked, and what was asked for last.
+    pub dialogue: Dialogue,
+    /// The scenario's limits.
+    pub limits: Limits,
+    /// The answer to a line.
+    pub said: Said,
 }
 
 /// Room for a line, and for one byte more than it may have.
@@ -117,93 +134,69 @@ fn room_for_line(alloc: Global) -> Result<Vec<u8>, AllocError>
     vec![in alloc; 0; MOST_LINE + 1]
 }
 
-/// Answers the lines that are typed, over a scenario.
-fn debug_scenario<R: Source, W: Sink, G: Gate, H: Threads + Wait + Sync, N: Notes>(
-    means: &Means<H, G>,
+/// Opens a prompt over a scenario.
+fn open_prompt(
+    alloc: Global,
     workers: usize,
     scenario: &Scenario,
     partition: Partition,
+) -> Result<Prompt, AllocError>
+    requires partition { length partition ≡ length scenario.now.nodes }
+    requires workers { (0 < workers) × (workers ≤ 64) }
+    ensures room { IfOk result (λ prompt. 65536 < length prompt.room.items) }
+    ensures debugger { IfOk result (λ prompt. prompt.dialogue.debugger ≡ opened (opening scenario.now)) }
+    ensures last { IfOk result (λ prompt. prompt.dialogue.last ≡ None) }
+    ensures limits { IfOk result (λ prompt. prompt.limits ≡ limits_of scenario.now) }
+{
+    let room = room_for_line(alloc)?;
+    let debugger = Debugger::new(alloc, scenario, partition, workers)?;
+    Ok(Prompt {
+        room,
+        dialogue: Dialogue::new(debugger),
+        limits: Limits::of(scenario),
+        said: Said::new(alloc),
+    })
+}
+
+/// Begins a debugging session at a prompt over an input, where this has a scenario whose nodes are
+/// in the groups: the lines that are typed are left.
+pub(crate) fn begin_prompt(
+    alloc: Global,
+    sharing: &Sharing,
+    input: &[u8],
+) -> Result<Rest, SessionFault>
+    requires { IsWithin input.now }
+    ensures { (now : Streams) → Begins (IsPromptDone sharing.now.groups input.now now) result now }
+{
+    let scenario = read_scenario(alloc, input)?;
+    let partition = groups_for(alloc, sharing, &scenario)?;
+    let prompt = open_prompt(alloc, sharing.workers(), &scenario, partition)?;
+    drop(scenario);
+    Ok(Rest::Typed(prompt))
+}
+
+/// Answers the lines that are typed at a prompt.
+pub(crate) fn answer_prompt<R: Source, W: Sink, G: Gate, H: Threads + Wait + Sync, N: Notes>(
+    crew: &Crew<H, G>,
+    prompt: Prompt,
     reader: &mut R,
     writer: &mut W,
     notes: &mut N,
 ) -> Result<(), SessionFault>
-    requires partition { length partition ≡ length scenario.now.nodes }
-    requires workers { (0 < workers) × (workers ≤ 64) }
-    ensures session { let seen = streams_of R.failures R.typed W.failures W.contents in IsOverScenario scenario.now result (seen reader.old writer.old) (seen reader.new writer.new) }
-    ensures reads { R.failures reader.new ≡ reads_after result (R.failures reader.old) }
-    ensures writes { W.failures writer.new ≡ writes_after result (W.failures writer.old) }
+    requires room { 65536 < length prompt.room.items }
+    ensures { let seen = streams_of R.failures R.typed W.failures W.contents in WasTyped prompt result (seen reader.old writer.old) (seen reader.new writer.new) }
 {
-    let mut room = room_for_line(means.alloc)?;
-    let debugger = Debugger::new(means.alloc, scenario, partition, workers)?;
-    let mut dialogue = Dialogue::new(debugger);
-    let limits = Limits::of(scenario);
-    let mut said = Said::new(means.alloc);
+    let mut prompt = prompt;
     let ended = answer_lines(
-        means,
-        limits,
-        &mut dialogue,
-        room.as_mut_slice(),
-        &mut said,
+        crew,
+        prompt.limits,
+        &mut prompt.dialogue,
+        prompt.room.as_mut_slice(),
+        &mut prompt.said,
         reader,
         writer,
         notes,
     );
-    drop(dialogue);
-    drop(said);
+    drop(prompt);
     ended
-}
-
-/// Answers the lines that are typed, where the input has a scenario whose nodes are in the groups.
-fn debug_input<R: Source, W: Sink, G: Gate, H: Threads + Wait + Sync, N: Notes>(
-    means: &Means<H, G>,
-    sharing: &Sharing,
-    input: &[u8],
-    reader: &mut R,
-    writer: &mut W,
-    notes: &mut N,
-) -> Result<(), SessionFault>
-    requires { IsWithin input.now }
-    ensures session { let seen = streams_of R.failures R.typed W.failures W.contents in IsPromptOver sharing.now.groups input.now result (seen reader.old writer.old) (seen reader.new writer.new) }
-    ensures reads { R.failures reader.new ≡ reads_after result (R.failures reader.old) }
-    ensures writes { W.failures writer.new ≡ writes_after result (W.failures writer.old) }
-{
-    let scenario = read_scenario(means.alloc, input)?;
-    let partition = groups_for(means.alloc, sharing, &scenario)?;
-    let workers = sharing.workers();
-    let ended = debug_scenario(means, workers, &scenario, partition, reader, writer, notes);
-    drop(scenario);
-    ended
-}
-
-/// All bytes of a file, if they are few enough.
-fn read_file<R: Source>(alloc: Global, file: &str, reader: &mut R) -> Result<Vec<u8>, SessionFault>
-    ensures input { IfOk result (λ input. IsInputOf (R.bytes_of reader.old file.now) input.items) }
-    ensures within { IfOk result (λ input. IsWithin input.items) }
-    ensures faults { IfErr result (λ fault. (input : List ℕ) × IsInputOf (R.bytes_of reader.old file.now) input × IsFileFault file.now input fault) }
-    ensures typed { R.typed reader.new ≡ R.typed reader.old }
-    ensures failures { R.failures reader.new ≡ line_reads_after result (R.failures reader.old) }
-{
-    let name = String::from_str(alloc, file)?;
-    if reader.open(file).is_err() {
-        return Err(SessionFault::CannotRead(name));
-    }
-    match read_input(alloc, reader) {
-        Err(SessionFault::ReadFailed) => Err(SessionFault::CannotRead(name)),
-        other => other,
-    }
-}
-
-/// A debugging session at a prompt: answers the lines that are typed, over the scenario of a file.
-pub(crate) fn answer_prompt<R: Source, W: Sink, G: Gate, H: Threads + Wait + Sync, N: Notes>(
-    means: &Means<H, G>,
-    sharing: &Sharing,
-    file: &str,
-    reader: &mut R,
-    writer: &mut W,
-    notes: &mut N,
-) -> Result<(), SessionFault>
-    ensures { let seen = streams_of R.failures R.typed W.failures W.contents in IsPromptOn sharing.now.groups file.now (R.bytes_of reader.old file.now) result (seen reader.old writer.old) (seen reader.new writer.new) }
-{
-    let input = read_file(means.alloc, file, reader)?;
-    debug_input(means, sharing, input.as_slice(), reader, writer, notes)
 }

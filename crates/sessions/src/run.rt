@@ -3,19 +3,19 @@ ghost use Rattle.std.specs.Prelude.{◌≡◌, length, IfErr, IfOk};
 ghost use Rattle.sessions.specs.Ended.{writes_after};
 ghost use Rattle.sessions.specs.Nodes.{HasGroups, LacksGroups};
 ghost use Rattle.sessions.specs.Output.{IsSharedOutput};
+ghost use Rattle.sessions.specs.Rest.{BeginsRun};
 ghost use Rattle.sessions.specs.Written.{Writes};
 
 use crate::fault::SessionFault;
 use crate::groups::groups_for;
 use crate::means::Means;
 use crate::notes::Notes;
+use crate::rest::no_run_left;
 use crate::sharing::Sharing;
 use crate::trace::run_scenario;
 use crate::why::why_groups;
-use crate::workers::run_by_workers;
+use crate::workers::{WindowRun, open_run, run_alone};
 use scenario_image::Scenario;
-use std::sync::Wait;
-use std::thread::Threads;
 use window_core::Partition;
 use window_engine::{Gate, Sink};
 
@@ -31,8 +31,8 @@ fn is_parted(partition: &Partition) -> bool {
 
 /// The groups in which the nodes of a scenario are. Tells why they are refused, where that is wished
 /// and there is memory to say it.
-fn told_groups<G: Gate, H: Threads + Wait + Sync, N: Notes>(
-    means: &Means<H, G>,
+fn told_groups<G: Gate, N: Notes>(
+    means: &Means<G>,
     sharing: &Sharing,
     scenario: &Scenario,
     notes: &mut N,
@@ -52,22 +52,26 @@ fn told_groups<G: Gate, H: Threads + Wait + Sync, N: Notes>(
 }
 
 /// Runs a scenario to its end, and writes its trace: one event at a time where all nodes are in one
-/// group, and else by workers.
-pub(crate) fn run_shared<W: Sink, G: Gate, H: Threads + Wait + Sync, N: Notes>(
-    means: &Means<H, G>,
+/// group, and else by windows. A run by several workers is left.
+pub(crate) fn begin_run<W: Sink, G: Gate, N: Notes>(
+    means: &Means<G>,
     sharing: Sharing,
     scenario: &Scenario,
     writer: &mut W,
     notes: &mut N,
-) -> Result<(), SessionFault>
-    ensures output { Writes (IsSharedOutput sharing.entry.groups scenario.now result) (W.contents writer.old) (W.contents writer.new) }
+) -> Result<Option<WindowRun>, SessionFault>
+    ensures output { BeginsRun (λ ended after. Writes (IsSharedOutput sharing.entry.groups scenario.now ended) (W.contents writer.old) after) result (W.contents writer.new) }
     ensures failures { W.failures writer.new ≡ writes_after result (W.failures writer.old) }
 {
     let partition = told_groups(means, &sharing, scenario, notes)?;
-    if is_parted(&partition) {
-        let workers = sharing.workers();
-        run_by_workers(means, workers, scenario, partition, writer, notes)
+    if !is_parted(&partition) {
+        return no_run_left(run_scenario(means.alloc, means.wishes, scenario, writer, notes));
+    }
+    let workers = sharing.workers();
+    let run = open_run(means, workers, scenario, partition)?;
+    if workers == 1 {
+        no_run_left(run_alone(means, run, writer, notes))
     } else {
-        run_scenario(means.alloc, means.wishes, scenario, writer, notes)
+        Ok(Some(run))
     }
 }

@@ -1,59 +1,92 @@
-//! A scenario's run by workers, written as its trace.
-ghost use Rattle.std.specs.Prelude.{◌≡◌, ◌<◌, ◌≤◌, length, is_err, IfErr, IfOk};
-ghost use Rattle.table_run.specs.State.{opening};
+//! A scenario's run by windows, written as its trace.
+ghost use Rattle.std.specs.Prelude.{◌≡◌, ◌<◌, ◌≤◌, ℕ, List, length, Option, is_err, IfErr, IfOk};
+ghost use Rattle.table_run.specs.State.{State, opening};
+ghost use Rattle.trace_text.specs.End.{end_bytes};
 ghost use Rattle.window_core.specs.Full.{HasTooMany};
 ghost use Rattle.window_engine.specs.Engines.{IsStop, sink_failures};
-ghost use Rattle.sessions.specs.Worked.{RunsTo};
 ghost use Rattle.sessions.specs.Ended.{IsRunOutput, writes_after};
+ghost use Rattle.sessions.specs.Output.{IsAllOrNothing};
+ghost use Rattle.sessions.specs.Rest.{IsAtStart};
+ghost use Rattle.sessions.specs.Worked.{RunsTo, HasRun, EndsRun};
 ghost use Rattle.sessions.specs.Written.{Writes};
 
 use crate::fault::SessionFault;
-use crate::means::Means;
+use crate::means::{Crew, Means};
 use crate::notes::Notes;
 use crate::output::put_all;
 use crate::progress::{Progress, WHOLE, hundredths};
 use scenario_image::Scenario;
-use sim_time::Time;
+use std::alloc::{AllocError, Global};
 use std::sync::Wait;
 use std::thread::Threads;
 use trace_text::end_text;
 use window_core::Partition;
 use window_engine::{Engine, EngineFault, Gate, Sink, Stop};
 
-/// Runs an engine to a moment, from one hundredth of it to the next, and tells how far it is.
-fn run_told<W: Sink, G: Gate, H: Threads + Wait + Sync, N: Notes>(
-    means: &Means<H, G>,
+/// A run by windows.
+#[derive(Drop)]
+pub(crate) struct WindowRun {
+    /// The engine, which goes from window to window.
+    pub engine: Engine,
+    /// How many workers run the groups.
+    pub workers: usize,
+    /// By which moment it ends, and whether it is told how far it is.
+    pub progress: Progress,
+}
+
+/// A scenario's run by windows, from its beginning.
+pub(crate) fn open_run<G: Gate>(
+    means: &Means<G>,
     workers: usize,
-    end: Time,
+    scenario: &Scenario,
+    partition: Partition,
+) -> Result<WindowRun, AllocError>
+    requires nodes { length partition ≡ length scenario.now.nodes }
+    requires workers { (0 < workers) × (workers ≤ 64) }
+    ensures start { IfOk result IsAtStart }
+    ensures state { IfOk result (λ run. run.engine.net.state ≡ opening scenario.now) }
+{
+    let engine = Engine::new(means.alloc, scenario, partition)?;
+    let progress = Progress::new(means.wishes.progress, scenario.parts().end);
+    Ok(WindowRun {
+        engine,
+        workers,
+        progress,
+    })
+}
+
+/// Runs an engine to a moment on the calling thread, from one hundredth of it to the next where it
+/// is told how far it is.
+fn run_in_turn<W: Sink, G: Gate, N: Notes>(
+    gate: &G,
+    progress: &Progress,
     engine: &mut Engine,
     writer: &mut W,
     notes: &mut N,
 ) -> Result<Stop, EngineFault>
     requires first { engine.old.net.position ≡ 0 }
-    requires workers { (0 < workers) × (workers ≤ 64) }
     ensures runs { RunsTo engine.old.net.state result engine.new.net (W.contents writer.old) (W.contents writer.new) }
-    ensures stop { IfOk result (IsStop end engine.new.net.state) }
+    ensures stop { IfOk result (IsStop progress.now.end engine.new.net.state) }
     ensures full { IfErr result (λ fault. fault ≡ EngineFault.CountFull → HasTooMany engine.old.net) }
     ensures failed { engine.new.failed ≡ is_err result }
     ensures failures { W.failures writer.new ≡ sink_failures result (W.failures writer.old) }
 {
-    let progress = Progress::new(true, end);
-    for percent in 1..WHOLE {
-        let moment = hundredths(end, percent);
-        let stop = engine.run(means.rt, workers, means.gate, moment, writer)?;
+    for percent in progress.first()..WHOLE {
+        let moment = hundredths(progress.end, percent);
+        let stop = engine.run_alone(gate, moment, writer)?;
         let events = engine.position();
         if stop == Stop::Until {
             progress.say(percent, events, notes);
         }
     }
-    engine.run(means.rt, workers, means.gate, end, writer)
+    engine.run_alone(gate, progress.end, writer)
 }
 
-/// Runs an engine to a moment, and tells how far it is where that is wished.
-fn run_engine<W: Sink, G: Gate, H: Threads + Wait + Sync, N: Notes>(
-    means: &Means<H, G>,
+/// The same by several workers, for which it may wait.
+pub(crate) fn run_by_workers<W: Sink, G: Gate, H: Threads + Wait + Sync, N: Notes>(
+    crew: &Crew<H, G>,
     workers: usize,
-    end: Time,
+    progress: &Progress,
     engine: &mut Engine,
     writer: &mut W,
     notes: &mut N,
@@ -61,58 +94,80 @@ fn run_engine<W: Sink, G: Gate, H: Threads + Wait + Sync, N: Notes>(
     requires first { engine.old.net.position ≡ 0 }
     requires workers { (0 < workers) × (workers ≤ 64) }
     ensures runs { RunsTo engine.old.net.state result engine.new.net (W.contents writer.old) (W.contents writer.new) }
-    ensures stop { IfOk result (IsStop end engine.new.net.state) }
+    ensures stop { IfOk result (IsStop progress.now.end engine.new.net.state) }
     ensures full { IfErr result (λ fault. fault ≡ EngineFault.CountFull → HasTooMany engine.old.net) }
     ensures failed { engine.new.failed ≡ is_err result }
     ensures failures { W.failures writer.new ≡ sink_failures result (W.failures writer.old) }
 {
-    if means.wishes.progress {
-        run_told(means, workers, end, engine, writer, notes)
-    } else {
-        engine.run(means.rt, workers, means.gate, end, writer)
+    for percent in progress.first()..WHOLE {
+        let moment = hundredths(progress.end, percent);
+        let stop = engine.run(crew.rt, workers, crew.gate, moment, writer)?;
+        let events = engine.position();
+        if stop == Stop::Until {
+            progress.say(percent, events, notes);
+        }
     }
+    engine.run(crew.rt, workers, crew.gate, progress.end, writer)
 }
 
-/// Runs an engine that stands at a scenario's beginning to the run's end, and writes its trace.
-fn write_run<W: Sink, G: Gate, H: Threads + Wait + Sync, N: Notes>(
-    means: &Means<H, G>,
-    workers: usize,
-    scenario: &Scenario,
-    engine: &mut Engine,
-    writer: &mut W,
-    notes: &mut N,
-) -> Result<(), SessionFault>
-    requires opened { engine.old.net ≡ record { state = opening scenario.now; position = 0 } }
-    requires workers { (0 < workers) × (workers ≤ 64) }
-    ensures output { Writes (IsRunOutput (opening scenario.now) result) (W.contents writer.old) (W.contents writer.new) }
+/// Writes the last line of a run of so many events.
+fn put_end<W: Sink>(alloc: Global, events: u64, writer: &mut W) -> Result<(), SessionFault>
+    ensures output { Writes (IsAllOrNothing (end_bytes events) result) (W.contents writer.old) (W.contents writer.new) }
     ensures failures { W.failures writer.new ≡ writes_after result (W.failures writer.old) }
 {
-    run_engine(means, workers, scenario.parts().end, engine, writer, notes)?;
-    let mut last = Vec::new(means.alloc);
-    end_text(engine.position(), &mut last)?;
+    let mut last = Vec::new(alloc);
+    end_text(events, &mut last)?;
     put_all(writer, last.as_slice())?;
     Ok(())
 }
 
-/// Runs a scenario to its end by workers, writes its trace, and tells how far it is where that is
-/// wished. Whatever ends it sooner does so after whole lines, unless it is the writer.
-pub(crate) fn run_by_workers<W: Sink, G: Gate, H: Threads + Wait + Sync, N: Notes>(
-    means: &Means<H, G>,
-    workers: usize,
-    scenario: &Scenario,
-    partition: Partition,
+/// Writes the last line of a run that came to this, where it came to its end.
+fn write_end<W: Sink>(
+    alloc: Global,
+    ran: Result<Stop, EngineFault>,
+    events: u64,
+    writer: &mut W,
+) -> Result<(), SessionFault>
+    ensures ends { EndsRun ran events result (W.contents writer.old) (W.contents writer.new) }
+    ensures failures { (n : ℕ) → W.failures writer.old ≡ sink_failures ran n → W.failures writer.new ≡ writes_after result n }
+{
+    match ran {
+        Ok(_stop) => put_end(alloc, events, writer),
+        Err(fault) => Err(SessionFault::from(fault)),
+    }
+}
+
+/// Ends a run by windows that came to this: writes its last line, and tells that it has ended where
+/// that is wished. Whatever ends it sooner does so after whole lines, unless it is the writer.
+pub(crate) fn end_run<W: Sink, N: Notes>(
+    alloc: Global,
+    ran: Result<Stop, EngineFault>,
+    run: WindowRun,
     writer: &mut W,
     notes: &mut N,
 ) -> Result<(), SessionFault>
-    requires nodes { length partition ≡ length scenario.now.nodes }
-    requires workers { (0 < workers) × (workers ≤ 64) }
-    ensures output { Writes (IsRunOutput (opening scenario.now) result) (W.contents writer.old) (W.contents writer.new) }
+    ensures output { (s : State) (before : Option (List ℕ)) → HasRun s run.progress.end ran run.engine before (W.contents writer.old) → Writes (IsRunOutput s result) before (W.contents writer.new) }
+    ensures failures { (n : ℕ) → W.failures writer.old ≡ sink_failures ran n → W.failures writer.new ≡ writes_after result n }
+{
+    let events = run.engine.position();
+    let ended = write_end(alloc, ran, events, writer);
+    run.progress.ends(ended.is_ok(), events, notes);
+    drop(run);
+    ended
+}
+
+/// Runs a scenario by windows to its end on the calling thread, and writes its trace.
+pub(crate) fn run_alone<W: Sink, G: Gate, N: Notes>(
+    means: &Means<G>,
+    run: WindowRun,
+    writer: &mut W,
+    notes: &mut N,
+) -> Result<(), SessionFault>
+    requires { IsAtStart run }
+    ensures output { Writes (IsRunOutput run.engine.net.state result) (W.contents writer.old) (W.contents writer.new) }
     ensures failures { W.failures writer.new ≡ writes_after result (W.failures writer.old) }
 {
-    let mut engine = Engine::new(means.alloc, scenario, partition)?;
-    let ended = write_run(means, workers, scenario, &mut engine, writer, notes);
-    let progress = Progress::new(means.wishes.progress, scenario.parts().end);
-    progress.ends(ended.is_ok(), engine.position(), notes);
-    drop(engine);
-    ended
+    let mut run = run;
+    let ran = run_in_turn(means.gate, &run.progress, &mut run.engine, writer, notes);
+    end_run(means.alloc, ran, run, writer, notes)
 }

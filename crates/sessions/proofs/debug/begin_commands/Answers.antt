@@ -1,0 +1,56 @@
+use Rattle.std.proofs.Common.{◌≡◌, ◌∙◌, Result, Err, refl, sym, subst, ap, rules}
+use Rattle.debug_session.specs.Input.{text_lines, command_lines}
+use Rattle.sessions.specs.declared.fault.SessionFault.{SessionFault}
+use Rattle.sessions.specs.declared.rest.Rest.{Rest}
+use Rattle.sessions.specs.Debug.{IsDebugSession}
+use Rattle.sessions.specs.Rest.{Begins, IsDone}
+use Rattle.sessions.proofs.DebugEnds.{groups_no_failure, no_failure, not_grouped, text_refused}
+use Rattle.sessions.proofs.Rests.{commands_end}
+use Rattle.sessions.proofs.debug.begin_commands.Goals as goal
+
+pub returns-in_err-scenario : goal.returns-in_err-scenario
+returns-in_err-scenario c now =
+    let fault = c.in_err-scenario.field-0.0 in
+    let groups = c.args.sharing.now.groups in
+    let input = c.args.input.items in
+    let text = c.split.result.0.now in
+    let is : c.from_residual.result ≡ Err fault = search rules in
+    let same : c.as_slice.result.now ≡ input = search rules in
+    let free = no_failure text fault c.read_text.result c.in_err-scenario.was c.read_text.ensures in
+    subst (λ (r : Result Rest SessionFault). Begins (IsDone (IsDebugSession groups input) now) r now) (sym is)
+    (record {
+      session = text_refused groups input text fault c.read_text.result now.written (c.split.ensures.text ∙ ap text_lines same) c.requires c.in_err-scenario.was c.read_text.ensures;
+      no_read = free.1;
+      reads = refl;
+      writes = free.0 now.write_failures;
+    })
+
+pub returns-in_err-partition : goal.returns-in_err-partition
+returns-in_err-partition c now =
+    let fault = c.in_err-partition.field-0.0 in
+    let groups = c.args.sharing.now.groups in
+    let input = c.args.input.items in
+    let p = c.in_ok-scenario.scenario in
+    let is : c.from_residual-in_err-partition.result ≡ Err fault = search rules in
+    let same : c.as_slice.result.now ≡ input = search rules in
+    let free = groups_no_failure groups p fault c.in_err-partition.ensures.faults in
+    subst (λ (r : Result Rest SessionFault). Begins (IsDone (IsDebugSession groups input) now) r now) (sym is)
+    (record {
+      session = not_grouped groups input c.split.result.0.now c.split.result.1.now p c.read_text.result now.written now.written (c.split.ensures.text ∙ ap text_lines same) (c.split.ensures.commands ∙ ap command_lines same) c.requires
+          c.in_ok-scenario.was c.read_text.ensures c.in_ok-scenario.ensures.scenario fault c.in_err-partition.ensures.faults;
+      no_read = free.1;
+      reads = refl;
+      writes = free.0 now.write_failures;
+    })
+
+pub returns : goal.returns
+returns c now =
+    let groups = c.args.sharing.now.groups in
+    let input = c.args.input.items in
+    let p = c.in_ok-scenario.scenario in
+    let same : c.as_slice.result.now ≡ input = search rules in (
+      record { nodes = c.in_ok-partition.ensures.nodes; some = c.workers-workers.ensures.few.0; few = c.workers-workers.ensures.few.1 },
+      λ ended after left.
+          commands_end groups input c.split.result.0.now c.split.result.1.now p c.read_text.result now after (c.split.ensures.text ∙ ap text_lines same) (c.split.ensures.commands ∙ ap command_lines same) c.requires c.in_ok-scenario.was
+          c.read_text.ensures c.in_ok-scenario.ensures.scenario c.in_ok-partition.ensures.named ended left,
+    )

@@ -1,0 +1,59 @@
+use Rattle.std.proofs.Common.{◌≡◌, List, ℕ, Option, Result, Ok, Err, refl, sym, subst, rules}
+use Rattle.table_run.specs.State.{State}
+use Rattle.sessions.specs.declared.fault.SessionFault.{SessionFault}
+use Rattle.sessions.specs.declared.fault.SessionFault.TheVariants.{NoMemory}
+use Rattle.sessions.specs.declared.workers.WindowRun.{WindowRun}
+use Rattle.sessions.specs.Ended.{Ended, IsRunOutput}
+use Rattle.sessions.specs.Output.{IsSharedOutput}
+use Rattle.sessions.specs.Rest.{BeginsRun}
+use Rattle.sessions.specs.Written.{Writes}
+use Rattle.sessions.proofs.Rests.{ended_run, ended_writes}
+use Rattle.sessions.proofs.Shared.{not_shared, ran_shared}
+use Rattle.window_engine.proofs.Bytes.{appends_nothing}
+use Rattle.sessions.proofs.run.begin_run.Goals as goal
+
+pub returns-in_err-partition-clause-output : goal.returns-in_err-partition-clause-output
+returns-in_err-partition-clause-output g c =
+    let fault = c.in_err-partition.field-0.0 in
+    let known = g.W.Sink.contents c.args.writer.now in
+    let is : c.from_residual.result ≡ Err fault = search rules in
+    let P : Ended → Option (List ℕ) → Type 0 = λ ended after. Writes (IsSharedOutput c.args.sharing.groups c.args.scenario.now ended) known after in
+    subst (λ (b : Result (Option WindowRun) SessionFault). BeginsRun P b known) (sym is) (not_shared c.args.sharing.groups c.args.scenario.now fault known c.in_err-partition.ensures.faults)
+
+pub returns-then-not-is_parted-clause-output : goal.returns-then-not-is_parted-clause-output
+returns-then-not-is_parted-clause-output g c =
+    let old = g.W.Sink.contents c.args.writer.now in
+    let new = g.W.Sink.contents c.run_scenario.new.writer in
+    ended_run (λ ended after. Writes (IsSharedOutput c.args.sharing.groups c.args.scenario.now ended) old after) c.run_scenario.result c.no_run_left.result new c.no_run_left.ensures
+    (ran_shared c.args.sharing.groups c.args.scenario.now c.run_scenario.result old new c.in_ok-partition.ensures.named c.run_scenario.ensures.output)
+
+pub returns-then-not-is_parted-clause-failures : goal.returns-then-not-is_parted-clause-failures
+returns-then-not-is_parted-clause-failures g c =
+    ended_writes c.run_scenario.result c.no_run_left.result (g.W.Sink.failures c.args.writer.now) (g.W.Sink.failures c.run_scenario.new.writer) c.no_run_left.ensures c.run_scenario.ensures.failures
+
+pub returns-in_err-run-clause-output : goal.returns-in_err-run-clause-output
+returns-in_err-run-clause-output g c =
+    let known = g.W.Sink.contents c.args.writer.now in
+    let is : c.from_residual-in_err-run.result ≡ Err NoMemory = search rules in
+    let P : Ended → Option (List ℕ) → Type 0 = λ ended after. Writes (IsSharedOutput c.args.sharing.groups c.args.scenario.now ended) known after in
+    subst (λ (b : Result (Option WindowRun) SessionFault). BeginsRun P b known) (sym is) (not_shared c.args.sharing.groups c.args.scenario.now NoMemory known tt)
+
+pub returns-then-workers-eq1-clause-output : goal.returns-then-workers-eq1-clause-output
+returns-then-workers-eq1-clause-output g c =
+    let old = g.W.Sink.contents c.args.writer.now in
+    let new = g.W.Sink.contents c.run_alone.new.writer in
+    let made = subst (λ (s : State). Writes (IsRunOutput s c.run_alone.result) old new) c.in_ok-run.ensures.state c.run_alone.ensures.output in
+    ended_run (λ ended after. Writes (IsSharedOutput c.args.sharing.groups c.args.scenario.now ended) old after) c.run_alone.result c.no_run_left-then-workers-eq1.result new c.no_run_left-then-workers-eq1.ensures
+    (ran_shared c.args.sharing.groups c.args.scenario.now c.run_alone.result old new c.in_ok-partition.ensures.named made)
+
+pub returns-then-workers-eq1-clause-failures : goal.returns-then-workers-eq1-clause-failures
+returns-then-workers-eq1-clause-failures g c =
+    ended_writes c.run_alone.result c.no_run_left-then-workers-eq1.result (g.W.Sink.failures c.args.writer.now) (g.W.Sink.failures c.run_alone.new.writer) c.no_run_left-then-workers-eq1.ensures c.run_alone.ensures.failures
+
+pub returns-else-workers-eq1-clause-output : goal.returns-else-workers-eq1-clause-output
+returns-else-workers-eq1-clause-output g c =
+    let old = g.W.Sink.contents c.args.writer.now in (
+      c.in_ok-run.ensures.start,
+      λ ended after wrote.
+          ran_shared c.args.sharing.groups c.args.scenario.now ended old after c.in_ok-partition.ensures.named (subst (λ (s : State). Writes (IsRunOutput s ended) old after) c.in_ok-run.ensures.state wrote),
+    )

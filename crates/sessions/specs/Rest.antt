@@ -1,0 +1,123 @@
+-- What is left of a session once all of it is done that waits for nobody, and what the session comes to by what that comes to.
+use Rattle.std.specs.Prelude.{◌≡◌, ◌≢◌, ◌<◌, ◌≤◌, ℕ, List, length, Option, None, Some, Result, Ok, Err}
+use Rattle.scenario_image.specs.declared.parts.ScenarioParts.{ScenarioParts}
+use Rattle.debug_session.specs.Input.{command_lines}
+use Rattle.debug_session.specs.Prompt.{Typing, at_prompt}
+use Rattle.debug_session.specs.Sessions.{IsEnding as IsCommandsEnding}
+use Rattle.debug_session.specs.declared.session.SessionFault.TheVariants.{NoMemory as commands_NoMemory, OutputFailed}
+use Rattle.sessions.specs.declared.debug.Commands.{Commands}
+use Rattle.sessions.specs.declared.fault.SessionFault.{SessionFault}
+use Rattle.sessions.specs.declared.fault.SessionFault.TheVariants.{ReadFailed, WriteFailed, NoMemory}
+use Rattle.sessions.specs.declared.prompt.Prompt.{Prompt}
+use Rattle.sessions.specs.declared.rest.Rest.{Rest}
+use Rattle.sessions.specs.declared.rest.Rest.TheVariants.{Nothing, Shared, Listed, Typed}
+use Rattle.sessions.specs.declared.subcommand.Subcommand.{Subcommand}
+use Rattle.sessions.specs.declared.subcommand.Task.{Task}
+use Rattle.sessions.specs.declared.subcommand.Task.TheVariants.{Scenario, Debug}
+use Rattle.sessions.specs.declared.workers.WindowRun.{WindowRun}
+use Rattle.sessions.specs.Debug.{IsDebugSession}
+use Rattle.sessions.specs.Ended.{Ended, IsRunOutput, reads_after, writes_after}
+use Rattle.sessions.specs.Prompt.{IsPromptOver, IsTypedSession}
+use Rattle.sessions.specs.Session.{IsSession}
+use Rattle.sessions.specs.Streams.{Streams}
+use Rattle.sessions.specs.Written.{Writes}
+
+-- a run by windows stands at its beginning, is for 1 to 64 workers, and is told of up to its net's end
+pub record IsAtStart (run : WindowRun) : Type 0 where
+  pub first : run.engine.net.position ≡ 0
+  pub some : 0 < run.workers
+  pub few : run.workers ≤ 64
+  pub end_is : run.progress.end ≡ run.engine.net.state.end
+
+-- what was begun has ended so, or a run is left, and whatever end that has is an end of the whole
+abbrev pub BeginsRun : (Ended → Option (List ℕ) → Type 0) → Result (Option WindowRun) SessionFault → Option (List ℕ) → Type 0
+BeginsRun IsEnd (Err fault) now = IsEnd (Err fault) now
+BeginsRun IsEnd (Ok None) now = IsEnd (Ok tt) now
+BeginsRun IsEnd (Ok (Some run)) now =
+    IsAtStart run × ((ended : Ended) (after : Option (List ℕ)) → Writes (IsRunOutput run.engine.net.state ended) now after → IsEnd ended after)
+
+-- what ended so has no run left
+abbrev pub no_run_left : Ended → Result (Option WindowRun) SessionFault
+no_run_left (Ok done) = Ok None
+no_run_left (Err fault) = Err fault
+
+-- what the commands behind a text have put out where they ended so
+abbrev pub AreAnswered : ScenarioParts → List (List ℕ) → Ended → List ℕ → Type 0
+AreAnswered p lines (Ok done) out = IsCommandsEnding p lines (Ok tt) out
+AreAnswered p lines (Err NoMemory) out = IsCommandsEnding p lines (Err commands_NoMemory) out
+AreAnswered p lines (Err WriteFailed) out = IsCommandsEnding p lines (Err OutputFailed) out
+AreAnswered p lines _ out = ⊥
+
+-- what was left ended so and has written this, and the reader was left alone
+pub record HasWritten (IsMade : Ended → List ℕ → Type 0) (ended : Ended) (now after : Streams) : Type 0 where
+  pub output : Writes (IsMade ended) now.written after.written
+  pub reads : after.read_failures ≡ now.read_failures
+  pub writes : after.write_failures ≡ writes_after ended now.write_failures
+
+-- lines were typed, from where a prompt stands
+pub record WasTyped (prompt : Prompt) (ended : Ended) (now after : Streams) : Type 0 where
+  pub session : IsTypedSession prompt.limits prompt.dialogue.debugger.start (at_prompt prompt.dialogue) ended now after
+  pub reads : after.read_failures ≡ reads_after ended now.read_failures
+  pub writes : after.write_failures ≡ writes_after ended now.write_failures
+
+-- what is left ended so
+abbrev pub RestEnds : Rest → Ended → Streams → Streams → Type 0
+RestEnds Nothing ended now after = (ended ≡ Ok tt) × (after ≡ now)
+RestEnds (Shared run) ended now after = HasWritten (IsRunOutput run.engine.net.state) ended now after
+RestEnds (Listed commands) ended now after = HasWritten (AreAnswered commands.scenario (command_lines commands.input.items)) ended now after
+RestEnds (Typed prompt) ended now after = WasTyped prompt ended now after
+
+-- the commands' scenario has a group for each node, and 1 to 64 workers
+pub record AreReady (commands : Commands) : Type 0 where
+  pub nodes : length commands.partition ≡ length commands.scenario.nodes
+  pub some : 0 < commands.workers
+  pub few : commands.workers ≤ 64
+
+-- what is left can be gone on with
+abbrev pub IsReady : Rest → Type 0
+IsReady Nothing = Unit {0}
+IsReady (Shared run) = IsAtStart run
+IsReady (Listed commands) = AreReady commands
+IsReady (Typed prompt) = 65536 < length prompt.room.items
+
+-- what was begun has ended so, or something is left, and whatever end that has is an end of the whole
+abbrev pub Begins : (Ended → Streams → Type 0) → Result Rest SessionFault → Streams → Type 0
+Begins IsEnd (Err fault) now = IsEnd (Err fault) now
+Begins IsEnd (Ok rest) now = IsReady rest × ((ended : Ended) (after : Streams) → RestEnds rest ended now after → IsEnd ended after)
+
+-- what is left where a run may be
+abbrev pub rest_of : Result (Option WindowRun) SessionFault → Result Rest SessionFault
+rest_of (Ok None) = Ok Nothing
+rest_of (Ok (Some run)) = Ok (Shared run)
+rest_of (Err fault) = Err fault
+
+-- these streams, with a writer as it is then
+abbrev pub written_by : {W : Type 0} → (W → ℕ) → (W → Option (List ℕ)) → Streams → W → Streams
+written_by failures contents now writer = record { read_failures = now.read_failures; typed = now.typed; write_failures = failures writer; written = contents writer }
+
+-- a session on an input that was read, which reads no more
+abbrev pub IsReadSession : Subcommand → List ℕ → Option (List ℕ) → Ended → Option (List ℕ) → Type 0
+IsReadSession subcommand input old ended new = IsSession subcommand input ended old new × (ended ≢ Err ReadFailed)
+
+-- a session of this kind on an input that was read ended so: it read no more, and the writer failed just where it ended for that
+pub record IsDone (IsOn : Ended → Option (List ℕ) → Option (List ℕ) → Type 0) (now : Streams) (ended : Ended) (after : Streams) : Type 0 where
+  pub session : IsOn ended now.written after.written
+  pub no_read : ended ≢ Err ReadFailed
+  pub reads : after.read_failures ≡ now.read_failures
+  pub writes : after.write_failures ≡ writes_after ended now.write_failures
+
+-- a session at a prompt over an input that was read ended so
+pub record IsPromptDone (groups input : List ℕ) (now : Streams) (ended : Ended) (after : Streams) : Type 0 where
+  pub over : IsPromptOver groups input ended now after
+  pub reads : after.read_failures ≡ reads_after ended now.read_failures
+  pub writes : after.write_failures ≡ writes_after ended now.write_failures
+
+-- a debugging session on an input that was read, of the reader or of a file
+abbrev pub IsDebugWith : List ℕ → Option (List ℕ) → List ℕ → Streams → Ended → Streams → Type 0
+IsDebugWith groups None input now = IsDone (IsDebugSession groups input) now
+IsDebugWith groups (Some file) input now = IsPromptDone groups input now
+
+-- a task on an input that was read, of the reader or of a file
+abbrev pub IsTaskWith : Task → Option (List ℕ) → List ℕ → Streams → Ended → Streams → Type 0
+IsTaskWith (Scenario subcommand) file input now = IsDone (IsSession subcommand input) now
+IsTaskWith (Debug sharing) file input now = IsDebugWith sharing.groups file input now

@@ -1,0 +1,181 @@
+//! A session, as far as it waits for nobody: all of it, but for a run by several workers and for
+//! commands that are answered.
+ghost use Rattle.std.specs.Prelude.{◌≡◌};
+ghost use Rattle.sessions.specs.Asked.{IsAskedOn};
+ghost use Rattle.sessions.specs.Ended.{writes_after};
+ghost use Rattle.sessions.specs.Named.{IsOver};
+ghost use Rattle.sessions.specs.Output.{IsOutput};
+ghost use Rattle.sessions.specs.Rest.{Begins, BeginsRun, IsDebugWith, IsDone, IsReadSession, IsTaskWith, written_by};
+ghost use Rattle.sessions.specs.Session.{IsSession, IsWithin};
+ghost use Rattle.sessions.specs.Streams.{Streams, streams_of};
+ghost use Rattle.sessions.specs.Written.{Writes};
+
+use crate::conversion::{put_image, put_text};
+use crate::debug::begin_commands;
+use crate::explain::explain;
+use crate::fault::SessionFault;
+use crate::figures_table::put_figures;
+use crate::input::{named_file, read_named};
+use crate::means::Means;
+use crate::notes::Notes;
+use crate::prompt::begin_prompt;
+use crate::rest::{Rest, no_run_left, rest_of};
+use crate::run::begin_run;
+use crate::scenario_input::read_scenario;
+use crate::sharing::Sharing;
+use crate::source::Source;
+use crate::subcommand::{Asked, OptionalWord, Subcommand, Task};
+use crate::why::why;
+use crate::workers::WindowRun;
+use scenario_image::Scenario;
+use std::alloc::Global;
+use window_engine::{Gate, Sink};
+
+/// Writes what a subcommand makes of a scenario. A run by several workers is left.
+fn begin_output<W: Sink, G: Gate, N: Notes>(
+    means: &Means<G>,
+    subcommand: Subcommand,
+    scenario: &Scenario,
+    writer: &mut W,
+    notes: &mut N,
+) -> Result<Option<WindowRun>, SessionFault>
+    ensures output { BeginsRun (λ ended after. Writes (IsOutput subcommand.entry scenario.now ended) (W.contents writer.old) after) result (W.contents writer.new) }
+    ensures failures { W.failures writer.new ≡ writes_after result (W.failures writer.old) }
+{
+    match subcommand {
+        Subcommand::Asm => no_run_left(put_image(means.alloc, scenario, writer)),
+        Subcommand::Dis => no_run_left(put_text(means.alloc, scenario, writer)),
+        Subcommand::Run(sharing) => begin_run(means, sharing, scenario, writer, notes),
+        Subcommand::Figures => {
+            no_run_left(put_figures(means.alloc, means.wishes, scenario, writer, notes))
+        }
+    }
+}
+
+/// Writes what a subcommand makes of an input, where the input has a scenario.
+fn begin_bytes<W: Sink, G: Gate, N: Notes>(
+    means: &Means<G>,
+    subcommand: Subcommand,
+    input: &[u8],
+    writer: &mut W,
+    notes: &mut N,
+) -> Result<Option<WindowRun>, SessionFault>
+    requires { IsWithin input.now }
+    ensures session { BeginsRun (IsReadSession subcommand.entry input.now (W.contents writer.old)) result (W.contents writer.new) }
+    ensures failures { W.failures writer.new ≡ writes_after result (W.failures writer.old) }
+{
+    let scenario = read_scenario(means.alloc, input)?;
+    begin_output(means, subcommand, &scenario, writer, notes)
+}
+
+/// Tells why an input is refused, where that is wished and there is memory to say it.
+fn tell_why<G: Gate, N: Notes>(
+    means: &Means<G>,
+    input: &[u8],
+    fault: &SessionFault,
+    notes: &mut N,
+) {
+    if means.wishes.explain {
+        if let Ok(Some(shown)) = why(means.alloc, input, fault) {
+            notes.refused(shown);
+        }
+    }
+}
+
+/// Begins the session of a subcommand over an input that was read.
+fn begin_subcommand<W: Sink, G: Gate, N: Notes>(
+    means: &Means<G>,
+    subcommand: Subcommand,
+    input: &[u8],
+    writer: &mut W,
+    notes: &mut N,
+) -> Result<Rest, SessionFault>
+    requires { IsWithin input.now }
+    ensures { (now : Streams) → let at = written_by W.failures W.contents now in Begins (IsDone (IsSession subcommand.entry input.now) (at writer.old)) result (at writer.new) }
+{
+    let begun = begin_bytes(means, subcommand, input, writer, notes);
+    if let Err(fault) = &begun {
+        tell_why(means, input, fault, notes);
+    }
+    rest_of(begun)
+}
+
+/// Begins a debugging session over an input that was read: of a file commands are typed, and in any
+/// other they stand behind a text.
+fn begin_debug(
+    alloc: Global,
+    sharing: &Sharing,
+    file: &OptionalWord,
+    input: Vec<u8>,
+) -> Result<Rest, SessionFault>
+    requires { IsWithin input.items }
+    ensures { (now : Streams) → Begins (IsDebugWith sharing.now.groups file.now input.items now) result now }
+{
+    match file.get() {
+        Some(_) => begin_prompt(alloc, sharing, input.as_slice()),
+        None => begin_commands(alloc, sharing, input),
+    }
+}
+
+/// Begins a task over an input that was read.
+fn begin_task<W: Sink, G: Gate, N: Notes>(
+    means: &Means<G>,
+    task: Task,
+    file: &OptionalWord,
+    input: Vec<u8>,
+    writer: &mut W,
+    notes: &mut N,
+) -> Result<Rest, SessionFault>
+    requires { IsWithin input.items }
+    ensures { (now : Streams) → let at = written_by W.failures W.contents now in Begins (IsTaskWith task.entry file.now input.items (at writer.old)) result (at writer.new) }
+{
+    match task {
+        Task::Scenario(subcommand) => {
+            begin_subcommand(means, subcommand, input.as_slice(), writer, notes)
+        }
+        Task::Debug(sharing) => begin_debug(means.alloc, &sharing, file, input),
+    }
+}
+
+/// Begins a task over a file, or over the reader where none is named.
+fn begin_named<R: Source, W: Sink, G: Gate, N: Notes>(
+    means: &Means<G>,
+    task: Task,
+    file: &OptionalWord,
+    reader: &mut R,
+    writer: &mut W,
+    notes: &mut N,
+) -> Result<Rest, SessionFault>
+    ensures { let seen = streams_of R.failures R.typed W.failures W.contents in Begins (λ ended after. IsOver task.entry file.now (R.remaining reader.old) (R.bytes_of reader.old) ended (seen reader.old writer.old) after) result (seen reader.new writer.new) }
+{
+    let read = read_named(means.alloc, file, reader);
+    if let Err(fault) = &read {
+        tell_why(means, &[], fault, notes);
+    }
+    let input = read?;
+    begin_task(means, task, file, input, writer, notes)
+}
+
+/// Begins what the words ask for: does all of it that waits for nobody.
+pub(crate) fn begin<R: Source, W: Sink, G: Gate, N: Notes>(
+    alloc: Global,
+    gate: &G,
+    asked: Asked,
+    reader: &mut R,
+    writer: &mut W,
+    notes: &mut N,
+) -> Result<Rest, SessionFault>
+    ensures { let seen = streams_of R.failures R.typed W.failures W.contents in Begins (λ ended after. IsAskedOn asked.entry (R.remaining reader.old) (R.bytes_of reader.old) ended (seen reader.old writer.old) after) result (seen reader.new writer.new) }
+{
+    match asked {
+        Asked::Session(task, word, wishes) => {
+            let means = Means {
+                alloc,
+                gate,
+                wishes,
+            };
+            begin_named(&means, task, &named_file(&word), reader, writer, notes)
+        }
+        Asked::Explanation(code) => rest_of(no_run_left(explain(alloc, &code, writer))),
+    }
+}
