@@ -1,4 +1,5 @@
 mod Lines
 mod ByThousands
 mod DumpLines
+mod AllLines
 mod InKeyOrder

@@ -3,4 +3,7 @@ pub mod Line
 pub mod End
 pub mod Digits
 pub mod Dump
+pub mod DumpParts
+pub mod Chosen
+pub mod ChosenLines
 pub use Rattle.node_core.specs.TraceLine

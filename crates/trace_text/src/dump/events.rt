@@ -4,7 +4,9 @@ ghost use Rattle.std.specs.List.{flat_map};
 ghost use Rattle.std.specs.FinMap as map;
 ghost use Rattle.net_machine.specs.Nodes.{pendings, net_pending, IsPlaced};
 ghost use Rattle.ranking.specs.Gathered.{all_entries};
+ghost use Rattle.trace_text.specs.Chosen.{chosen_event};
 ghost use Rattle.trace_text.specs.Dump.{event_line};
+ghost use Rattle.trace_text.specs.DumpParts.{is_event_of};
 
 use crate::backward::put_text;
 use crate::event::{put_event, put_key};
@@ -12,21 +14,49 @@ use node_core::{Event, Node};
 use sim_time::Key;
 use std::alloc::{AllocError, Global};
 
-/// Appends the line of each event that is pending at one of the nodes, in the order of keys.
+/// Appends the line of each event that is pending at one of the nodes, in the order of keys, or of
+/// those of a flow.
 pub(super) fn append_events(
     alloc: Global,
+    flow: Option<u16>,
     nodes: &[Node],
     out: &mut Vec<u8>,
 ) -> Result<(), AllocError>
     requires { IsPlaced nodes.now }
     ensures { OnOk result (out.new.items ≡ out.old.items
-        ++ flat_map event_line (map.entries (net_pending nodes.now))) }
+        ++ flat_map (chosen_event flow) (map.entries (net_pending nodes.now))) }
 {
     let pending = in_order(alloc, nodes)?;
     for (key, event) in &pending {
-        append_event(key, event, out)?;
+        append_chosen(flow, key, event, out)?;
     }
     Ok(())
+}
+
+/// Appends the line of a pending event, where it is one of the flow that is asked for.
+fn append_chosen(
+    flow: Option<u16>,
+    key: &Key,
+    event: &Event,
+    out: &mut Vec<u8>,
+) -> Result<(), AllocError>
+    ensures { OnOk result (out.new.items ≡ out.old.items ++ chosen_event flow (key.now, event.now)) }
+{
+    match flow {
+        Some(flow) if !is_event_of(flow, event) => Ok(()),
+        _ => append_event(key, event, out),
+    }
+}
+
+/// Whether an event is an alarm of a flow, or brings a packet of it.
+fn is_event_of(flow: u16, event: &Event) -> bool
+    ensures { result ≡ is_event_of flow event.now }
+{
+    match event {
+        Event::Start(own) | Event::Rto(own) | Event::DelAck(own) => *own == flow,
+        Event::Free(_) => false,
+        Event::Arrive(packet) => packet.flow == flow,
+    }
 }
 
 /// What is pending at all nodes, in the order of keys.

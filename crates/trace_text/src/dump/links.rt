@@ -1,12 +1,14 @@
 //! The lines of the links.
 ghost use Rattle.std.specs.Prelude.{◌≡◌, ◌==◌, ◌+◌, ◌≤◌, ◌++◌, filter, length, drop, codes, decimal, OnOk};
-ghost use Rattle.std.specs.List.{flat_map};
+ghost use Rattle.std.specs.List.{flat_map, list_any};
 ghost use Rattle.packet_chain.specs.Stamped.{Stamped};
 ghost use Rattle.aqm.specs.Queue.{waiting_in};
 ghost use Rattle.net_machine.specs.Nodes.{parts_of};
 ghost use Rattle.node_core.specs.Part.{LinkState};
 ghost use Rattle.trace_text.specs.Words.{spaced};
+ghost use Rattle.trace_text.specs.Chosen.{chosen_link};
 ghost use Rattle.trace_text.specs.Dump.{in_commas, waiting_text, codel_words, control_words, link_line, links_numbered, numbers_below, links_in_order};
+ghost use Rattle.trace_text.specs.DumpParts.{has_waiting};
 
 use super::append::{append_number, put_field, put_flag, put_optional};
 use crate::backward::{put_small, put_text};
@@ -21,47 +23,95 @@ use std::alloc::AllocError;
 /// The most links of a net; all their numbers are below it.
 const MOST_LINKS: u16 = 1024;
 
-/// Appends the line of each link, in rising number.
-pub(super) fn append_links(nodes: &[Node], out: &mut Vec<u8>) -> Result<(), AllocError>
+/// Appends the line of each link, in rising number, or of those where a packet of a flow waits.
+pub(super) fn append_links(
+    flow: Option<u16>,
+    nodes: &[Node],
+    out: &mut Vec<u8>,
+) -> Result<(), AllocError>
     ensures { OnOk result (out.new.items ≡ out.old.items
-        ++ flat_map link_line (links_in_order (parts_of nodes.now))) }
+        ++ flat_map (chosen_link flow) (links_in_order (parts_of nodes.now))) }
 {
-    append_first(MOST_LINKS, nodes, out)
+    append_first(flow, MOST_LINKS, nodes, out)
 }
 
 /// Appends the lines of the links of numbers below this one.
-fn append_first(count: u16, nodes: &[Node], out: &mut Vec<u8>) -> Result<(), AllocError>
+fn append_first(
+    flow: Option<u16>,
+    count: u16,
+    nodes: &[Node],
+    out: &mut Vec<u8>,
+) -> Result<(), AllocError>
     ensures { OnOk result (out.new.items ≡ out.old.items
-        ++ flat_map link_line (flat_map (links_numbered (parts_of nodes.now)) (numbers_below count))) }
+        ++ flat_map (chosen_link flow) (flat_map (links_numbered (parts_of nodes.now)) (numbers_below count))) }
 {
     for number in 0..count {
-        append_numbered(number, nodes, out)?;
+        append_numbered(flow, number, nodes, out)?;
     }
     Ok(())
 }
 
 /// Appends the line of the link of a number, at whatever node it is.
-fn append_numbered(number: u16, nodes: &[Node], out: &mut Vec<u8>) -> Result<(), AllocError>
+pub(super) fn append_numbered(
+    flow: Option<u16>,
+    number: u16,
+    nodes: &[Node],
+    out: &mut Vec<u8>,
+) -> Result<(), AllocError>
     ensures { OnOk result (out.new.items ≡ out.old.items
-        ++ flat_map link_line (links_numbered (parts_of nodes.now) number)) }
+        ++ flat_map (chosen_link flow) (links_numbered (parts_of nodes.now) number)) }
 {
     for node in nodes {
-        append_own(number, node.ports(), out)?;
+        append_own(flow, number, node.ports(), out)?;
     }
     Ok(())
 }
 
 /// Appends the line of the link of a number, where it is one of these.
-fn append_own(number: u16, links: &[Link], out: &mut Vec<u8>) -> Result<(), AllocError>
+fn append_own(
+    flow: Option<u16>,
+    number: u16,
+    links: &[Link],
+    out: &mut Vec<u8>,
+) -> Result<(), AllocError>
     ensures { OnOk result (out.new.items ≡ out.old.items
-        ++ flat_map link_line (filter (λ (link : LinkState). link.port.link == number) links.now)) }
+        ++ flat_map (chosen_link flow) (filter (λ (link : LinkState). link.port.link == number) links.now)) }
 {
     for link in links {
         if link.port().link() == number {
-            append_link(link, out)?;
+            append_chosen(flow, link, out)?;
         }
     }
     Ok(())
+}
+
+/// Appends the line of a link, where a packet of the flow that is asked for waits there.
+fn append_chosen(flow: Option<u16>, link: &Link, out: &mut Vec<u8>) -> Result<(), AllocError>
+    ensures { OnOk result (out.new.items ≡ out.old.items ++ chosen_link flow link.now) }
+{
+    match flow {
+        Some(flow) if !has_waiting(flow, link) => Ok(()),
+        _ => append_link(link, out),
+    }
+}
+
+/// Whether a packet of a flow waits in a link's queue.
+fn has_waiting(flow: u16, link: &Link) -> bool
+    ensures { result ≡ has_waiting flow link.now }
+{
+    has_packet(flow, link.port().queue().packets())
+}
+
+/// Whether one of these packets is of a flow.
+fn has_packet(flow: u16, cells: Iter<'_>) -> bool
+    ensures { result ≡ list_any (λ (cell : Stamped). cell.0.flow == flow) cells.entry }
+{
+    for (packet, _) in cells {
+        if packet.flow == flow {
+            return true;
+        }
+    }
+    false
 }
 
 /// Appends the line of a link.

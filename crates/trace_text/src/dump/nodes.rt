@@ -1,10 +1,12 @@
 //! The lines of the nodes.
 ghost use Rattle.std.specs.Prelude.{◌≡◌, ◌+◌, ◌≤◌, ◌++◌, [], ◌∷◌, length, drop, codes, decimal, OnOk};
-ghost use Rattle.std.specs.List.{flat_map, enumerate_from};
+ghost use Rattle.std.specs.List.{flat_map, enumerate_from, slice_get};
 ghost use Rattle.reno_receiver.specs.Received.{next_of, held_of};
 ghost use Rattle.net_machine.specs.Nodes.{parts_of};
 ghost use Rattle.trace_text.specs.Words.{line_of, spaced};
+ghost use Rattle.trace_text.specs.Chosen.{chosen_node};
 ghost use Rattle.trace_text.specs.Dump.{in_commas, timing_text, window_words, loss_words, timer_words, role_words, node_line};
+ghost use Rattle.trace_text.specs.DumpParts.{found_node, is_end_of};
 
 use super::append::{append_number, put_field, put_flag, put_optional};
 use crate::backward::{put_number, put_small, put_text};
@@ -16,15 +18,62 @@ use std::alloc::AllocError;
 /// No less than the greatest length of a sender's line.
 const ROOM: usize = 400;
 
-/// Appends the line of each node, with its number.
-pub(super) fn append_nodes(nodes: &[Node], out: &mut Vec<u8>) -> Result<(), AllocError>
+/// Appends the line of each node with its number, or of the ends of a flow.
+pub(super) fn append_nodes(
+    flow: Option<u16>,
+    nodes: &[Node],
+    out: &mut Vec<u8>,
+) -> Result<(), AllocError>
     ensures { OnOk result (out.new.items ≡ out.old.items
-        ++ flat_map node_line (enumerate_from 0 (parts_of nodes.now))) }
+        ++ flat_map (chosen_node flow) (enumerate_from 0 (parts_of nodes.now))) }
 {
     for (number, node) in nodes.iter().enumerate() {
-        append_node(number as u64, node, out)?;
+        append_chosen(flow, number as u64, node, out)?;
     }
     Ok(())
+}
+
+/// Appends the line of a node, where it is an end of the flow that is asked for.
+fn append_chosen(
+    flow: Option<u16>,
+    number: u64,
+    node: &Node,
+    out: &mut Vec<u8>,
+) -> Result<(), AllocError>
+    ensures { OnOk result (out.new.items ≡ out.old.items ++ chosen_node flow (number, node.now.part)) }
+{
+    match flow {
+        Some(flow) if !is_end_of(flow, node) => Ok(()),
+        _ => append_node(number, node, out),
+    }
+}
+
+/// Whether a node is an end of a flow.
+fn is_end_of(flow: u16, node: &Node) -> bool
+    ensures { result ≡ is_end_of flow node.now.part.role }
+{
+    if let Some((own, _)) = node.sender() {
+        return own == flow;
+    }
+    if let Some((own, _)) = node.receiver() {
+        return own == flow;
+    }
+    false
+}
+
+/// Appends the line of the node of a number, where there is one.
+pub(super) fn append_numbered_node(
+    number: u16,
+    nodes: &[Node],
+    out: &mut Vec<u8>,
+) -> Result<(), AllocError>
+    ensures { OnOk result (out.new.items ≡ out.old.items
+        ++ found_node number (slice_get (parts_of nodes.now) number)) }
+{
+    match nodes.get(usize::from(number)) {
+        Some(node) => append_node(u64::from(number), node, out),
+        None => Ok(()),
+    }
 }
 
 /// Appends the line of a node.

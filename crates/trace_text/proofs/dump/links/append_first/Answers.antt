@@ -1,13 +1,14 @@
 use Rattle.net_machine.specs.Nodes.{parts_of}
+use Rattle.trace_text.specs.Chosen.{chosen_link}
 use Rattle.trace_text.specs.Dump.{numbers_below}
 use Rattle.trace_text.proofs.DumpLines.{next_number, none_left}
 use Rattle.trace_text.proofs.dump.links.append_first.Goals as goal
 
 pub loop-number-preserved : goal.loop-number-preserved
 loop-number-preserved c =
-    next_number (parts_of c.args.nodes.now) c.loop-number.number c.args.count _ c.loop-number.out.items c.append_numbered.new.out.items
+    next_number (chosen_link c.args.flow) (parts_of c.args.nodes.now) c.loop-number.number c.args.count _ c.loop-number.out.items c.append_numbered.new.out.items
     c.loop-number-test.true c.loop-number.invariant (cc c.in_ok-append_numbered.ensures)
 
 pub returns : goal.returns
 unfolding numbers_below
-returns c = none_left (parts_of c.args.nodes.now) c.loop-number.number c.args.count _ c.loop-number.out.items c.loop-number-test.false c.loop-number.invariant
+returns c = none_left (chosen_link c.args.flow) (parts_of c.args.nodes.now) c.loop-number.number c.args.count _ c.loop-number.out.items c.loop-number-test.false c.loop-number.invariant

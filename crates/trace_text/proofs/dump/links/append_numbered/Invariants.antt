@@ -2,9 +2,10 @@
 use Rattle.std.proofs.Common.{◌≡◌, ◌++◌, drop}
 use Rattle.std.specs.List.{flat_map}
 use Rattle.net_machine.specs.Nodes.{parts_of}
-use Rattle.trace_text.specs.Dump.{link_line, links_numbered}
+use Rattle.trace_text.specs.Chosen.{chosen_link}
+use Rattle.trace_text.specs.Dump.{links_numbered}
 use Rattle.trace_text.proofs.dump.links.append_numbered.Given as goal
 
 abbrev pub invariant-loop-node : goal.invariant-loop-node
 invariant-loop-node l =
-    l.out.items ++ flat_map link_line (links_numbered (parts_of (drop l.node-index l.nodes)) l.number) ≡ l.initial.out.items ++ flat_map link_line (links_numbered (parts_of l.nodes) l.number)
+    l.out.items ++ flat_map (chosen_link l.flow) (links_numbered (parts_of (drop l.node-index l.nodes)) l.number) ≡ l.initial.out.items ++ flat_map (chosen_link l.flow) (links_numbered (parts_of l.nodes) l.number)

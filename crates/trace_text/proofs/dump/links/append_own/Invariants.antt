@@ -2,10 +2,10 @@
 use Rattle.std.proofs.Common.{◌≡◌, ◌==◌, ◌++◌, drop}
 use Rattle.std.specs.List.{flat_map, filter}
 use Rattle.node_core.specs.Part.{LinkState}
-use Rattle.trace_text.specs.Dump.{link_line}
+use Rattle.trace_text.specs.Chosen.{chosen_link}
 use Rattle.trace_text.proofs.dump.links.append_own.Given as goal
 
 abbrev pub invariant-loop-link : goal.invariant-loop-link
 invariant-loop-link l =
-    l.out.items ++ flat_map link_line (filter (λ (link : LinkState). link.port.link == l.number) (drop l.link-index l.links))
-    ≡ l.initial.out.items ++ flat_map link_line (filter (λ (link : LinkState). link.port.link == l.number) l.links)
+    l.out.items ++ flat_map (chosen_link l.flow) (filter (λ (link : LinkState). link.port.link == l.number) (drop l.link-index l.links))
+    ≡ l.initial.out.items ++ flat_map (chosen_link l.flow) (filter (λ (link : LinkState). link.port.link == l.number) l.links)

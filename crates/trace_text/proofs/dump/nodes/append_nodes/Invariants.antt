@@ -2,9 +2,9 @@
 use Rattle.std.proofs.Common.{◌≡◌, ◌++◌, drop}
 use Rattle.std.specs.List.{flat_map, enumerate_from}
 use Rattle.net_machine.specs.Nodes.{parts_of}
-use Rattle.trace_text.specs.Dump.{node_line}
+use Rattle.trace_text.specs.Chosen.{chosen_node}
 use Rattle.trace_text.proofs.dump.nodes.append_nodes.Given as goal
 
 abbrev pub invariant-loop-number : goal.invariant-loop-number
 invariant-loop-number l =
-    l.out.items ++ flat_map node_line (enumerate_from l.number (parts_of (drop l.number l.nodes))) ≡ l.initial.out.items ++ flat_map node_line (enumerate_from 0 (parts_of l.nodes))
+    l.out.items ++ flat_map (chosen_node l.flow) (enumerate_from l.number (parts_of (drop l.number l.nodes))) ≡ l.initial.out.items ++ flat_map (chosen_node l.flow) (enumerate_from 0 (parts_of l.nodes))
