@@ -1,6 +1,7 @@
 -- How many bytes the layout of an image takes, by the counts in the bytes as they stand. A byte that is not there counts as 0.
 use Rattle.std.specs.Prelude.{ℕ, zero, suc, ◌+◌, ◌*◌, ◌==◌, if◌then◌else◌, List, drop, slice_index}
 use Rattle.byteorder.specs.Endian.{big_number}
+use Rattle.scenario_image.specs.declared.layout.TheConstants.{HEADER, LINK, LOST_COUNT, LOST, FLOW, VARIANT, ROUTE}
 use Rattle.scenario_image.specs.declared.version.Version.{Version}
 use Rattle.scenario_image.specs.declared.version.Version.TheVariants.{One, Two}
 
@@ -23,7 +24,7 @@ route_count bytes = big_number 4 (drop 18 bytes)
 
 -- the bytes that the first link of some bytes takes, the last but its lost packets being their count
 abbrev pub link_size : List ℕ → ℕ
-link_size bytes = 42 + 4 * slice_index bytes 41
+link_size bytes = LINK + LOST * slice_index bytes LOST_COUNT
 
 -- the bytes that so many links take, one after the other
 abbrev pub links_size : ℕ → List ℕ → ℕ
@@ -32,10 +33,10 @@ links_size (suc more) bytes = link_size bytes + links_size more (drop (link_size
 
 -- the bytes that a flow takes
 abbrev pub flow_size : Version → ℕ
-flow_size One = 26
-flow_size Two = 27
+flow_size One = FLOW
+flow_size Two = FLOW + VARIANT
 
--- the header's 22 bytes, 1 for each node, the links' bytes, 26 or 27 for each flow and 6 for each route
+-- the header's bytes, 1 for each node, the links' bytes, and those of each flow and each route
 abbrev pub layout_size : List ℕ → ℕ
 layout_size bytes =
-    22 + node_count bytes + links_size (link_count bytes) (drop (22 + node_count bytes) bytes) + flow_size (version_of bytes) * flow_count bytes + 6 * route_count bytes
+    HEADER + node_count bytes + links_size (link_count bytes) (drop (HEADER + node_count bytes) bytes) + flow_size (version_of bytes) * flow_count bytes + ROUTE * route_count bytes

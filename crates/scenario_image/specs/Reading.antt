@@ -8,6 +8,7 @@ use Rattle.scenario_image.specs.Image.{reno_iw3}
 use Rattle.scenario_image.specs.Layout.{version_of, node_count, link_count, flow_count, route_count, link_size, flow_size}
 use Rattle.scenario_image.specs.declared.fault.LoadFault.{LoadFault}
 use Rattle.scenario_image.specs.declared.fault.LoadFault.TheVariants.{L1, L2, L3, L4, L5, L6, L7, L8, NoMemory}
+use Rattle.scenario_image.specs.declared.layout.TheConstants.{HEADER, LINK, LOST_COUNT, LOST, FLOW, ROUTE}
 use Rattle.scenario_image.specs.declared.parts.NodeKind.{NodeKind}
 use Rattle.scenario_image.specs.declared.parts.NodeKind.TheVariants.{Sender, Receiver, Router}
 use Rattle.scenario_image.specs.declared.parts.Codel.{Codel as CodelNumbers}
@@ -56,7 +57,7 @@ link_with bytes queue = record {
   delay = big_number 8 (drop 12 bytes);
   queue = queue;
   capacity = big_number 2 (drop 21 bytes);
-  lose = each_at 4 (big_number 4) (slice_index bytes 41) (drop 42 bytes);
+  lose = each_at LOST (big_number 4) (slice_index bytes LOST_COUNT) (drop LINK bytes);
 }
 
 -- the link at the front
@@ -80,7 +81,7 @@ variant_of_byte (suc (suc (suc (suc byte)))) = None
 -- the variant of the flow at the front, of which version 1 says nothing
 abbrev pub variant_at : Version → List ℕ → Option Variant
 variant_at One bytes = Some reno_iw3
-variant_at Two bytes = variant_of_byte (slice_index bytes 26)
+variant_at Two bytes = variant_of_byte (slice_index bytes FLOW)
 
 -- the flow at the front, with its variant
 abbrev pub flow_with : List ℕ → Variant → FlowPart
@@ -118,9 +119,9 @@ parts_with bytes nodes links flows =
         nodes = nodes;
         links = links.0;
         flows = flows;
-        routes = each_at 6 route_at (route_count bytes) routes;
+        routes = each_at ROUTE route_at (route_count bytes) routes;
       },
-      drop (6 * route_count bytes) routes,
+      drop (ROUTE * route_count bytes) routes,
     )
 
 -- the parts that these are with the nodes and links, and the bytes behind all
@@ -130,8 +131,8 @@ parts_behind bytes nodes links = option_map (parts_with bytes nodes links) (flow
 -- all parts, and the bytes behind them
 abbrev pub parts_at : List ℕ → Option (ScenarioParts × List ℕ)
 parts_at bytes =
-    option_and_then (λ nodes. option_and_then (parts_behind bytes nodes) (links_at (link_count bytes) (drop (22 + node_count bytes) bytes)))
-    (nodes_at (take (node_count bytes) (drop 22 bytes)))
+    option_and_then (λ nodes. option_and_then (parts_behind bytes nodes) (links_at (link_count bytes) (drop (HEADER + node_count bytes) bytes)))
+    (nodes_at (take (node_count bytes) (drop HEADER bytes)))
 
 -- what a function answered, seen by view, is what reading gives, unless memory ran out
 abbrev pub Fails : {Y : Type 0} → LoadFault → Option Y → Type 0

@@ -11,6 +11,9 @@ pub(crate) const HEADER: usize = 22;
 /// The bytes of a link without its lost packets.
 pub(crate) const LINK: usize = 42;
 
+/// Which of a link's bytes counts its lost packets: the last but these.
+pub(crate) const LOST_COUNT: usize = 41;
+
 /// The bytes of the number of a lost packet.
 pub(crate) const LOST: usize = 4;
 
@@ -18,7 +21,7 @@ pub(crate) const LOST: usize = 4;
 pub(crate) const FLOW: usize = 26;
 
 /// The bytes of a flow's variant, in version 2.
-const VARIANT: usize = 1;
+pub(crate) const VARIANT: usize = 1;
 
 /// The bytes of a route.
 pub(crate) const ROUTE: usize = 6;
@@ -33,7 +36,7 @@ pub(crate) fn behind(bytes: &[u8], first: usize) -> &[u8]
 
 /// The version whose layout is judged: the second exactly where the fourth byte is `2`.
 pub(crate) fn version_of(bytes: &[u8]) -> Version
-    requires { 22 ≤ length bytes.now }
+    requires { HEADER ≤ length bytes.now }
     ensures { result ≡ version_in bytes.now }
 {
     if bytes[3] == b'2' {
@@ -45,7 +48,7 @@ pub(crate) fn version_of(bytes: &[u8]) -> Version
 
 /// How many nodes an image has by its header.
 pub(crate) fn node_count(bytes: &[u8]) -> usize
-    requires { 22 ≤ length bytes.now }
+    requires { HEADER ≤ length bytes.now }
     ensures value { result ≡ nodes_in bytes.now }
     ensures bound { result < 65536 }
 {
@@ -54,7 +57,7 @@ pub(crate) fn node_count(bytes: &[u8]) -> usize
 
 /// How many links an image has by its header.
 pub(crate) fn link_count(bytes: &[u8]) -> usize
-    requires { 22 ≤ length bytes.now }
+    requires { HEADER ≤ length bytes.now }
     ensures value { result ≡ links_in bytes.now }
     ensures bound { result < 65536 }
 {
@@ -63,7 +66,7 @@ pub(crate) fn link_count(bytes: &[u8]) -> usize
 
 /// How many flows an image has by its header.
 pub(crate) fn flow_count(bytes: &[u8]) -> usize
-    requires { 22 ≤ length bytes.now }
+    requires { HEADER ≤ length bytes.now }
     ensures value { result ≡ flows_in bytes.now }
     ensures bound { result < 65536 }
 {
@@ -72,7 +75,7 @@ pub(crate) fn flow_count(bytes: &[u8]) -> usize
 
 /// How many routes an image has by its header.
 pub(crate) fn route_count(bytes: &[u8]) -> usize
-    requires { 22 ≤ length bytes.now }
+    requires { HEADER ≤ length bytes.now }
     ensures value { result ≡ routes_in bytes.now }
     ensures bound { result < 4294967296 }
 {
@@ -81,11 +84,11 @@ pub(crate) fn route_count(bytes: &[u8]) -> usize
 
 /// The bytes that the link at the front takes.
 pub(crate) fn link_size(bytes: &[u8]) -> usize
-    requires { 42 ≤ length bytes.now }
+    requires { LINK ≤ length bytes.now }
     ensures value { result ≡ size_of_link bytes.now }
-    ensures bound { result ≤ 1062 }
+    ensures bound { result ≤ LINK + LOST * 255 }
 {
-    LINK + LOST * usize::from(bytes[LINK - 1])
+    LINK + LOST * usize::from(bytes[LOST_COUNT])
 }
 
 /// The bytes that a flow takes.
@@ -102,7 +105,7 @@ pub(crate) fn flow_size(version: Version) -> usize
 pub(crate) fn flows_size(version: Version, count: usize) -> usize
     requires { count < 65536 }
     ensures value { result ≡ size_of_flow version * count }
-    ensures bound { result < 1769472 }
+    ensures bound { result < (FLOW + VARIANT) * 65536 }
 {
     match version {
         Version::One => FLOW * count,

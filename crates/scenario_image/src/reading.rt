@@ -6,8 +6,8 @@ ghost use Rattle.scenario_image.specs.Reading.{Gives, each_at, node_of_byte, nod
 
 use crate::fault::LoadFault;
 use crate::layout::{
-    FLOW, HEADER, LINK, LOST, ROUTE, behind, flow_count, flow_size, flows_size, link_count,
-    link_size, node_count, route_count, version_of,
+    FLOW, HEADER, LINK, LOST, LOST_COUNT, ROUTE, behind, flow_count, flow_size, flows_size,
+    link_count, link_size, node_count, route_count, version_of,
 };
 use crate::parts::{Codel, FlowPart, LinkPart, NodeKind, QueueKind, RoutePart, ScenarioParts};
 use crate::records::Records;
@@ -44,7 +44,7 @@ fn nodes_of(alloc: Global, bytes: &[u8]) -> Result<Vec<NodeKind>, LoadFault>
 
 /// The numbers where CoDel's stand in a link's bytes.
 fn codel_of(bytes: &[u8]) -> Codel
-    requires { 42 ≤ length bytes.now }
+    requires { LINK ≤ length bytes.now }
     ensures { result ≡ codel_at bytes.now }
 {
     Codel {
@@ -68,8 +68,8 @@ fn queue_of(byte: u8, codel: Codel) -> Option<QueueKind>
 
 /// So many numbers of lost packets.
 fn lose_of(alloc: Global, count: usize, bytes: &[u8]) -> Result<Vec<u32>, AllocError>
-    requires { 4 * count ≤ length bytes.now }
-    ensures { IfOk result (λ lose. lose.items ≡ each_at 4 (big_number 4) count bytes.now) }
+    requires { LOST * count ≤ length bytes.now }
+    ensures { IfOk result (λ lose. lose.items ≡ each_at LOST (big_number 4) count bytes.now) }
 {
     let mut lose = Vec::new(alloc);
     let mut rest = bytes;
@@ -82,8 +82,8 @@ fn lose_of(alloc: Global, count: usize, bytes: &[u8]) -> Result<Vec<u32>, AllocE
 
 /// The link at the front, with its queue and its lost packets.
 fn new_link(bytes: &[u8], queue: QueueKind, lose: Records<u32>) -> LinkPart
-    requires enough { 42 ≤ length bytes.now }
-    requires lose { lose ≡ each_at 4 (big_number 4) (slice_index bytes.now 41) (drop 42 bytes.now) }
+    requires enough { LINK ≤ length bytes.now }
+    requires lose { lose ≡ each_at LOST (big_number 4) (slice_index bytes.now LOST_COUNT) (drop LINK bytes.now) }
     ensures { result ≡ link_with bytes.now queue }
 {
     LinkPart {
@@ -105,7 +105,7 @@ fn link_of(alloc: Global, bytes: &[u8]) -> Result<LinkPart, LoadFault>
     let Some(queue) = queue_of(bytes[20], codel_of(bytes)) else {
         return Err(LoadFault::L3);
     };
-    let lose = lose_of(alloc, usize::from(bytes[41]), behind(bytes, LINK))?;
+    let lose = lose_of(alloc, usize::from(bytes[LOST_COUNT]), behind(bytes, LINK))?;
     Ok(new_link(bytes, queue, Records::new(lose)))
 }
 
@@ -150,7 +150,7 @@ fn variant_at(version: Version, bytes: &[u8]) -> Option<Variant>
 
 /// The flow at the front, with its variant.
 fn new_flow(bytes: &[u8], variant: Variant) -> FlowPart
-    requires { 26 ≤ length bytes.now }
+    requires { FLOW ≤ length bytes.now }
     ensures { result ≡ flow_with bytes.now variant }
 {
     FlowPart {
@@ -198,7 +198,7 @@ fn flows_of(
 
 /// The route at the front.
 fn route_of(bytes: &[u8]) -> RoutePart
-    requires { 6 ≤ length bytes.now }
+    requires { ROUTE ≤ length bytes.now }
     ensures { result ≡ route_at bytes.now }
 {
     RoutePart {
@@ -210,8 +210,8 @@ fn route_of(bytes: &[u8]) -> RoutePart
 
 /// So many routes.
 fn routes_of(alloc: Global, count: usize, bytes: &[u8]) -> Result<Vec<RoutePart>, AllocError>
-    requires { 6 * count ≤ length bytes.now }
-    ensures { IfOk result (λ routes. routes.items ≡ each_at 6 route_at count bytes.now) }
+    requires { ROUTE * count ≤ length bytes.now }
+    ensures { IfOk result (λ routes. routes.items ≡ each_at ROUTE route_at count bytes.now) }
 {
     let mut routes = Vec::new(alloc);
     let mut rest = bytes;
@@ -224,9 +224,9 @@ fn routes_of(alloc: Global, count: usize, bytes: &[u8]) -> Result<Vec<RoutePart>
 
 /// The bytes of the nodes.
 fn node_bytes(bytes: &[u8]) -> &[u8]
-    requires header { 22 ≤ length bytes.now }
-    requires enough { node_count_of bytes.now ≤ length (drop 22 bytes.now) }
-    ensures { result.now ≡ take (node_count_of bytes.now) (drop 22 bytes.now) }
+    requires header { HEADER ≤ length bytes.now }
+    requires enough { node_count_of bytes.now ≤ length (drop HEADER bytes.now) }
+    ensures { result.now ≡ take (node_count_of bytes.now) (drop HEADER bytes.now) }
 {
     let (nodes, _) = behind(bytes, HEADER).split_at(node_count(bytes));
     nodes
@@ -241,8 +241,8 @@ fn parts_from<'a>(
     links: Records<LinkPart>,
     rest: &'a [u8],
 ) -> Result<(ScenarioParts, &'a [u8]), LoadFault>
-    requires header { 22 ≤ length bytes.now }
-    requires enough { size_of_flow (version_in bytes.now) * flow_count_of bytes.now + 6 * route_count_of bytes.now ≤ length rest.now }
+    requires header { HEADER ≤ length bytes.now }
+    requires enough { size_of_flow (version_in bytes.now) * flow_count_of bytes.now + ROUTE * route_count_of bytes.now ≤ length rest.now }
     ensures { Gives (λ parts. (parts.0, parts.1.now)) result (parts_behind bytes.now nodes (links, rest.now)) }
 {
     let (version, count) = (version_of(bytes), flow_count(bytes));
