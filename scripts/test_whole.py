@@ -1,7 +1,8 @@
 #!/usr/bin/env python3
 """Runs the built program on whole inputs whose outcome was worked out without it: each text of
-scripts/whole/ against the trace beside it, by hand from docs/MODEL.md or by the model of scripts/model, and
-the texts, images and words of the tables there and below against their faults.
+scripts/whole/ against the trace beside it, by hand from docs/MODEL.md or by the model of scripts/model,
+debugging sessions and figures against what was worked out by hand, and the texts, images and words of the
+tables there and below against their faults.
 
 They were tests of the crate trials. On bytes alone they try the program as it is run, and the prover need
 not prove them. Usage: scripts/test_whole.py [--program PATH] [TEST..]. The last line is 'N passed, N failed'.
@@ -12,13 +13,14 @@ import glob
 import os
 import subprocess
 import sys
+import tempfile
 import unittest
 
 HERE = os.path.dirname(os.path.abspath(__file__))
 TOP = os.path.dirname(HERE)
 sys.path.insert(0, HERE)
 
-from whole import images, texts  # noqa: E402
+from whole import images, sessions, tables, texts  # noqa: E402
 from whole.texts import RIGHT  # noqa: E402
 
 PROGRAM = os.path.join(TOP, 'crates', 'tcpsim', 'out', 'tcpsim')
@@ -125,6 +127,39 @@ class Whole(unittest.TestCase):
         self.assertTrue(trace.endswith(b'\nend 103546\n'))
         self.assertEqual(len(trace), 5_656_297)
         self.assertEqual(hash_of(trace), 0x7547_0a11_fb92_3df2)
+
+    def test_figures_have_their_tables(self):
+        self.expect([(['figures'], FIRST, 0, b'', tables.ONE_SEGMENT.encode()),
+                     (['figures'], tables.BOTH_LOST.encode(), 0, b'', tables.AFTER_A_TIMEOUT.encode()),
+                     (['figures'], b'sim 01', 1, b'refused E4 line 1\n', b'')])
+
+    # ---- debugging sessions
+
+    def test_sessions_have_their_answers(self):
+        self.expect([(words, FIRST + b'---\n' + commands.encode(), 0, b'', answers.encode()) for words in sessions.SHARED
+                     for commands, answers in ((sessions.MOVES, sessions.ANSWERS), (sessions.BREAKS, sessions.STOPS))])
+
+    def test_a_session_has_a_group_for_each_node(self):
+        self.expect([(['debug', '--groups', groups], FIRST + b'---\n' + sessions.MOVES.encode(), 2, b'refused groups\n', b'')
+                     for groups in sessions.NO_GROUPS])
+
+    def test_a_session_has_no_image(self):
+        """An image is taken for a text, whose fault comes before that of the groups."""
+        self.expect([(['debug', *words], b'TCB1\n---\n', 1, b'refused E2 line 1\n', b'')
+                     for words in ([], *(['--groups', groups] for groups in sessions.NO_GROUPS))])
+
+    def test_typed_lines_have_their_answers(self):
+        with tempfile.NamedTemporaryFile(suffix='.txt') as file:
+            file.write(FIRST)
+            file.flush()
+            for words in sessions.TYPED:
+                for lines, prompts, answers, codes in sessions.LINES_TYPED:
+                    with self.subTest(words=words, lines=lines):
+                        status, noted, output = outcome([*words, file.name], ''.join(f'{it}\n' for it in lines).encode())
+                        self.assertEqual((status, output), (0, answers.encode()))
+                        self.assertEqual(noted.count(b'(tcpsim) '), prompts)
+                        self.assertEqual(noted.replace(b'(tcpsim) ', b'').decode().split('\n'),
+                                         [*(f'refused {code}' for code in codes.split()), ''])
 
     # ---- texts
 

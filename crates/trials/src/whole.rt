@@ -3,14 +3,11 @@
 
 mod broken;
 mod calls;
-mod debug;
 mod ends;
 mod files;
 mod groups;
 mod networks;
 mod prompt;
-mod tables;
-mod typed;
 mod workers;
 
 use engine_trials::hands::AllHands;

@@ -1,6 +1,5 @@
 //! The public calls of a session that the program does not make itself, and what they write.
 
-use super::debug::{ANSWERS, SESSION};
 use super::{FIRST, FIRST_TRACE, expect_words};
 use engine_trials::hands::AllHands;
 use explanations::list_codes;
@@ -18,6 +17,48 @@ use window_engine::OverWrite;
 
 /// How many bytes the image of the first text has.
 const IMAGE_SIZE: usize = 135;
+
+const SESSION: &str = "sim 1000000000
+node s sender
+node r receiver
+link a s r 8000000 1000000 droptail 10
+link b r s 8000000 1000000 droptail 10
+flow f s r 1000 1 0 64000 0
+---
+step 3
+back 2
+back 9
+run
+";
+
+const ANSWERS: &str = "at 3
+node 0 sender 0 una=0 nxt=1000 high=1000 cwnd=4000 ssthresh=64000 dups=0 lt=0 fr=0 timing=1000@0 srtt=- rttvar=0 rto=1000000000 resent=0
+node 1 receiver 0 next=1000 held=-
+link 0 offered=1 sent=1 queue=-
+link 1 offered=1 sent=1 queue=-
+event 2080000 1 0 3 free 1
+event 3080000 0 2 1 ack 0 1000
+event 1000000000 0 0 1 rto 0
+at 1
+node 0 sender 0 una=0 nxt=1000 high=1000 cwnd=4000 ssthresh=64000 dups=0 lt=0 fr=0 timing=1000@0 srtt=- rttvar=0 rto=1000000000 resent=0
+node 1 receiver 0 next=0 held=-
+link 0 offered=1 sent=1 queue=-
+link 1 offered=0 sent=0 queue=-
+event 1040000 0 0 3 free 0
+event 2040000 1 1 1 data 0 0
+event 1000000000 0 0 1 rto 0
+at 0
+node 0 sender 0 una=0 nxt=0 high=0 cwnd=4000 ssthresh=64000 dups=0 lt=0 fr=0 timing=- srtt=- rttvar=0 rto=1000000000 resent=0
+node 1 receiver 0 next=0 held=-
+link 0 offered=0 sent=0 queue=-
+link 1 offered=0 sent=0 queue=-
+event 0 0 0 0 start 0
+at 5
+node 0 sender 0 una=1000 nxt=1000 high=1000 cwnd=5000 ssthresh=64000 dups=0 lt=0 fr=0 timing=- srtt=3080000 rttvar=1540000 rto=1000000000 resent=0
+node 1 receiver 0 next=1000 held=-
+link 0 offered=1 sent=1 queue=-
+link 1 offered=1 sent=1 queue=-
+";
 
 /// A session is done.
 fn expect_done(rt: &impl Abort, outcome: &Outcome) {

@@ -1,11 +1,9 @@
-//! The figures of runs, worked out by hand.
+"""The figures of runs, worked out by hand."""
 
-use super::{FIRST, expect_words};
-use std::test::Fail;
-
-/// The segment of 1,040 bytes takes 1.04 ms and then 1 ms, its acknowledgement of 40 bytes 0.04 ms
-/// and 1 ms: a round trip of 3.08 ms. Neither waits.
-const ONE_SEGMENT: &str = "what,number,figure,unit,value
+# The segment of 1,040 bytes takes 1.04 ms and then 1 ms, its acknowledgement of 40 bytes 0.04 ms and 1 ms: a round trip of
+# 3.08 ms. Neither waits.
+ONE_SEGMENT = '''\
+what,number,figure,unit,value
 flow,0,start,ns,0
 flow,0,delivered,bytes,1000
 flow,0,completed,ns,3080000
@@ -44,10 +42,11 @@ link,1,99th percentile of delay in the queue,ns,0
 link,1,greatest delay in the queue,ns,0
 run,,events,events,5
 run,,end,ns,3080000
-";
+'''
 
-/// Two segments, which are both lost when they are sent first.
-const BOTH_LOST: &str = "sim 5000000000
+# Two segments, which are both lost when they are sent first.
+BOTH_LOST = '''\
+sim 5000000000
 node s sender
 node r receiver
 link a s r 8000000 1000000 droptail 10
@@ -55,12 +54,13 @@ link b r s 8000000 1000000 droptail 10
 flow f s r 1000 2 0 64000 0
 lose a 1
 lose a 2
-";
+'''
 
-/// The timer ends after 1 s, and the first segment is sent again; its acknowledgement comes 3.08 ms
-/// later, and the second segment is sent again then, whose acknowledgement comes as much later.
-/// Neither is a sample, since both segments were sent twice.
-const AFTER_A_TIMEOUT: &str = "what,number,figure,unit,value
+# The timer ends after 1 s, and the first segment is sent again; its acknowledgement comes 3.08 ms later, and the second
+# segment is sent again then, whose acknowledgement comes as much later. Neither is a sample, since both segments were sent
+# twice.
+AFTER_A_TIMEOUT = '''\
+what,number,figure,unit,value
 flow,0,start,ns,0
 flow,0,delivered,bytes,2000
 flow,0,completed,ns,1006160000
@@ -99,20 +99,4 @@ link,1,99th percentile of delay in the queue,ns,0
 link,1,greatest delay in the queue,ns,0
 run,,events,events,10
 run,,end,ns,1006160000
-";
-
-#[test]
-fn the_figures_of_a_run_are_written_at_its_end(rt: HostRuntime) -> Result<(), Fail> {
-    for (text, table) in [(FIRST, ONE_SEGMENT), (BOTH_LOST, AFTER_A_TIMEOUT)] {
-        let words = ["tcpsim", "figures"];
-        expect_words(&rt, &words, text.as_bytes(), 0, "", table.as_bytes())?;
-    }
-    expect_words(
-        &rt,
-        &["tcpsim", "figures"],
-        b"sim 01",
-        1,
-        "refused E4 line 1\n",
-        b"",
-    )
-}
+'''

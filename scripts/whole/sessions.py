@@ -1,0 +1,179 @@
+"""Debugging sessions over one segment that goes, and whose acknowledgement comes, by hand: their commands, and what they
+answer. scripts/test_whole.py has the text.
+"""
+
+# How a session whose commands are all there is shared out. Its answers are the same.
+SHARED = [
+    ['debug'],
+    ['debug', '--workers', '2'],
+    ['debug', '--groups', 'each'],
+    ['debug', '--workers', '2', '--groups', 'each'],
+    ['debug', '--groups=1,0', '--workers=64'],
+    ['debug', '--workers=+64', '--groups=one'],
+]
+
+# Groups that the text's two nodes don't have.
+NO_GROUPS = ['', '0', '0,0,0', '0,64', 'two']
+
+MOVES = '''\
+step 3
+back 2
+back 9
+run
+'''
+
+ANSWERS = '''\
+at 3
+node 0 sender 0 una=0 nxt=1000 high=1000 cwnd=4000 ssthresh=64000 dups=0 lt=0 fr=0 timing=1000@0 srtt=- rttvar=0 rto=1000000000 resent=0
+node 1 receiver 0 next=1000 held=-
+link 0 offered=1 sent=1 queue=-
+link 1 offered=1 sent=1 queue=-
+event 2080000 1 0 3 free 1
+event 3080000 0 2 1 ack 0 1000
+event 1000000000 0 0 1 rto 0
+at 1
+node 0 sender 0 una=0 nxt=1000 high=1000 cwnd=4000 ssthresh=64000 dups=0 lt=0 fr=0 timing=1000@0 srtt=- rttvar=0 rto=1000000000 resent=0
+node 1 receiver 0 next=0 held=-
+link 0 offered=1 sent=1 queue=-
+link 1 offered=0 sent=0 queue=-
+event 1040000 0 0 3 free 0
+event 2040000 1 1 1 data 0 0
+event 1000000000 0 0 1 rto 0
+at 0
+node 0 sender 0 una=0 nxt=0 high=0 cwnd=4000 ssthresh=64000 dups=0 lt=0 fr=0 timing=- srtt=- rttvar=0 rto=1000000000 resent=0
+node 1 receiver 0 next=0 held=-
+link 0 offered=0 sent=0 queue=-
+link 1 offered=0 sent=0 queue=-
+event 0 0 0 0 start 0
+at 5
+node 0 sender 0 una=1000 nxt=1000 high=1000 cwnd=5000 ssthresh=64000 dups=0 lt=0 fr=0 timing=- srtt=3080000 rttvar=1540000 rto=1000000000 resent=0
+node 1 receiver 0 next=1000 held=-
+link 0 offered=1 sent=1 queue=-
+link 1 offered=1 sent=1 queue=-
+'''
+
+BREAKS = '''\
+break kind data
+run
+run
+back 1
+until 2040000
+bak 1
+'''
+
+STOPS = '''\
+break 1
+at 3
+node 0 sender 0 una=0 nxt=1000 high=1000 cwnd=4000 ssthresh=64000 dups=0 lt=0 fr=0 timing=1000@0 srtt=- rttvar=0 rto=1000000000 resent=0
+node 1 receiver 0 next=1000 held=-
+link 0 offered=1 sent=1 queue=-
+link 1 offered=1 sent=1 queue=-
+event 2080000 1 0 3 free 1
+event 3080000 0 2 1 ack 0 1000
+event 1000000000 0 0 1 rto 0
+at 5
+node 0 sender 0 una=1000 nxt=1000 high=1000 cwnd=5000 ssthresh=64000 dups=0 lt=0 fr=0 timing=- srtt=3080000 rttvar=1540000 rto=1000000000 resent=0
+node 1 receiver 0 next=1000 held=-
+link 0 offered=1 sent=1 queue=-
+link 1 offered=1 sent=1 queue=-
+at 4
+node 0 sender 0 una=0 nxt=1000 high=1000 cwnd=4000 ssthresh=64000 dups=0 lt=0 fr=0 timing=1000@0 srtt=- rttvar=0 rto=1000000000 resent=0
+node 1 receiver 0 next=1000 held=-
+link 0 offered=1 sent=1 queue=-
+link 1 offered=1 sent=1 queue=-
+event 3080000 0 2 1 ack 0 1000
+event 1000000000 0 0 1 rto 0
+at 4
+node 0 sender 0 una=0 nxt=1000 high=1000 cwnd=4000 ssthresh=64000 dups=0 lt=0 fr=0 timing=1000@0 srtt=- rttvar=0 rto=1000000000 resent=0
+node 1 receiver 0 next=1000 held=-
+link 0 offered=1 sent=1 queue=-
+link 1 offered=1 sent=1 queue=-
+event 3080000 0 2 1 ack 0 1000
+event 1000000000 0 0 1 rto 0
+refused B1
+'''
+
+# How a session into which lines are typed is shared out; a file follows.
+TYPED = [['debug'], ['debug', '--workers', '2', '--groups', 'each'], ['debug', '--workers=64']]
+
+# Names are cut short, a moment has a unit, and an empty line does the last move again, whatever was refused since.
+CUT_SHORT = ['', 'u 2.08ms', 'bak', 'u 1.5', 'b 2', 'step 1 2', '', 'u 1.0ns', 'q x', 'r', 'q', 'r']
+
+# A line that is refused is told beside the answers.
+REFUSED = ['bak', 'step 3', 'back x', 'back 2', 'quit 1', 'back 9', 'break node 2', 'run']
+
+# What is answered to `step 3`, `back 2`, `back 9` and `run`.
+MOVED = '''\
+1 0 0 0 0 start 0 una=0 nxt=1000 cwnd=4000 ssthresh=64000 phase=ss tx=0:0:0
+2 1040000 0 0 3 free 0 una=0 nxt=1000 cwnd=4000 ssthresh=64000 phase=ss
+3 2040000 1 1 1 data 0 0 next=1000 tx=1:0:1000
+at 3 of the run, time 2040000 ns
+3 2040000 1 1 1 data 0 0 next=1000 tx=1:0:1000
+2 1040000 0 0 3 free 0 una=0 nxt=1000 cwnd=4000 ssthresh=64000 phase=ss
+at 1 of the run, time 0 ns
+1 0 0 0 0 start 0 una=0 nxt=1000 cwnd=4000 ssthresh=64000 phase=ss tx=0:0:0
+at 0 of the run, time 0 ns
+1 0 0 0 0 start 0 una=0 nxt=1000 cwnd=4000 ssthresh=64000 phase=ss tx=0:0:0
+2 1040000 0 0 3 free 0 una=0 nxt=1000 cwnd=4000 ssthresh=64000 phase=ss
+3 2040000 1 1 1 data 0 0 next=1000 tx=1:0:1000
+4 2080000 1 0 3 free 1 next=1000
+5 3080000 0 2 1 ack 0 1000 una=1000 nxt=1000 cwnd=5000 ssthresh=64000 phase=ss
+at 5 of the run, time 3080000 ns, the end
+'''
+
+# Breakpoints have numbers, and help is typed.
+BREAKPOINTS = ['breaks', 'break node 1', 'br drop', 'break kind delack', 'break drop', 'delete 1', 'breaks', 'delete 3', 'd 0',
+               'd 65', 'd 01', 'c', 'breaks', 'h d', 'h x']
+
+NUMBERED = '''\
+no breakpoint
+break 1: node 1
+break 2: drop
+break 3: kind delack
+break 2: drop
+deleted 1: node 1
+break 1: drop
+break 2: kind delack
+clear
+no breakpoint
+delete I     take breakpoint I away
+delete 1
+'''
+
+# A move forwards tells the first breakpoint that matches where it ends, and `lines` tells the last lines there.
+LINES = ['lines', 'b', 'br kind free', 'br node 1', 'r', 's', '', 'b', 'l 2', 'l 1001', 'l 1 2', 'lines 0', 'c', 'u 1s', 'l 1', 's']
+
+TOLD = '''\
+at 0 of the run, time 0 ns
+break 1: kind free
+break 2: node 1
+1 0 0 0 0 start 0 una=0 nxt=1000 cwnd=4000 ssthresh=64000 phase=ss tx=0:0:0
+2 1040000 0 0 3 free 0 una=0 nxt=1000 cwnd=4000 ssthresh=64000 phase=ss
+at 2 of the run, time 1040000 ns
+break 1: kind free
+3 2040000 1 1 1 data 0 0 next=1000 tx=1:0:1000
+at 3 of the run, time 2040000 ns
+break 2: node 1
+4 2080000 1 0 3 free 1 next=1000
+at 4 of the run, time 2080000 ns
+break 1: kind free
+4 2080000 1 0 3 free 1 next=1000
+at 3 of the run, time 2040000 ns
+2 1040000 0 0 3 free 0 una=0 nxt=1000 cwnd=4000 ssthresh=64000 phase=ss
+3 2040000 1 1 1 data 0 0 next=1000 tx=1:0:1000
+clear
+4 2080000 1 0 3 free 1 next=1000
+5 3080000 0 2 1 ack 0 1000 una=1000 nxt=1000 cwnd=5000 ssthresh=64000 phase=ss
+at 5 of the run, time 3080000 ns, the end
+5 3080000 0 2 1 ack 0 1000 una=1000 nxt=1000 cwnd=5000 ssthresh=64000 phase=ss
+at 5 of the run, time 3080000 ns, the end
+'''
+
+# The lines that are typed, how many of them are read and one more where the input ends, what is answered, and the codes
+# that lines are refused with.
+LINES_TYPED = [
+    (CUT_SHORT, 11, MOVED, 'B1 B3 B2 B3 B2'),
+    (REFUSED, 9, MOVED, 'B1 B3 B2 B3'),
+    (BREAKPOINTS, 16, NUMBERED, 'B5 B5 B5 B3 B1'),
+    (LINES, 17, TOLD, 'B3 B2'),
+]
