@@ -10,3 +10,4 @@ pub mod Setting
 pub mod Running
 pub mod Meanings
 pub mod Opened
+pub mod Left

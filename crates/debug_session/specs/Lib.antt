@@ -12,3 +12,4 @@ pub mod Help
 pub mod TypedMoves
 pub mod TypedAnswers
 pub mod Prompt
+pub mod WindowMoves

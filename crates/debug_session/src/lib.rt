@@ -18,14 +18,15 @@ pub mod said;
 pub mod session;
 mod typed_move;
 mod typed_reply;
+mod window_move;
 
 pub use command::{Command, Limits, Typed};
 pub use dialogue::Dialogue;
 pub use grammar::{number_below, read_line};
 pub use input::split;
 pub use name::Name;
-pub use prompt::{MOST_LINE, answer_typed, is_quit, is_refusal};
+pub use prompt::{MOST_LINE, answer_typed, answer_typed_alone, is_quit, is_refusal};
 pub use refusal::Refusal;
-pub use reply::answer;
+pub use reply::{answer, answer_alone};
 pub use said::Said;
-pub use session::{SessionFault, run_commands, run_session};
+pub use session::{SessionFault, run_commands, run_commands_alone, run_session, run_session_alone};

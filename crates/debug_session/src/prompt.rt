@@ -1,8 +1,9 @@
 //! Lines that are typed at a prompt.
-ghost use Rattle.std.specs.Prelude.{◌≡◌, false};
+ghost use Rattle.std.specs.Prelude.{◌≡◌, false, MatchOption};
 ghost use Rattle.debug_session.specs.Input.{words_in};
 ghost use Rattle.debug_session.specs.Prompt as prompt;
 ghost use Rattle.debug_session.specs.TypedAnswers as answers;
+ghost use Rattle.debug_session.specs.WindowMoves.{IsTypedLeft};
 
 use crate::command::{Command, Limits, Typed};
 use crate::dialogue::Dialogue;
@@ -11,7 +12,8 @@ use crate::name::begins;
 use crate::reading::read_typed;
 use crate::refusal::Refusal;
 use crate::said::Said;
-use crate::typed_reply::obey_typed;
+use crate::typed_reply::{obey_typed, show_passed};
+use crate::window_move::{WindowMove, go, go_alone};
 use std::sync::Wait;
 use std::thread::Threads;
 use window_engine::Gate;
@@ -70,61 +72,75 @@ fn last_after(asked: Typed, last: Option<Command>) -> Option<Command>
     }
 }
 
-/// Does what is asked for. A move is the last one from then on.
+/// Does what is asked for, but for a move by windows, which is left. A move is the last one from
+/// then on.
 #[tactic(none)]
-fn obey_at_prompt<R: Threads + Wait + Sync, G: Gate>(
-    rt: &R,
-    gate: &G,
-    dialogue: &mut Dialogue,
-    asked: Typed,
-    said: &mut Said,
-)
-    ensures obeys { prompt.ObeysAtPrompt dialogue.old.debugger.start asked (prompt.at_prompt dialogue.old) (prompt.at_prompt dialogue.new) said.new }
+fn obey_at_prompt(dialogue: &mut Dialogue, asked: Typed, said: &mut Said) -> Option<WindowMove>
+    ensures obeys { MatchOption result (prompt.ObeysAtPrompt dialogue.old.debugger.start asked (prompt.at_prompt dialogue.old) (prompt.at_prompt dialogue.new) said.new) (IsTypedLeft dialogue.old dialogue.new (prompt.ObeysAtPrompt dialogue.old.debugger.start asked (prompt.at_prompt dialogue.old))) }
     ensures start { dialogue.new.debugger.start ≡ dialogue.old.debugger.start }
 {
     dialogue.last = last_after(asked, dialogue.last);
-    obey_typed(rt, gate, &mut dialogue.debugger, asked, said);
+    obey_typed(&mut dialogue.debugger, asked, said)
 }
 
-/// Does the last move again, where there was one.
+/// Does the last move again, where there was one; a move by windows is left.
 #[tactic(none)]
-fn move_again<R: Threads + Wait + Sync, G: Gate>(
-    rt: &R,
-    gate: &G,
-    dialogue: &mut Dialogue,
-    said: &mut Said,
-)
-    ensures moves { prompt.MovesAgain dialogue.old.debugger.start dialogue.old.last (prompt.at_prompt dialogue.old) (prompt.at_prompt dialogue.new) said.new }
+fn move_again(dialogue: &mut Dialogue, said: &mut Said) -> Option<WindowMove>
+    ensures moves { MatchOption result (prompt.MovesAgain dialogue.old.debugger.start dialogue.old.last (prompt.at_prompt dialogue.old) (prompt.at_prompt dialogue.new) said.new) (IsTypedLeft dialogue.old dialogue.new (prompt.MovesAgain dialogue.old.debugger.start dialogue.old.last (prompt.at_prompt dialogue.old))) }
     ensures start { dialogue.new.debugger.start ≡ dialogue.old.debugger.start }
 {
     match dialogue.last {
-        None => said.clear(),
-        Some(command) => obey_at_prompt(rt, gate, dialogue, Typed::Plain(command), said),
+        None => {
+            said.clear();
+            None
+        }
+        Some(command) => obey_at_prompt(dialogue, Typed::Plain(command), said),
     }
 }
 
-/// Follows what a line says.
+/// Follows what a line says, but for a move by windows, which is left.
 #[tactic(none)]
-fn follow_typed<R: Threads + Wait + Sync, G: Gate>(
-    rt: &R,
-    gate: &G,
+fn follow_typed(
     dialogue: &mut Dialogue,
     limits: Limits,
     line: &[u8],
     said: &mut Said,
-)
-    ensures answers { prompt.AnswersTyped limits dialogue.old.debugger.start line.now (prompt.at_prompt dialogue.old) (prompt.at_prompt dialogue.new) said.new }
+) -> Option<WindowMove>
+    ensures answers { MatchOption result (prompt.AnswersTyped limits dialogue.old.debugger.start line.now (prompt.at_prompt dialogue.old) (prompt.at_prompt dialogue.new) said.new) (IsTypedLeft dialogue.old dialogue.new (prompt.AnswersTyped limits dialogue.old.debugger.start line.now (prompt.at_prompt dialogue.old))) }
     ensures start { dialogue.new.debugger.start ≡ dialogue.old.debugger.start }
 {
     match read_typed(limits, line) {
-        None => move_again(rt, gate, dialogue, said),
-        Some(Err(refusal)) => said.say_refused(refusal),
-        Some(Ok(asked)) => obey_at_prompt(rt, gate, dialogue, asked, said),
+        None => move_again(dialogue, said),
+        Some(Err(refusal)) => {
+            said.say_refused(refusal);
+            None
+        }
+        Some(Ok(asked)) => obey_at_prompt(dialogue, asked, said),
+    }
+}
+
+/// Answers a line that doesn't end the session, but for a move by windows, which is left.
+#[tactic(none)]
+fn begin_typed(
+    dialogue: &mut Dialogue,
+    limits: Limits,
+    line: &[u8],
+    said: &mut Said,
+) -> Option<WindowMove>
+    ensures answers { prompt.is_quit line.now ≡ false → MatchOption result (prompt.TypedAnswers limits dialogue.old.debugger.start line.now (prompt.at_prompt dialogue.old) (prompt.at_prompt dialogue.new) said.new) (IsTypedLeft dialogue.old dialogue.new (prompt.TypedAnswers limits dialogue.old.debugger.start line.now (prompt.at_prompt dialogue.old))) }
+    ensures start { dialogue.new.debugger.start ≡ dialogue.old.debugger.start }
+{
+    if is_long(line) {
+        said.say_refused(Refusal::B2);
+        None
+    } else {
+        follow_typed(dialogue, limits, line, said)
     }
 }
 
 /// Answers a line that doesn't end the session: one that is too long is refused, and what any other
-/// says is followed.
+/// says is followed. The moves `run` and `until` go by the debugger's workers.
+#[tactic(none)]
 pub fn answer_typed<R: Threads + Wait + Sync, G: Gate>(
     rt: &R,
     gate: &G,
@@ -136,9 +152,34 @@ pub fn answer_typed<R: Threads + Wait + Sync, G: Gate>(
     ensures answers { prompt.is_quit line.now ≡ false → prompt.TypedAnswers limits dialogue.old.debugger.start line.now (prompt.at_prompt dialogue.old) (prompt.at_prompt dialogue.new) said.new }
     ensures start { dialogue.new.debugger.start ≡ dialogue.old.debugger.start }
 {
-    if is_long(line) {
-        said.say_refused(Refusal::B2);
-    } else {
-        follow_typed(rt, gate, dialogue, limits, line, said);
+    match begin_typed(dialogue, limits, line, said) {
+        None => {}
+        Some(left) => {
+            let from = dialogue.debugger.position();
+            let moved = go(rt, gate, &mut dialogue.debugger, left);
+            show_passed(&mut dialogue.debugger, from, moved, said);
+        }
+    }
+}
+
+/// The same by the calling thread alone, which waits for nobody.
+#[tactic(none)]
+pub fn answer_typed_alone<G: Gate>(
+    gate: &G,
+    dialogue: &mut Dialogue,
+    limits: Limits,
+    line: &[u8],
+    said: &mut Said,
+)
+    ensures answers { prompt.is_quit line.now ≡ false → prompt.TypedAnswers limits dialogue.old.debugger.start line.now (prompt.at_prompt dialogue.old) (prompt.at_prompt dialogue.new) said.new }
+    ensures start { dialogue.new.debugger.start ≡ dialogue.old.debugger.start }
+{
+    match begin_typed(dialogue, limits, line, said) {
+        None => {}
+        Some(left) => {
+            let from = dialogue.debugger.position();
+            let moved = go_alone(gate, &mut dialogue.debugger, left);
+            show_passed(&mut dialogue.debugger, from, moved, said);
+        }
     }
 }

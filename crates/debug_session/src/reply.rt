@@ -1,13 +1,15 @@
 //! A session's answer to a line of commands.
-ghost use Rattle.std.specs.Prelude.{◌≡◌, IfOk, OnErr, MatchBool};
+ghost use Rattle.std.specs.Prelude.{◌≡◌, IfOk, OnErr, MatchBool, MatchOption};
 ghost use Rattle.trace_text.specs.Dump.{dump_bytes};
 ghost use Rattle.debug_session.specs.Answers.{standing, refusal_line, Sets, Obeys, Answers};
 ghost use Rattle.debug_session.specs.Told.{Told};
+ghost use Rattle.debug_session.specs.WindowMoves.{IsAsked, IsLeft};
 
 use crate::command::{Command, Limits};
 use crate::grammar::read_line;
 use crate::refusal::Refusal;
 use crate::said::Said;
+use crate::window_move::{WindowMove, go, go_alone};
 use debugger::{Break, BreakFault, Debugger, MoveFault};
 use std::sync::Wait;
 use std::thread::Threads;
@@ -57,48 +59,68 @@ fn set_break(debugger: &mut Debugger, b: Break, said: &mut Said)
     }
 }
 
-/// Does what a command asks for.
+/// Does what a command asks for, but for a move by windows, which is left.
 #[tactic(none)]
-pub(crate) fn obey<R: Threads + Wait + Sync, G: Gate>(
-    rt: &R,
-    gate: &G,
-    debugger: &mut Debugger,
-    command: Command,
-    said: &mut Said,
-)
-    ensures obeyed { Obeys debugger.old.start command (standing debugger.old) (standing debugger.new) said.new }
+pub(crate) fn obey(debugger: &mut Debugger, command: Command, said: &mut Said) -> Option<WindowMove>
+    ensures obeyed { MatchOption result (Obeys debugger.old.start command (standing debugger.old) (standing debugger.new) said.new) (IsAsked command debugger.old debugger.new) }
     ensures start { debugger.new.start ≡ debugger.old.start }
 {
     match command {
         Command::Step(count) => {
             let moved = debugger.step(count);
             show_move(debugger, moved, said);
+            None
         }
         Command::Back(count) => {
             let moved = debugger.back(count);
             show_move(debugger, moved, said);
+            None
         }
-        Command::Until(time) => {
-            let moved = debugger.until(rt, gate, time);
-            show_move(debugger, moved, said);
-        }
-        Command::Run => {
-            let moved = debugger.run(rt, gate);
-            show_move(debugger, moved, said);
-        }
+        Command::Until(time) => Some(WindowMove::Until(time)),
+        Command::Run => Some(WindowMove::Run),
         Command::State => {
             let _here = debugger.position();
             let _told = tell(debugger, said);
+            None
         }
-        Command::SetBreak(b) => set_break(debugger, b, said),
+        Command::SetBreak(b) => {
+            set_break(debugger, b, said);
+            None
+        }
         Command::Clear => {
             debugger.clear_breaks();
             said.say_cleared();
+            None
         }
     }
 }
 
-/// Answers a line: what it asks for is done, or it is refused and changes nothing.
+/// Answers a line, but for a move by windows, which is left.
+#[tactic(none)]
+fn begin_answer(
+    debugger: &mut Debugger,
+    limits: Limits,
+    line: &[u8],
+    said: &mut Said,
+) -> Option<WindowMove>
+    ensures answers { MatchOption result (Answers limits debugger.old.start line.now (standing debugger.old) (standing debugger.new) said.new) (IsLeft debugger.old debugger.new (Answers limits debugger.old.start line.now (standing debugger.old))) }
+    ensures start { debugger.new.start ≡ debugger.old.start }
+{
+    match read_line(limits, line) {
+        None => {
+            said.clear();
+            None
+        }
+        Some(Err(refusal)) => {
+            said.say_refused(refusal);
+            None
+        }
+        Some(Ok(command)) => obey(debugger, command, said),
+    }
+}
+
+/// Answers a line: what it asks for is done, or it is refused and changes nothing. The moves `run`
+/// and `until` go by the debugger's workers.
 #[tactic(none)]
 pub fn answer<R: Threads + Wait + Sync, G: Gate>(
     rt: &R,
@@ -111,9 +133,32 @@ pub fn answer<R: Threads + Wait + Sync, G: Gate>(
     ensures answers { Answers limits debugger.old.start line.now (standing debugger.old) (standing debugger.new) said.new }
     ensures start { debugger.new.start ≡ debugger.old.start }
 {
-    match read_line(limits, line) {
-        None => said.clear(),
-        Some(Err(refusal)) => said.say_refused(refusal),
-        Some(Ok(command)) => obey(rt, gate, debugger, command, said),
+    match begin_answer(debugger, limits, line, said) {
+        None => {}
+        Some(left) => {
+            let moved = go(rt, gate, debugger, left);
+            show_move(debugger, moved, said);
+        }
+    }
+}
+
+/// The same by the calling thread alone, which waits for nobody.
+#[tactic(none)]
+pub fn answer_alone<G: Gate>(
+    gate: &G,
+    debugger: &mut Debugger,
+    limits: Limits,
+    line: &[u8],
+    said: &mut Said,
+)
+    ensures answers { Answers limits debugger.old.start line.now (standing debugger.old) (standing debugger.new) said.new }
+    ensures start { debugger.new.start ≡ debugger.old.start }
+{
+    match begin_answer(debugger, limits, line, said) {
+        None => {}
+        Some(left) => {
+            let moved = go_alone(gate, debugger, left);
+            show_move(debugger, moved, said);
+        }
     }
 }

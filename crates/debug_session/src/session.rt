@@ -10,7 +10,7 @@ ghost use Rattle.debug_session.specs.Sessions as sessions;
 
 use crate::command::Limits;
 use crate::cut::cut;
-use crate::reply::answer;
+use crate::reply::{answer, answer_alone};
 use crate::said::Said;
 use debugger::Debugger;
 use scenario_image::Scenario;
@@ -58,6 +58,33 @@ pub fn run_commands<R: Threads + Wait + Sync, G: Gate, S: Sink>(
     Ok(())
 }
 
+/// The same by the calling thread alone, which waits for nobody.
+#[tactic(none)]
+pub fn run_commands_alone<G: Gate, S: Sink>(
+    gate: &G,
+    debugger: &mut Debugger,
+    limits: Limits,
+    commands: &[u8],
+    said: &mut Said,
+    out: &mut S,
+) -> Result<(), SinkFail>
+    ensures ok { OnOk result (Takes (sessions.Output limits debugger.old.start (lines_of commands.now) (standing debugger.old)) (S.contents out.old) (S.contents out.new)) }
+    ensures err { OnErr result (Takes (IsBeginningOf (sessions.OutputStart limits debugger.old.start (lines_of commands.now) (standing debugger.old))) (S.contents out.old) (S.contents out.new)) }
+    ensures failures { S.failures out.new ≡ failures_after result (S.failures out.old) }
+{
+    let mut rest = commands;
+    while !rest.is_empty() {
+        let (line, after) = cut(rest, b'\n');
+        answer_alone(gate, debugger, limits, line, said);
+        match put_all(out, said.as_slice()) {
+            Ok(()) => {}
+            Err(_) => return Err(SinkFail),
+        }
+        rest = after;
+    }
+    Ok(())
+}
+
 /// Answers all commands of a session, one a line, by a debugger at the opening state.
 fn answer_all<R: Threads + Wait + Sync, G: Gate, S: Sink>(
     rt: &R,
@@ -74,6 +101,26 @@ fn answer_all<R: Threads + Wait + Sync, G: Gate, S: Sink>(
 {
     let limits = Limits::of(scenario);
     match run_commands(rt, gate, debugger, limits, commands, said, out) {
+        Ok(()) => Ok(()),
+        Err(_) => Err(SessionFault::OutputFailed),
+    }
+}
+
+/// The same by the calling thread alone, which waits for nobody.
+fn answer_all_alone<G: Gate, S: Sink>(
+    gate: &G,
+    scenario: &Scenario,
+    commands: &[u8],
+    debugger: &mut Debugger,
+    said: &mut Said,
+    out: &mut S,
+) -> Result<(), SessionFault>
+    requires { debugger.old ≡ opened (opening scenario.now) }
+    ensures output { Takes (sessions.IsEnding scenario.now (lines_of commands.now) result) (S.contents out.old) (S.contents out.new) }
+    ensures failures { S.failures out.new ≡ sessions.failures_of result (S.failures out.old) }
+{
+    let limits = Limits::of(scenario);
+    match run_commands_alone(gate, debugger, limits, commands, said, out) {
         Ok(()) => Ok(()),
         Err(_) => Err(SessionFault::OutputFailed),
     }
@@ -101,6 +148,30 @@ pub fn run_session<R: Threads + Wait + Sync, G: Gate, S: Sink>(
     };
     let mut said = Said::new(alloc);
     let ended = answer_all(rt, gate, scenario, commands, &mut debugger, &mut said, out);
+    drop(debugger);
+    drop(said);
+    ended
+}
+
+/// What `run_session` does with one worker: the calling thread runs the windows of these groups, and
+/// waits for no other.
+pub fn run_session_alone<G: Gate, S: Sink>(
+    gate: &G,
+    alloc: Global,
+    scenario: &Scenario,
+    partition: Partition,
+    commands: &[u8],
+    out: &mut S,
+) -> Result<(), SessionFault>
+    requires partition { length partition ≡ length scenario.now.nodes }
+    ensures output { Takes (sessions.IsEnding scenario.now (lines_of commands.now) result) (S.contents out.old) (S.contents out.new) }
+    ensures failures { S.failures out.new ≡ sessions.failures_of result (S.failures out.old) }
+{
+    let Ok(mut debugger) = Debugger::new(alloc, scenario, partition, 1) else {
+        return Err(SessionFault::NoMemory);
+    };
+    let mut said = Said::new(alloc);
+    let ended = answer_all_alone(gate, scenario, commands, &mut debugger, &mut said, out);
     drop(debugger);
     drop(said);
     ended

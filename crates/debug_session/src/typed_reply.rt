@@ -1,5 +1,5 @@
 //! A session's answer to a command that is typed.
-ghost use Rattle.std.specs.Prelude.{◌≡◌, ◌<◌, ◌≤◌, ◌⊎◌, ℕ, Contains, IfOk, MatchBool, OnErr, length};
+ghost use Rattle.std.specs.Prelude.{◌≡◌, ◌<◌, ◌≤◌, ◌⊎◌, ℕ, Contains, IfOk, MatchBool, MatchOption, OnErr, length};
 ghost use Rattle.debugger.specs.Moves.{HasPosition};
 ghost use Rattle.debug_session.specs.Answers.{standing, refusal_line};
 ghost use Rattle.debug_session.specs.Help.{help_text, help_on};
@@ -7,6 +7,7 @@ ghost use Rattle.debug_session.specs.Numbered.{IsNumber, HasNumber, set_line};
 ghost use Rattle.debug_session.specs.Told.{ToldMove};
 ghost use Rattle.debug_session.specs.TypedAnswers.{ObeysTyped};
 ghost use Rattle.debug_session.specs.TypedMoves.{TellsMove};
+ghost use Rattle.debug_session.specs.WindowMoves.{IsAsked, IsTyped};
 
 use crate::command::{Command, Typed};
 use crate::name::Name;
@@ -14,10 +15,8 @@ use crate::numbered::number_of;
 use crate::refusal::Refusal;
 use crate::reply::obey;
 use crate::said::Said;
+use crate::window_move::WindowMove;
 use debugger::{Break, BreakFault, Debugger, MoveFault};
-use std::sync::Wait;
-use std::thread::Threads;
-use window_engine::Gate;
 
 /// Tells the number of a breakpoint that is set.
 #[tactic(none)]
@@ -128,7 +127,12 @@ fn tell_move(debugger: &mut Debugger, from: u64, said: &mut Said) -> bool
 
 /// Tells what a move from a position came to. Where that cannot be told, the move is undone.
 #[tactic(none)]
-fn show_passed(debugger: &mut Debugger, from: u64, moved: Result<u64, MoveFault>, said: &mut Said)
+pub(crate) fn show_passed(
+    debugger: &mut Debugger,
+    from: u64,
+    moved: Result<u64, MoveFault>,
+    said: &mut Said,
+)
     requires { HasPosition debugger.old.start from }
     ensures told { IfOk moved (λ _. ToldMove from debugger.old debugger.new said.new) }
     ensures refused { OnErr moved ((debugger.new ≡ debugger.old) × (said.new ≡ refusal_line Refusal.M)) }
@@ -155,16 +159,11 @@ fn tell_lines(debugger: &mut Debugger, count: u64, said: &mut Said)
     }
 }
 
-/// Does what a session whose lines are all there from the start is asked too.
+/// Does what a session whose lines are all there from the start is asked too, but for a move by
+/// windows, which is left.
 #[tactic(none)]
-fn obey_plain<R: Threads + Wait + Sync, G: Gate>(
-    rt: &R,
-    gate: &G,
-    debugger: &mut Debugger,
-    command: Command,
-    said: &mut Said,
-)
-    ensures obeyed { ObeysTyped debugger.old.start (Typed.Plain command) (standing debugger.old) (standing debugger.new) said.new }
+fn obey_plain(debugger: &mut Debugger, command: Command, said: &mut Said) -> Option<WindowMove>
+    ensures obeyed { MatchOption result (ObeysTyped debugger.old.start (Typed.Plain command) (standing debugger.old) (standing debugger.new) said.new) (IsAsked command debugger.old debugger.new) }
     ensures start { debugger.new.start ≡ debugger.old.start }
 {
     let from = debugger.position();
@@ -172,43 +171,55 @@ fn obey_plain<R: Threads + Wait + Sync, G: Gate>(
         Command::Step(count) => {
             let moved = debugger.step(count);
             show_passed(debugger, from, moved, said);
+            None
         }
         Command::Back(count) => {
             let moved = debugger.back(count);
             show_passed(debugger, from, moved, said);
+            None
         }
-        Command::Until(time) => {
-            let moved = debugger.until(rt, gate, time);
-            show_passed(debugger, from, moved, said);
+        Command::Until(time) => Some(WindowMove::Until(time)),
+        Command::Run => Some(WindowMove::Run),
+        Command::SetBreak(b) => {
+            set_numbered(debugger, b, said);
+            None
         }
-        Command::Run => {
-            let moved = debugger.run(rt, gate);
-            show_passed(debugger, from, moved, said);
-        }
-        Command::SetBreak(b) => set_numbered(debugger, b, said),
-        Command::State => obey(rt, gate, debugger, Command::State, said),
-        Command::Clear => obey(rt, gate, debugger, Command::Clear, said),
+        Command::State => obey(debugger, Command::State, said),
+        Command::Clear => obey(debugger, Command::Clear, said),
     }
 }
 
-/// Does what is typed.
+/// Does what is typed, but for a move by windows, which is left.
 #[tactic(none)]
-pub(crate) fn obey_typed<R: Threads + Wait + Sync, G: Gate>(
-    rt: &R,
-    gate: &G,
+pub(crate) fn obey_typed(
     debugger: &mut Debugger,
     asked: Typed,
     said: &mut Said,
-)
-    ensures obeyed { ObeysTyped debugger.old.start asked (standing debugger.old) (standing debugger.new) said.new }
+) -> Option<WindowMove>
+    ensures obeyed { MatchOption result (ObeysTyped debugger.old.start asked (standing debugger.old) (standing debugger.new) said.new) (IsTyped asked debugger.old debugger.new) }
     ensures start { debugger.new.start ≡ debugger.old.start }
 {
     match asked {
-        Typed::Plain(command) => obey_plain(rt, gate, debugger, command, said),
-        Typed::Breaks => tell_breaks(debugger, said),
-        Typed::Delete(number) => delete(debugger, number, said),
-        Typed::Lines(count) => tell_lines(debugger, count, said),
-        Typed::Help => tell_help(said),
-        Typed::HelpOn(name) => tell_help_on(name, said),
+        Typed::Plain(command) => obey_plain(debugger, command, said),
+        Typed::Breaks => {
+            tell_breaks(debugger, said);
+            None
+        }
+        Typed::Delete(number) => {
+            delete(debugger, number, said);
+            None
+        }
+        Typed::Lines(count) => {
+            tell_lines(debugger, count, said);
+            None
+        }
+        Typed::Help => {
+            tell_help(said);
+            None
+        }
+        Typed::HelpOn(name) => {
+            tell_help_on(name, said);
+            None
+        }
     }
 }

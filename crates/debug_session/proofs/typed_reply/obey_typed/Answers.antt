@@ -1,49 +1,56 @@
 use Rattle.std.proofs.Common.{refl, sym, subst}
 use Rattle.debug_session.specs.declared.command.Typed.{Typed}
+use Rattle.debug_session.specs.declared.command.Typed.TheVariants.{Plain}
 use Rattle.debug_session.specs.Answers.{standing}
 use Rattle.debug_session.specs.TypedAnswers.{ObeysTyped}
 use Rattle.debug_session.proofs.Deleting.{help_told, help_on_told}
+use Rattle.debug_session.proofs.Left.{typed_plain}
 use Rattle.debug_session.proofs.typed_reply.obey_typed.Goals as goal
 
 pub returns-in-Plain-clause-obeyed : goal.returns-in-Plain-clause-obeyed
-returns-in-Plain-clause-obeyed g c =
-    subst (λ (k : Typed). ObeysTyped c.args.debugger.now.start k (standing c.args.debugger.now) (standing c.obey_plain.new.debugger) c.obey_plain.new.said) (sym c.in-Plain.is) c.obey_plain.ensures.obeyed
+returns-in-Plain-clause-obeyed c =
+    let start = c.args.debugger.now.start in
+    let old = standing c.args.debugger.now in
+    let new = standing c.obey_plain.new.debugger in
+    let out = c.obey_plain.new.said in
+    typed_plain c.obey_plain.result c.args.asked c.in-Plain.command c.args.debugger.now c.obey_plain.new.debugger (ObeysTyped start (Plain c.in-Plain.command) old new out) (ObeysTyped start c.args.asked old new out) c.in-Plain.is
+    (λ obeys. subst (λ (k : Typed). ObeysTyped start k old new out) (sym c.in-Plain.is) obeys) c.obey_plain.ensures.obeyed
 
 pub returns-in-Plain-clause-start : goal.returns-in-Plain-clause-start
-returns-in-Plain-clause-start g c = c.obey_plain.ensures.start
+returns-in-Plain-clause-start c = c.obey_plain.ensures.start
 
 pub returns-in-Breaks-clause-obeyed : goal.returns-in-Breaks-clause-obeyed
-returns-in-Breaks-clause-obeyed g c =
+returns-in-Breaks-clause-obeyed c =
     subst (λ (k : Typed). ObeysTyped c.args.debugger.now.start k (standing c.args.debugger.now) (standing c.args.debugger.now) c.tell_breaks.new.said) (sym c.in-Breaks.is) c.tell_breaks.ensures
 
 pub returns-in-Breaks-clause-start : goal.returns-in-Breaks-clause-start
-returns-in-Breaks-clause-start g c = refl
+returns-in-Breaks-clause-start c = refl
 
 pub returns-in-Delete-clause-obeyed : goal.returns-in-Delete-clause-obeyed
-returns-in-Delete-clause-obeyed g c =
+returns-in-Delete-clause-obeyed c =
     subst (λ (k : Typed). ObeysTyped c.args.debugger.now.start k (standing c.args.debugger.now) (standing c.delete.new.debugger) c.delete.new.said) (sym c.in-Delete.is) c.delete.ensures.obeyed
 
 pub returns-in-Delete-clause-start : goal.returns-in-Delete-clause-start
-returns-in-Delete-clause-start g c = c.delete.ensures.start
+returns-in-Delete-clause-start c = c.delete.ensures.start
 
 pub returns-in-Lines-clause-obeyed : goal.returns-in-Lines-clause-obeyed
-returns-in-Lines-clause-obeyed g c =
+returns-in-Lines-clause-obeyed c =
     subst (λ (k : Typed). ObeysTyped c.args.debugger.now.start k (standing c.args.debugger.now) (standing c.tell_lines.new.debugger) c.tell_lines.new.said) (sym c.in-Lines.is) c.tell_lines.ensures.obeyed
 
 pub returns-in-Lines-clause-start : goal.returns-in-Lines-clause-start
-returns-in-Lines-clause-start g c = c.tell_lines.ensures.start
+returns-in-Lines-clause-start c = c.tell_lines.ensures.start
 
 pub returns-in-Help-clause-obeyed : goal.returns-in-Help-clause-obeyed
-returns-in-Help-clause-obeyed g c =
+returns-in-Help-clause-obeyed c =
     subst (λ (k : Typed). ObeysTyped c.args.debugger.now.start k (standing c.args.debugger.now) (standing c.args.debugger.now) c.tell_help.new.said) (sym c.in-Help.is) (help_told c.args.debugger.now c.tell_help.new.said c.tell_help.ensures)
 
 pub returns-in-Help-clause-start : goal.returns-in-Help-clause-start
-returns-in-Help-clause-start g c = refl
+returns-in-Help-clause-start c = refl
 
 pub returns-in-HelpOn-clause-obeyed : goal.returns-in-HelpOn-clause-obeyed
-returns-in-HelpOn-clause-obeyed g c =
+returns-in-HelpOn-clause-obeyed c =
     subst (λ (k : Typed). ObeysTyped c.args.debugger.now.start k (standing c.args.debugger.now) (standing c.args.debugger.now) c.tell_help_on.new.said) (sym c.in-HelpOn.is)
     (help_on_told c.args.debugger.now c.in-HelpOn.name c.tell_help_on.new.said c.tell_help_on.ensures)
 
 pub returns-in-HelpOn-clause-start : goal.returns-in-HelpOn-clause-start
-returns-in-HelpOn-clause-start g c = refl
+returns-in-HelpOn-clause-start c = refl

@@ -1,0 +1,90 @@
+-- A move by windows that was left, before it is made and after it.
+use Rattle.std.proofs.Common.{◌≡◌, ◌∙◌, ℕ, List, [], Bool, true, false, MatchBool, Option, Some, None, Ok, sym, ap, subst}
+use Rattle.std.specs.Prelude.{MatchOption}
+use Rattle.table_run.specs.State.{State}
+use Rattle.debugger.specs.Debugging.{Debugging}
+use Rattle.debug_session.specs.declared.command.Command.{Command}
+use Rattle.debug_session.specs.declared.command.Limits.{Limits}
+use Rattle.debug_session.specs.declared.command.Typed.{Typed}
+use Rattle.debug_session.specs.declared.command.Typed.TheVariants.{Plain}
+use Rattle.debug_session.specs.declared.dialogue.Dialogue.{Dialogue}
+use Rattle.debug_session.specs.declared.refusal.Refusal.TheVariants.{B2}
+use Rattle.debug_session.specs.declared.window_move.WindowMove.{WindowMove}
+use Rattle.debug_session.specs.declared.window_move.WindowMove.TheVariants.{Run, Until}
+use Rattle.debug_session.specs.Answers.{Standing, standing, Obeys, Follows, Answers, refusal_line}
+use Rattle.debug_session.specs.Grammar.{Reading, reading}
+use Rattle.debug_session.specs.Prompt.{AtPrompt, Rests, ObeysAtPrompt, AnswersTyped, TypedAnswers, at_prompt, is_long, is_quit}
+use Rattle.debug_session.specs.TypedAnswers.{ObeysTyped, last_after}
+use Rattle.debug_session.specs.WindowMoves.{MoveGoesTo, IsAsked, IsTyped, IsLeft, IsTypedLeft, command_of}
+use Rattle.debug_session.proofs.Moved.{Gone}
+use Rattle.debug_session.proofs.TypedMoving.{GoneOn}
+
+-- what is obeyed, or asks for a move
+pub asked_as : (r : Option WindowMove) (asked other : Command) (old new : Debugging) (P Q : Type 0) → asked ≡ other → (P → Q) → MatchOption r P (IsAsked other old new) → MatchOption r Q (IsAsked asked old new)
+asked_as None asked other old new P Q is says obeys = says obeys
+asked_as (Some left) asked other old new P Q is says move = (is ∙ move.0, move.1)
+
+pub typed_plain : (r : Option WindowMove) (asked : Typed) (command : Command) (old new : Debugging) (P Q : Type 0) → asked ≡ Plain command → (P → Q) → MatchOption r P (IsAsked command old new) → MatchOption r Q (IsTyped asked old new)
+typed_plain None asked command old new P Q is says obeys = says obeys
+typed_plain (Some left) asked command old new P Q is says move = (is ∙ ap (λ k. Plain k) move.0, move.1)
+
+-- a line asks for what is obeyed, or for a move
+pub line_obeyed : (limits : Limits) (line : List ℕ) (command : Command) (old new : Debugging) (r : Option WindowMove) (out : List ℕ) → Some (Ok command) ≡ reading limits line
+    → MatchOption r (Obeys old.start command (standing old) (standing new) out) (IsAsked command old new)
+    → MatchOption r (Answers limits old.start line (standing old) (standing new) out) (IsLeft old new (Answers limits old.start line (standing old)))
+line_obeyed limits line command old new None out read obeys = subst (λ (r : Option Reading). Follows old.start r (standing old) (standing new) out) read obeys
+line_obeyed limits line command old new (Some left) out read move = record {
+  same = move.1;
+  answers = λ at said obeys.
+      subst (λ (r : Option Reading). Follows old.start r (standing old) at said) read (subst (λ (k : Command). Obeys old.start k (standing old) at said) (sym move.0) obeys);
+}
+
+-- so at a prompt
+pub typed_obeyed : (asked : Typed) (old new : Dialogue) (r : Option WindowMove) (out : List ℕ) → new.last ≡ last_after asked old.last
+    → MatchOption r (ObeysTyped old.debugger.start asked (standing old.debugger) (standing new.debugger) out) (IsTyped asked old.debugger new.debugger)
+    → MatchOption r (ObeysAtPrompt old.debugger.start asked (at_prompt old) (at_prompt new) out) (IsTypedLeft old new (ObeysAtPrompt old.debugger.start asked (at_prompt old)))
+typed_obeyed asked old new None out last obeys = record { obeyed = obeys; last = last }
+typed_obeyed asked old new (Some left) out last move = record {
+  same = move.1;
+  answers = λ at said obeys.
+      record { obeyed = subst (λ (k : Typed). ObeysTyped old.debugger.start k (standing old.debugger) at said) (sym move.0) obeys; last = last };
+}
+
+-- what is done or left comes to what follows of it
+pub typed_as : (old new : Dialogue) (P Q : AtPrompt → List ℕ → Type 0) (r : Option WindowMove) (out : List ℕ) → ((at : AtPrompt) (said : List ℕ) → P at said → Q at said)
+    → MatchOption r (P (at_prompt new) out) (IsTypedLeft old new P) → MatchOption r (Q (at_prompt new) out) (IsTypedLeft old new Q)
+typed_as old new P Q None out says is = says (at_prompt new) out is
+typed_as old new P Q (Some left) out says is = record { same = is.same; answers = λ at said obeys. says (record { standing = at; last = new.last }) said (is.answers at said obeys) }
+
+module _ (limits : Limits) (start : State) (line : List ℕ) (old new : AtPrompt) (out : List ℕ) where
+  abbrev Short : Type 0
+  Short = MatchBool (is_quit line) (Rests old new out []) (AnswersTyped limits start line old new out)
+
+  -- a line that is too long is refused
+  pub long_refused : is_long line ≡ true → Rests old new out (refusal_line B2) → TypedAnswers limits start line old new out
+  long_refused long rests = subst (λ (b : Bool). MatchBool b (Rests old new out (refusal_line B2)) Short) (sym long) rests
+
+  -- any other that doesn't end the session is followed
+  pub short_followed : is_long line ≡ false → is_quit line ≡ false → AnswersTyped limits start line old new out → TypedAnswers limits start line old new out
+  short_followed short goes_on follows =
+      let here : Short = subst (λ (b : Bool). MatchBool b (Rests old new out []) (AnswersTyped limits start line old new out)) (sym goes_on) follows in
+      subst (λ (b : Bool). MatchBool b (Rests old new out (refusal_line B2)) Short) (sym short) here
+
+-- the move was made and told, and so its command was obeyed
+move_obeyed : (left : WindowMove) (old new : Debugging) (out : List ℕ) → Gone (MoveGoesTo left old) old new out → Obeys old.start (command_of left) (standing old) (standing new) out
+move_obeyed Run old new out gone = gone.went
+move_obeyed (Until time) old new out gone = gone.went
+
+typed_move_obeyed : (left : WindowMove) (old new : Debugging) (out : List ℕ) → GoneOn (MoveGoesTo left old) old new out → ObeysTyped old.start (Plain (command_of left)) (standing old) (standing new) out
+typed_move_obeyed Run old new out gone = gone.went
+typed_move_obeyed (Until time) old new out gone = gone.went
+
+-- and the line was answered
+pub left_answered : (old here new : Debugging) (IsAnswer : Standing → List ℕ → Type 0) (left : WindowMove) (out : List ℕ) → IsLeft old here IsAnswer left → Gone (MoveGoesTo left here) here new out → IsAnswer (standing new) out
+left_answered old here new IsAnswer left out is gone =
+    is.answers (standing new) out (move_obeyed left old new out (subst (λ (d : Debugging). Gone (MoveGoesTo left d) d new out) is.same gone))
+
+pub typed_left_answered : (old here : Dialogue) (new : Debugging) (IsAnswer : AtPrompt → List ℕ → Type 0) (left : WindowMove) (out : List ℕ) → IsTypedLeft old here IsAnswer left
+    → GoneOn (MoveGoesTo left here.debugger) here.debugger new out → IsAnswer (record { standing = standing new; last = here.last }) out
+typed_left_answered old here new IsAnswer left out is gone =
+    is.answers (standing new) out (typed_move_obeyed left old.debugger new out (subst (λ (d : Debugging). GoneOn (MoveGoesTo left d) d new out) is.same gone))

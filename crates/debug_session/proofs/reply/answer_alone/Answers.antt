@@ -1,0 +1,30 @@
+use Rattle.std.proofs.Common.{◌∙◌}
+use Rattle.debug_session.specs.Answers.{standing, Answers}
+use Rattle.debug_session.specs.WindowMoves.{MoveGoesTo}
+use Rattle.debug_session.proofs.Left.{left_answered}
+use Rattle.debug_session.proofs.Moved.{moved_told}
+use Rattle.debug_session.proofs.reply.answer_alone.Goals as goal
+
+pub returns-in-None-clause-answers : goal.returns-in-None-clause-answers
+returns-in-None-clause-answers g c = c.in-None.ensures.answers
+
+pub returns-in-None-clause-start : goal.returns-in-None-clause-start
+returns-in-None-clause-start g c = c.in-None.ensures.start
+
+pub returns-in-Some-clause-answers : goal.returns-in-Some-clause-answers
+returns-in-Some-clause-answers g c =
+    let old = c.args.debugger.now in
+    let here = c.begin_answer.new.debugger in
+    let left = c.in-Some.left in
+    let moved = c.go_alone-moved in
+    let told = c.show_move in
+    let gone = moved_told (MoveGoesTo left here) here moved.new.debugger told.new.debugger moved.result told.new.said moved.ensures.moved moved.ensures.goes moved.ensures.err told.ensures.told told.ensures.refused in
+    left_answered old here told.new.debugger (Answers c.args.limits old.start c.args.line.now (standing old)) left told.new.said c.in-Some.ensures.answers gone
+
+pub returns-in-Some-clause-start : goal.returns-in-Some-clause-start
+returns-in-Some-clause-start g c =
+    let here = c.begin_answer.new.debugger in
+    let moved = c.go_alone-moved in
+    let told = c.show_move in
+    let gone = moved_told (MoveGoesTo c.in-Some.left here) here moved.new.debugger told.new.debugger moved.result told.new.said moved.ensures.moved moved.ensures.goes moved.ensures.err told.ensures.told told.ensures.refused in
+    gone.start ∙ c.in-Some.ensures.start

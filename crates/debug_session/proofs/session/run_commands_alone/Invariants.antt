@@ -1,0 +1,15 @@
+-- The lines that were passed are answered, and the answers are taken.
+use Rattle.std.proofs.Common.{◌≡◌, length}
+use Rattle.debug_session.specs.Answers.{standing}
+use Rattle.debug_session.proofs.Running.{SoFar}
+use Rattle.debug_session.proofs.session.run_commands_alone.Given as goal
+
+abbrev pub invariant-loop-rest : goal.invariant-loop-rest
+invariant-loop-rest g l = record {
+  so_far : SoFar l.limits l.fn.debugger.start l.commands l.rest (standing l.fn.debugger) (standing l.debugger) (g.S.Sink.contents l.fn.out) (g.S.Sink.contents l.out);
+  start : l.debugger.start ≡ l.fn.debugger.start;
+  failures : g.S.Sink.failures l.out ≡ g.S.Sink.failures l.fn.out;
+}
+
+abbrev pub decreases-loop-rest : goal.decreases-loop-rest
+decreases-loop-rest g l = length l.rest

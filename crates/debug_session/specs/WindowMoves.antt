@@ -1,0 +1,42 @@
+-- A move that goes by windows, and is left to whoever has workers for it, or has none: for the contracts of private steps.
+use Rattle.std.specs.Prelude.{◌≡◌, ℕ, List}
+use Rattle.debugger.specs.Debugging.{Debugging}
+use Rattle.debugger.specs.Moves.{RunGoesTo, UntilGoesTo}
+use Rattle.debug_session.specs.declared.command.Command.{Command}
+use Rattle.debug_session.specs.declared.command.Command.TheVariants as commands
+use Rattle.debug_session.specs.declared.command.Typed.{Typed}
+use Rattle.debug_session.specs.declared.command.Typed.TheVariants.{Plain}
+use Rattle.debug_session.specs.declared.dialogue.Dialogue.{Dialogue}
+use Rattle.debug_session.specs.declared.window_move.WindowMove.{WindowMove}
+use Rattle.debug_session.specs.declared.window_move.WindowMove.TheVariants.{Run, Until}
+use Rattle.debug_session.specs.Answers.{Standing, standing, Obeys}
+use Rattle.debug_session.specs.Prompt.{AtPrompt}
+use Rattle.debug_session.specs.TypedAnswers.{ObeysTyped}
+
+-- the command that asks for it
+abbrev pub command_of : WindowMove → Command
+command_of Run = commands.Run
+command_of (Until time) = commands.Until time
+
+-- where it goes, from where a debugger stands
+abbrev pub MoveGoesTo : WindowMove → Debugging → ℕ → Type 0
+MoveGoesTo Run d = RunGoesTo d.start d.breaks d.shown.position
+MoveGoesTo (Until time) d = UntilGoesTo d.start time d.shown.position
+
+-- a command asks for it, and nothing has changed
+abbrev pub IsAsked : Command → Debugging → Debugging → WindowMove → Type 0
+IsAsked asked old new left = (asked ≡ command_of left) × (new ≡ old)
+
+-- so at a prompt
+abbrev pub IsTyped : Typed → Debugging → Debugging → WindowMove → Type 0
+IsTyped asked old new left = (asked ≡ Plain (command_of left)) × (new ≡ old)
+
+-- it is left: nothing has changed, and what it comes to is an answer
+pub record IsLeft (old new : Debugging) (IsAnswer : Standing → List ℕ → Type 0) (left : WindowMove) : Type 0 where
+  pub same : new ≡ old
+  pub answers : (at : Standing) (out : List ℕ) → Obeys old.start (command_of left) (standing old) at out → IsAnswer at out
+
+-- so at a prompt, where it may have become the last move
+pub record IsTypedLeft (old new : Dialogue) (IsAnswer : AtPrompt → List ℕ → Type 0) (left : WindowMove) : Type 0 where
+  pub same : new.debugger ≡ old.debugger
+  pub answers : (at : Standing) (out : List ℕ) → ObeysTyped old.debugger.start (Plain (command_of left)) (standing old.debugger) at out → IsAnswer (record { standing = at; last = new.last }) out
