@@ -1,5 +1,5 @@
 -- What a session at a prompt answers where a breakpoint is set, or deleted.
-use Rattle.std.proofs.Common.{◌≡◌, ◌<◌, ◌≤◌, ◌+◌, ◌⊎◌, ◌++◌, ◌∷◌, ◌∙◌, [], ℕ, List, length, inl, inr, ⊎_elim, refl, sym, ap, subst, arith, length-append, Option, Some, None}
+use Rattle.std.proofs.Common.{◌≡◌, ◌<◌, ◌≤◌, ◌+◌, ◌⊎◌, ◌++◌, ◌∷◌, ◌∙◌, [], ℕ, List, length, inl, inr, ⊎_elim, refl, ap, subst, arith, length-append}
 use Rattle.std.proofs.lemmas.Bool.{cases_lt}
 use Rattle.std.specs.List.{Contains}
 use Rattle.table_run.specs.State.{State as NetState}

@@ -1,16 +1,14 @@
 -- What is answered to a move that is typed, and to `lines`.
-use Rattle.std.proofs.Common.{◌≡◌, ◌<◌, ◌≤◌, ◌+◌, ◌-◌, ◌⊎◌, ◌∙◌, ℕ, List, [], ◌∷◌, ◌++◌, Bool, true, false, MatchBool, min, length, take, drop, reverse, decimal, inl, inr, ⊎_elim, refl, sym, ap, subst, arith, append_assoc, append-nil, Option, Some, None, is_none, Result, Ok, Err, if◌then◌else◌}
+use Rattle.std.proofs.Common.{◌≡◌, ◌<◌, ◌≤◌, ◌+◌, ◌-◌, ◌⊎◌, ◌∙◌, ℕ, List, [], ◌∷◌, ◌++◌, Bool, min, length, take, drop, reverse, inl, inr, ⊎_elim, refl, sym, ap, subst, arith, append_assoc, append-nil, None, is_none, Result, Ok, Err, if◌then◌else◌}
 use Rattle.std.proofs.lemmas.Bool.{cases_lt}
 use Rattle.std.proofs.lemmas.List.{take_min, length-reverse, reverse-append}
 use Rattle.std.specs.List.{concat}
-use Rattle.std.specs.Prelude.{nat_lt}
 use Rattle.std.specs.Result.{IfOk, OnErr}
 use borrow.Author.Tests.{lt-ltb, le-ltb}
 use lib.Seq.{take_at}
 use Rattle.node_core.specs.TraceLine.{TraceLine}
-use Rattle.table_run.specs.State.{State, due, run}
+use Rattle.table_run.specs.State.{State, due}
 use Rattle.net_machine.specs.Run.{Reached}
-use Rattle.debugger.specs.declared.breaks.Hit.{Hit}
 use Rattle.debugger.specs.declared.fault.MoveFault.{MoveFault}
 use Rattle.debugger.specs.declared.passed.LastEvent.{LastEvent}
 use Rattle.debugger.specs.declared.passed.Order.TheVariants.{Rising, Falling}
@@ -18,13 +16,13 @@ use Rattle.debugger.specs.declared.passed.Stretch.{Stretch}
 use Rattle.debugger.specs.Debugging.{Debugging, HasMoved}
 use Rattle.debugger.specs.LastEvents.{IsLastEvent}
 use Rattle.debugger.specs.Moves.{Passes, HasPosition, GivesAt}
-use Rattle.debugger.specs.Passed.{lines_of, lines_between, texts_between, stretch_texts}
+use Rattle.debugger.specs.Passed.{lines_between, texts_between, stretch_texts}
 use Rattle.debugger.proofs.Between.{one_line, length_between, between_parts}
 use Rattle.debugger.proofs.Walks.{has_earlier}
 use Rattle.debug_session.specs.declared.refusal.Refusal.TheVariants.{M}
 use Rattle.debug_session.specs.Answers.{Standing, standing, Stays, refusal_line}
 use Rattle.debug_session.specs.Told.{GoesBack, ToldMove, AddsPlace, AddsMove, told_hit, shown_stretch}
-use Rattle.debug_session.specs.TypedMoves.{passed, more_line, first_ten, last_time, end_words, place_line, where_line, hit_line, TellsMatch, TellsMove, Moves}
+use Rattle.debug_session.specs.TypedMoves.{passed, more_line, first_ten, last_time, place_line, where_line, hit_line, TellsMove, Moves}
 use Rattle.debug_session.proofs.Moved.{left_of, start_of, breaks_of}
 
 -- ten are as many as there are, where there are fewer

@@ -1,5 +1,5 @@
 -- What is answered at a prompt to a move, and to `lines`: lines of the trace, and where the session stands.
-use Rattle.std.specs.Prelude.{◌≡◌, ◌<◌, ◌≤◌, ◌+◌, ◌-◌, ℕ, nat_lt, Bool, if◌then◌else◌, List, [], ◌∷◌, ◌++◌, length, take, reverse, codes, decimal, Option, None, Some, is_none}
+use Rattle.std.specs.Prelude.{◌≡◌, ◌<◌, ◌≤◌, ◌-◌, ℕ, nat_lt, Bool, if◌then◌else◌, List, [], ◌∷◌, ◌++◌, length, take, reverse, codes, decimal, Option, None, Some, is_none}
 use Rattle.std.specs.List.{concat}
 use Rattle.node_core.specs.TraceLine.{TraceLine}
 use Rattle.table_run.specs.State.{State as NetState, due}

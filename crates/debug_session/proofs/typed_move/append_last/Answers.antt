@@ -1,4 +1,4 @@
-use Rattle.std.proofs.Common.{◌≡◌, ◌≤◌, ◌+◌, ◌-◌, ◌++◌, ◌∙◌, OnOk, sym, ap, subst, arith}
+use Rattle.std.proofs.Common.{◌≡◌, ◌+◌, ◌-◌, ◌++◌, ◌∙◌, OnOk, ap, subst, arith}
 use Rattle.std.specs.List.{concat}
 use Rattle.debugger.specs.Moves.{HasPosition}
 use Rattle.debugger.specs.Passed.{texts_between}

@@ -1,6 +1,5 @@
-use Rattle.std.proofs.Common.{◌≡◌, ◌++◌, ◌∙◌, OnOk, ap, subst}
+use Rattle.std.proofs.Common.{◌∙◌, OnOk, subst}
 use Rattle.debugger.specs.Debugging.{Debugging}
-use Rattle.debugger.specs.Moves.{HasPosition}
 use Rattle.debugger.proofs.Between.{on_ok}
 use Rattle.debug_session.specs.Answers.{standing}
 use Rattle.debug_session.specs.Told.{AddsPlace, AddsMove}

@@ -1,6 +1,4 @@
-use Rattle.std.proofs.Common.{◌≡◌, ◌≢◌, ◌<◌, ◌++◌, ◌∙◌, refl, sym, ap, subst, arith}
-use Rattle.debugger.specs.Debugging.{Debugging}
-use Rattle.debugger.specs.LastEvents.{IsLastEvent}
+use Rattle.std.proofs.Common.{◌≡◌, ◌++◌, refl, subst, arith}
 use Rattle.debugger.proofs.Between.{on_ok}
 use Rattle.debug_session.specs.Answers.{standing}
 use Rattle.debug_session.specs.Told.{told_hit, AddsPlace}

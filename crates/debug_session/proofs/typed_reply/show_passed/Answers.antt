@@ -1,4 +1,4 @@
-use Rattle.std.proofs.Common.{refl, sym, subst, inl, inr}
+use Rattle.std.proofs.Common.{refl, subst, inl, inr}
 use Rattle.debugger.specs.Debugging.{Debugging}
 use Rattle.debug_session.specs.Told.{GoesBack}
 use Rattle.debug_session.proofs.Moved.{if_ok, no_ok, on_err, no_err}
