@@ -1,5 +1,5 @@
-//! A session, as far as it waits for nobody: all of it, but for a run by several workers and for
-//! commands that are answered.
+//! A session, as far as it waits for nobody: all of it, but for a run or commands by several workers
+//! and for commands that are typed.
 ghost use Rattle.std.specs.Prelude.{◌≡◌};
 ghost use Rattle.sessions.specs.Asked.{IsAskedOn};
 ghost use Rattle.sessions.specs.Ended.{writes_after};
@@ -102,18 +102,19 @@ fn begin_subcommand<W: Sink, G: Gate, N: Notes>(
 
 /// Begins a debugging session over an input that was read: of a file commands are typed, and in any
 /// other they stand behind a text.
-fn begin_debug(
-    alloc: Global,
+fn begin_debug<W: Sink, G: Gate>(
+    means: &Means<G>,
     sharing: &Sharing,
     file: &OptionalWord,
     input: Vec<u8>,
+    writer: &mut W,
 ) -> Result<Rest, SessionFault>
     requires { IsWithin input.items }
-    ensures { (now : Streams) → Begins (IsDebugWith sharing.now.groups file.now input.items now) result now }
+    ensures { (now : Streams) → let at = written_by W.failures W.contents now in Begins (IsDebugWith sharing.now.groups file.now input.items (at writer.old)) result (at writer.new) }
 {
     match file.get() {
-        Some(_) => begin_prompt(alloc, sharing, input.as_slice()),
-        None => begin_commands(alloc, sharing, input),
+        Some(_) => begin_prompt(means.alloc, sharing, input.as_slice()),
+        None => begin_commands(means, sharing, input, writer),
     }
 }
 
@@ -133,7 +134,7 @@ fn begin_task<W: Sink, G: Gate, N: Notes>(
         Task::Scenario(subcommand) => {
             begin_subcommand(means, subcommand, input.as_slice(), writer, notes)
         }
-        Task::Debug(sharing) => begin_debug(means.alloc, &sharing, file, input),
+        Task::Debug(sharing) => begin_debug(means, &sharing, file, input, writer),
     }
 }
 

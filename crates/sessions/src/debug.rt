@@ -3,16 +3,17 @@ ghost use Rattle.std.specs.Prelude.{◌≡◌};
 ghost use Rattle.debug_session.specs.Input.{command_lines};
 ghost use Rattle.sessions.specs.Debug.{IsDebugSession, IsDebugSessionOn};
 ghost use Rattle.sessions.specs.Ended.{writes_after};
-ghost use Rattle.sessions.specs.Rest.{AreAnswered, AreReady, Begins, IsDone};
+ghost use Rattle.sessions.specs.Rest.{AreAnswered, AreReady, Begins, IsDone, written_by};
 ghost use Rattle.sessions.specs.Session.{IsWithin, Tells};
 ghost use Rattle.sessions.specs.Streams.{Streams, streams_of};
 ghost use Rattle.sessions.specs.Written.{Writes};
 
 use crate::fault::SessionFault;
 use crate::groups::groups_for;
-use crate::means::Crew;
+use crate::means::{Crew, Means};
 use crate::outcome::Outcome;
-use crate::rest::Rest;
+use crate::rest::{Rest, no_run_left, rest_of};
+use crate::run::is_alone;
 use crate::scenario_input::read_text;
 use crate::session::run_task;
 use crate::sharing::Sharing;
@@ -40,25 +41,62 @@ pub(crate) struct Commands {
 }
 
 /// Begins a debugging session over an input, where its text has a scenario whose nodes are in the
-/// groups: the commands are left.
-pub(crate) fn begin_commands(
-    alloc: Global,
+/// groups: its commands are answered where the calling thread alone runs the groups, and else left.
+pub(crate) fn begin_commands<W: Sink, G: Gate>(
+    means: &Means<G>,
     sharing: &Sharing,
     input: Vec<u8>,
+    writer: &mut W,
 ) -> Result<Rest, SessionFault>
     requires { IsWithin input.items }
-    ensures { (now : Streams) → Begins (IsDone (IsDebugSession sharing.now.groups input.items) now) result now }
+    ensures { (now : Streams) → let at = written_by W.failures W.contents now in Begins (IsDone (IsDebugSession sharing.now.groups input.items) (at writer.old)) result (at writer.new) }
 {
     let (text, _commands) = split(input.as_slice());
-    let scenario = read_text(alloc, text)?;
-    let partition = groups_for(alloc, sharing, &scenario)?;
+    let scenario = read_text(means.alloc, text)?;
+    let partition = groups_for(means.alloc, sharing, &scenario)?;
     let workers = sharing.workers();
-    Ok(Rest::Listed(Commands {
+    let commands = Commands {
         input,
         scenario,
         partition,
         workers,
-    }))
+    };
+    if is_alone(workers, &commands.partition) {
+        return rest_of(no_run_left(answer_alone(means, commands, writer)));
+    }
+    Ok(Rest::Listed(commands))
+}
+
+/// Writes the answers to commands. The calling thread alone moves to a breakpoint and to a moment.
+fn answer_alone<W: Sink, G: Gate>(
+    means: &Means<G>,
+    commands: Commands,
+    writer: &mut W,
+) -> Result<(), SessionFault>
+    requires ready { AreReady commands }
+    ensures output { Writes (AreAnswered commands.scenario (command_lines commands.input.items) result) (W.contents writer.old) (W.contents writer.new) }
+    ensures failures { W.failures writer.new ≡ writes_after result (W.failures writer.old) }
+{
+    let Commands {
+        input,
+        scenario,
+        partition,
+        workers: _,
+    } = commands;
+    let (_text, lines) = split(input.as_slice());
+    let answered = debug_session::run_session_alone(
+        means.gate,
+        means.alloc,
+        &scenario,
+        partition,
+        lines,
+        writer,
+    );
+    drop(scenario);
+    match answered {
+        Ok(()) => Ok(()),
+        Err(fault) => Err(SessionFault::from(fault)),
+    }
 }
 
 /// Writes the answers to commands. Moves to a breakpoint and to a moment go by workers.

@@ -21,4 +21,6 @@ pub(crate) struct Crew<'m, H, G> {
     pub rt: &'m H,
     /// Who is told of the workers.
     pub gate: &'m G,
+    /// Whether the calling thread alone moves all the same.
+    pub is_alone: bool,
 }

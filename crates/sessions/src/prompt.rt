@@ -1,9 +1,9 @@
 //! A debugging session at a prompt: the scenario is a file's, and commands are typed, one a line.
-ghost use Rattle.std.specs.Prelude.{◌≡◌, ◌<◌, ◌≤◌, length, IfOk, OnOk, OnErr, None};
+ghost use Rattle.std.specs.Prelude.{◌≡◌, ◌<◌, ◌≤◌, false, length, IfOk, OnOk, OnErr, None};
 ghost use Rattle.std.specs.Io.KnownBytes.{Appends};
 ghost use Rattle.table_run.specs.State.{opening};
 ghost use Rattle.debugger.specs.Debugging.{opened};
-ghost use Rattle.debug_session.specs.Prompt.{at_prompt, put_out};
+ghost use Rattle.debug_session.specs.Prompt.{TypedAnswers, at_prompt, is_quit, put_out};
 ghost use Rattle.debug_session.specs.Sessions.{limits_of};
 ghost use Rattle.sessions.specs.Ended.{writes_after, reads_after};
 ghost use Rattle.sessions.specs.Prompt.{IsTypedSession};
@@ -20,10 +20,13 @@ use crate::means::Crew;
 use crate::notes::Notes;
 use crate::output::put_all;
 use crate::rest::Rest;
+use crate::run::is_alone;
 use crate::scenario_input::read_scenario;
 use crate::sharing::Sharing;
 use crate::source::Source;
-use debug_session::{Dialogue, Limits, MOST_LINE, Said, answer_typed, is_quit, is_refusal};
+use debug_session::{
+    Dialogue, Limits, MOST_LINE, Said, answer_typed, answer_typed_alone, is_quit, is_refusal,
+};
 use debugger::Debugger;
 use scenario_image::Scenario;
 use std::alloc::{AllocError, Global};
@@ -56,6 +59,24 @@ fn put_answer<W: Sink, N: Notes>(said: &Said, writer: &mut W, notes: &mut N) -> 
     put_all(writer, said.as_slice())
 }
 
+/// Answers a line: by the calling thread, where that alone moves, and else by workers.
+fn answer_line<G: Gate, H: Threads + Wait + Sync>(
+    crew: &Crew<H, G>,
+    dialogue: &mut Dialogue,
+    limits: Limits,
+    line: &[u8],
+    said: &mut Said,
+)
+    ensures answers { is_quit line.now ≡ false → TypedAnswers limits dialogue.old.debugger.start line.now (at_prompt dialogue.old) (at_prompt dialogue.new) said.new }
+    ensures start { dialogue.new.debugger.start ≡ dialogue.old.debugger.start }
+{
+    if crew.is_alone {
+        answer_typed_alone(crew.gate, dialogue, limits, line, said);
+    } else {
+        answer_typed(crew.rt, crew.gate, dialogue, limits, line, said);
+    }
+}
+
 /// Asks for a line, and answers it.
 fn take_turn<R: Source, W: Sink, G: Gate, H: Threads + Wait + Sync, N: Notes>(
     crew: &Crew<H, G>,
@@ -82,7 +103,7 @@ fn take_turn<R: Source, W: Sink, G: Gate, H: Threads + Wait + Sync, N: Notes>(
     if is_quit(line) {
         return Ok(Turn::Quit);
     }
-    answer_typed(crew.rt, crew.gate, dialogue, limits, line, said);
+    answer_line(crew, dialogue, limits, line, said);
     put_answer(said, writer, notes)?;
     Ok(Turn::Answered)
 }
@@ -125,6 +146,8 @@ pub(crate) struct Prompt {
     pub limits: Limits,
     /// The answer to a line.
     pub said: Said,
+    /// Whether the calling thread alone moves.
+    pub is_alone: bool,
 }
 
 /// Room for a line, and for one byte more than it may have.
@@ -149,12 +172,14 @@ fn open_prompt(
     ensures limits { IfOk result (λ prompt. prompt.limits ≡ limits_of scenario.now) }
 {
     let room = room_for_line(alloc)?;
+    let is_alone = is_alone(workers, &partition);
     let debugger = Debugger::new(alloc, scenario, partition, workers)?;
     Ok(Prompt {
         room,
         dialogue: Dialogue::new(debugger),
         limits: Limits::of(scenario),
         said: Said::new(alloc),
+        is_alone,
     })
 }
 
@@ -187,8 +212,13 @@ pub(crate) fn answer_prompt<R: Source, W: Sink, G: Gate, H: Threads + Wait + Syn
     ensures { let seen = streams_of R.failures R.typed W.failures W.contents in WasTyped prompt result (seen reader.old writer.old) (seen reader.new writer.new) }
 {
     let mut prompt = prompt;
+    let crew = Crew {
+        rt: crew.rt,
+        gate: crew.gate,
+        is_alone: prompt.is_alone,
+    };
     let ended = answer_lines(
-        crew,
+        &crew,
         prompt.limits,
         &mut prompt.dialogue,
         prompt.room.as_mut_slice(),

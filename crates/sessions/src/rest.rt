@@ -14,7 +14,7 @@ pub(crate) enum Rest {
     Nothing,
     /// A run by several workers, from its beginning.
     Shared(WindowRun),
-    /// The commands that stand behind a scenario's text.
+    /// The commands that stand behind a scenario's text, for several workers.
     Listed(Commands),
     /// Commands that are typed.
     Typed(Prompt),

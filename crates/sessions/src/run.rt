@@ -29,6 +29,11 @@ fn is_parted(partition: &Partition) -> bool {
     false
 }
 
+/// Whether the calling thread alone runs the groups: there is one worker, or one group.
+pub(crate) fn is_alone(workers: usize, partition: &Partition) -> bool {
+    workers == 1 || !is_parted(partition)
+}
+
 /// The groups in which the nodes of a scenario are. Tells why they are refused, where that is wished
 /// and there is memory to say it.
 fn told_groups<G: Gate, N: Notes>(

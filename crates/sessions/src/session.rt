@@ -87,7 +87,11 @@ pub fn run_task<R: Source, W: Sink, G: Gate, H: Threads + Wait + Sync>(
 ) -> Outcome
     ensures { let seen = streams_of R.failures R.typed W.failures W.contents in Tells result (λ ended. IsTaskOn task.entry (R.remaining reader.old) ended (seen reader.old writer.old) (seen reader.new writer.new)) }
 {
-    let crew = Crew { rt, gate };
+    let crew = Crew {
+        rt,
+        gate,
+        is_alone: false,
+    };
     let asked = Asked::Session(task, OptionalWord::new(None), Wishes::NONE);
     Outcome::from(answer_asked(&crew, alloc, asked, reader, writer, &mut NoNotes))
 }
@@ -137,7 +141,11 @@ pub fn run_noted<
 {
     match read_words(rt.alloc(), words) {
         Ok(asked) => {
-            let crew = Crew { rt, gate };
+            let crew = Crew {
+                rt,
+                gate,
+                is_alone: false,
+            };
             Outcome::from(answer_asked(&crew, rt.alloc(), asked, reader, writer, notes))
         }
         Err(error) => Outcome::from(answer_words(rt.alloc(), error, writer)),

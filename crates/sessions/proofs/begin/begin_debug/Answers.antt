@@ -1,16 +1,20 @@
-use Rattle.std.proofs.Common.{◌≡◌, List, ℕ, Option, None, Some, sym, subst, rules}
-use Rattle.sessions.specs.Rest.{Begins, IsDebugWith, IsPromptDone}
+use Rattle.std.proofs.Common.{◌≡◌, List, ℕ, Option, sym, subst, rules}
+use Rattle.sessions.specs.Rest.{Begins, IsDebugWith, IsPromptDone, written_by}
 use Rattle.sessions.proofs.Rests.{where_none, where_some}
 use Rattle.sessions.proofs.begin.begin_debug.Goals as goal
 
 pub returns-in-Some : goal.returns-in-Some
-returns-in-Some c now =
+returns-in-Some g c now =
     let groups = c.args.sharing.now.groups in
+    let before = written_by g.W.Sink.failures g.W.Sink.contents now c.args.writer.now in
     let same : c.as_slice.result.now ≡ c.args.input.items = search rules in
-    let there = subst (λ (i : List ℕ). Begins (IsPromptDone groups i now) c.begin_prompt.result now) same (c.begin_prompt.ensures now) in
-    subst (λ (f : Option (List ℕ)). Begins (IsDebugWith groups f c.args.input.items now) c.begin_prompt.result now) (sym (where_some _ _ _ _ c.get.ensures c.in-Some.is)) there
+    let there = subst (λ (i : List ℕ). Begins (IsPromptDone groups i before) c.begin_prompt.result before) same (c.begin_prompt.ensures before) in
+    subst (λ (f : Option (List ℕ)). Begins (IsDebugWith groups f c.args.input.items before) c.begin_prompt.result before) (sym (where_some _ _ _ _ c.get.ensures c.in-Some.is)) there
 
 pub returns-in-None : goal.returns-in-None
-returns-in-None c now =
+returns-in-None g c now =
     let groups = c.args.sharing.now.groups in
-    subst (λ (f : Option (List ℕ)). Begins (IsDebugWith groups f c.args.input.items now) c.begin_commands.result now) (sym (where_none _ _ _ c.get.ensures c.in-None.is)) (c.begin_commands.ensures now)
+    let at = written_by g.W.Sink.failures g.W.Sink.contents now in
+    let before = at c.args.writer.now in
+    let after = at c.begin_commands.new.writer in
+    subst (λ (f : Option (List ℕ)). Begins (IsDebugWith groups f c.args.input.items before) c.begin_commands.result after) (sym (where_none _ _ _ c.get.ensures c.in-None.is)) (c.begin_commands.ensures now)

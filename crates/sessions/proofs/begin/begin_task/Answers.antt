@@ -16,5 +16,7 @@ returns-in-Scenario g c now =
 
 pub returns-in-Debug : goal.returns-in-Debug
 returns-in-Debug g c now =
-    let before = written_by g.W.Sink.failures g.W.Sink.contents now c.args.writer.now in
-    subst (λ (task : Task). Begins (IsTaskWith task c.args.file.now c.args.input.items before) c.begin_debug.result before) (sym c.in-Debug.is) (c.begin_debug.ensures before)
+    let at = written_by g.W.Sink.failures g.W.Sink.contents now in
+    let before = at c.args.writer.now in
+    let after = at c.begin_debug.new.writer in
+    subst (λ (task : Task). Begins (IsTaskWith task c.args.file.now c.args.input.items before) c.begin_debug.result after) (sym c.in-Debug.is) (c.begin_debug.ensures now)

@@ -3,13 +3,14 @@ use Rattle.debug_session.specs.Input.{text_lines, command_lines}
 use Rattle.sessions.specs.declared.fault.SessionFault.{SessionFault}
 use Rattle.sessions.specs.declared.rest.Rest.{Rest}
 use Rattle.sessions.specs.Debug.{IsDebugSession}
-use Rattle.sessions.specs.Rest.{Begins, IsDone}
+use Rattle.sessions.specs.Rest.{Begins, IsDone, written_by}
 use Rattle.sessions.proofs.DebugEnds.{groups_no_failure, no_failure, not_grouped, text_refused}
-use Rattle.sessions.proofs.Rests.{commands_end}
+use Rattle.sessions.proofs.Rests.{commands_end, nothing_begins}
 use Rattle.sessions.proofs.debug.begin_commands.Goals as goal
 
 pub returns-in_err-scenario : goal.returns-in_err-scenario
-returns-in_err-scenario c now =
+returns-in_err-scenario g c now =
+    let before = written_by g.W.Sink.failures g.W.Sink.contents now c.args.writer.now in
     let fault = c.in_err-scenario.field-0.0 in
     let groups = c.args.sharing.now.groups in
     let input = c.args.input.items in
@@ -17,16 +18,17 @@ returns-in_err-scenario c now =
     let is : c.from_residual.result ≡ Err fault = search rules in
     let same : c.as_slice.result.now ≡ input = search rules in
     let free = no_failure text fault c.read_text.result c.in_err-scenario.was c.read_text.ensures in
-    subst (λ (r : Result Rest SessionFault). Begins (IsDone (IsDebugSession groups input) now) r now) (sym is)
+    subst (λ (r : Result Rest SessionFault). Begins (IsDone (IsDebugSession groups input) before) r before) (sym is)
     (record {
-      session = text_refused groups input text fault c.read_text.result now.written (c.split.ensures.text ∙ ap text_lines same) c.requires c.in_err-scenario.was c.read_text.ensures;
+      session = text_refused groups input text fault c.read_text.result before.written (c.split.ensures.text ∙ ap text_lines same) c.requires c.in_err-scenario.was c.read_text.ensures;
       no_read = free.1;
       reads = refl;
-      writes = free.0 now.write_failures;
+      writes = free.0 before.write_failures;
     })
 
 pub returns-in_err-partition : goal.returns-in_err-partition
-returns-in_err-partition c now =
+returns-in_err-partition g c now =
+    let before = written_by g.W.Sink.failures g.W.Sink.contents now c.args.writer.now in
     let fault = c.in_err-partition.field-0.0 in
     let groups = c.args.sharing.now.groups in
     let input = c.args.input.items in
@@ -34,23 +36,41 @@ returns-in_err-partition c now =
     let is : c.from_residual-in_err-partition.result ≡ Err fault = search rules in
     let same : c.as_slice.result.now ≡ input = search rules in
     let free = groups_no_failure groups p fault c.in_err-partition.ensures.faults in
-    subst (λ (r : Result Rest SessionFault). Begins (IsDone (IsDebugSession groups input) now) r now) (sym is)
+    subst (λ (r : Result Rest SessionFault). Begins (IsDone (IsDebugSession groups input) before) r before) (sym is)
     (record {
-      session = not_grouped groups input c.split.result.0.now c.split.result.1.now p c.read_text.result now.written now.written (c.split.ensures.text ∙ ap text_lines same) (c.split.ensures.commands ∙ ap command_lines same) c.requires
+      session = not_grouped groups input c.split.result.0.now c.split.result.1.now p c.read_text.result before.written before.written (c.split.ensures.text ∙ ap text_lines same) (c.split.ensures.commands ∙ ap command_lines same) c.requires
           c.in_ok-scenario.was c.read_text.ensures c.in_ok-scenario.ensures.scenario fault c.in_err-partition.ensures.faults;
       no_read = free.1;
       reads = refl;
-      writes = free.0 now.write_failures;
+      writes = free.0 before.write_failures;
     })
 
+pub answer_alone-requires-clause-ready : goal.answer_alone-requires-clause-ready
+answer_alone-requires-clause-ready g c κs within = record { nodes = c.in_ok-partition.ensures.nodes; some = c.workers-workers.ensures.few.0; few = c.workers-workers.ensures.few.1 }
+
+pub returns-then-is_alone : goal.returns-then-is_alone
+returns-then-is_alone g c now =
+    let at = written_by g.W.Sink.failures g.W.Sink.contents now in
+    let before = at c.args.writer.now in
+    let after = at c.answer_alone.new.writer in
+    let groups = c.args.sharing.now.groups in
+    let input = c.args.input.items in
+    let p = c.in_ok-scenario.scenario in
+    let same : c.as_slice.result.now ≡ input = search rules in
+    let done =
+    commands_end groups input c.split.result.0.now c.split.result.1.now p c.read_text.result before after (c.split.ensures.text ∙ ap text_lines same) (c.split.ensures.commands ∙ ap command_lines same) c.requires c.in_ok-scenario.was
+    c.read_text.ensures c.in_ok-scenario.ensures.scenario c.in_ok-partition.ensures.named c.answer_alone.result (record { output = c.answer_alone.ensures.output; reads = refl; writes = c.answer_alone.ensures.failures }) in
+    nothing_begins (IsDone (IsDebugSession groups input) before) c.answer_alone.result c.no_run_left.result c.rest_of.result after c.no_run_left.ensures c.rest_of.ensures done
+
 pub returns : goal.returns
-returns c now =
+returns g c now =
+    let before = written_by g.W.Sink.failures g.W.Sink.contents now c.args.writer.now in
     let groups = c.args.sharing.now.groups in
     let input = c.args.input.items in
     let p = c.in_ok-scenario.scenario in
     let same : c.as_slice.result.now ≡ input = search rules in (
       record { nodes = c.in_ok-partition.ensures.nodes; some = c.workers-workers.ensures.few.0; few = c.workers-workers.ensures.few.1 },
       λ ended after left.
-          commands_end groups input c.split.result.0.now c.split.result.1.now p c.read_text.result now after (c.split.ensures.text ∙ ap text_lines same) (c.split.ensures.commands ∙ ap command_lines same) c.requires c.in_ok-scenario.was
+          commands_end groups input c.split.result.0.now c.split.result.1.now p c.read_text.result before after (c.split.ensures.text ∙ ap text_lines same) (c.split.ensures.commands ∙ ap command_lines same) c.requires c.in_ok-scenario.was
           c.read_text.ensures c.in_ok-scenario.ensures.scenario c.in_ok-partition.ensures.named ended left,
     )
