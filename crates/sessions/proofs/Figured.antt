@@ -1,5 +1,5 @@
 -- How a run ends whose figures are counted.
-use Rattle.std.proofs.Common.{◌≡◌, ◌≢◌, ◌≤◌, ℕ, List, [], Option, None, Some, Result, Err, IfErr, refl, sym, ap, subst}
+use Rattle.std.proofs.Common.{◌≡◌, ◌≤◌, ℕ, List, [], Option, None, Some, Err, refl, ap, subst}
 use Rattle.std.specs.Option.{option_map}
 use Rattle.scenario_image.specs.declared.parts.ScenarioParts.{ScenarioParts}
 use Rattle.table_run.specs.State.{due, opening, run, step_at}

@@ -1,5 +1,5 @@
 -- The session of a task over the input that is named, by what came of reading it and of what followed.
-use Rattle.std.proofs.Common.{◌≡◌, ◌≢◌, ◌∙◌, ℕ, Bool, true, false, List, [], codes, bytes_eq, MatchBool, if◌then◌else◌, Option, None, Some, Result, Ok, Err, IfErr, IfOk, refl, sym, ap, subst, string_bytes}
+use Rattle.std.proofs.Common.{◌≡◌, ◌≢◌, ◌∙◌, ℕ, Bool, true, false, List, codes, bytes_eq, MatchBool, if◌then◌else◌, Option, None, Some, Result, Ok, Err, IfErr, IfOk, refl, ap, subst}
 use Rattle.sessions.specs.declared.fault.SessionFault.{SessionFault}
 use Rattle.sessions.specs.declared.fault.SessionFault.TheVariants.{TooLong, ReadFailed, CannotRead, NoMemory}
 use Rattle.sessions.specs.declared.subcommand.Subcommand.{Subcommand}
@@ -7,7 +7,7 @@ use Rattle.sessions.specs.declared.subcommand.Task.{Task}
 use Rattle.sessions.specs.declared.subcommand.Task.TheVariants.{Scenario, Debug}
 use Rattle.sessions.specs.Asked.{IsTaskOnFile, IsOverFile, IsNamedOn}
 use Rattle.sessions.specs.Debug.{IsTaskOn}
-use Rattle.sessions.specs.Ended.{Ended, IsReadFault, IsToldOf, reads_after}
+use Rattle.sessions.specs.Ended.{Ended, IsToldOf, reads_after}
 use Rattle.sessions.specs.Named.{IsInputFault, IsOver, input_reads_after, known_of, named_file}
 use Rattle.sessions.specs.Prompt.{IsFileFault, IsPromptOn, line_reads_after}
 use Rattle.sessions.specs.Rest.{IsTaskWith}

@@ -1,5 +1,5 @@
 -- How a session at a prompt ends, over a scenario, an input and a file.
-use Rattle.std.proofs.Common.{◌≡◌, ◌∙◌, ◌⊎◌, ◌<◌, inl, inr, ℕ, Bool, true, false, MatchBool, List, [], Option, None, Result, Ok, Err, IfOk, IfErr, refl, sym, ap, subst, string_bytes}
+use Rattle.std.proofs.Common.{◌≡◌, ◌∙◌, ◌⊎◌, inl, inr, ℕ, Bool, true, false, MatchBool, List, [], Option, None, Result, Ok, Err, IfOk, IfErr, refl, sym, ap, subst}
 use Rattle.scenario_image.specs.declared.parts.ScenarioParts.{ScenarioParts}
 use Rattle.table_run.specs.State.{opening}
 use Rattle.debugger.specs.Debugging.{Debugging, opened}
@@ -8,7 +8,7 @@ use Rattle.debug_session.specs.declared.command.Limits.{Limits}
 use Rattle.debug_session.specs.declared.dialogue.Dialogue.{Dialogue}
 use Rattle.debug_session.specs.Answers.{standing}
 use Rattle.debug_session.specs.Sessions.{limits_of}
-use Rattle.debug_session.specs.Prompt.{AtPrompt, Typing, Typed, at_prompt, unmoved}
+use Rattle.debug_session.specs.Prompt.{Typing, Typed, at_prompt, unmoved}
 use Rattle.sessions.specs.declared.fault.SessionFault.{SessionFault}
 use Rattle.sessions.specs.declared.fault.SessionFault.TheVariants.{TooLong, Refused, RefusedImage, Groups, ReadFailed, CannotRead, WriteFailed, NoMemory}
 use Rattle.sessions.specs.Ended.{Ended, reads_after, writes_after}

@@ -1,5 +1,5 @@
 -- Lines that are typed at a prompt: cut to the room that there is, and answered in turn.
-use Rattle.std.proofs.Common.{◌≡◌, ◌<◌, ◌≤◌, if◌then◌else◌, ◌⊎◌, inl, inr, ⊎_elim, ℕ, Bool, true, false, not, ◌&&◌, MatchBool, List, [], ◌∷◌, ◌++◌, length, take, map, Option, None, Some, Result, Ok, Err, IfErr, refl, sym, ap, subst, ◌∙◌, arith, append_assoc, append-nil}
+use Rattle.std.proofs.Common.{◌≡◌, ◌<◌, ◌≤◌, if◌then◌else◌, ◌⊎◌, inl, inr, ⊎_elim, ℕ, Bool, true, false, not, ◌&&◌, MatchBool, List, [], ◌∷◌, ◌++◌, length, take, Option, None, Some, Result, Ok, Err, IfErr, refl, sym, ap, subst, ◌∙◌, arith, append_assoc, append-nil}
 use Rattle.std.proofs.lemmas.Bool.{ltb-true, ltb-false, lt-ltb, false≢true}
 use Rattle.std.proofs.lemmas.List.{take_all, length-take}
 use Rattle.std.proofs.lemmas.List.Folds.{list_all-append}
@@ -9,19 +9,17 @@ use Rattle.table_run.specs.State.{State}
 use Rattle.debug_session.specs.declared.command.Limits.{Limits}
 use Rattle.debug_session.specs.declared.refusal.Refusal.TheVariants.{B2}
 use Rattle.debug_session.specs.Answers.{refusal_line}
-use Rattle.debug_session.specs.Prompt.{Ask, AnswersTyped, AtPrompt, Rests, Typing, Typed, TypedAnswers, TypedRan, TypedOutput, AreInTime, IsSoFar, IsToEnd, IsTypedOut, is_long, is_quit, lines_in, none_quits, put_out, quits}
+use Rattle.debug_session.specs.Prompt.{Ask, AnswersTyped, AtPrompt, Rests, Typing, Typed, TypedAnswers, TypedRan, AreInTime, IsSoFar, IsTypedOut, is_long, is_quit, lines_in, none_quits, put_out, quits}
 use Rattle.debug_session.specs.Input.{words_in}
 use Rattle.debug_session.specs.Taking.{Takes}
 use Rattle.sessions.specs.declared.fault.SessionFault.{SessionFault}
 use Rattle.sessions.specs.declared.fault.SessionFault.TheVariants.{ReadFailed, WriteFailed, NoMemory}
 use Rattle.sessions.specs.declared.prompt.Turn.{Turn}
-use Rattle.sessions.specs.declared.prompt.Turn.TheVariants.{Answered, Quit, NoLine}
-use Rattle.sessions.specs.Ended.{Ended, reads_after, writes_after}
-use Rattle.sessions.specs.Prompt.{IsFileFault, IsTypedEnd, IsTypedSession}
+use Rattle.sessions.specs.Ended.{reads_after, writes_after}
+use Rattle.sessions.specs.Prompt.{IsFileFault, IsTypedSession}
 use Rattle.sessions.specs.Streams.{Streams, IsInputOf}
-use Rattle.sessions.specs.Turns.{IsAsked, IsAnswered, IsCutOff, IsQuitting, IsSilent, IsTurn}
+use Rattle.sessions.specs.Turns.{IsAnswered, IsCutOff, IsQuitting, IsSilent, IsTurn}
 use Rattle.sessions.specs.Typed.{IsCut, TypesLine, TypesOne}
-use Rattle.sessions.specs.Written.{Writes, IsBeginningOf}
 use Rattle.sessions.proofs.Reading.{text_of}
 
 -- of a line as much as the room has place for, which is more than a line may have: it is the line, or both are too long

@@ -1,5 +1,5 @@
 -- What is left of a session, and what the session comes to by it.
-use Rattle.std.proofs.Common.{◌≡◌, ◌≢◌, ◌∙◌, ℕ, List, [], Option, None, Some, Result, Ok, Err, refl, sym, ap, subst}
+use Rattle.std.proofs.Common.{◌≡◌, ◌∙◌, ℕ, List, Option, None, Some, Result, Ok, Err, refl, sym, ap, subst}
 use Rattle.std.specs.Option.{option_map}
 use Rattle.scenario_image.specs.declared.parts.ScenarioParts.{ScenarioParts}
 use Rattle.scenario_asm.specs.Lines.{lines_of}
@@ -11,15 +11,13 @@ use Rattle.debug_session.specs.Sessions.{IsEnding as IsCommandsEnding, limits_of
 use Rattle.debug_session.specs.declared.session.SessionFault.{SessionFault as CommandsFault}
 use Rattle.debug_session.specs.declared.session.SessionFault.TheVariants.{NoMemory as commands_NoMemory, OutputFailed}
 use Rattle.sessions.specs.declared.fault.SessionFault.{SessionFault}
-use Rattle.sessions.specs.declared.fault.SessionFault.TheVariants.{ReadFailed, WriteFailed, NoMemory}
-use Rattle.sessions.specs.declared.debug.Commands.{Commands}
+use Rattle.sessions.specs.declared.fault.SessionFault.TheVariants.{WriteFailed, NoMemory}
 use Rattle.sessions.specs.declared.prompt.Prompt.{Prompt}
 use Rattle.sessions.specs.declared.rest.Rest.{Rest}
-use Rattle.sessions.specs.declared.rest.Rest.TheVariants.{Nothing, Shared, Listed, Typed}
 use Rattle.sessions.specs.declared.subcommand.Subcommand.{Subcommand}
 use Rattle.sessions.specs.declared.workers.WindowRun.{WindowRun}
 use Rattle.sessions.specs.Debug.{IsDebugSession}
-use Rattle.sessions.specs.Ended.{Ended, IsRunOutput, writes_after}
+use Rattle.sessions.specs.Ended.{Ended, writes_after}
 use Rattle.sessions.specs.Faults.{of_commands}
 use Rattle.sessions.specs.Input.{HasScenario, IsTextFault, Reads}
 use Rattle.sessions.specs.Nodes.{HasGroups}

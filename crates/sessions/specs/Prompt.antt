@@ -1,5 +1,5 @@
 -- What a debugging session at a prompt comes to: its scenario is a file's, and its commands are typed, one a line.
-use Rattle.std.specs.Prelude.{◌≡◌, ◌<◌, ℕ, Bool, true, List, [], ◌∷◌, length, string_bytes, Option, Result, Ok, Err}
+use Rattle.std.specs.Prelude.{◌≡◌, ◌<◌, ℕ, true, List, [], length, string_bytes, Option, Result, Ok, Err}
 use Rattle.scenario_image.specs.declared.parts.ScenarioParts.{ScenarioParts}
 use Rattle.table_run.specs.State.{State, opening}
 use Rattle.debugger.specs.Debugging.{opened}

@@ -2,7 +2,7 @@
 use Rattle.std.specs.Prelude.{◌≡◌, ◌≢◌, ◌<◌, ◌≤◌, ℕ, List, length, Option, None, Some, Result, Ok, Err}
 use Rattle.scenario_image.specs.declared.parts.ScenarioParts.{ScenarioParts}
 use Rattle.debug_session.specs.Input.{command_lines}
-use Rattle.debug_session.specs.Prompt.{Typing, at_prompt}
+use Rattle.debug_session.specs.Prompt.{at_prompt}
 use Rattle.debug_session.specs.Sessions.{IsEnding as IsCommandsEnding}
 use Rattle.debug_session.specs.declared.session.SessionFault.TheVariants.{NoMemory as commands_NoMemory, OutputFailed}
 use Rattle.sessions.specs.declared.debug.Commands.{Commands}

@@ -1,5 +1,5 @@
 -- One turn of a session at a prompt: a line is asked for, and answered.
-use Rattle.std.specs.Prelude.{◌≡◌, ℕ, Bool, true, false, List, [], ◌∷◌, Result, Ok, Err}
+use Rattle.std.specs.Prelude.{◌≡◌, ℕ, true, false, List, [], ◌∷◌, Result, Ok, Err}
 use Rattle.std.specs.Io.KnownBytes.{Appends}
 use Rattle.table_run.specs.State.{State}
 use Rattle.debug_session.specs.declared.command.Limits.{Limits}

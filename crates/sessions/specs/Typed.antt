@@ -1,6 +1,6 @@
 -- What is known of who types after a line was asked for.
 use Rattle.std.specs.Prelude.{◌≡◌, ℕ, List, [], ◌∷◌, length, take, Option, None, Some, Result, Ok, Err}
-use Rattle.debug_session.specs.Prompt.{Ask, Typing, Typed, IsTypedOut}
+use Rattle.debug_session.specs.Prompt.{Typing, Typed, IsTypedOut}
 
 -- the room begins with a line, or as much of it as there is room for
 abbrev pub IsCut : List ℕ → ℕ → List ℕ → Type 0

@@ -1,4 +1,4 @@
-use Rattle.std.proofs.Common.{◌≡◌, ◌∙◌, List, ℕ, Option, Result, Err, refl, sym, subst, ap₂, rules}
+use Rattle.std.proofs.Common.{◌≡◌, List, ℕ, Option, Result, Err, refl, sym, subst, ap₂, rules}
 use Rattle.debug_session.specs.Prompt.{Typing}
 use Rattle.sessions.specs.declared.fault.SessionFault.{SessionFault}
 use Rattle.sessions.specs.declared.rest.Rest.{Rest}

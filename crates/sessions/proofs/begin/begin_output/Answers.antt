@@ -1,4 +1,4 @@
-use Rattle.std.proofs.Common.{List, ℕ, Option, sym, subst}
+use Rattle.std.proofs.Common.{sym, subst}
 use Rattle.sessions.specs.declared.subcommand.Subcommand.{Subcommand}
 use Rattle.sessions.specs.Output.{IsOutput}
 use Rattle.sessions.specs.Rest.{BeginsRun}

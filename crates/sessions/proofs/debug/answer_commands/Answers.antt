@@ -1,5 +1,4 @@
 use Rattle.std.proofs.Common.{◌≡◌, ◌∙◌, List, ℕ, Ok, Err, subst, ap, rules}
-use Rattle.scenario_asm.specs.Lines.{lines_of}
 use Rattle.debug_session.specs.Input.{command_lines}
 use Rattle.debug_session.specs.Sessions.{IsEnding as IsCommandsEnding}
 use Rattle.sessions.specs.Written.{Writes}

@@ -1,5 +1,4 @@
 use Rattle.std.proofs.Common.{◌∙◌, List, ℕ, ap, subst}
-use Rattle.sessions.specs.declared.subcommand.Task.TheVariants.{Debug}
 use Rattle.sessions.specs.Debug.{IsDebugSessionOn}
 use Rattle.sessions.specs.Session.{Tells}
 use Rattle.sessions.specs.Sharing.{SharingValue}

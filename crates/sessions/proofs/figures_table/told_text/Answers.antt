@@ -1,6 +1,4 @@
-use Rattle.std.proofs.Common.{◌≡◌, None, Err, IfOk, IfErr, sym, subst, rules}
-use Rattle.table_run.specs.State.{due}
-use Rattle.sessions.specs.Ended.{Ended}
+use Rattle.std.proofs.Common.{◌≡◌, Err, IfErr, sym, subst, rules}
 use Rattle.sessions.specs.FiguresOutput.{IsTableFault}
 use Rattle.sessions.proofs.Figured.{count_refused, table_there}
 use Rattle.sessions.proofs.figures_table.told_text.Goals as goal

@@ -1,4 +1,4 @@
-use Rattle.std.proofs.Common.{◌≡◌, List, ℕ, Option, None, Some, IfOk, IfErr, sym, subst}
+use Rattle.std.proofs.Common.{◌≡◌, List, ℕ, Option, IfOk, IfErr, sym, subst}
 use Rattle.sessions.specs.Named.{IsInputFault, input_reads_after, known_of}
 use Rattle.sessions.specs.Streams.{IsInputOf}
 use Rattle.sessions.proofs.Rests.{where_none, where_some}

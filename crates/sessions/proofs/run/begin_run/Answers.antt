@@ -1,4 +1,4 @@
-use Rattle.std.proofs.Common.{◌≡◌, List, ℕ, Option, Result, Ok, Err, refl, sym, subst, rules}
+use Rattle.std.proofs.Common.{◌≡◌, List, ℕ, Option, Result, Err, sym, subst, rules}
 use Rattle.table_run.specs.State.{State}
 use Rattle.sessions.specs.declared.fault.SessionFault.{SessionFault}
 use Rattle.sessions.specs.declared.fault.SessionFault.TheVariants.{NoMemory}
@@ -9,7 +9,6 @@ use Rattle.sessions.specs.Rest.{BeginsRun}
 use Rattle.sessions.specs.Written.{Writes}
 use Rattle.sessions.proofs.Rests.{ended_run, ended_writes}
 use Rattle.sessions.proofs.Shared.{not_shared, ran_shared}
-use Rattle.window_engine.proofs.Bytes.{appends_nothing}
 use Rattle.sessions.proofs.run.begin_run.Goals as goal
 
 pub returns-in_err-partition-clause-output : goal.returns-in_err-partition-clause-output
