@@ -216,14 +216,16 @@ def words_of():
     words.add_argument('names', nargs='*', metavar='NAME', type=scenario_name,
                        help='count these scenarios only, and write nothing: ' + ', '.join(name for name, *_ in BARS))
     words.add_argument('--jobs', type=int, default=os.cpu_count(), help='counts that run side by side')
-    words.add_argument('--program', default=PROGRAM, help='else the built one')
+    words.add_argument('--program', help='else the built one, which is built where it is not there')
     return words.parse_args()
 
 
 def main():
     global PROGRAM
     given = words_of()
-    PROGRAM = given.program
+    if given.program and not os.path.isfile(given.program):
+        sys.exit(f'there is no program {given.program}')
+    PROGRAM = given.program or PROGRAM
     if not shutil.which('valgrind', path=ENVIRONMENT['PATH']):
         sys.exit('valgrind is not installed')
     if not os.path.exists(PROGRAM):
