@@ -1,5 +1,6 @@
 pub mod TakenCases
 pub mod Front
+pub mod Stays
 pub mod SoFar
 pub mod Schedule
 pub mod Foreseen

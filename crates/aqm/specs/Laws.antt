@@ -1,11 +1,11 @@
 -- What every take keeps to, whatever waits and whenever it comes.
 use Rattle.std.specs.Prelude.{◌≡◌, ◌↔◌, ◌+◌, ◌-◌, ◌<◌, ◌≤◌, ◌++◌, ℕ, true, false, List, [], ◌∷◌, length, drop, slice_get, Option, Some, None, IfSome, IsSomeAnd}
 use Rattle.packet_chain.specs.Stamped.{Stamped, bytes_of}
-use Rattle.aqm.specs.DropTail.{DropTailState}
+use Rattle.aqm.specs.DropTail.{DropTailState, is_full}
 use Rattle.aqm.specs.Codel.{CodelState, IsCodel}
 use Rattle.aqm.specs.Drops.{stops, due, drops}
 use Rattle.aqm.specs.Taken.{codel_taken}
-use Rattle.aqm.specs.Queue.{taken_from, waiting_in}
+use Rattle.aqm.specs.Queue.{fifo_of, waiting_in, emptied, offered_to, taken_from}
 use Rattle.aqm.specs.declared.queue.Queue.{Queue}
 use Rattle.aqm.specs.declared.queue.Queue.TheVariants.{DropTail, Codel}
 
@@ -21,6 +21,19 @@ TakesTheFront = (q : Queue) (now : ℕ) → let t = taken_from q now in t.droppe
 -- nothing is given exactly where nothing waits
 abbrev pub GivesWhatWaits : Type 0
 GivesWhatWaits = (q : Queue) (now : ℕ) → ((taken_from q now).given ≡ None) ↔ (waiting_in q ≡ [])
+
+-- a queue stays the one it is, with its capacity, whatever is taken from it or offered to it
+pub record StaysTheSame (q : Queue) (now : ℕ) : Type 0 where
+  pub taken : emptied (taken_from q now).queue ≡ emptied q
+  pub offered : (cell : Stamped) → emptied (offered_to q cell now) ≡ emptied q
+  pub capacity : (fifo_of (emptied q)).capacity ≡ (fifo_of q).capacity
+
+abbrev pub QueuesStay : Type 0
+QueuesStay = (q : Queue) (now : ℕ) → StaysTheSame q now
+
+-- where a queue has room, a packet that is offered is the last that waits, with the moment at which it entered
+abbrev pub EntersLast : Type 0
+EntersLast = (q : Queue) (cell : Stamped) (now : ℕ) → is_full (fifo_of q) ≡ false → waiting_in (offered_to q cell now) ≡ waiting_in q ++ (cell.0, now) ∷ []
 
 -- no more is dropped than waits
 abbrev pub DropsAtMostWhatWaits : Type 0

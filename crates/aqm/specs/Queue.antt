@@ -1,9 +1,10 @@
 -- A queue of either kind.
-use Rattle.std.specs.Prelude.{ℕ, List, [], slice_get, Option}
+use Rattle.std.specs.Prelude.{ℕ, Bool, true, false, List, [], slice_get, Option}
 use Rattle.packet_chain.specs.Stamped.{Stamped}
 use Rattle.aqm.specs.declared.queue.Queue.{Queue}
 use Rattle.aqm.specs.declared.queue.Queue.TheVariants.{DropTail, Codel}
 use Rattle.aqm.specs.DropTail.{DropTailState, after_offer, without_first}
+use Rattle.aqm.specs.Codel.{opening_codel}
 use Rattle.aqm.specs.Taken.{codel_taken}
 
 -- the packets and the capacity
@@ -15,10 +16,20 @@ fifo_of (Codel s) = s.fifo
 abbrev pub waiting_in : Queue → List Stamped
 waiting_in q = (fifo_of q).waiting
 
+-- a queue as it was before anything was offered to it
+abbrev pub emptied : Queue → Queue
+emptied (DropTail s) = DropTail (record { waiting = []; capacity = s.capacity })
+emptied (Codel s) = Codel (opening_codel (record { waiting = []; capacity = s.fifo.capacity }) s.target s.interval s.maxpacket)
+
 -- the queue after a packet was offered at a moment
 abbrev pub offered_to : Queue → Stamped → ℕ → Queue
 offered_to (DropTail s) cell now = DropTail (after_offer s cell now)
 offered_to (Codel s) cell now = Codel (record s { fifo = after_offer s.fifo cell now })
+
+-- whether a take may drop packets
+abbrev pub may_drop : Queue → Bool
+may_drop (DropTail s) = false
+may_drop (Codel s) = true
 
 -- the packets that are dropped, in order; the packet that is given, if there is one; the queue afterwards
 pub record Taken : Type 0 where

@@ -16,7 +16,7 @@ pub use codel::Codel;
 pub use drop_tail::DropTail;
 pub use guarantees::{
     drop_tail_keeps_what_entered, drops_come_closer, drops_stop_at_the_first_stop,
-    every_drop_has_a_cause, gives_what_waits, takes_the_front,
+    every_drop_has_a_cause, gives_what_waits, queues_stay, takes_the_front,
 };
 pub use offered::Offered;
 pub use queue::Queue;

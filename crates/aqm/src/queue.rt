@@ -1,11 +1,11 @@
 //! A queue of either kind.
-ghost use Rattle.std.specs.Prelude.{◌≡◌, ◌≤◌, ◌^◌, ◌++◌, length, IfOk};
+ghost use Rattle.std.specs.Prelude.{◌≡◌, ◌≤◌, ◌^◌, ◌++◌, ℕ, false, [], length, IfOk};
 ghost use Rattle.std.specs.Iterator.{YieldsFirst};
 ghost use Rattle.std.specs.Iterator.Runs.{YieldsInOrder};
 ghost use Rattle.sim_time.specs.Moment.{IsMoment};
 ghost use Rattle.packet_chain.specs.Stamped.{Stamped};
 ghost use Rattle.aqm.specs.DropTail.{IsDropTail, answer_to};
-ghost use Rattle.aqm.specs.Queue.{fifo_of, waiting_in, offered_to, taken_from};
+ghost use Rattle.aqm.specs.Queue.{fifo_of, waiting_in, offered_to, may_drop, taken_from};
 
 use crate::codel::Codel;
 use crate::drop_tail::DropTail;
@@ -49,6 +49,31 @@ impl Queue {
         match self {
             Queue::DropTail(queue) => queue.offer(cell, now),
             Queue::Codel(queue) => queue.offer(cell, now),
+        }
+    }
+
+    /// Whether a take may drop packets.
+    #[inline(always)]
+    pub fn may_drop(&self) -> bool
+        ensures { result ≡ may_drop self.now }
+    {
+        match self {
+            Queue::DropTail(_) => false,
+            Queue::Codel(_) => true,
+        }
+    }
+
+    /// Takes the packet at the head out of a queue whose takes drop nothing.
+    #[inline(always)]
+    pub fn take_head(&mut self) -> Option<PacketCell>
+        requires { may_drop self.old ≡ false }
+        ensures given { (now : ℕ) → result ≡ (taken_from self.old now).given }
+        ensures undropped { (now : ℕ) → (taken_from self.old now).dropped ≡ [] }
+        ensures state { (now : ℕ) → self.new ≡ (taken_from self.old now).queue }
+    {
+        match self {
+            Queue::DropTail(queue) => queue.take(),
+            Queue::Codel(_) => None,
         }
     }
 
