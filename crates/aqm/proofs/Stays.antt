@@ -3,7 +3,7 @@ use Rattle.std.proofs.Common.{◌≡◌, ◌++◌, ℕ, Bool, true, false, cond,
 use Rattle.packet_chain.specs.Stamped.{Stamped}
 use Rattle.aqm.specs.declared.queue.Queue.{Queue}
 use Rattle.aqm.specs.declared.queue.Queue.TheVariants.{DropTail, Codel}
-use Rattle.aqm.specs.DropTail.{DropTailState, is_full, after_offer}
+use Rattle.aqm.specs.DropTail.{DropTailState, empty_fifo, is_full, after_offer}
 use Rattle.aqm.specs.Codel.{CodelState, opening_codel}
 use Rattle.aqm.specs.Judgement.{judgement}
 use Rattle.aqm.specs.Taken.{codel_taken}
@@ -25,12 +25,14 @@ codel_stays s now false false off ok = ap (λ t. emptied (Codel (t.queue))) (tak
 pub queues_stay : QueuesStay
 queues_stay (DropTail s) now = record {
   taken = refl;
-  offered = λ cell. ap (λ n. DropTail (record { waiting = []; capacity = n })) (same_capacity s cell now (is_full s));
+  offered = λ cell. ap (λ n. DropTail (empty_fifo n)) (same_capacity s cell now (is_full s));
+  fifo = λ cell. refl;
   capacity = refl;
 }
 queues_stay (Codel s) now = record {
   taken = codel_stays s now s.dropping (judgement s now 0).ok refl refl;
-  offered = λ cell. ap (λ n. Codel (opening_codel (record { waiting = []; capacity = n }) s.target s.interval s.maxpacket)) (same_capacity s.fifo cell now (is_full s.fifo));
+  offered = λ cell. ap (λ n. Codel (opening_codel (empty_fifo n) s.target s.interval s.maxpacket)) (same_capacity s.fifo cell now (is_full s.fifo));
+  fifo = λ cell. refl;
   capacity = refl;
 }
 
@@ -42,5 +44,4 @@ last_of : (s : DropTailState) (cell : Stamped) (now : ℕ) → is_full s ≡ fal
 last_of s cell now room = ap (λ b. (cond b s (record s { waiting = s.waiting ++ (cell.0, now) ∷ [] })).waiting) room
 
 pub enters_last : EntersLast
-enters_last (DropTail s) cell now room = last_of s cell now room
-enters_last (Codel s) cell now room = last_of s.fifo cell now room
+enters_last q cell now room = ap (λ (s : DropTailState). s.waiting) ((queues_stay q now).fifo cell) ∙ last_of (fifo_of q) cell now room

@@ -9,6 +9,10 @@ pub record DropTailState : Type 0 where
   pub waiting : List Stamped
   pub capacity : ℕ
 
+-- nothing waits, and so many packets may
+abbrev pub empty_fifo : ℕ → DropTailState
+empty_fifo capacity = record { waiting = []; capacity = capacity }
+
 -- what every queue keeps
 pub record IsDropTail (s : DropTailState) : Type 0 where
   pub least : 1 ≤ s.capacity

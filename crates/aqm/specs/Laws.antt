@@ -1,7 +1,7 @@
 -- What every take keeps to, whatever waits and whenever it comes.
 use Rattle.std.specs.Prelude.{◌≡◌, ◌↔◌, ◌+◌, ◌-◌, ◌<◌, ◌≤◌, ◌++◌, ℕ, true, false, List, [], ◌∷◌, length, drop, slice_get, Option, Some, None, IfSome, IsSomeAnd}
 use Rattle.packet_chain.specs.Stamped.{Stamped, bytes_of}
-use Rattle.aqm.specs.DropTail.{DropTailState, is_full}
+use Rattle.aqm.specs.DropTail.{DropTailState, is_full, after_offer}
 use Rattle.aqm.specs.Codel.{CodelState, IsCodel}
 use Rattle.aqm.specs.Drops.{stops, due, drops}
 use Rattle.aqm.specs.Taken.{codel_taken}
@@ -22,10 +22,11 @@ TakesTheFront = (q : Queue) (now : ℕ) → let t = taken_from q now in t.droppe
 abbrev pub GivesWhatWaits : Type 0
 GivesWhatWaits = (q : Queue) (now : ℕ) → ((taken_from q now).given ≡ None) ↔ (waiting_in q ≡ [])
 
--- a queue stays the one it is, with its capacity, whatever is taken from it or offered to it
+-- a queue stays the one it is, with its capacity, whatever is taken from it or offered to it; an offer changes only what waits
 pub record StaysTheSame (q : Queue) (now : ℕ) : Type 0 where
   pub taken : emptied (taken_from q now).queue ≡ emptied q
   pub offered : (cell : Stamped) → emptied (offered_to q cell now) ≡ emptied q
+  pub fifo : (cell : Stamped) → fifo_of (offered_to q cell now) ≡ after_offer (fifo_of q) cell now
   pub capacity : (fifo_of (emptied q)).capacity ≡ (fifo_of q).capacity
 
 abbrev pub QueuesStay : Type 0

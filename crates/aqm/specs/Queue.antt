@@ -3,7 +3,7 @@ use Rattle.std.specs.Prelude.{ℕ, Bool, true, false, List, [], slice_get, Optio
 use Rattle.packet_chain.specs.Stamped.{Stamped}
 use Rattle.aqm.specs.declared.queue.Queue.{Queue}
 use Rattle.aqm.specs.declared.queue.Queue.TheVariants.{DropTail, Codel}
-use Rattle.aqm.specs.DropTail.{DropTailState, after_offer, without_first}
+use Rattle.aqm.specs.DropTail.{DropTailState, empty_fifo, after_offer, without_first}
 use Rattle.aqm.specs.Codel.{opening_codel}
 use Rattle.aqm.specs.Taken.{codel_taken}
 
@@ -18,8 +18,8 @@ waiting_in q = (fifo_of q).waiting
 
 -- a queue as it was before anything was offered to it
 abbrev pub emptied : Queue → Queue
-emptied (DropTail s) = DropTail (record { waiting = []; capacity = s.capacity })
-emptied (Codel s) = Codel (opening_codel (record { waiting = []; capacity = s.fifo.capacity }) s.target s.interval s.maxpacket)
+emptied (DropTail s) = DropTail (empty_fifo s.capacity)
+emptied (Codel s) = Codel (opening_codel (empty_fifo s.fifo.capacity) s.target s.interval s.maxpacket)
 
 -- the queue after a packet was offered at a moment
 abbrev pub offered_to : Queue → Stamped → ℕ → Queue

@@ -93,6 +93,7 @@ impl Queue {
     }
 
     /// How many packets a take at `now` drops. The cost doesn't grow with what stays.
+    #[inline(always)]
     pub fn drops_at(&self, now: Time) -> usize
         requires { IsMoment now }
         ensures value { result ≡ length (taken_from self.now now).dropped }
