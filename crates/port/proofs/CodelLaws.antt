@@ -9,10 +9,11 @@ use Rattle.aqm.specs.declared.queue.Queue.{Queue}
 use Rattle.aqm.specs.declared.queue.Queue.TheVariants.{DropTail, Codel}
 use Rattle.aqm.specs.DropTail.{DropTailState, is_full, after_offer, without_first}
 use Rattle.aqm.specs.Codel.{CodelState}
-use Rattle.aqm.specs.Queue.{waiting_in, offered_to, taken_from}
+use Rattle.aqm.specs.Queue.{fifo_of, waiting_in, offered_to, taken_from}
 use Rattle.aqm.specs.Laws.{listed, IsForCause}
 use Rattle.aqm.proofs.Front.{takes_the_front, gives_what_waits, drops_at_most_what_waits}
 use Rattle.aqm.proofs.Causes.{every_drop_has_a_cause}
+use Rattle.aqm.proofs.Stays.{queues_stay}
 use Rattle.port.specs.Port.{PortState, PortStep, begun, dropped_by_codel, taken, with_packet, offered_one}
 use Rattle.port.specs.Room.{drops_at, drops_at_offer}
 use Rattle.port.specs.History.{Offer, Free, history}
@@ -114,8 +115,7 @@ at_entry s packet now true q is = let most = drops_at_most_what_waits q now in l
 at_entry s packet now false q is = one_more s.waiting (packet, now) q now is
 
 with_one : (now : ℕ) (q : Queue) (packet : Packet) → length (taken_from (offered_to q (packet, now) now) now).dropped ≤ length (waiting_in q)
-with_one now (DropTail s) packet = at_entry s packet now (is_full s) (offered_to (DropTail s) (packet, now) now) refl
-with_one now (Codel s) packet = at_entry s.fifo packet now (is_full s.fifo) (offered_to (Codel s) (packet, now) now) refl
+with_one now q packet = at_entry (fifo_of q) packet now (is_full (fifo_of q)) (offered_to q (packet, now) now) (ap (λ (s : DropTailState). s.waiting) ((queues_stay q now).fifo (packet, now)))
 
 at_offer : (now : ℕ) (port : PortState) (packet : Packet) (idle : Bool) → cond idle (drops_at now (with_packet now port packet)) 0 ≤ length (waiting_in port.queue)
 at_offer now port packet true = with_one now port.queue packet

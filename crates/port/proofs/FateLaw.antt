@@ -6,11 +6,11 @@ use Rattle.std.proofs.lemmas.List.Elements.{filter-append}
 use Rattle.packet_chain.specs.declared.packet.Packet.{Packet}
 use Rattle.packet_chain.specs.Stamped.{Stamped}
 use Rattle.aqm.specs.declared.queue.Queue.{Queue}
-use Rattle.aqm.specs.declared.queue.Queue.TheVariants.{DropTail, Codel}
-use Rattle.aqm.specs.DropTail.{DropTailState, is_full, after_offer}
+use Rattle.aqm.specs.DropTail.{is_full}
 use Rattle.aqm.specs.Queue.{fifo_of, waiting_in, offered_to, taken_from}
 use Rattle.aqm.specs.Laws.{listed}
 use Rattle.aqm.proofs.Front.{takes_the_front}
+use Rattle.aqm.proofs.Stays.{enters_last}
 use Rattle.port.specs.declared.acts.Act.TheVariants.{Dropped}
 use Rattle.port.specs.declared.acts.DropReason.TheVariants.{Lost, Full}
 use Rattle.port.specs.Losses.{is_lost}
@@ -81,12 +81,8 @@ takes now port offered later tale =
     (leave fs (waiting_at (taken now port).port) offered later (all_left now (record port { queue = take.queue }) take.dropped take.given) tale)
 
 -- a packet that isn't refused is last in the queue
-last_in_fifo : (s : DropTailState) (packet : Packet) (now : ℕ) → is_full s ≡ false → packets_of (after_offer s (packet, now) now).waiting ≡ packets_of s.waiting ++ packet ∷ []
-last_in_fifo s packet now room = ap (λ b. packets_of (cond b s (record s { waiting = s.waiting ++ (packet, now) ∷ [] })).waiting) room ∙ map-append (λ (cell : Stamped). cell.0) s.waiting ((packet, now) ∷ [])
-
 last_in : (q : Queue) (packet : Packet) (now : ℕ) → is_full (fifo_of q) ≡ false → packets_of (waiting_in (offered_to q (packet, now) now)) ≡ packets_of (waiting_in q) ++ packet ∷ []
-last_in (DropTail s) packet now room = last_in_fifo s packet now room
-last_in (Codel s) packet now room = last_in_fifo s.fifo packet now room
+last_in q packet now room = ap packets_of (enters_last q (packet, now) now room) ∙ map-append (λ (cell : Stamped). cell.0) (waiting_in q) ((packet, now) ∷ [])
 
 -- an offering whose packet enters
 lets_in : (now : ℕ) (port : PortState) (packet : Packet) (idle : Bool) (offered : List Packet) (later : List (Packet × Fate)) → is_full (fifo_of port.queue) ≡ false

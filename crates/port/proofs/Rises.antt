@@ -10,11 +10,11 @@ use Rattle.packet_chain.specs.declared.packet.Packet.{Packet}
 use Rattle.packet_chain.specs.PacketBytes.{IsPacketBytes}
 use Rattle.packet_chain.specs.Stamped.{Stamped}
 use Rattle.aqm.specs.declared.queue.Queue.{Queue}
-use Rattle.aqm.specs.declared.queue.Queue.TheVariants.{DropTail, Codel}
 use Rattle.aqm.specs.DropTail.{DropTailState, is_full}
-use Rattle.aqm.specs.Queue.{waiting_in, offered_to, taken_from}
+use Rattle.aqm.specs.Queue.{fifo_of, waiting_in, offered_to, taken_from}
 use Rattle.aqm.specs.Laws.{listed}
 use Rattle.aqm.proofs.Front.{takes_the_front}
+use Rattle.aqm.proofs.Stays.{queues_stay}
 use Rattle.port.specs.Port.{PortState, PortStep, Departure, begun, taken, with_packet, offered_one}
 use Rattle.port.specs.History.{Call, Offer, Free, history, offered_in, AreTimely}
 use Rattle.port.specs.Laws.{ArrivalsRise}
@@ -55,8 +55,7 @@ sized_entry s packet now true all size = all
 sized_entry s packet now false all size = sized_last s.waiting (packet, now) all size
 
 sized_with : (q : Queue) (packet : Packet) (now : ℕ) → AllSized (waiting_in q) → IsPacketBytes packet.bytes → AllSized (waiting_in (offered_to q (packet, now) now))
-sized_with (DropTail s) packet now all size = sized_entry s packet now (is_full s) all size
-sized_with (Codel s) packet now all size = sized_entry s.fifo packet now (is_full s.fifo) all size
+sized_with q packet now all size = subst (λ (s : DropTailState). AllSized s.waiting) (sym ((queues_stay q now).fifo (packet, now))) (sized_entry (fifo_of q) packet now (is_full (fifo_of q)) all size)
 
 begun_follows : (now last : ℕ) (port : PortState) (given : Option Stamped) → IsRate port.rate → AllSized (listed given) → last ≤ now + port.delay → Follows (begun now port given).departure (begun now port given).port now last
 unfolding Follows

@@ -7,7 +7,6 @@ ghost use Rattle.port.specs.Room.{drops_at};
 
 use super::Port;
 use crate::acts::{Act, Acts, DropReason};
-use aqm::Queue;
 use packet_chain::{Packet, PacketCell, PacketChain};
 use sim_time::{Rate, Time, serial_ns};
 
@@ -24,13 +23,12 @@ impl Port {
         ensures places { acts.new.room + length acts.new.acts ≡ acts.old.room + length acts.old.acts }
         ensures idle { self.new.next_free ≡ None → (self.new.sent ≡ self.old.sent) × (out.new ≡ out.old) }
     {
-        // Drop-tail drops nothing here, so it needs no chain for that.
-        match &mut self.queue {
-            Queue::DropTail(queue) => {
-                let head = queue.take();
-                self.begin(head, now, acts, out);
-            }
-            Queue::Codel(_) => self.take_dropping(now, acts, out),
+        if self.queue.may_drop() {
+            self.take_dropping(now, acts, out);
+        } else {
+            // Nothing is dropped, so no chain is needed for that.
+            let head = self.queue.take_head();
+            self.begin(head, now, acts, out);
         }
     }
 
