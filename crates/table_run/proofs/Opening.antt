@@ -15,7 +15,7 @@ use Rattle.scenario_image.specs.declared.parts.QueueKind.TheVariants.{DropTail a
 use Rattle.scenario_image.specs.declared.parts.FlowPart.{FlowPart}
 use Rattle.scenario_image.specs.declared.parts.LinkPart.{LinkPart}
 use Rattle.scenario_image.specs.declared.parts.ScenarioParts.{ScenarioParts}
-use Rattle.aqm.specs.Queue.{waiting_in}
+use Rattle.aqm.specs.Queue.{waiting_in, emptied}
 use Rattle.port.specs.Port.{opening_port}
 use Rattle.node_core.specs.declared.alarm.Alarm.TheVariants.{Start as FlowStarts}
 use Rattle.node_core.specs.declared.event.Event.{Event}
@@ -28,7 +28,7 @@ use Rattle.ranking.specs.Keyed.{apply, changed}
 use Rattle.ranking.proofs.Maps.{not_some, same_some, get_here}
 use Rattle.table_run.specs.State.{State, opening, part_at, no_part}
 use Rattle.table_run.specs.Flow.{IsUnderWay}
-use Rattle.table_run.specs.Sound.{EachEvent, IsStart, afresh, IsSoundLink, emptied}
+use Rattle.table_run.specs.Sound.{EachEvent, IsStart, afresh, IsSoundLink}
 use Rattle.table_run.proofs.Changes.{of_changed, applied_elsewhere}
 
 -- the only element that passes is found

@@ -10,18 +10,13 @@ use Rattle.sim_time.proofs.Serial.{serial_fits}
 use Rattle.packet_chain.specs.declared.packet.Packet.{Packet}
 use Rattle.packet_chain.specs.Stamped.{Stamped}
 use Rattle.aqm.specs.declared.queue.Queue.{Queue}
-use Rattle.aqm.specs.declared.queue.Queue.TheVariants.{DropTail, Codel}
-use Rattle.aqm.specs.DropTail.{DropTailState, is_full, after_offer}
-use Rattle.aqm.specs.Codel.{CodelState}
-use Rattle.aqm.specs.Judgement.{judgement}
-use Rattle.aqm.specs.Taken.{codel_taken}
-use Rattle.aqm.specs.Queue.{fifo_of, waiting_in, taken_from, offered_to, Taken}
+use Rattle.aqm.specs.DropTail.{is_full}
+use Rattle.aqm.specs.Queue.{fifo_of, waiting_in, emptied, taken_from, offered_to, Taken}
 use Rattle.aqm.specs.Laws.{listed}
-use Rattle.aqm.proofs.TakenCases.{taken_in_drop_state, taken_at_first_drop, taken_undropped}
 use Rattle.aqm.proofs.Front.{takes_the_front, gives_what_waits}
+use Rattle.aqm.proofs.Stays.{queues_stay, same_room, enters_last}
 use Rattle.port.specs.Losses.{is_lost}
 use Rattle.port.specs.Port.{PortState, Departure, PortStep, begun, taken, only, with_packet, entered, offered_one, offered_all}
-use Rattle.table_run.specs.Sound.{emptied}
 use Rattle.table_run.proofs.Lists.{all_append, all_left, all_right}
 
 -- packets for which D holds are in their range of sizes
@@ -69,22 +64,6 @@ pub record PortMoves (D : Packet → Type 0) (now count : ℕ) (before : Option 
   pub waits : Waits D step.port
   pub offered_are : step.port.offered ≡ old.offered + count
   pub outcome : Outcome D now before old step.port step.departure
-
--- a queue stays the one it is, whatever is taken
-same_emptied_codel : (s : CodelState) (now : ℕ) (b c : Bool) → s.dropping ≡ b → (judgement s now 0).ok ≡ c → emptied (Codel (codel_taken s now).queue) ≡ emptied (Codel s)
-same_emptied_codel s now true c on ok = ap (λ t. emptied (Codel (t.queue))) (taken_in_drop_state s now on)
-same_emptied_codel s now false true off ok = ap (λ t. emptied (Codel (t.queue))) (taken_at_first_drop s now off ok)
-same_emptied_codel s now false false off ok = ap (λ t. emptied (Codel (t.queue))) (taken_undropped s now off ok)
-
-same_emptied : (q : Queue) (now : ℕ) → emptied (taken_from q now).queue ≡ emptied q
-same_emptied (DropTail s) now = refl
-same_emptied (Codel s) now = same_emptied_codel s now s.dropping (judgement s now 0).ok refl refl
-
-capacity_of : (q r : Queue) → emptied q ≡ emptied r → (fifo_of q).capacity ≡ (fifo_of r).capacity
-capacity_of (DropTail s) (DropTail t) e = ap (λ q. (fifo_of q).capacity) e
-capacity_of (DropTail s) (Codel t) e = ap (λ q. (fifo_of q).capacity) e
-capacity_of (Codel s) (DropTail t) e = ap (λ q. (fifo_of q).capacity) e
-capacity_of (Codel s) (Codel t) e = ap (λ q. (fifo_of q).capacity) e
 
 -- what a take leaves of a queue
 record TakeKeeps (P : Stamped → Type 0) (q : Queue) (t : Taken) : Type 0 where
@@ -143,8 +122,8 @@ module _ (D : Packet → Type 0) (sized : AreSized D) (now : ℕ) where
   taken_moves old link those room =
       let take = taken_from old.queue now in
       let keeps = take_keeps (λ x. D x.0) old.queue now those in
-      let same = same_emptied old.queue now in
-      let capacity = capacity_of take.queue old.queue same in
+      let same = (queues_stay old.queue now).taken in
+      let capacity = same_room take.queue old.queue same in
       with_acts 0 None old (begun now (record old { queue = take.queue }) take.given) _
       (begun_moves old take.queue take.given link same keeps.rest keeps.given (let fewer = keeps.fewer in omega (arith, fewer, room, capacity)) keeps.none_left)
 
@@ -168,15 +147,18 @@ module _ (D : Packet → Type 0) (sized : AreSized D) (now : ℕ) where
     pub those : AllByRecursion (λ y. D y.0) (waiting_in after)
     pub room : length (waiting_in after) ≤ (fifo_of after).capacity
 
-  joins_fifo : (s : DropTailState) (x : Packet) → is_full s ≡ false → after_offer s (x, now) now ≡ record s { waiting = s.waiting ++ (x, now) ∷ [] }
-  joins_fifo s x full = ap (λ b. cond b s (record s { waiting = s.waiting ++ (x, now) ∷ [] })) full
-
   one_longer : (xs : List Stamped) (y : Stamped) (capacity : ℕ) → length xs ≤ capacity → (length xs == capacity) ≡ false → length (xs ++ y ∷ []) ≤ capacity
   one_longer xs y capacity room apart = let other = eqb-false (length xs) capacity apart in simp length-append (omega (arith, room, other))
 
   joins : (q : Queue) (x : Packet) → is_full (fifo_of q) ≡ false → D x → AllByRecursion (λ y. D y.0) (waiting_in q) → length (waiting_in q) ≤ (fifo_of q).capacity → Joins q x (offered_to q (x, now) now)
-  joins (DropTail s) x full is those room = subst (λ t. Joins (DropTail s) x (DropTail t)) (sym (joins_fifo s x full)) record { same = refl; those = all_append (λ y. D y.0) s.waiting ((x, now) ∷ []) those (is, tt); room = one_longer s.waiting (x, now) s.capacity room full }
-  joins (Codel s) x full is those room = subst (λ t. Joins (Codel s) x (Codel (record s { fifo = t }))) (sym (joins_fifo s.fifo x full)) record { same = refl; those = all_append (λ y. D y.0) s.fifo.waiting ((x, now) ∷ []) those (is, tt); room = one_longer s.fifo.waiting (x, now) s.fifo.capacity room full }
+  joins q x full is those room =
+      let last = enters_last q (x, now) now full in
+      let same = (queues_stay q now).offered (x, now) in
+      record {
+        same = same;
+        those = subst (AllByRecursion (λ (y : Stamped). D y.0)) (sym last) (all_append (λ y. D y.0) (waiting_in q) ((x, now) ∷ []) those (is, tt));
+        room = (let more = one_longer (waiting_in q) (x, now) (fifo_of q).capacity room full in let capacity = same_room (offered_to q (x, now) now) q same in let length_is = ap length last in omega (arith, more, capacity, length_is));
+      }
 
   -- a packet enters: it waits where the link is busy, else the head is taken
   entered_moves : (old : PortState) (x : Packet) (o : Option ℕ) → old.next_free ≡ o → IsLink old → is_full (fifo_of old.queue) ≡ false → D x → Waits D old → PortMoves D now 1 old.next_free old (entered now (record old { offered = old.offered + 1 }) x)

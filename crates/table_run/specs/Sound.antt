@@ -4,10 +4,7 @@ use Rattle.std.specs.List.{slice_get, AllByRecursion}
 use Rattle.std.specs.FinMap as finmap
 use Rattle.sim_time.specs.declared.key.Key.{Key}
 use Rattle.packet_chain.specs.declared.packet.Packet.{Packet}
-use Rattle.aqm.specs.declared.queue.Queue.{Queue}
-use Rattle.aqm.specs.declared.queue.Queue.TheVariants.{DropTail, Codel}
-use Rattle.aqm.specs.Codel.{opening_codel}
-use Rattle.aqm.specs.Queue.{fifo_of, waiting_in}
+use Rattle.aqm.specs.Queue.{fifo_of, waiting_in, emptied}
 use Rattle.port.specs.Port.{PortState, opening_port}
 use Rattle.scenario_image.specs.declared.parts.NodeKind.TheVariants.{Router}
 use Rattle.scenario_image.specs.declared.parts.FlowPart.{FlowPart}
@@ -22,18 +19,13 @@ use Rattle.node_core.specs.Alarms.{alarm_key}
 use Rattle.node_core.specs.Pending.{Events}
 use Rattle.node_core.specs.Part.{LinkState, link_at}
 use Rattle.node_core.specs.TraceLine.{TraceLine}
-use Rattle.node_core.specs.Opening.{empty_fifo, opening_links, exits_of}
+use Rattle.node_core.specs.Opening.{opening_links, exits_of}
 use Rattle.table_run.specs.State.{State, part_at}
 use Rattle.table_run.specs.Flow.{sent_high, deadline_of, alarm_of, IsUnderWay, IsSoundFlow}
 
 -- P holds of each pending event
 abbrev pub EachEvent : (Key → Event → Type 0) → Events → Type 0
 EachEvent P events = (k : Key) (v : Event) → finmap.get events k ≡ Some v → P k v
-
--- a queue as it was before anything was offered to it
-abbrev pub emptied : Queue → Queue
-emptied (DropTail s) = DropTail (empty_fifo s.capacity)
-emptied (Codel s) = Codel (opening_codel (empty_fifo s.fifo.capacity) s.target s.interval s.maxpacket)
 
 -- a link as it was before anything was offered to it
 abbrev pub afresh : LinkState → LinkState
