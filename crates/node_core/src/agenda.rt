@@ -204,6 +204,10 @@ impl Agenda {
         ensures { self.new ≡ moved_to self.old (alarm_number alarm) time }
     {
         let which = alarm.number() as usize;
+        // Most receivers set no timer.
+        if time.is_none() && self.alarms[which].is_none() {
+            return;
+        }
         self.alarms[which] = time;
         self.ranking.set(which, key_of(self.node, which, time));
     }

@@ -4,7 +4,7 @@ ghost use Rattle.sim_time.specs.Moment.{IsMoment};
 ghost use Rattle.port.specs.Laws.{NothingWaitsWhereIdle};
 ghost use Rattle.port.specs.Port.{IsPort, offered_one, offered_all, taken, departed};
 ghost use Rattle.port.specs.Room.{drops_at};
-ghost use Rattle.node_core.specs.Links.{packets_of};
+ghost use Rattle.node_core.specs.Links.{packets_of, all_of};
 ghost use Rattle.node_core.specs.Ready.{LinkCan};
 
 use packet_chain::{PacketCell, PacketChain};
@@ -105,6 +105,37 @@ impl Link {
         while let Some(cell) = cells.pop_front() {
             self.port.send(cell, now, acts, out);
         }
+    }
+
+    /// Offers packets one after another, and behind them one more. Where that is the only one, as it nearly
+    /// always is, it is put into no chain.
+    pub(crate) fn offer_behind(
+        &mut self,
+        mut cells: PacketChain,
+        last: Option<PacketCell>,
+        now: Time,
+        acts: &mut Acts,
+        out: &mut PacketChain,
+    )
+        requires moment { IsMoment now }
+        requires room { length (all_of cells last) + 1 ≤ acts.old.room }
+        requires few { length cells ≤ 2 ^ 40 }
+        requires can { LinkCan self.old }
+        requires chain { length out.old < 1000000000000000 }
+        ensures state { self.new ≡ record self.old { port = (offered_all now self.old.port (all_of cells last)).port } }
+        ensures departed { out.new ≡ out.old ++ departed (offered_all now self.old.port (all_of cells last)).departure }
+        ensures acts { acts.new.acts ≡ acts.old.acts ++ (offered_all now self.old.port (all_of cells last)).acts }
+    {
+        let Some(cell) = last else {
+            self.offer(cells, now, acts, out);
+            return;
+        };
+        if cells.len() == 0 {
+            self.send(cell, now, acts, out);
+            return;
+        }
+        cells.push_back(cell);
+        self.offer(cells, now, acts, out);
     }
 
     /// The link has sent a packet whole, and takes the next. One that begins to be sent goes to

@@ -17,7 +17,7 @@ use crate::decision::Sending;
 use crate::line::Line;
 use crate::link::Link;
 use crate::outbox::Outbox;
-use packet_chain::{Packet, PacketCell, PacketChain};
+use packet_chain::{Packet, PacketCell};
 use sim_time::Time;
 
 // The index of a link, where a packet has left over it, so that it is busy.
@@ -90,23 +90,15 @@ pub(crate) fn take_next(
     left_over(index, next_free)
 }
 
-// The packets of an end in cells: the last, if it has none, in that of the packet that has arrived.
-fn in_cells(
-    mut cells: PacketChain,
-    last: Option<Packet>,
-    arrived: Option<PacketCell>,
-) -> PacketChain
-    requires few { length cells ≤ 2 ^ 40 }
-    requires cell { (packet : Packet) → last ≡ Some packet → IsSome arrived }
-    ensures { packets_of result ≡ packets_of cells ++ option_to_list last }
+// The last packet of an end, if it has no cell, in that of the packet that has arrived.
+fn in_cell(last: Option<Packet>, arrived: Option<PacketCell>) -> Option<PacketCell>
+    requires { (packet : Packet) → last ≡ Some packet → IsSome arrived }
+    ensures { option_map (λ cell. cell.0) result ≡ last }
 {
-    let Some(packet) = last else {
-        return cells;
-    };
+    let packet = last?;
     let mut cell = arrived.unwrap();
     cell.set_packet(packet);
-    cells.push_back(cell);
-    cells
+    Some(cell)
 }
 
 /// The packets of a flow's end are offered to its link, and its timer moves.
@@ -131,10 +123,10 @@ pub(crate) fn send(
     } = sending;
     let arrived = agenda.take(line.key);
     agenda.set_alarm(alarm, time);
-    let cells = in_cells(cells, last, arrived);
+    let last = in_cell(last, arrived);
     let link = &mut links[0];
     let was_busy = link.is_busy();
     let chain = out.chain(0);
-    link.offer(cells, line.key.time, &mut line.acts, chain);
+    link.offer_behind(cells, last, line.key.time, &mut line.acts, chain);
     follow(agenda, 0, was_busy, link.port().next_free())
 }

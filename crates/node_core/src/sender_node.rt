@@ -42,6 +42,31 @@ pub(crate) fn send_plan(
     }))
 }
 
+// A row at which a packet arrives: the last segment of its plan takes that packet's cell.
+fn send_behind(
+    origin: Origin,
+    sender: &mut Sender,
+    plan: &Plan,
+    acts: &mut Acts,
+) -> Result<Decision, AllocError>
+    requires { IsPlanOf sender.old plan.now }
+    ensures sends { IfOk result (OnSend (IsSent true (map (data_packet origin.flow plan.now.fields.mss) (sent_of plan.now)) Retransmission plan.now.fields.deadline acts.new.room)) }
+    ensures sender { OnOk result (sender.new ≡ plan.now.fields) }
+    ensures same { OnErr result (sender.new ≡ sender.old) }
+    ensures acts { acts.new.acts ≡ acts.old.acts }
+{
+    acts.reserve(plan.count() as usize + 2)?;
+    let (cells, last) = but_last(origin, plan)?;
+    // The plan is lent, so that it is copied once, into the sender.
+    sender.commit(*plan);
+    Ok(Decision::Send(Sending {
+        cells,
+        last,
+        alarm: Alarm::Retransmission,
+        time: plan.as_fields().deadline,
+    }))
+}
+
 /// An acknowledgement has come: the last segment of the plan takes its cell. It is no part of its
 /// caller, which would clear a plan's place for each event.
 #[inline(never)]
@@ -60,13 +85,5 @@ pub(crate) fn send_for_ack(
     ensures acts { acts.new.acts ≡ acts.old.acts }
 {
     let plan = sender.on_ack(number, now);
-    acts.reserve(plan.count() as usize + 2)?;
-    let (cells, last) = but_last(origin, &plan)?;
-    sender.commit(plan);
-    Ok(Decision::Send(Sending {
-        cells,
-        last,
-        alarm: Alarm::Retransmission,
-        time: plan.as_fields().deadline,
-    }))
+    send_behind(origin, sender, &plan, acts)
 }
