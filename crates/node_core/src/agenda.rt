@@ -258,6 +258,7 @@ impl Agenda {
 
     /// The event of the least key, which is this one, leaves; where it is an arrival, the packet's
     /// cell is given.
+    #[inline(always)]
     pub fn take(&mut self, key: Key) -> Option<PacketCell>
         requires { next_key self.old.pending ≡ Some key }
         ensures state { self.new ≡ record self.old { alarms = cleared key self.old.alarms; pending = map.remove self.old.pending key } }

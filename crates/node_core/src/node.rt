@@ -194,6 +194,7 @@ impl Node {
     }
 
     /// The same, over the incoming link of an index.
+    #[inline(always)]
     pub fn deliver_at(&mut self, index: usize, chain: &mut PacketChain)
         requires within { index < length self.old.incoming }
         requires rising { IsStrictlyIncreasing (stamps_of chain.old) }

@@ -67,9 +67,7 @@ fn send_behind(
     }))
 }
 
-/// An acknowledgement has come: the last segment of the plan takes its cell. It is no part of its
-/// caller, which would clear a plan's place for each event.
-#[inline(never)]
+/// An acknowledgement has come: the last segment of the plan takes its cell.
 pub(crate) fn send_for_ack(
     origin: Origin,
     sender: &mut Sender,
