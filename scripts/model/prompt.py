@@ -142,11 +142,11 @@ def awaited(net, flow):
 
 
 def own_alarms(net, flow):
-    """A flow's alarms, of its sender and its receiver, in the order of their times: time and number of each."""
+    """A flow's alarms, of its sender and its receiver, in the order of their keys: time and number of each."""
     ends = net.flows[flow]
-    found = [(net.alarms[node][number], number) for node, numbers in ((ends.sender, (START, RTO)), (ends.receiver, (DELACK,)))
+    found = [(net.alarms[node][number], node, number) for node, numbers in ((ends.sender, (START, RTO)), (ends.receiver, (DELACK,)))
              for number in numbers if number in net.alarms[node]]
-    return sorted(found)
+    return [(time, number) for time, _, number in sorted(found)]
 
 
 def alarms(net, flow):

@@ -951,6 +951,12 @@ class Prompts(Case):
         self.assertNotEqual(small, ONE_SEGMENT)
         self.assertEqual(self.typed(small, 's', 'why 0')[0].splitlines()[2],
                          'flow 0 sends no more: 1000 bytes in flight, a segment of 1000, rwnd 1999')
+        # Both alarms are due at one moment: the receiver's, whose node has the lower number, comes first.
+        tied = (ONE_SEGMENT.replace('sim 1000000000', 'sim 2000000000').replace('node s sender\nnode r receiver', 'node r receiver\nnode s sender')
+                .replace('8000000 1000000 droptail 10\nlink b', '8000000 798960000 droptail 10\nlink b').replace(' 64000 0', ' 64000 200000000'))
+        self.assertEqual(self.typed(tied, 's 3', 'why 0')[0].splitlines()[-2:], [
+            'flow 0 is stalled: 0 duplicate acknowledgements, and its delayed acknowledgement is due at 1000000000 ns',
+            'alarms: delack at 1000000000 ns, rto at 1000000000 ns'])
         self.refuses('B2', 'why', 'why 0 0')
         self.refuses('B3', 'why 1', 'why f')
 
