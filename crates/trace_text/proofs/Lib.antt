@@ -1,5 +1,5 @@
 mod Lines
 mod ByThousands
-mod DumpLines
+pub mod DumpLines
 mod AllLines
 mod InKeyOrder

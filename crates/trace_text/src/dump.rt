@@ -12,6 +12,7 @@ mod nodes;
 
 use self::append::put_field;
 use self::events::append_events;
+pub use self::events::pending_events;
 use self::links::{append_links, append_numbered};
 use self::nodes::{append_nodes, append_numbered_node};
 use crate::backward::put_text;

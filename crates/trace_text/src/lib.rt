@@ -11,6 +11,6 @@ mod event;
 mod groups;
 mod line;
 
-pub use dump::{DumpPart, dump_text, part_text};
+pub use dump::{DumpPart, dump_text, part_text, pending_events};
 pub use end::end_text;
 pub use line::line_text;

@@ -10,6 +10,7 @@ ghost use Rattle.trace_text.specs.DumpParts.{is_event_of};
 
 use crate::backward::put_text;
 use crate::event::{put_event, put_key};
+use net_machine::Net;
 use node_core::{Event, Node};
 use sim_time::Key;
 use std::alloc::{AllocError, Global};
@@ -57,6 +58,13 @@ fn is_event_of(flow: u16, event: &Event) -> bool
         Event::Free(_) => false,
         Event::Arrive(packet) => packet.flow == flow,
     }
+}
+
+/// The events that are pending in a net, in the order of their keys.
+pub fn pending_events(alloc: Global, net: &Net) -> Result<Vec<(Key, Event)>, AllocError>
+    ensures { IfOk result (λ all. all.items ≡ map.entries net.now.state.pending) }
+{
+    in_order(alloc, net.nodes())
 }
 
 /// What is pending at all nodes, in the order of keys.
