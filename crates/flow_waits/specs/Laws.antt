@@ -1,0 +1,17 @@
+-- What holds of the definitions, whatever the state.
+use Rattle.std.specs.Prelude.{◌≡◌, ◌↔◌, ℕ, true, Some}
+use Rattle.std.specs.FinMap as map
+use Rattle.reno_sender.specs.declared.fields.SenderFields.{SenderFields}
+use Rattle.table_run.specs.State.{State}
+use Rattle.flow_waits.specs.declared.standing.Standing.{Standing}
+use Rattle.flow_waits.specs.declared.standing.Standing.TheVariants.{Stalled}
+use Rattle.flow_waits.specs.Stalled.{sender_of, start_of, has_packets, is_stalled}
+use Rattle.flow_waits.specs.Standing.{standing_of}
+
+-- how a flow stands in a state, by what its sender keeps
+abbrev pub standing_in : ℕ → State → SenderFields → Standing
+standing_in flow state f = standing_of (start_of flow (map.entries state.pending)) (has_packets flow state.parts (map.entries state.pending)) f
+
+-- of a flow that a node sends, it is told that it is stalled exactly where it is
+abbrev pub StalledIsTold : Type 0
+StalledIsTold = (flow : ℕ) (state : State) (f : SenderFields) → sender_of flow state.parts ≡ Some f → (standing_in flow state f ≡ Stalled) ↔ (is_stalled flow state ≡ true)

@@ -1,0 +1,4 @@
+pub mod Stalled
+pub mod Standing
+pub mod Waits
+pub mod Laws

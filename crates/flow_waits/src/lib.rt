@@ -1,0 +1,20 @@
+//! What a flow waits for in a state of a net, as text, and whether it is stalled.
+#![tactic(auto)]
+
+mod alarm;
+mod append;
+mod bytes;
+mod ends;
+pub mod guarantees;
+mod lists;
+mod packets;
+mod queues;
+mod sentence;
+mod stalled;
+mod standing;
+#[cfg(test)]
+mod tests;
+mod waits;
+
+pub use stalled::is_stalled;
+pub use waits::waits_text;

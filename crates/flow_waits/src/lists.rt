@@ -1,0 +1,104 @@
+//! What is pending of a flow: its packets under way, and its alarms.
+ghost use Rattle.std.specs.Prelude.{◌≡◌, ◌++◌, OnOk};
+ghost use Rattle.std.specs.List.{flat_map};
+ghost use Rattle.sim_time.specs.declared.key.Key.{Key};
+ghost use Rattle.node_core.specs.declared.event.Event.{Event};
+ghost use Rattle.flow_waits.specs.Standing.{own_alarm as alarm_is};
+ghost use Rattle.flow_waits.specs.Waits.{arriving, under_way_one, next_alarm, alarm_one, list_line};
+
+use crate::alarm::{FlowAlarm, own_alarm};
+use crate::append::{append_between, append_numbered};
+use crate::queues::append_packet;
+use node_core::Event;
+use packet_chain::Packet;
+use sim_time::{Key, Time};
+use std::alloc::AllocError;
+
+/// Appends the packets of a flow that are under way, in the order of keys, each behind a comma. After an `Err`,
+/// as with all functions here, a part of the text may stand there.
+pub(crate) fn append_under_way(
+    flow: u16,
+    pending: &[(Key, Event)],
+    out: &mut Vec<u8>,
+) -> Result<(), AllocError>
+    ensures { OnOk result (out.new.items ≡ out.old.items
+        ++ flat_map (λ (entry : Key × Event). under_way_one flow entry.0 entry.1) pending.now) }
+{
+    for (key, event) in pending {
+        append_event(flow, key, event, out)?;
+    }
+    Ok(())
+}
+
+/// A packet, where an event is the arrival of one of the flow.
+fn append_event(flow: u16, key: &Key, event: &Event, out: &mut Vec<u8>) -> Result<(), AllocError>
+    ensures { OnOk result (out.new.items ≡ out.old.items ++ under_way_one flow key.now event.now) }
+{
+    match event {
+        Event::Arrive(packet) => append_own(flow, key, packet, out),
+        Event::Start(_) | Event::Rto(_) | Event::DelAck(_) | Event::Free(_) => Ok(()),
+    }
+}
+
+/// A packet that is under way, where it is one of the flow.
+fn append_own(flow: u16, key: &Key, packet: &Packet, out: &mut Vec<u8>) -> Result<(), AllocError>
+    ensures { OnOk result (out.new.items ≡ out.old.items ++ arriving flow key.now packet.now) }
+{
+    if packet.flow != flow {
+        return Ok(());
+    }
+    append_packet(packet, out)?;
+    append_numbered(b" to node ", u64::from(key.node), out)?;
+    append_between(b" at ", key.time, b" ns", out)
+}
+
+/// Appends the alarms of a flow, in the order of keys, each behind a comma.
+pub(crate) fn append_alarms(
+    flow: u16,
+    pending: &[(Key, Event)],
+    out: &mut Vec<u8>,
+) -> Result<(), AllocError>
+    ensures { OnOk result (out.new.items ≡ out.old.items
+        ++ flat_map (λ (entry : Key × Event). alarm_one entry.0.time (alarm_is flow entry.1)) pending.now) }
+{
+    for (key, event) in pending {
+        append_alarm(key.time, own_alarm(flow, event), out)?;
+    }
+    Ok(())
+}
+
+/// An alarm with its moment, where there is one.
+fn append_alarm(time: Time, alarm: Option<FlowAlarm>, out: &mut Vec<u8>) -> Result<(), AllocError>
+    ensures { OnOk result (out.new.items ≡ out.old.items ++ alarm_one time alarm) }
+{
+    match alarm {
+        Some(alarm) => append_between(next_alarm(alarm), time, b" ns", out),
+        None => Ok(()),
+    }
+}
+
+/// An alarm's name behind a comma.
+fn next_alarm(alarm: FlowAlarm) -> &'static [u8]
+    ensures { result.now ≡ next_alarm alarm }
+{
+    match alarm {
+        FlowAlarm::Starts => b", start at ",
+        FlowAlarm::Retransmission => b", rto at ",
+        FlowAlarm::DelayedAcknowledgement => b", delack at ",
+    }
+}
+
+/// Appends a line of texts, of which each stands behind a comma and a space but the first; nothing where there is
+/// no text.
+pub(crate) fn append_list(heading: &[u8], texts: &[u8], out: &mut Vec<u8>) -> Result<(), AllocError>
+    ensures { OnOk result (out.new.items ≡ out.old.items ++ list_line heading.now texts.now) }
+{
+    match texts {
+        [_, _, texts @ ..] => {
+            out.extend_from_slice(heading)?;
+            out.extend_from_slice(texts)?;
+            out.extend_from_slice(b"\n")
+        }
+        _ => Ok(()),
+    }
+}

@@ -1,0 +1,109 @@
+//! What a flow waits for.
+ghost use Rattle.std.specs.Prelude.{◌≡◌, ◌++◌, OnOk, OnErr};
+ghost use Rattle.net_machine.specs.Nodes.{parts_of};
+ghost use Rattle.flow_waits.specs.Waits.{standing_line, waiting_line, under_way_line, alarms_line, waits_in, waits_bytes};
+
+use crate::alarm::first_alarm;
+use crate::append::append_numbered;
+use crate::ends::{sender_of, start_of};
+use crate::lists::{append_alarms, append_list, append_under_way};
+use crate::packets::has_packets;
+use crate::queues::append_waiting;
+use crate::sentence::append_standing;
+use crate::standing::standing_of;
+use net_machine::Net;
+use node_core::{Event, Node};
+use sim_time::Key;
+use std::alloc::{AllocError, Global};
+use trace_text::pending_events;
+
+/// Appends what a flow waits for, or nothing: a line that says how it stands, and one each of its packets that wait,
+/// of those under way and of its alarms, where there are any.
+pub fn waits_text(net: &Net, flow: u16, out: &mut Vec<u8>) -> Result<(), AllocError>
+    ensures ok { OnOk result (out.new.items ≡ out.old.items ++ waits_bytes flow net.now.state) }
+    ensures err { OnErr result (out.new.items ≡ out.old.items) }
+{
+    let alloc = *out.allocator();
+    let mut lines = Vec::new(alloc);
+    append_waits(alloc, net, flow, &mut lines)?;
+    out.extend_from_slice(&lines)
+}
+
+/// Appends what a flow waits for. After an `Err`, as with all functions below, some lines may stand there.
+fn append_waits(alloc: Global, net: &Net, flow: u16, out: &mut Vec<u8>) -> Result<(), AllocError>
+    ensures { OnOk result (out.new.items ≡ out.old.items ++ waits_bytes flow net.now.state) }
+{
+    let pending = pending_events(alloc, net)?;
+    append_lines(flow, net.nodes(), &pending, out)
+}
+
+/// Appends it of the nodes, and what is pending at them in the order of keys.
+fn append_lines(
+    flow: u16,
+    nodes: &[Node],
+    pending: &[(Key, Event)],
+    out: &mut Vec<u8>,
+) -> Result<(), AllocError>
+    ensures { OnOk result (out.new.items ≡ out.old.items ++ waits_in flow (parts_of nodes.now) pending.now) }
+{
+    append_standing_line(flow, nodes, pending, out)?;
+    append_waiting_line(flow, nodes, out)?;
+    append_under_way_line(flow, pending, out)?;
+    append_alarms_line(flow, pending, out)
+}
+
+/// Appends how the flow stands.
+fn append_standing_line(
+    flow: u16,
+    nodes: &[Node],
+    pending: &[(Key, Event)],
+    out: &mut Vec<u8>,
+) -> Result<(), AllocError>
+    ensures { OnOk result (out.new.items ≡ out.old.items ++ standing_line flow (parts_of nodes.now) pending.now) }
+{
+    let start = start_of(flow, pending);
+    let packets = has_packets(flow, nodes, pending);
+    match sender_of(flow, nodes) {
+        Some(sender) => {
+            append_numbered(b"flow ", u64::from(flow), out)?;
+            let standing = standing_of(start, packets, &sender);
+            append_standing(&sender, first_alarm(flow, pending), standing, out)
+        }
+        None => Ok(()),
+    }
+}
+
+/// Appends the flow's packets that wait.
+fn append_waiting_line(flow: u16, nodes: &[Node], out: &mut Vec<u8>) -> Result<(), AllocError>
+    ensures { OnOk result (out.new.items ≡ out.old.items ++ waiting_line flow (parts_of nodes.now)) }
+{
+    let mut texts = Vec::new(*out.allocator());
+    append_waiting(flow, nodes, &mut texts)?;
+    append_list(b"waits: ", &texts, out)
+}
+
+/// Appends the flow's packets under way.
+fn append_under_way_line(
+    flow: u16,
+    pending: &[(Key, Event)],
+    out: &mut Vec<u8>,
+) -> Result<(), AllocError>
+    ensures { OnOk result (out.new.items ≡ out.old.items ++ under_way_line flow pending.now) }
+{
+    let mut texts = Vec::new(*out.allocator());
+    append_under_way(flow, pending, &mut texts)?;
+    append_list(b"under way: ", &texts, out)
+}
+
+/// Appends the flow's alarms.
+fn append_alarms_line(
+    flow: u16,
+    pending: &[(Key, Event)],
+    out: &mut Vec<u8>,
+) -> Result<(), AllocError>
+    ensures { OnOk result (out.new.items ≡ out.old.items ++ alarms_line flow pending.now) }
+{
+    let mut texts = Vec::new(*out.allocator());
+    append_alarms(flow, pending, &mut texts)?;
+    append_list(b"alarms: ", &texts, out)
+}
