@@ -29,12 +29,17 @@ pub record IsAtStart (run : WindowRun) : Type 0 where
   pub few : run.workers ≤ 64
   pub end_is : run.progress.end ≡ run.engine.net.state.end
 
+-- a run that is left is for several workers: one by one worker waits for nobody
+pub record IsLeft (run : WindowRun) : Type 0 where
+  pub start : IsAtStart run
+  pub several : 1 < run.workers
+
 -- what was begun has ended so, or a run is left, and whatever end that has is an end of the whole
 abbrev pub BeginsRun : (Ended → Option (List ℕ) → Type 0) → Result (Option WindowRun) SessionFault → Option (List ℕ) → Type 0
 BeginsRun IsEnd (Err fault) now = IsEnd (Err fault) now
 BeginsRun IsEnd (Ok None) now = IsEnd (Ok tt) now
 BeginsRun IsEnd (Ok (Some run)) now =
-    IsAtStart run × ((ended : Ended) (after : Option (List ℕ)) → Writes (IsRunOutput run.engine.net.state ended) now after → IsEnd ended after)
+    IsLeft run × ((ended : Ended) (after : Option (List ℕ)) → Writes (IsRunOutput run.engine.net.state ended) now after → IsEnd ended after)
 
 -- what ended so has no run left
 abbrev pub no_run_left : Ended → Result (Option WindowRun) SessionFault
@@ -73,11 +78,16 @@ pub record AreReady (commands : Commands) : Type 0 where
   pub some : 0 < commands.workers
   pub few : commands.workers ≤ 64
 
+-- commands that are left are for several workers too
+pub record AreLeft (commands : Commands) : Type 0 where
+  pub ready : AreReady commands
+  pub several : 1 < commands.workers
+
 -- what is left can be gone on with
 abbrev pub IsReady : Rest → Type 0
 IsReady Nothing = Unit {0}
-IsReady (Shared run) = IsAtStart run
-IsReady (Listed commands) = AreReady commands
+IsReady (Shared run) = IsLeft run
+IsReady (Listed commands) = AreLeft commands
 IsReady (Typed prompt) = 65536 < length prompt.room.items
 
 -- what was begun has ended so, or something is left, and whatever end that has is an end of the whole

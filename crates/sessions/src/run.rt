@@ -1,5 +1,5 @@
 //! The run of a scenario, shared out as the command line says.
-ghost use Rattle.std.specs.Prelude.{◌≡◌, length, IfErr, IfOk};
+ghost use Rattle.std.specs.Prelude.{◌≡◌, ◌≢◌, false, length, IfErr, IfOk};
 ghost use Rattle.sessions.specs.Ended.{writes_after};
 ghost use Rattle.sessions.specs.Nodes.{HasGroups, LacksGroups};
 ghost use Rattle.sessions.specs.Output.{IsSharedOutput};
@@ -30,7 +30,9 @@ fn is_parted(partition: &Partition) -> bool {
 }
 
 /// Whether the calling thread alone runs the groups: there is one worker, or one group.
-pub(crate) fn is_alone(workers: usize, partition: &Partition) -> bool {
+pub(crate) fn is_alone(workers: usize, partition: &Partition) -> bool
+    ensures { result ≡ false → workers ≢ 1 }
+{
     workers == 1 || !is_parted(partition)
 }
 

@@ -45,6 +45,7 @@ pub(crate) fn open_run<G: Gate>(
     requires workers { (0 < workers) × (workers ≤ 64) }
     ensures start { IfOk result IsAtStart }
     ensures state { IfOk result (λ run. run.engine.net.state ≡ opening scenario.now) }
+    ensures shared { IfOk result (λ run. run.workers ≡ workers) }
 {
     let engine = Engine::new(means.alloc, scenario, partition)?;
     let progress = Progress::new(means.wishes.progress, scenario.parts().end);

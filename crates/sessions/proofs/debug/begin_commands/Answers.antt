@@ -1,4 +1,4 @@
-use Rattle.std.proofs.Common.{◌≡◌, ◌∙◌, Result, Err, refl, sym, subst, ap, rules}
+use Rattle.std.proofs.Common.{◌≡◌, ◌∙◌, Result, Err, refl, sym, subst, ap, rules, arith}
 use Rattle.debug_session.specs.Input.{text_lines, command_lines}
 use Rattle.sessions.specs.declared.fault.SessionFault.{SessionFault}
 use Rattle.sessions.specs.declared.rest.Rest.{Rest}
@@ -69,7 +69,10 @@ returns g c now =
     let input = c.args.input.items in
     let p = c.in_ok-scenario.scenario in
     let same : c.as_slice.result.now ≡ input = search rules in (
-      record { nodes = c.in_ok-partition.ensures.nodes; some = c.workers-workers.ensures.few.0; few = c.workers-workers.ensures.few.1 },
+      record {
+        ready = record { nodes = c.in_ok-partition.ensures.nodes; some = c.workers-workers.ensures.few.0; few = c.workers-workers.ensures.few.1 };
+        several = omega (arith, c.workers-workers.ensures.few.0, c.is_alone.ensures c.if-is_alone.false);
+      },
       λ ended after left.
           commands_end groups input c.split.result.0.now c.split.result.1.now p c.read_text.result before after (c.split.ensures.text ∙ ap text_lines same) (c.split.ensures.commands ∙ ap command_lines same) c.requires c.in_ok-scenario.was
           c.read_text.ensures c.in_ok-scenario.ensures.scenario c.in_ok-partition.ensures.named ended left,

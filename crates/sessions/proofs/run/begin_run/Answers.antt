@@ -1,4 +1,4 @@
-use Rattle.std.proofs.Common.{◌≡◌, List, ℕ, Option, Result, Err, sym, subst, rules}
+use Rattle.std.proofs.Common.{◌≡◌, List, ℕ, Option, Result, Err, sym, subst, rules, arith}
 use Rattle.table_run.specs.State.{State}
 use Rattle.sessions.specs.declared.fault.SessionFault.{SessionFault}
 use Rattle.sessions.specs.declared.fault.SessionFault.TheVariants.{NoMemory}
@@ -52,7 +52,7 @@ returns-then-workers-eq1-clause-failures g c =
 pub returns-else-workers-eq1-clause-output : goal.returns-else-workers-eq1-clause-output
 returns-else-workers-eq1-clause-output g c =
     let old = g.W.Sink.contents c.args.writer.now in (
-      c.in_ok-run.ensures.start,
+      record { start = c.in_ok-run.ensures.start; several = omega (arith, c.in_ok-run.ensures.shared, c.workers-workers.ensures.few.0, c.if-workers-eq1.false) },
       λ ended after wrote.
           ran_shared c.args.sharing.groups c.args.scenario.now ended old after c.in_ok-partition.ensures.named (subst (λ (s : State). Writes (IsRunOutput s ended) old after) c.in_ok-run.ensures.state wrote),
     )

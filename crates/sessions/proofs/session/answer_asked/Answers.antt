@@ -32,7 +32,7 @@ run_by_workers-ran-requires-clause-first g c κs within =
     let now = seen c.begin.new.reader c.begin.new.writer in
     let P : Ended → Streams → Type 0 = λ ended after. IsAskedOn c.args.asked (g.R.Source.remaining c.args.reader.now) (g.R.Source.bytes_of c.args.reader.now) ended before after in
     let left = subst (λ (rest : Rest). Begins P (Ok rest) now) c.in-Shared.is c.in_ok-rest.ensures in
-    left.0.first
+    left.0.start.first
 
 pub run_by_workers-ran-requires-clause-workers : goal.run_by_workers-ran-requires-clause-workers
 run_by_workers-ran-requires-clause-workers g c κs within =
@@ -41,7 +41,7 @@ run_by_workers-ran-requires-clause-workers g c κs within =
     let now = seen c.begin.new.reader c.begin.new.writer in
     let P : Ended → Streams → Type 0 = λ ended after. IsAskedOn c.args.asked (g.R.Source.remaining c.args.reader.now) (g.R.Source.bytes_of c.args.reader.now) ended before after in
     let left = subst (λ (rest : Rest). Begins P (Ok rest) now) c.in-Shared.is c.in_ok-rest.ensures in
-    (left.0.some, left.0.few)
+    (left.0.start.some, left.0.start.few)
 
 pub returns-in-Shared : goal.returns-in-Shared
 returns-in-Shared g c =
@@ -53,7 +53,7 @@ returns-in-Shared g c =
     let left = subst (λ (rest : Rest). Begins P (Ok rest) now) c.in-Shared.is c.in_ok-rest.ensures in
     let run = c.in-Shared.shared in
     let ran = c.run_by_workers-ran in
-    let has = has_run run.engine run.progress.end ran.result ran.new.engine now.written (g.W.Sink.contents ran.new.writer) left.0.first left.0.end_is ran.ensures.runs ran.ensures.stop ran.ensures.full ran.ensures.failed in
+    let has = has_run run.engine run.progress.end ran.result ran.new.engine now.written (g.W.Sink.contents ran.new.writer) left.0.start.first left.0.start.end_is ran.ensures.runs ran.ensures.stop ran.ensures.full ran.ensures.failed in
     left.1 c.end_run.result after
     (record { output = c.end_run.ensures.output run.engine.net.state now.written has; reads = refl; writes = c.end_run.ensures.failures now.write_failures ran.ensures.failures })
 
@@ -64,7 +64,7 @@ answer_commands-requires-clause-ready g c κs within =
     let now = seen c.begin.new.reader c.begin.new.writer in
     let P : Ended → Streams → Type 0 = λ ended after. IsAskedOn c.args.asked (g.R.Source.remaining c.args.reader.now) (g.R.Source.bytes_of c.args.reader.now) ended before after in
     let left = subst (λ (rest : Rest). Begins P (Ok rest) now) c.in-Listed.is c.in_ok-rest.ensures in
-    left.0
+    left.0.ready
 
 pub returns-in-Listed : goal.returns-in-Listed
 returns-in-Listed g c =
