@@ -9,6 +9,7 @@ ghost use Rattle.debugger.specs.Debugging.{opened, HasMoved};
 ghost use Rattle.debugger.specs.LastEvents.{IsLastEvent};
 ghost use Rattle.debugger.specs.Passed.{stretch_texts};
 ghost use Rattle.trace_text.specs.Dump.{dump_bytes};
+ghost use Rattle.trace_text.specs.DumpParts.{part_bytes};
 
 use crate::aim::Aim;
 use crate::breaks::{Break, BreakFault, Breaks};
@@ -28,7 +29,7 @@ use std::marker::Model;
 use std::mem;
 use std::sync::Wait;
 use std::thread::Threads;
-use trace_text::dump_text;
+use trace_text::{DumpPart, dump_text, part_text};
 use window_core::Partition;
 use window_engine::Gate;
 
@@ -241,6 +242,14 @@ impl Debugger {
         ensures err { OnErr result (out.new.items ≡ out.old.items) }
     {
         dump_text(&self.net, out)
+    }
+
+    /// Appends the lines of that dump that tell of a part of the state, or nothing.
+    pub fn part_text(&self, part: DumpPart, out: &mut Vec<u8>) -> Result<(), AllocError>
+        ensures ok { OnOk result (out.new.items ≡ out.old.items ++ part_bytes part self.now.shown) }
+        ensures err { OnErr result (out.new.items ≡ out.old.items) }
+    {
+        part_text(&self.net, part, out)
     }
 
     /// Whether no event is left behind the state that is shown.
