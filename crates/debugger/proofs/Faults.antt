@@ -18,7 +18,7 @@ step_alone steps.CountFull e = cc
 none_of_memory : NoMemory ≡ CountFull → ⊥
 none_of_memory e = cc
 
-memory_alone : NoMemory ≢ NoWorker
+pub memory_alone : NoMemory ≢ NoWorker
 memory_alone e = cc
 
 -- where a step's fault is answered: its count is the move's
@@ -28,6 +28,9 @@ full_of_step (Err e) fault is said = λ full. said (step_full fault (sym is.1 �
 
 pub full_from_step : {P : Type 0} (e : MoveFault) (fault : StepFault) → e ≡ of_step fault → (fault ≡ steps.CountFull → P) → e ≡ CountFull → P
 full_from_step e fault is said full = said (step_full fault (sym is ∙ full))
+
+pub alone_from_step : (e : MoveFault) (fault : StepFault) → e ≡ of_step fault → e ≢ NoWorker
+alone_from_step e fault is none = step_alone fault (sym is ∙ none)
 
 -- and no worker was asked for
 pub alone_of_step : {T : Type 0} (r : Result T MoveFault) (fault : StepFault) → IsErr r × IsErrAnd r (λ e. e ≡ of_step fault) → IfErr r (λ e. e ≢ NoWorker)
@@ -46,6 +49,9 @@ full_of_move (Err e) fault is said = λ full. said (sym is.1 ∙ full)
 pub full_of_memory : {T : Type 0} (r : Result T MoveFault) (P : Type 0) → IsErr r × IsErrAnd r (λ e. e ≡ NoMemory) → IfErr r (λ e. e ≡ CountFull → P)
 full_of_memory (Ok x) P is = tt
 full_of_memory (Err e) P is = λ full. absurd (none_of_memory (sym is.1 ∙ full))
+
+pub full_from_memory : {P : Type 0} → NoMemory ≡ CountFull → P
+full_from_memory full = absurd (none_of_memory full)
 
 pub alone_of_memory : {T : Type 0} (r : Result T MoveFault) → IsErr r × IsErrAnd r (λ e. e ≡ NoMemory) → IfErr r (λ e. e ≢ NoWorker)
 alone_of_memory (Ok x) is = tt

@@ -8,3 +8,4 @@ pub mod Alone
 pub mod TakenOut
 pub mod Between
 pub mod LastEvents
+mod Backward

@@ -2,6 +2,7 @@ pub mod Breaks
 pub mod Faults
 pub mod Moves
 pub mod Passed
+pub mod Backwards
 pub mod LastEvents
 pub mod Courses
 pub mod Aims

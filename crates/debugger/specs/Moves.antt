@@ -61,6 +61,15 @@ RunGoesTo start breaks m = IsLeast (λ p. ((m < p) × StopsAt start breaks p) �
 abbrev pub UntilGoesTo : State → ℕ → ℕ → ℕ → Type 0
 UntilGoesTo start time m = IsLeast (λ p. (m ≤ p) × NoneBefore start time p)
 
+-- the greatest number with a property
+pub record IsGreatest (P : ℕ → Type 0) (p : ℕ) : Type 0 where
+  pub holds : P p
+  pub greatest : (q : ℕ) → P q → q ≤ p
+
+-- `reverse` from m: to the greatest position before m whose line matches, or to 0 where there is none
+abbrev pub ReverseGoesTo : State → List Break → ℕ → ℕ → Type 0
+ReverseGoesTo start breaks m = IsGreatest (λ p. (p ≡ 0) ⊎ ((p < m) × StopsAt start breaks p))
+
 -- the run has more than 10^15 events
 pub record IsTooLong (start : State) : Type 0 where
   pub last : State

@@ -2,6 +2,7 @@
 #![tactic(auto)]
 
 mod aim;
+mod backwards;
 pub mod breaks;
 mod course;
 mod crew;

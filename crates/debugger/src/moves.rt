@@ -3,7 +3,7 @@ ghost use Rattle.std.specs.Prelude.{◌≡◌, ◌≢◌, ◌+◌, ◌-◌, ◌<
 ghost use Rattle.std.specs.List.{concat};
 ghost use Rattle.table_run.specs.State.{opening, due};
 ghost use Rattle.net_machine.specs.Run.{Reached};
-ghost use Rattle.debugger.specs.Moves.{Passes, HasPosition, StepGoesTo, RunGoesTo, UntilGoesTo, IsTooLong};
+ghost use Rattle.debugger.specs.Moves.{Passes, HasPosition, StepGoesTo, RunGoesTo, ReverseGoesTo, UntilGoesTo, IsTooLong};
 ghost use Rattle.debugger.specs.Breaks.{IsTakenOut};
 ghost use Rattle.debugger.specs.Debugging.{opened, HasMoved};
 ghost use Rattle.debugger.specs.LastEvents.{IsLastEvent};
@@ -12,6 +12,7 @@ ghost use Rattle.trace_text.specs.Dump.{dump_bytes};
 ghost use Rattle.trace_text.specs.DumpParts.{part_bytes};
 
 use crate::aim::Aim;
+use crate::backwards::net_before;
 use crate::breaks::{Break, BreakFault, Breaks};
 use crate::crew::Crew;
 use crate::fault::MoveFault;
@@ -145,6 +146,19 @@ impl Debugger {
     {
         let target = self.net.position().saturating_sub(count);
         let found = net_at(&self.net, target, &mut self.saved, &mut self.line);
+        self.show(found)
+    }
+
+    /// Back at the last position before the present one whose line a breakpoint matches, or at
+    /// position 0. Each event on the way is run again at most twice.
+    pub fn reverse(&mut self) -> Result<u64, MoveFault>
+        ensures moved { IfOk result (HasMoved self.old self.new) }
+        ensures goes { IfOk result (ReverseGoesTo self.old.start self.old.breaks self.old.shown.position) }
+        ensures full { IfErr result (λ fault. fault ≡ MoveFault.CountFull → IsTooLong self.old.start) }
+        ensures no_worker { IfErr result (λ fault. fault ≢ MoveFault.NoWorker) }
+        ensures err { OnErr result (self.new ≡ self.old) }
+    {
+        let found = net_before(&self.net, &self.breaks, &mut self.saved, &mut self.line);
         self.show(found)
     }
 

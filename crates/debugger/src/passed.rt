@@ -1,11 +1,11 @@
 //! Lines of the trace that a run has passed, told by running again.
-ghost use Rattle.std.specs.Prelude.{◌≡◌, ◌+◌, ◌-◌, ◌<◌, ◌≤◌, ◌⊎◌, ◌++◌, take, drop, length, vec_len, Some, IfOk, OnOk, OnErr};
+ghost use Rattle.std.specs.Prelude.{◌≡◌, ◌≢◌, ◌+◌, ◌-◌, ◌<◌, ◌≤◌, ◌⊎◌, ◌++◌, take, drop, length, vec_len, Some, IfOk, IfErr, OnOk, OnErr};
 ghost use Rattle.std.specs.List.{concat};
 ghost use Rattle.node_core.specs.TraceLine.{shown};
 ghost use Rattle.net_machine.specs.Run.{Stepped};
 ghost use Rattle.trace_text.specs.Line.{line_bytes};
 ghost use Rattle.debugger.specs.LastEvents.{IsLastEvent};
-ghost use Rattle.debugger.specs.Moves.{Passes, HasPosition, GivesAt};
+ghost use Rattle.debugger.specs.Moves.{Passes, HasPosition, GivesAt, IsTooLong};
 ghost use Rattle.debugger.specs.Passed.{beside, stretch_texts};
 
 use crate::breaks::{Breaks, Hit};
@@ -61,11 +61,13 @@ pub(crate) fn nearer<'a>(present: &'a Net, left: &'a Option<Net>, target: u64) -
 
 /// Runs the next event, which the run has, and saves the state after it where it is time to.
 #[tactic(none)]
-fn run_next(net: &mut Net, saved: &mut Saved, line: &mut Line) -> Result<(), MoveFault>
+pub(crate) fn run_next(net: &mut Net, saved: &mut Saved, line: &mut Line) -> Result<(), MoveFault>
     requires on_run { Passes saved.old net.old }
     requires next { HasPosition saved.old (net.old.position + 1) }
     ensures stepped { OnOk result (Stepped net.old (Some (shown line.new)) net.new) }
     ensures on_run { OnOk result (Passes saved.old net.new) }
+    ensures full { IfErr result (λ fault. fault ≡ MoveFault.CountFull → IsTooLong saved.old) }
+    ensures no_worker { IfErr result (λ fault. fault ≢ MoveFault.NoWorker) }
     ensures same { saved.new ≡ saved.old }
 {
     match run_one(net, saved, line) {

@@ -1,0 +1,74 @@
+use Rattle.std.proofs.Common.{◌≡◌, ◌≤◌, ◌+◌, ◌∙◌, Option, Some, ℕ, refl, sym, ap, subst, arith, true≢false}
+use Rattle.table_run.specs.State.{State}
+use Rattle.net_machine.specs.Run.{Reached}
+use Rattle.node_core.specs.TraceLine.{shown}
+use Rattle.debugger.specs.Backwards.{FindsLast}
+use Rattle.debugger.specs.Breaks.{IsHit}
+use Rattle.debugger.specs.Moves.{Passes, HasPosition, IsTooLong}
+use Rattle.debugger.proofs.Walks.{has_earlier}
+use Rattle.debugger.proofs.Backward.{nothing_yet, found_here, found_before}
+use Rattle.debugger.proofs.backwards.last_stop.Goals as goal
+use Rattle.debugger.proofs.backwards.last_stop.Goals.{then-hits, else-hits}
+
+pub overflow_sub-count : goal.overflow_sub-count
+overflow_sub-count c = omega (arith, c.requires.below, c.position.ensures.count)
+
+pub loop-passed-init : goal.loop-passed-init
+loop-passed-init c = record {
+  same = refl;
+  on_run = c.requires.on_run;
+  position = omega arith;
+  last = nothing_yet c.args.saved.now c.args.breaks.now c.args.net.now.position;
+}
+
+pub run_next-requires-clause-on_run : goal.run_next-requires-clause-on_run
+run_next-requires-clause-on_run c = subst (λ (s : State). Passes s c.loop-passed.net) (sym c.loop-passed.invariant.same) c.loop-passed.invariant.on_run
+
+pub run_next-requires-clause-next : goal.run_next-requires-clause-next
+run_next-requires-clause-next c =
+    let far = c.requires.position in
+    let upto : c.loop-passed.net.position + 1 ≤ c.args.upto = omega (arith, c.loop-passed.invariant.position, c.loop-passed-test.true, c.position.ensures.count, c.requires.below) in
+    subst (λ (s : State). HasPosition s (c.loop-passed.net.position + 1)) (sym c.loop-passed.invariant.same)
+    (has_earlier c.args.saved.now (record { state = far.0; position = c.args.upto }) (c.loop-passed.net.position + 1) far.1 upto)
+
+pub returns-in-Err-clause-full : goal.returns-in-Err-clause-full
+returns-in-Err-clause-full c = λ e. subst IsTooLong c.loop-passed.invariant.same (c.in-Err.ensures.full e)
+
+pub returns-in-Err-clause-no_worker : goal.returns-in-Err-clause-no_worker
+returns-in-Err-clause-no_worker c = c.in-Err.ensures.no_worker
+
+pub returns-in-Err-clause-same : goal.returns-in-Err-clause-same
+returns-in-Err-clause-same c = c.run_next.ensures.same ∙ c.loop-passed.invariant.same
+
+pub loop-passed-preserved : goal.loop-passed-preserved
+loop-passed-preserved c =
+    let start = c.args.saved.now in
+    let breaks = c.args.breaks.now in
+    let from = c.args.net.now.position in
+    let old = c.loop-passed.net in
+    let new = c.run_next.new.net in
+    let line = shown c.run_next.new.line in
+    let i = c.loop-passed.invariant in
+    let stepped = c.in-Ok.ensures.stepped in
+    let below : from ≤ old.position = omega (arith, i.position) in
+    record {
+      same = c.run_next.ensures.same ∙ i.same;
+      on_run = subst (λ (s : State). Passes s new) i.same c.in-Ok.ensures.on_run;
+      position = omega (arith, stepped.1, i.position);
+      last = elim c.if-hits.branch [
+        | then-hits w ↦ (
+            let is : c.if-hits.found ≡ Some new.position = w.found-is ∙ ap (λ (p : ℕ). Some p) w.position-then-hits.ensures.count in
+            subst (FindsLast start breaks from new.position) (sym is) (found_here start breaks from old new line i.on_run stepped below (c.hits.ensures.0 w.if-hits.true)))
+        | else-hits w ↦
+            subst (FindsLast start breaks from new.position) (sym w.found-is)
+            (found_before start breaks from old new line i.on_run stepped c.loop-passed.found i.last (λ hit. true≢false (sym (c.hits.ensures.1 hit) ∙ w.if-hits.false)))
+      ];
+    }
+
+pub returns-clause-ok : goal.returns-clause-ok
+returns-clause-ok c =
+    let here : c.loop-passed.net.position ≡ c.args.upto = omega (arith, c.loop-passed.invariant.position, c.loop-passed-test.false, c.loop-passed.auto.passed-end, c.position.ensures.count, c.requires.below) in
+    subst (λ p. FindsLast c.args.saved.now c.args.breaks.now c.args.net.now.position p c.loop-passed.found) here c.loop-passed.invariant.last
+
+pub returns-clause-same : goal.returns-clause-same
+returns-clause-same c = c.loop-passed.invariant.same

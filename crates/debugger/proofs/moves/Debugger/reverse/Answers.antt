@@ -1,0 +1,48 @@
+use Rattle.std.proofs.Common.{◌≡◌, ◌≢◌, sym, subst, ◌∙◌, IfOk, IfErr, OnErr, length}
+use Rattle.table_run.specs.State.{State}
+use Rattle.debugger.specs.declared.fault.MoveFault.{MoveFault}
+use Rattle.debugger.specs.declared.fault.MoveFault.TheVariants.{CountFull, NoWorker}
+use Rattle.debugger.specs.Moves.{Passes, ReverseGoesTo, IsTooLong}
+use Rattle.debugger.specs.Debugging.{Debugging, HasMoved}
+use Rattle.debugger.specs.DebuggerOf.{IsDebugger}
+use Rattle.debugger.proofs.Shown.{ok_shown, err_shown}
+use Rattle.debugger.proofs.moves.Debugger.reverse.Goals as goal
+
+pub net_before-found-requires : goal.net_before-found-requires
+net_before-found-requires c = c.self.invariant.moves.shown
+
+pub invariant_of-self : goal.invariant_of-self
+invariant_of-self c =
+    let same = c.net_before-found.ensures.same in
+    record {
+      moves = subst (λ (s : State). IsDebugger (record { start = s; shown = c.self.inside.net; left = c.self.inside.left; breaks = c.self.inside.breaks })) (sym same) c.self.invariant.moves;
+      nodes = subst (λ (s : State). length c.self.inside.crew.partition ≡ length s.parts) (sym same) c.self.invariant.nodes;
+    }
+
+pub show-requires : goal.show-requires
+show-requires c = subst (λ (s : State). IfOk c.net_before-found.result (Passes s)) (sym c.net_before-found.ensures.same) c.net_before-found.ensures.on_run
+
+pub returns-clause-moved : goal.returns-clause-moved
+returns-clause-moved c =
+    let same = c.net_before-found.ensures.same in
+    let kept : ◌≡◌ {A = Debugging} (record { start = c.net_before-found.new.saved; shown = c.self.inside.net; left = c.self.inside.left; breaks = c.self.inside.breaks }) c.args.self.now = (λ i. record { start = same i; shown = c.self.inside.net; left = c.self.inside.left; breaks = c.self.inside.breaks }) ∙ c.self.view_is in
+    subst (λ (d : Debugging). IfOk c.show.result (HasMoved d c.show.new.self)) kept c.show.ensures.moved
+
+pub returns-clause-goes : goal.returns-clause-goes
+returns-clause-goes c =
+    let here = ok_shown (ReverseGoesTo c.self.inside.saved c.self.inside.breaks c.self.inside.net.position) c.net_before-found.result c.show.result c.show.ensures.answer c.net_before-found.ensures.goes in
+    subst (λ (d : Debugging). IfOk c.show.result (ReverseGoesTo d.start d.breaks d.shown.position)) c.self.view_is here
+
+pub returns-clause-full : goal.returns-clause-full
+returns-clause-full c =
+    let here = err_shown (λ (fault : MoveFault). fault ≡ CountFull → IsTooLong c.self.inside.saved) c.net_before-found.result c.show.result c.show.ensures.answer c.net_before-found.ensures.full in
+    subst (λ (d : Debugging). IfErr c.show.result (λ (fault : MoveFault). fault ≡ CountFull → IsTooLong d.start)) c.self.view_is here
+
+pub returns-clause-no_worker : goal.returns-clause-no_worker
+returns-clause-no_worker c = err_shown (λ (fault : MoveFault). fault ≢ NoWorker) c.net_before-found.result c.show.result c.show.ensures.answer c.net_before-found.ensures.no_worker
+
+pub returns-clause-err : goal.returns-clause-err
+returns-clause-err c =
+    let same = c.net_before-found.ensures.same in
+    let kept : ◌≡◌ {A = Debugging} (record { start = c.net_before-found.new.saved; shown = c.self.inside.net; left = c.self.inside.left; breaks = c.self.inside.breaks }) c.args.self.now = (λ i. record { start = same i; shown = c.self.inside.net; left = c.self.inside.left; breaks = c.self.inside.breaks }) ∙ c.self.view_is in
+    subst (λ (d : Debugging). OnErr c.show.result (c.show.new.self ≡ d)) kept c.show.ensures.err

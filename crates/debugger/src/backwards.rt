@@ -1,0 +1,135 @@
+//! Back to the last line before a position that a breakpoint matches.
+ghost use Rattle.std.specs.Prelude.{◌≡◌, ◌≢◌, ◌+◌, ◌<◌, ◌≤◌, IfOk, IfErr};
+ghost use Rattle.debugger.specs.Backwards.{FindsLast, IsSearched};
+ghost use Rattle.debugger.specs.Moves.{Passes, HasPosition, ReverseGoesTo, IsTooLong};
+
+use crate::breaks::Breaks;
+use crate::fault::MoveFault;
+use crate::passed::run_next;
+use crate::reached::net_at;
+use crate::saved::Saved;
+use net_machine::Net;
+use node_core::Line;
+
+/// What was found in a stretch of the run that was run again.
+#[derive(Drop)]
+struct Searched {
+    /// The position before its first line.
+    from: u64,
+    /// The last position in it whose line a breakpoint matches.
+    found: Option<u64>,
+}
+
+/// Runs events up to a position, and answers the last position on the way whose line a breakpoint
+/// matches.
+#[tactic(none)]
+fn last_stop(
+    net: &mut Net,
+    upto: u64,
+    breaks: &Breaks,
+    saved: &mut Saved,
+    line: &mut Line,
+) -> Result<Option<u64>, MoveFault>
+    requires on_run { Passes saved.old net.old }
+    requires below { net.old.position ≤ upto }
+    requires position { HasPosition saved.old upto }
+    ensures ok { IfOk result (λ found. FindsLast saved.old breaks.now net.old.position upto found) }
+    ensures full { IfErr result (λ fault. fault ≡ MoveFault.CountFull → IsTooLong saved.old) }
+    ensures no_worker { IfErr result (λ fault. fault ≢ MoveFault.NoWorker) }
+    ensures same { saved.new ≡ saved.old }
+{
+    let mut found = None;
+    let count = upto - net.position();
+    for passed in 0..count {
+        match run_next(net, saved, line) {
+            Ok(()) => {}
+            Err(fault) => return Err(fault),
+        }
+        if breaks.hits(line) {
+            found = Some(net.position());
+        }
+    }
+    Ok(found)
+}
+
+/// The same over the stretch up to a position that begins at the nearest saved state before it.
+#[tactic(none)]
+fn search_before(
+    present: &Net,
+    upto: u64,
+    breaks: &Breaks,
+    saved: &mut Saved,
+    line: &mut Line,
+) -> Result<Searched, MoveFault>
+    requires on_run { Passes saved.old present.now }
+    requires some { 0 < upto }
+    requires position { HasPosition saved.old upto }
+    ensures ok { IfOk result (λ s. IsSearched saved.old breaks.now s.from upto s.found) }
+    ensures full { IfErr result (λ fault. fault ≡ MoveFault.CountFull → IsTooLong saved.old) }
+    ensures no_worker { IfErr result (λ fault. fault ≢ MoveFault.NoWorker) }
+    ensures same { saved.new ≡ saved.old }
+{
+    match saved.nearest(upto - 1, present) {
+        Ok(net) => {
+            let mut net = net;
+            let from = net.position();
+            match last_stop(&mut net, upto, breaks, saved, line) {
+                Ok(found) => Ok(Searched { from, found }),
+                Err(fault) => Err(fault),
+            }
+        }
+        Err(_) => Err(MoveFault::NoMemory),
+    }
+}
+
+/// The last position up to one whose line a breakpoint matches, or 0. From saved state to saved state
+/// backwards, so that each event is run again once at most.
+#[tactic(none)]
+fn stop_upto(
+    present: &Net,
+    upto: u64,
+    breaks: &Breaks,
+    saved: &mut Saved,
+    line: &mut Line,
+) -> Result<u64, MoveFault>
+    requires on_run { Passes saved.old present.now }
+    requires position { HasPosition saved.old upto }
+    ensures goes { IfOk result (ReverseGoesTo saved.old breaks.now (upto + 1)) }
+    ensures full { IfErr result (λ fault. fault ≡ MoveFault.CountFull → IsTooLong saved.old) }
+    ensures no_worker { IfErr result (λ fault. fault ≢ MoveFault.NoWorker) }
+    ensures same { saved.new ≡ saved.old }
+{
+    let mut last = upto;
+    while last > 0 {
+        match search_before(present, last, breaks, saved, line) {
+            Ok(searched) => match searched.found {
+                Some(position) => return Ok(position),
+                None => last = searched.from,
+            },
+            Err(fault) => return Err(fault),
+        }
+    }
+    Ok(0)
+}
+
+/// The net at the last position before the present one whose line a breakpoint matches, or at 0.
+#[tactic(none)]
+pub(crate) fn net_before(
+    present: &Net,
+    breaks: &Breaks,
+    saved: &mut Saved,
+    line: &mut Line,
+) -> Result<Net, MoveFault>
+    requires { Passes saved.old present.now }
+    ensures on_run { IfOk result (Passes saved.old) }
+    ensures goes { IfOk result (λ net. ReverseGoesTo saved.old breaks.now present.now.position net.position) }
+    ensures full { IfErr result (λ fault. fault ≡ MoveFault.CountFull → IsTooLong saved.old) }
+    ensures no_worker { IfErr result (λ fault. fault ≢ MoveFault.NoWorker) }
+    ensures same { saved.new ≡ saved.old }
+{
+    let before = present.position().saturating_sub(1);
+    match stop_upto(present, before, breaks, saved, line) {
+        Ok(target) => net_at(present, target, saved, line),
+        Err(fault) => Err(fault),
+    }
+}
