@@ -182,6 +182,7 @@ impl Net {
 
     /// Runs the event of the least key below the end, where there is one, and tells of it in
     /// `line`. The answer is whether there was one; `line` counts only then.
+    #[inline(always)]
     pub fn step_into(&mut self, line: &mut Line) -> Result<bool, StepFault>
         ensures ok { IfOk result (λ fired. Stepped self.old (if fired then Some (shown line.new) else None) self.new) }
         ensures full { IfErr result (λ fault. fault ≡ StepFault.CountFull → (due self.old.state ≢ None) × (self.old.position ≡ 1000000000000000)) }
