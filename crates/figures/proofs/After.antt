@@ -1,11 +1,13 @@
 -- The figures of a run, one event on.
-use Rattle.std.proofs.Common.{◌≡◌, ◌≢◌, ℕ, ◌<◌, ◌≤◌, cond, List, [], ◌∷◌, ◌++◌, length, get_or, set, refl, sym, ap, subst, ◌∙◌, Option, Some, None, arith, ⊎_elim, ◌⊎◌, inl, inr, eq-eqb}
+use Rattle.std.proofs.Common.{◌≡◌, ◌≢◌, ℕ, ◌<◌, ◌≤◌, cond, List, [], ◌∷◌, ◌++◌, length, get_or, set, refl, sym, ap, subst, ◌∙◌, Option, Some, None, arith, ⊎_elim, ◌⊎◌, inl, inr, eq-eqb, true, true≢false}
 use Rattle.std.specs.Prelude.{IfSome, option_to_list}
 use Rattle.std.specs.Option.{option_map}
 use Rattle.std.proofs.lemmas.Bool.{cases_eq, cases_lt}
 use Rattle.std.proofs.lemmas.List.{append-nil, get_or-set_same, get_or-set_other, length-set}
 use Rattle.ranking.proofs.Maps.{not_some, same_some}
 use Rattle.node_core.specs.Part.{sender_in}
+use Rattle.node_core.specs.declared.event.Event.{Event}
+use Rattle.node_core.specs.declared.event.Event.TheVariants.{Start, Rto, DelAck, Free, Arrive}
 use Rattle.node_core.specs.TraceLine.{TraceLine}
 use Rattle.table_run.specs.State.{State, part_at, step}
 use Rattle.reno_sender.specs.declared.fields.SenderFields.{SenderFields}
@@ -14,6 +16,7 @@ use Rattle.figures.specs.declared.sender.SenderFigures.{SenderFigures}
 use Rattle.figures.specs.declared.figures.Figures.{Figures}
 use Rattle.figures.specs.Turns.{Turn, Keeps, HasActedFrom, planned_by}
 use Rattle.figures.specs.Senders.{AreOfTurns}
+use Rattle.figures.specs.Links.{is_free}
 use Rattle.figures.specs.Moments.{Moment, cause_of, turn_by, turn_at, turns_at}
 use Rattle.figures.specs.Figures.{IsOfNode, AreAfter}
 use Rattle.node_core.specs.Part.{PartState}
@@ -58,6 +61,14 @@ acted (Some found) new cause now g follows here =
       is = follows ∙ ap (λ (f : SenderFields). Some (found.0, f)) same;
       planned = sym same;
     }
+
+-- no sender acts where a link has sent a packet whole
+pub none_where_free : (v : Event) → is_free v ≡ true → cause_of v ≡ None
+none_where_free (Start flow) free = absurd (true≢false (sym free))
+none_where_free (Rto flow) free = absurd (true≢false (sym free))
+none_where_free (DelAck flow) free = refl
+none_where_free (Free link) free = refl
+none_where_free (Arrive packet) free = absurd (true≢false (sym free))
 
 -- what is told of a node's sender is told of the state's
 pub told : (nodes : List NodeState) (t : State) (place node : ℕ) (o : Option SenderFields) → parts_of nodes ≡ t.parts → place ≡ node →

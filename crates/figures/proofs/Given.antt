@@ -8,8 +8,6 @@ use Rattle.aqm.specs.declared.queue.Queue.{Queue}
 use Rattle.aqm.specs.Queue.{taken_from, waiting_in}
 use Rattle.aqm.specs.Laws.{listed}
 use Rattle.aqm.proofs.Front.{takes_the_front, gives_what_waits, none_of_none}
-use Rattle.port.specs.Port.{PortState}
-use Rattle.figures.specs.Links.{wait_of_given}
 
 abbrev steps : List Stamped → Option Stamped → List Stamped → Type 0
 steps = YieldsFirst {A = Stamped} (λ rest. rest)
@@ -38,8 +36,8 @@ pub given_is : (q : Queue) (now : ℕ) → (taken_from q now).given ≡ slice_ge
 given_is q now = let t = taken_from q now in given_by t.dropped t.given (waiting_in t.queue) (waiting_in q) (takes_the_front q now) (gives_what_waits q now).0
 
 -- its wait is told by the entry that a walk gives
-pub wait_is : (port : PortState) (now drops : ℕ) (all : List Stamped) (r : Option Stamped) (u : List Stamped) → all ≡ waiting_in port.queue → drops ≡ length (taken_from port.queue now).dropped → SkipsThenYields steps all drops r u →
-    option_map {U = ℕ} (λ (cell : Stamped). now - cell.1) r ≡ wait_of_given now port
-wait_is port now drops all r u all_are drops_are ran =
+pub wait_is : (q : Queue) (now drops : ℕ) (all : List Stamped) (r : Option Stamped) (u : List Stamped) → all ≡ waiting_in q → drops ≡ length (taken_from q now).dropped → SkipsThenYields steps all drops r u →
+    option_map {U = ℕ} (λ (cell : Stamped). now - cell.1) r ≡ option_map {U = ℕ} (λ (cell : Stamped). now - cell.1) (taken_from q now).given
+wait_is q now drops all r u all_are drops_are ran =
     ap (option_map {U = ℕ} (λ (cell : Stamped). now - cell.1))
-    (nth_is all drops r u ran ∙ ap (λ xs. slice_get xs drops) all_are ∙ ap (slice_get (waiting_in port.queue)) drops_are ∙ sym (given_is port.queue now))
+    (nth_is all drops r u ran ∙ ap (λ xs. slice_get xs drops) all_are ∙ ap (slice_get (waiting_in q)) drops_are ∙ sym (given_is q now))

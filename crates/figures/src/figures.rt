@@ -3,20 +3,20 @@ ghost use Rattle.std.specs.Prelude.{◌≡◌, ◌≢◌, ◌+◌, ◌<◌, ◌�
 ghost use Rattle.std.specs.Option.{option_map};
 ghost use Rattle.node_core.specs.Part.{sender_in};
 ghost use Rattle.net_machine.specs.Nodes.{node_at};
-ghost use Rattle.figures.specs.Moments.{cause_of as cause_is};
+ghost use Rattle.figures.specs.Moments.{cause_of as cause_is, arrived};
 ghost use Rattle.figures.specs.Senders.{IsBegun};
 ghost use Rattle.figures.specs.declared.sender.SenderFigures.{SenderFigures};
 ghost use Rattle.figures.specs.declared.links.NodeLinks.{NodeLinks};
 ghost use Rattle.figures.specs.Links.{AreLinksBegun};
 
-use crate::links::{NodeLinks, count_links};
+use crate::links::{NodeLinks, count_links, is_free};
 use crate::sender::SenderFigures;
 use crate::turn::Cause;
 use crate::waits::next_wait;
 use net_machine::net::MOST_EVENTS;
 use net_machine::{Net, StepFault};
 use node_core::{Event, Line, Node};
-use packet_chain::Kind;
+use packet_chain::{Kind, Packet};
 use reno_sender::{Iw, Sender, Variant};
 use sim_time::Time;
 use std::alloc::{AllocError, Global};
@@ -35,18 +35,40 @@ pub struct Figures {
     ghost parts: { (node : ℕ) (counted : SenderFigures) → node < length senders.items → (slice_index_or senders.items node counted).turns ≤ events },
 }
 
-// Why a sender acts at an event that is due at its node, if it does.
-fn cause_of(event: &Event) -> Option<Cause>
+// Why a sender acts where a packet arrives at its node, if it does.
+#[inline(always)]
+fn cause_of_arrival(packet: &Packet) -> Option<Cause>
+    ensures { result ≡ arrived packet.now.kind packet.now.number }
+{
+    match packet.kind {
+        Kind::Ack => Some(Cause::Acknowledged(packet.number)),
+        Kind::Data => None,
+    }
+}
+
+// The same at any event.
+#[cold]
+#[inline(never)]
+fn cause_of_any(event: &Event) -> Option<Cause>
     ensures { result ≡ cause_is event.now }
 {
     match event {
         Event::Start(_) => Some(Cause::Starts),
         Event::Rto(_) => Some(Cause::TimesOut),
-        Event::Arrive(packet) => match packet.kind {
-            Kind::Ack => Some(Cause::Acknowledged(packet.number)),
-            Kind::Data => None,
-        },
+        Event::Arrive(packet) => cause_of_arrival(packet),
         Event::DelAck(_) | Event::Free(_) => None,
+    }
+}
+
+// Why a sender acts at an event that is due at its node, if it does. Nearly all of them are arrivals, which are
+// told apart with no table of jumps.
+#[inline(always)]
+fn cause_of(event: &Event) -> Option<Cause>
+    ensures { result ≡ cause_is event.now }
+{
+    match event {
+        Event::Arrive(packet) => cause_of_arrival(packet),
+        _ => cause_of_any(event),
     }
 }
 
@@ -143,10 +165,16 @@ impl Figures {
     {
         self.events += 1;
         self.last = line.key.time;
-        count_links(&mut self.links, net.nodes(), line, given);
+        // Asked before the links are counted, so that the event is not read again.
+        let freed = is_free(&line.event);
+        let nodes = net.nodes();
+        count_links(&mut self.links, nodes, line, given);
+        if freed {
+            return;
+        }
         if let Some(cause) = cause_of(&line.event) {
             let place = usize::from(line.key.node);
-            if let Some(sender) = sender_at(net.nodes(), place) {
+            if let Some(sender) = sender_at(nodes, place) {
                 let counted = &mut self.senders[place];
                 counted.turn(sender, cause, line.key.time);
             }

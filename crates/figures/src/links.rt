@@ -35,8 +35,8 @@ fn links_begun(alloc: Global, links: &[Link]) -> Result<Vec<LinkFigures>, AllocE
     Ok(all)
 }
 
-// Whether an event is that some link has sent a packet whole.
-fn is_free(event: &Event) -> bool
+/// Whether an event is that some link has sent a packet whole.
+pub(crate) fn is_free(event: &Event) -> bool
     ensures { result ≡ free_is event.now }
 {
     match event {

@@ -68,12 +68,22 @@ fn recovers(new: &SenderFields, cause: Cause) -> bool
     }
 }
 
-// What is sent again in recovery, and otherwise.
-fn apart(again: u64, in_recovery: bool) -> (u64, u64)
-    ensures first { result.0 ≡ (if in_recovery then again else 0) }
-    ensures second { result.1 ≡ (if in_recovery then 0 else again) }
+// What is sent again, in recovery or otherwise. That is seldom anything.
+#[inline(always)]
+fn note_again(recovery: &mut u128, otherwise: &mut u128, again: u64, recovers: bool)
+    requires recovery { recovery.old < 2 ^ 126 }
+    requires otherwise { otherwise.old < 2 ^ 126 }
+    ensures recovery { recovery.new ≡ recovery.old + (if recovers then again else 0) }
+    ensures otherwise { otherwise.new ≡ otherwise.old + (if recovers then 0 else again) }
 {
-    if in_recovery { (again, 0) } else { (0, again) }
+    if again == 0 {
+        return;
+    }
+    if recovers {
+        *recovery += u128::from(again);
+    } else {
+        *otherwise += u128::from(again);
+    }
 }
 
 // One where a sender acts as its timer ends, else none.
@@ -130,7 +140,7 @@ impl SenderFigures {
     }
 
     /// The sender has acted, and keeps `new` from then on.
-    #[inline(never)]
+    #[inline(always)]
     pub fn turn(&mut self, new: &Sender, cause: Cause, now: Time)
         requires few { self.old.turns < 2 ^ 60 }
         requires moment { IsMoment now }
@@ -176,9 +186,12 @@ impl SenderFigures {
         self.turns += 1;
         self.trips.note_some(trip);
         self.sent += u128::from(sent.segments);
-        let (in_recovery, otherwise) = apart(sent.again, recovers(fields, cause));
-        self.again_in_recovery += u128::from(in_recovery);
-        self.again_otherwise += u128::from(otherwise);
+        note_again(
+            &mut self.again_in_recovery,
+            &mut self.again_otherwise,
+            sent.again,
+            recovers(fields, cause),
+        );
         self.timeouts += timeouts_in(cause);
         note_complete(&mut self.completed, is_complete(fields), now);
         self.kept = kept_of(fields);

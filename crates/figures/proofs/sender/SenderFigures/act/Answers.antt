@@ -28,8 +28,8 @@ returns-clause-figures c = λ ts f kept planned is.
     c.sent_by-sent.ensures.again ∙ ap (λ n. count_by (λ x. nat_lt x n) (sent_as was fields c.args.cause)) (ap (λ (k : Kept). k.high) before) ∙ ap (count_by (λ x. nat_lt x f.high)) sent in
     turn_more ts c.args.self.now _ t is
     (ap (λ n. c.args.self.now.sent + n) (c.from.ensures ∙ c.sent_by-sent.ensures.segments ∙ ap length sent))
-    (ap (λ n. c.args.self.now.again_in_recovery + n) (c.from-2.ensures ∙ c.apart-in_recovery.ensures.first ∙ ap (λ b. cond b c.sent_by-sent.result.again 0) recovering ∙ ap (λ n. cond (in_recovery t) n 0) again))
-    (ap (λ n. c.args.self.now.again_otherwise + n) (c.from-3.ensures ∙ c.apart-in_recovery.ensures.second ∙ ap (λ b. cond b 0 c.sent_by-sent.result.again) recovering ∙ ap (cond (in_recovery t) 0) again))
+    (c.note_again.ensures.recovery ∙ ap (λ n. c.args.self.now.again_in_recovery + n) (ap (λ b. cond b c.sent_by-sent.result.again 0) recovering ∙ ap (λ n. cond (in_recovery t) n 0) again))
+    (c.note_again.ensures.otherwise ∙ ap (λ n. c.args.self.now.again_otherwise + n) (ap (λ b. cond b 0 c.sent_by-sent.result.again) recovering ∙ ap (cond (in_recovery t) 0) again))
     (ap (λ n. c.args.self.now.timeouts + n) c.timeouts_in.ensures.value)
     (c.note_complete.ensures ∙ ap (λ b. option_or c.args.self.now.completed (cond b (Some c.args.now) None)) (c.is_complete.ensures ∙ ap is_complete after))
     (subst (λ o. IsTallyOf (trips_of ts ++ option_to_list o) c.note_some.new.self) (c.sample_by-trip.ensures.value ∙ ap (λ (k : Kept). sample_by k.timing c.args.cause c.args.now) before) (c.note_some.ensures.tally (trips_of ts) is.trips))
