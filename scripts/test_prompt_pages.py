@@ -26,7 +26,7 @@ def read(*path):
 
 
 def session():
-    return prompt.Prompt(scenario_in(read(TWO)), last_step())
+    return prompt.Prompt(scenario_in(read(TWO)), prompt.BUILT)
 
 
 def refusal(line):
@@ -64,7 +64,7 @@ class Pages(unittest.TestCase):
                 found.append(name.encode())
                 short = [name[:size] for size in range(1, len(name))]
                 self.assertEqual(words(also), [it for it in short if at_prompt.name_of(it.encode()) == name.encode()])
-        self.assertEqual(found, [name for name, step in prompt.NAMES.items() if step <= last_step()])
+        self.assertEqual(found, [name for name, step in prompt.NAMES.items() if step <= prompt.BUILT])
 
     def test_times(self):
         rows = tables()['Time']
@@ -78,12 +78,6 @@ class Pages(unittest.TestCase):
             code = words(noted)[0].removeprefix('refused ')
             for line in words(examples) if 'after' not in examples else ():
                 self.assertEqual(refusal(line), code, line)
-
-
-def last_step():
-    """The last step of the grammar that the page has."""
-    found = {words(row[0])[0].encode() for row in tables()['Name'] if words(row[0])}
-    return max(prompt.NAMES[name] for name in found)
 
 
 def main():

@@ -22,7 +22,7 @@ from text import NUMBER
 
 STEPS = 8
 # How many of them the program has.
-BUILT = 3
+BUILT = 4
 PROMPT = '(tcpsim) '
 MOST_LINE = 65_536      # bytes
 MOST_SHOWN = 10         # lines that a move passed
@@ -40,7 +40,7 @@ HELP = {
     b'run': ('run', 'run until a breakpoint matches, or to the end', 'run'),
     b'reverse': ('reverse', 'go back until a breakpoint matches, or to the beginning', 'reverse'),
     b'until': ('until T', 'run all events before the moment T, as 1.5s, 20ms or 10000ns', 'until 20ms'),
-    b'state': ('state', 'show the state', 'state'),
+    b'state': ('state [PART]', 'show all of the state, or of it: node N, link L or flow F', 'state flow 0'),
     b'break': ('break COND', 'stop where COND matches: node N, flow F, kind K, drop', 'break kind rto'),
     b'breaks': ('breaks', 'list the breakpoints', 'breaks'),
     b'delete': ('delete I', 'take breakpoint I away', 'delete 1'),

@@ -967,7 +967,7 @@ class Prompts(Case):
             'back [K]     take the last K events back (1)',
             'run          run until a breakpoint matches, or to the end',
             'until T      run all events before the moment T, as 1.5s, 20ms or 10000ns',
-            'state        show the state',
+            'state [PART] show all of the state, or of it: node N, link L or flow F',
             'break COND   stop where COND matches: node N, flow F, kind K, drop',
             'breaks       list the breakpoints',
             'delete I     take breakpoint I away',

@@ -1,13 +1,15 @@
--- What a session at a prompt answers where a breakpoint is set, or deleted.
+-- What a session at a prompt answers where a breakpoint is set, or deleted, and where nothing but a text is asked for.
 use Rattle.std.proofs.Common.{◌≡◌, ◌<◌, ◌≤◌, ◌+◌, ◌⊎◌, ◌++◌, ◌∷◌, ◌∙◌, [], ℕ, List, length, inl, inr, ⊎_elim, refl, ap, subst, arith, length-append}
 use Rattle.std.proofs.lemmas.Bool.{cases_lt}
 use Rattle.std.specs.List.{Contains}
 use Rattle.table_run.specs.State.{State as NetState}
+use Rattle.trace_text.specs.declared.dump.DumpPart.{DumpPart}
+use Rattle.trace_text.specs.DumpParts.{part_bytes}
 use Rattle.debugger.specs.declared.breaks.Break.{Break}
 use Rattle.debugger.specs.Breaks.{IsTakenOut}
 use Rattle.debugger.specs.Debugging.{Debugging}
 use Rattle.debug_session.specs.declared.command.Command.TheVariants.{State, SetBreak, Clear}
-use Rattle.debug_session.specs.declared.command.Typed.TheVariants.{Plain, Breaks, Delete, Help, HelpOn}
+use Rattle.debug_session.specs.declared.command.Typed.TheVariants.{Plain, Part, Breaks, Delete, Help, HelpOn}
 use Rattle.debug_session.specs.declared.name.Name.{Name}
 use Rattle.debug_session.specs.declared.refusal.Refusal.TheVariants.{B4, B5, M}
 use Rattle.debug_session.specs.Answers.{Standing, standing, Obeys, refusal_line}
@@ -65,6 +67,10 @@ help_told d out told = ⊎_elim (λ (t : out ≡ help_text). inl (record { same 
 
 pub help_on_told : (d : Debugging) (name : Name) (out : List ℕ) → (out ≡ help_on name) ⊎ (out ≡ refusal_line M) → ObeysTyped d.start (HelpOn name) (standing d) (standing d) out
 help_on_told d name out told = ⊎_elim (λ (t : out ≡ help_on name). inl (record { same = refl; told = t })) (λ (t : out ≡ refusal_line M). inr (tt, record { same = refl; told = t })) told
+
+-- what is told of a part of the state
+pub part_told : (d : Debugging) (part : DumpPart) (out : List ℕ) → (out ≡ part_bytes part d.shown) ⊎ (out ≡ refusal_line M) → ObeysTyped d.start (Part part) (standing d) (standing d) out
+part_told d part out told = ⊎_elim (λ (t : out ≡ part_bytes part d.shown). inl (record { same = refl; told = t })) (λ (t : out ≡ refusal_line M). inr (tt, record { same = refl; told = t })) told
 
 -- what is told of the breakpoints
 pub breaks_told : (d : Debugging) (breaks : List Break) (out : List ℕ) → breaks ≡ d.breaks → out ≡ listing breaks → ObeysTyped d.start Breaks (standing d) (standing d) out

@@ -29,7 +29,7 @@ abbrev pub OutputStart : Limits → State → List (List ℕ) → Standing → L
 OutputStart limits start lines old out = (count : ℕ) × Output limits start (take count lines) old out
 
 abbrev pub limits_of : ScenarioParts → Limits
-limits_of p = record { nodes = length p.nodes; flows = length p.flows }
+limits_of p = record { nodes = length p.nodes; links = length p.links; flows = length p.flows }
 
 -- a text of the input's text lines means this scenario
 abbrev pub HasScenario : List ℕ → ScenarioParts → Type 0

@@ -1,13 +1,14 @@
 -- What a session at a prompt answers to a command, and where it stands afterwards.
 use Rattle.std.specs.Prelude.{◌≡◌, ◌<◌, ◌+◌, ◌-◌, ◌⊎◌, ℕ, List, [], ◌∷◌, ◌++◌, length, Contains, Option, Some}
 use Rattle.table_run.specs.State.{State as NetState}
+use Rattle.trace_text.specs.DumpParts.{part_bytes}
 use Rattle.debugger.specs.declared.breaks.Break.{Break}
 use Rattle.debugger.specs.Breaks.{IsTakenOut}
 use Rattle.debugger.specs.Moves.{StepGoesTo, RunGoesTo, UntilGoesTo}
 use Rattle.debug_session.specs.declared.command.Command.{Command}
 use Rattle.debug_session.specs.declared.command.Command.TheVariants.{Step, Back, Until, Run, State, SetBreak, Clear}
 use Rattle.debug_session.specs.declared.command.Typed.{Typed}
-use Rattle.debug_session.specs.declared.command.Typed.TheVariants.{Plain, Breaks, Delete, Lines, Help, HelpOn}
+use Rattle.debug_session.specs.declared.command.Typed.TheVariants.{Plain, Part, Breaks, Delete, Lines, Help, HelpOn}
 use Rattle.debug_session.specs.declared.refusal.Refusal.TheVariants.{B4, B5, M}
 use Rattle.debug_session.specs.Answers.{Standing, Stays, Does, CanBeRefused, refusal_line}
 use Rattle.debug_session.specs.Help.{help_text, help_on}
@@ -49,6 +50,7 @@ DoesTyped start (Plain Run) old new out = Moves start (RunGoesTo start old.break
 DoesTyped start (Plain State) old new out = Does start State old new out
 DoesTyped start (Plain (SetBreak b)) old new out = SetsNumbered b old new out
 DoesTyped start (Plain Clear) old new out = Does start Clear old new out
+DoesTyped start (Part part) old new out = Stays old new out (part_bytes part old.shown)
 DoesTyped start Breaks old new out = Stays old new out (listing old.breaks)
 DoesTyped start (Delete i) old new out = Deletes i old new out
 DoesTyped start (Lines count) old new out = Stays old new out (last_lines start old.shown.position count)
@@ -58,6 +60,7 @@ DoesTyped start (HelpOn name) old new out = Stays old new out (help_on name)
 -- the command can be refused for want of memory or of workers, or as too many events were run
 abbrev pub TypedCanBeRefused : Typed → Standing → Type 0
 TypedCanBeRefused (Plain asked) old = CanBeRefused asked old
+TypedCanBeRefused (Part part) old = Unit {0}
 TypedCanBeRefused (Delete i) old = ⊥
 TypedCanBeRefused Breaks old = 0 < length old.breaks
 TypedCanBeRefused (Lines count) old = Unit {0}
@@ -77,6 +80,7 @@ last_after (Plain Run) last = Some Run
 last_after (Plain State) last = last
 last_after (Plain (SetBreak b)) last = last
 last_after (Plain Clear) last = last
+last_after (Part part) last = last
 last_after Breaks last = last
 last_after (Delete i) last = last
 last_after (Lines count) last = last

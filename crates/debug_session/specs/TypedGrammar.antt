@@ -1,10 +1,13 @@
 -- The commands that are typed at a prompt, and which refusals their words meet.
-use Rattle.std.specs.Prelude.{ℕ, if◌then◌else◌, List, [], ◌∷◌, Option, None, Some, ok_or, Result, Ok, Err}
+use Rattle.std.specs.Prelude.{ℕ, if◌then◌else◌, List, [], ◌∷◌, codes, Option, None, Some, ok_or, Result, Ok, Err}
+use Rattle.std.specs.Str.{bytes_eq}
 use Rattle.scenario_asm.specs.Numbers.{is_numeral}
+use Rattle.trace_text.specs.declared.dump.DumpPart.{DumpPart}
+use Rattle.trace_text.specs.declared.dump.DumpPart.TheVariants as part
 use Rattle.debug_session.specs.declared.command.Command.TheVariants.{Step, Back, Until, Run, State, Clear}
 use Rattle.debug_session.specs.declared.command.Limits.{Limits}
 use Rattle.debug_session.specs.declared.command.Typed.{Typed}
-use Rattle.debug_session.specs.declared.command.Typed.TheVariants.{Plain, Breaks, Delete, Lines, Help, HelpOn}
+use Rattle.debug_session.specs.declared.command.Typed.TheVariants.{Plain, Part, Breaks, Delete, Lines, Help, HelpOn}
 use Rattle.debug_session.specs.declared.name.Name.{Name}
 use Rattle.debug_session.specs.declared.name.Name.TheVariants as name
 use Rattle.debug_session.specs.declared.refusal.Refusal.{Refusal}
@@ -46,6 +49,24 @@ abbrev pub deletes : Result ℕ Refusal → TypedReading
 deletes (Ok i) = Ok (Delete i)
 deletes (Err refusal) = Err refusal
 
+-- of `state`: the part of a number
+abbrev pub tells_part : (ℕ → DumpPart) → Result ℕ Refusal → TypedReading
+tells_part make (Ok n) = Ok (Part (make n))
+tells_part make (Err refusal) = Err refusal
+
+-- a sort of part, and the number that is the only word behind it
+abbrev pub part_asked : Limits → Word → List Word → TypedReading
+part_asked limits sort words =
+    if bytes_eq sort (codes "node") then tells_part part.Node (one_number limits.nodes words)
+    else (if bytes_eq sort (codes "link") then tells_part part.Link (one_number limits.links words)
+    else (if bytes_eq sort (codes "flow") then tells_part part.Flow (one_number limits.flows words)
+    else Err B1))
+
+-- the words behind `state`: none, or a part of it
+abbrev pub state_asked : Limits → List Word → TypedReading
+state_asked limits [] = Ok (Plain State)
+state_asked limits (sort ∷ words) = part_asked limits sort words
+
 -- of `lines`: how many
 abbrev pub lists : Result ℕ Refusal → TypedReading
 lists (Ok count) = Ok (Lines count)
@@ -74,7 +95,7 @@ command_typed limits (Some name.Break) words = plain (breakpoint limits words)
 command_typed limits (Some name.Breaks) words = typed_alone Breaks words
 command_typed limits (Some name.Run) words = plain (alone Run words)
 command_typed limits (Some name.Until) words = plain (with_number Until (one_moment words))
-command_typed limits (Some name.State) words = plain (alone State words)
+command_typed limits (Some name.State) words = state_asked limits words
 command_typed limits (Some name.Lines) words = lists (number_or 10 1001 words)
 command_typed limits (Some name.Delete) words = deletes (one_break_number words)
 command_typed limits (Some name.Clear) words = plain (alone Clear words)

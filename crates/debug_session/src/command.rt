@@ -6,6 +6,7 @@ use crate::name::Name;
 use debugger::Break;
 use scenario_image::Scenario;
 use sim_time::Time;
+use trace_text::DumpPart;
 
 /// What is asked of a session.
 #[derive(Clone, Copy, Debug, PartialEq, Eq)]
@@ -31,6 +32,8 @@ pub enum Command {
 pub enum Typed {
     /// What a session whose lines are all there from the start is asked too.
     Plain(Command),
+    /// Nothing but to see a part of the state.
+    Part(DumpPart),
     /// Nothing but to see the breakpoints.
     Breaks,
     /// To take away the breakpoint of this number.
@@ -43,11 +46,13 @@ pub enum Typed {
     HelpOn(Name),
 }
 
-/// The numbers of a scenario's nodes and flows are below these.
+/// The numbers of a scenario's nodes, links and flows are below these.
 #[derive(Clone, Copy, Debug, PartialEq, Eq)]
 pub struct Limits {
     /// How many nodes there are.
     pub nodes: u16,
+    /// How many links there are.
+    pub links: u16,
     /// How many flows there are.
     pub flows: u16,
 }
@@ -60,6 +65,7 @@ impl Limits {
         let parts = scenario.parts();
         Limits {
             nodes: parts.nodes.len() as u16,
+            links: parts.links.len() as u16,
             flows: parts.flows.len() as u16,
         }
     }

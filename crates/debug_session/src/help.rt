@@ -33,7 +33,7 @@ fn usage(name: Name) -> &'static [u8]
         Name::Until => {
             b"until T      run all events before the moment T, as 1.5s, 20ms or 10000ns\n"
         }
-        Name::State => b"state        show the state\n",
+        Name::State => b"state [PART] show all of the state, or of it: node N, link L or flow F\n",
         Name::Break => b"break COND   stop where COND matches: node N, flow F, kind K, drop\n",
         Name::Breaks => b"breaks       list the breakpoints\n",
         Name::Delete => b"delete I     take breakpoint I away\n",
@@ -53,7 +53,7 @@ fn example(name: Name) -> &'static [u8]
         Name::Back => b"back 10\n",
         Name::Run => b"run\n",
         Name::Until => b"until 20ms\n",
-        Name::State => b"state\n",
+        Name::State => b"state flow 0\n",
         Name::Break => b"break kind rto\n",
         Name::Breaks => b"breaks\n",
         Name::Delete => b"delete 1\n",

@@ -2,14 +2,17 @@
 ghost use Rattle.std.specs.Prelude.{◌≡◌, ◌<◌, ◌≤◌, ◌^◌, ◌-◌, IfOk};
 ghost use Rattle.debug_session.specs.Grammar.{breakpoint};
 ghost use Rattle.debug_session.specs.Input.{words_in};
-ghost use Rattle.debug_session.specs.TypedGrammar.{number_or, one_moment, break_number, one_break_number, plain, typed_alone, help_asked, command_typed, typed_reading};
+ghost use Rattle.debug_session.specs.TypedGrammar.{number_or, one_moment, break_number, one_break_number, plain, tells_part, part_asked, state_asked, typed_alone, help_asked, command_typed, typed_reading};
 
 use crate::command::{Command, Limits, Typed};
 use crate::cut::next_word;
-use crate::grammar::{AMOUNTS, alone, breakpoint, is_numeral, number_below, one_number, one_word};
+use crate::grammar::{
+    AMOUNTS, alone, breakpoint, is, is_numeral, number_below, one_number, one_word,
+};
 use crate::moment::moment_in;
 use crate::name::{Name, name_of};
 use crate::refusal::Refusal;
+use trace_text::DumpPart;
 
 /// How many lines are shown where no number is given.
 const USUAL_LINES: u64 = 10;
@@ -95,6 +98,34 @@ fn help_asked(line: &[u8]) -> Result<Typed, Refusal>
     }
 }
 
+/// The part of a state of a sort, with the words behind that.
+fn part_asked(limits: Limits, sort: &[u8], line: &[u8]) -> Result<Typed, Refusal>
+    ensures { result ≡ part_asked limits sort.now (words_in line.now) }
+{
+    if is(sort, b"node") {
+        let node = one_number(line, u64::from(limits.nodes))?;
+        Ok(Typed::Part(DumpPart::Node(node as u16)))
+    } else if is(sort, b"link") {
+        let link = one_number(line, u64::from(limits.links))?;
+        Ok(Typed::Part(DumpPart::Link(link as u16)))
+    } else if is(sort, b"flow") {
+        let flow = one_number(line, u64::from(limits.flows))?;
+        Ok(Typed::Part(DumpPart::Flow(flow as u16)))
+    } else {
+        Err(Refusal::B1)
+    }
+}
+
+/// What is asked by the words behind `state`.
+fn state_asked(limits: Limits, line: &[u8]) -> Result<Typed, Refusal>
+    ensures { result ≡ state_asked limits (words_in line.now) }
+{
+    match next_word(line) {
+        None => Ok(Typed::Plain(Command::State)),
+        Some((sort, rest)) => part_asked(limits, sort, rest),
+    }
+}
+
 /// How many events are asked for.
 fn count_typed(line: &[u8]) -> Result<u64, Refusal>
     ensures { result ≡ number_or 1 1000000000000001 (words_in line.now) }
@@ -121,7 +152,7 @@ fn command_typed(limits: Limits, name: Option<Name>, rest: &[u8]) -> Result<Type
         Some(Name::Breaks) => typed_alone(Typed::Breaks, rest),
         Some(Name::Run) => plain(alone(Command::Run, rest)),
         Some(Name::Until) => Ok(Typed::Plain(Command::Until(one_moment(rest)?))),
-        Some(Name::State) => plain(alone(Command::State, rest)),
+        Some(Name::State) => state_asked(limits, rest),
         Some(Name::Lines) => Ok(Typed::Lines(lines_typed(rest)?)),
         Some(Name::Delete) => Ok(Typed::Delete(one_break_number(rest)?)),
         Some(Name::Clear) => plain(alone(Command::Clear, rest)),

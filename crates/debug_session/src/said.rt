@@ -1,6 +1,7 @@
 //! The answer to a command.
 ghost use Rattle.std.specs.Prelude.{◌≡◌, ◌<◌, ◌≤◌, ◌+◌, ◌++◌, [], OnOk, OnErr, length, drop, decimal};
 ghost use Rattle.trace_text.specs.Dump.{dump_bytes};
+ghost use Rattle.trace_text.specs.DumpParts.{part_bytes};
 ghost use Rattle.debugger.specs.Moves.{HasPosition};
 ghost use Rattle.debug_session.specs.Answers.{standing, refusal_line, break_line, clear_line};
 ghost use Rattle.debug_session.specs.Help.{help_text, help_on};
@@ -16,6 +17,7 @@ use debugger::{Break, Debugger, MoveFault};
 use itoa::write_digits;
 use std::alloc::{AllocError, Global};
 use std::marker::Model;
+use trace_text::DumpPart;
 
 /// The room for a short answer, in bytes.
 pub(crate) const ROOM: usize = 64;
@@ -223,5 +225,15 @@ impl Said {
         self.dump.clear();
         self.is_short = false;
         debugger.state_text(&mut self.dump)
+    }
+
+    /// Answers the lines of the dump of the state that is shown that tell of a part of it. Where
+    /// memory is refused, the answer is empty.
+    pub(crate) fn say_part(&mut self, debugger: &Debugger, part: DumpPart) -> Result<(), AllocError>
+        ensures { OnOk result (self.new ≡ part_bytes part debugger.now.shown) }
+    {
+        self.dump.clear();
+        self.is_short = false;
+        debugger.part_text(part, &mut self.dump)
     }
 }

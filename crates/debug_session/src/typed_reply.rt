@@ -1,5 +1,6 @@
 //! A session's answer to a command that is typed.
 ghost use Rattle.std.specs.Prelude.{◌≡◌, ◌<◌, ◌≤◌, ◌⊎◌, ℕ, Contains, IfOk, MatchBool, MatchOption, OnErr, length};
+ghost use Rattle.trace_text.specs.DumpParts.{part_bytes};
 ghost use Rattle.debugger.specs.Moves.{HasPosition};
 ghost use Rattle.debug_session.specs.Answers.{standing, refusal_line};
 ghost use Rattle.debug_session.specs.Help.{help_text, help_on};
@@ -17,6 +18,7 @@ use crate::reply::obey;
 use crate::said::Said;
 use crate::window_move::WindowMove;
 use debugger::{Break, BreakFault, Debugger, MoveFault};
+use trace_text::DumpPart;
 
 /// Tells the number of a breakpoint that is set.
 #[tactic(none)]
@@ -84,6 +86,16 @@ fn tell_breaks(debugger: &Debugger, said: &mut Said)
     ensures { ObeysTyped debugger.now.start Typed.Breaks (standing debugger.now) (standing debugger.now) said.new }
 {
     match said.say_breaks(debugger.breaks()) {
+        Ok(()) => {}
+        Err(_) => said.say_refused(Refusal::M),
+    }
+}
+
+/// Tells a part of the state.
+fn tell_part(debugger: &Debugger, part: DumpPart, said: &mut Said)
+    ensures { (said.new ≡ part_bytes part debugger.now.shown) ⊎ (said.new ≡ refusal_line Refusal.M) }
+{
+    match said.say_part(debugger, part) {
         Ok(()) => {}
         Err(_) => said.say_refused(Refusal::M),
     }
@@ -201,6 +213,10 @@ pub(crate) fn obey_typed(
 {
     match asked {
         Typed::Plain(command) => obey_plain(debugger, command, said),
+        Typed::Part(part) => {
+            tell_part(debugger, part, said);
+            None
+        }
         Typed::Breaks => {
             tell_breaks(debugger, said);
             None

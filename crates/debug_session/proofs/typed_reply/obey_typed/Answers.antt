@@ -3,7 +3,7 @@ use Rattle.debug_session.specs.declared.command.Typed.{Typed}
 use Rattle.debug_session.specs.declared.command.Typed.TheVariants.{Plain}
 use Rattle.debug_session.specs.Answers.{standing}
 use Rattle.debug_session.specs.TypedAnswers.{ObeysTyped}
-use Rattle.debug_session.proofs.Deleting.{help_told, help_on_told}
+use Rattle.debug_session.proofs.Deleting.{part_told, help_told, help_on_told}
 use Rattle.debug_session.proofs.Left.{typed_plain}
 use Rattle.debug_session.proofs.typed_reply.obey_typed.Goals as goal
 
@@ -18,6 +18,14 @@ returns-in-Plain-clause-obeyed c =
 
 pub returns-in-Plain-clause-start : goal.returns-in-Plain-clause-start
 returns-in-Plain-clause-start c = c.obey_plain.ensures.start
+
+pub returns-in-Part-clause-obeyed : goal.returns-in-Part-clause-obeyed
+returns-in-Part-clause-obeyed c =
+    subst (λ (k : Typed). ObeysTyped c.args.debugger.now.start k (standing c.args.debugger.now) (standing c.args.debugger.now) c.tell_part.new.said) (sym c.in-Part.is)
+    (part_told c.args.debugger.now c.in-Part.part c.tell_part.new.said c.tell_part.ensures)
+
+pub returns-in-Part-clause-start : goal.returns-in-Part-clause-start
+returns-in-Part-clause-start c = refl
 
 pub returns-in-Breaks-clause-obeyed : goal.returns-in-Breaks-clause-obeyed
 returns-in-Breaks-clause-obeyed c =
