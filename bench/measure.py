@@ -11,6 +11,7 @@ import re
 import shutil
 import subprocess
 import sys
+import tempfile
 import time
 from collections import namedtuple
 from concurrent.futures import ThreadPoolExecutor
@@ -46,9 +47,9 @@ DHAT = ('valgrind', '--tool=dhat', '--dhat-out-file=/dev/null')
 Case = namedtuple('Case', 'name segments path')
 Run = namedtuple('Run', 'name segments events packets written resident seconds instructions heap')
 Cost = namedtuple('Cost', 'name what events an_event bar figures bare')
-# What a run is without its text: the calls of `Net::step_into`, with all that these call.
-STEPS = (*CALLGRIND, '--toggle-collect=*Net*step_into*')
-# The most instructions that an event's figures are to cost above that.
+# The functions that make a run's text.
+TEXT = 'trace_text::'
+# The most instructions that an event's figures are to cost above the same run without its text.
 ABOVE = 120
 
 
@@ -109,6 +110,27 @@ def seconds(path):
     return min(took)
 
 
+def without_text(path):
+    """The instructions of a whole run, less those of the calls by which what is no part of the text calls what
+    makes it, with all that these call. What is part of the calling loop itself stays."""
+    with tempfile.TemporaryDirectory() as work:
+        out = os.path.join(work, 'calls')
+        named = [*CALLGRIND[:2], f'--callgrind-out-file={out}', '--compress-strings=no', '--compress-pos=no']
+        whole, caller, callee, taken = instructions(run(path, named)), '', None, 0
+        with open(out) as lines:
+            for line in lines:
+                if line.startswith('fn='):
+                    caller = line[3:]
+                elif line.startswith('cfn='):
+                    callee = line[4:]
+                elif callee and not line.startswith(('calls=', 'cob=', 'cfi=', 'cfl=')):
+                    # Behind a call stands what it has cost.
+                    if callee.startswith(TEXT) and not caller.startswith(TEXT):
+                        taken += int(line.split()[1])
+                    callee = None
+    return whole - taken
+
+
 def costs(names, jobs):
     """What an event of each scenario costs: the instructions of its run less those of a run that ends
     where its last flow starts, divided by the events that lie between both; and the same of its figures,
@@ -117,10 +139,10 @@ def costs(names, jobs):
     paths = [saved(name + ' started', disassemble(started(SCENARIOS[name]())).decode()) for name, *_ in bars]
     paths += [saved(name, disassemble(SCENARIOS[name]()).decode()) for name, *_ in bars]
     events = [watch(path)[0] for path in paths]
-    kinds = (CALLGRIND, 'run'), (CALLGRIND, 'figures'), (STEPS, 'run')
     with ThreadPoolExecutor(jobs) as pool:
-        counts = [list(pool.map(lambda path: instructions(run(path, before, subcommand)), paths))
-                  for before, subcommand in kinds]
+        counts = [list(pool.map(lambda path: instructions(run(path, CALLGRIND, subcommand)), paths))
+                  for subcommand in ('run', 'figures')]
+        counts.append(list(pool.map(without_text, paths)))
     for at, (name, what, bar) in enumerate(bars):
         few, many = events[at::len(bars)]
         an_event = [(whole - start) / (many - few) for start, whole in (kind[at::len(bars)] for kind in counts)]
@@ -136,8 +158,8 @@ def cost_table(rows):
     yield from table(('Scenario', 'Events', 'Instructions an event', 'At most', 'Within'),
                      [(f'`{r.name}`: {r.what}', f'{r.events:,}', f'{r.an_event:,.0f}', f'{r.bar:,}',
                        within(r.an_event, r.bar)) for r in rows])
-    yield ('The same without its text, which is what the calls of `Net::step_into` cost with all that these call, '
-           f'and what `figures` costs, which makes no text: {ABOVE} instructions more at most.\n')
+    yield ('The same without its text, which is what is left of it once the calls that make text are taken off, with '
+           f'the loop that makes them, and what `figures` costs, which makes no text: {ABOVE} instructions more at most.\n')
     yield from table(('Scenario', '`run` without text', '`figures`', 'At most', 'Within'),
                      [(f'`{r.name}`', f'{r.bare:,.0f}', f'{r.figures:,.0f}', f'{r.bare + ABOVE:,.0f}',
                        within(r.figures, r.bare + ABOVE)) for r in rows])
