@@ -67,17 +67,24 @@ fn opened(alloc: Global, flow: FlowPart, delay: u64, lose: &[u32]) -> Result<Net
     Ok(Net::new(alloc, &scenario)?)
 }
 
-// The net goes on until so many events were run; then flow 0 is stalled or not, and this is told of it.
-fn expect(
-    rt: &(impl Abort + AllocGlobal),
-    net: &mut Net,
-    events: u64,
-    stalled: bool,
-    text: &str,
-) -> Result<(), Fail> {
+// After so many events flow 0 is stalled or not, and this is told of it.
+type Told = (u64, bool, &'static str);
+
+// The net goes on until so many events were run.
+fn go_on(net: &mut Net, events: u64) -> Result<(), Fail> {
     for _event in net.position()..events {
         net.step().map_err(|_| "step")?;
     }
+    Ok(())
+}
+
+// What is told of flow 0 stands behind a text that was there.
+fn expect_here(
+    rt: &(impl Abort + AllocGlobal),
+    net: &Net,
+    stalled: bool,
+    text: &str,
+) -> Result<(), Fail> {
     let mut told = Vec::from_slice(rt.alloc(), b"before\n")?;
     waits_text(net, 0, &mut told)?;
     let mut expected = Vec::from_slice(rt.alloc(), b"before\n")?;
@@ -87,70 +94,110 @@ fn expect(
     Ok(())
 }
 
-/// Of four segments that leave at the start the last two are lost, as is the one that their acknowledgement lets
-/// go: the timer goes on. The segment that it sends again is acknowledged 200 ms after it came.
+// The net goes on from state to state, and this is told there.
+fn expect(rt: &(impl Abort + AllocGlobal), net: &mut Net, states: &[Told]) -> Result<(), Fail> {
+    for (events, stalled, text) in states {
+        go_on(net, *events)?;
+        expect_here(rt, net, *stalled, text)?;
+    }
+    Ok(())
+}
+
+// Of four segments that leave at the start the last two are lost, as is the one that their acknowledgement lets
+// go: the timer goes on. The segment that it sends again is acknowledged 200 ms after it came.
+const TWO_STALLS: &[Told] = &[
+    (
+        0,
+        false,
+        "flow 0 is not started: it starts at 0 ns
+alarms: start at 0 ns
+",
+    ),
+    (
+        1,
+        false,
+        "flow 0 sends no more: 4000 bytes in flight, a segment of 1000, cwnd 4000
+waits: data 1000 at place 1 of link 0
+under way: data 0 to node 1 at 2040000 ns
+alarms: rto at 1000000000 ns
+",
+    ),
+    (
+        7,
+        true,
+        "flow 0 is stalled: 0 duplicate acknowledgements, and its retransmission timer is due at 1004120000 ns
+alarms: rto at 1004120000 ns
+",
+    ),
+    (
+        10,
+        true,
+        "flow 0 is stalled: 0 duplicate acknowledgements, and its delayed acknowledgement is due at 1206160000 ns
+alarms: delack at 1206160000 ns, rto at 3004120000 ns
+",
+    ),
+    (
+        19,
+        false,
+        "flow 0 is complete: all 5000 bytes are acknowledged
+",
+    ),
+];
+
 #[test]
 fn two_stalls(rt: HostRuntime) -> Result<(), Fail> {
     let mut net = opened(rt.alloc(), flow(0, 5, 64_000), 1_000_000, &[3, 4, 5])?;
-    expect(
-        &rt,
-        &mut net,
-        0,
-        false,
-        "flow 0 is not started: it starts at 0 ns\nalarms: start at 0 ns\n",
-    )?;
-    expect(
-        &rt,
-        &mut net,
-        1,
-        false,
-        "flow 0 sends no more: 4000 bytes in flight, a segment of 1000, cwnd 4000\nwaits: data 1000 at place 1 of link 0\nunder way: data 0 to node 1 at 2040000 ns\nalarms: rto at 1000000000 ns\n",
-    )?;
-    expect(
-        &rt,
-        &mut net,
-        7,
-        true,
-        "flow 0 is stalled: 0 duplicate acknowledgements, and its retransmission timer is due at 1004120000 ns\nalarms: rto at 1004120000 ns\n",
-    )?;
-    expect(
-        &rt,
-        &mut net,
-        10,
-        true,
-        "flow 0 is stalled: 0 duplicate acknowledgements, and its delayed acknowledgement is due at 1206160000 ns\nalarms: delack at 1206160000 ns, rto at 3004120000 ns\n",
-    )?;
-    expect(
-        &rt,
-        &mut net,
-        19,
-        false,
-        "flow 0 is complete: all 5000 bytes are acknowledged\n",
-    )
+    expect(&rt, &mut net, TWO_STALLS)
 }
 
-/// The receiver's window holds one segment and not two; of three that the congestion window lets go two wait.
+// The receiver's window holds one segment and not two.
+const SMALL: &[Told] = &[(
+    1,
+    false,
+    "flow 0 sends no more: 1000 bytes in flight, a segment of 1000, rwnd 1999
+under way: data 0 to node 1 at 2040000 ns
+alarms: rto at 1000000000 ns
+",
+)];
+
+// Of three segments that both windows hold two wait.
+const LARGE: &[Told] = &[(
+    1,
+    false,
+    "flow 0 has sent all 3000 bytes: 0 are acknowledged
+waits: data 1000 at place 1 of link 0, data 2000 at place 2 of link 0
+under way: data 0 to node 1 at 2040000 ns
+alarms: rto at 1000000000 ns
+",
+)];
+
 #[test]
 fn windows(rt: HostRuntime) -> Result<(), Fail> {
     let mut net = opened(rt.alloc(), flow(0, 3, 1_999), 1_000_000, &[])?;
-    expect(
-        &rt,
-        &mut net,
-        1,
-        false,
-        "flow 0 sends no more: 1000 bytes in flight, a segment of 1000, rwnd 1999\nunder way: data 0 to node 1 at 2040000 ns\nalarms: rto at 1000000000 ns\n",
-    )?;
+    expect(&rt, &mut net, SMALL)?;
     let mut net = opened(rt.alloc(), flow(0, 3, 64_000), 1_000_000, &[])?;
-    expect(
-        &rt,
-        &mut net,
-        1,
-        false,
-        "flow 0 has sent all 3000 bytes: 0 are acknowledged\nwaits: data 1000 at place 1 of link 0, data 2000 at place 2 of link 0\nunder way: data 0 to node 1 at 2040000 ns\nalarms: rto at 1000000000 ns\n",
-    )
+    expect(&rt, &mut net, LARGE)
 }
 
-/// Three segments are in flight, and the window holds a fourth.
+// Both alarms are due at one moment, and that at the node of the lower number comes first.
+const TIED: &[Told] = &[(
+    3,
+    true,
+    "flow 0 is stalled: 0 duplicate acknowledgements, and its delayed acknowledgement is due at 1000000000 ns
+alarms: delack at 1000000000 ns, rto at 1000000000 ns
+",
+)];
+
+#[test]
+fn alarms_at_one_moment(rt: HostRuntime) -> Result<(), Fail> {
+    let mut net = opened(rt.alloc(), flow(1, 1, 64_000), 798_960_000, &[])?;
+    expect(&rt, &mut net, TIED)
+}
+
+// Three segments are in flight, and the window holds a fourth.
+const FITS: &str =
+    " may send at its next acknowledgement: 3000 bytes in flight, a segment of 1000, cwnd 4000\n";
+
 #[test]
 fn one_more_segment_just_fits(rt: HostRuntime) -> Result<(), Fail> {
     let mut fields = Sender::new(1_000, 5, 64_000, RENO).fields();
@@ -160,21 +207,6 @@ fn one_more_segment_just_fits(rt: HostRuntime) -> Result<(), Fail> {
     let sender = Sender::of_fields(fields).ok_or("sender")?;
     let mut told = Vec::new(rt.alloc());
     append_standing(&sender, None, standing_of(None, true, &sender), &mut told)?;
-    let expected =
-        b" may send at its next acknowledgement: 3000 bytes in flight, a segment of 1000, cwnd 4000\n";
-    assert!(rt; told.as_slice() == expected.as_slice());
+    assert!(rt; told.as_slice() == FITS.as_bytes());
     Ok(())
-}
-
-/// Both alarms are due at one moment, and that at the node of the lower number comes first.
-#[test]
-fn alarms_at_one_moment(rt: HostRuntime) -> Result<(), Fail> {
-    let mut net = opened(rt.alloc(), flow(1, 1, 64_000), 798_960_000, &[])?;
-    expect(
-        &rt,
-        &mut net,
-        3,
-        true,
-        "flow 0 is stalled: 0 duplicate acknowledgements, and its delayed acknowledgement is due at 1000000000 ns\nalarms: delack at 1000000000 ns, rto at 1000000000 ns\n",
-    )
 }
