@@ -95,6 +95,21 @@ class Threads(unittest.TestCase):
         self.assertGreater(threads, 0)
         self.assertTrue(answers == plain)
 
+    def test_the_debugger_starts_none_for_one_worker_or_one_group(self):
+        """Neither with commands that are all there nor with lines that are typed, which by several workers start some."""
+        text, commands = self.text_of(WIDE), 'until 19000000000\n'
+        name = os.path.join(self.folder.name, 'wide.txt')
+        with open(name, 'w', encoding='utf-8') as file:
+            file.write(text)
+        for given, words in ((f'{text}---\n{commands}', ('debug',)), (commands, ('debug', name))):
+            plain, none = self.counted(given, *words)
+            self.assertEqual(none, 0)
+            for shared, starts in (((self.parts(), '1'), False), (('one', '64'), False), ((self.parts(), '4'), True)):
+                answers, threads = self.counted(given, *words, '--groups', shared[0], '--workers', shared[1])
+                with self.subTest(words=words, shared=shared):
+                    self.assertEqual(threads > 0, starts)
+                    self.assertTrue(answers == plain)
+
 
 def main():
     if not shutil.which('cc'):
