@@ -10,6 +10,7 @@ ghost use Rattle.debugger.specs.LastEvents.{IsLastEvent};
 ghost use Rattle.debugger.specs.Passed.{stretch_texts};
 ghost use Rattle.trace_text.specs.Dump.{dump_bytes};
 ghost use Rattle.trace_text.specs.DumpParts.{part_bytes};
+ghost use Rattle.flow_waits.specs.Waits.{waits_bytes};
 
 use crate::aim::Aim;
 use crate::backwards::net_before;
@@ -20,6 +21,7 @@ use crate::passed::{LastEvent, Stretch, append_stretch, event_at, nearer};
 use crate::reached::{net_after, net_at};
 use crate::saved::Saved;
 use crate::walk::is_ended;
+use flow_waits::waits_text;
 use net_machine::Net;
 use node_core::{After, Event, Line};
 use port::Acts;
@@ -264,6 +266,14 @@ impl Debugger {
         ensures err { OnErr result (out.new.items ≡ out.old.items) }
     {
         part_text(&self.net, part, out)
+    }
+
+    /// Appends what a flow waits for in the state that is shown, or nothing.
+    pub fn waits_text(&self, flow: u16, out: &mut Vec<u8>) -> Result<(), AllocError>
+        ensures ok { OnOk result (out.new.items ≡ out.old.items ++ waits_bytes flow self.now.shown.state) }
+        ensures err { OnErr result (out.new.items ≡ out.old.items) }
+    {
+        waits_text(&self.net, flow, out)
     }
 
     /// Whether no event is left behind the state that is shown.
