@@ -50,12 +50,13 @@ LINES = {
         b'br kind free', b'br flow 0', b'br node 1', b's 4', b'', b'r', b'b', b'u 4s', b'd 1', b'', b'r', b'', b'', b'state', b'l 1000'],
     4: [b'back 99', b'state flow 0', b'step', b'state', b'state node 0', b'sta node 1', b'state link 0', b'sta link 1', b'state flow 0', b'',
         b's 20', b'sta flow 0', b'u 9s', b'sta flow 0'],
-    5: [b'clear', b'reverse', b'', b'u 9s', b're', b'br kind rto', b'u 9s', b'rev', b'', b's', b'', b'', b'br drop', b'u 9s', b'reve', b'', b'', b'',
+    5: [b'back 999', b'why 0', b'step', b'w 0', b's 20', b'wh 0', b'', b'w 0', b'b 3', b'why 0', b'u 9s', b'why 0'],
+    6: [b'clear', b'reverse', b'', b'u 9s', b're', b'br kind rto', b'u 9s', b'rev', b'', b's', b'', b'', b'br drop', b'u 9s', b'reve', b'', b'', b'',
         b'', b'r', b'', b're', b's 3', b'b', b're', b'', b'c'],
 }
 REFUSALS = {
     0: [(b'bak 1', b'B1'), (b'step 01', b'B3'), (b'break flow 1', b'B3'), (b'run 1', b'B2'), (b'break', b'B2')],
-    1: [(b'stepp', b'B1'), (b'w', b'B1'), (b'step 1 2', b'B2'), (b'step x', b'B3'), (b'back 1000000000000001', b'B3'), (b'until', b'B2'),
+    1: [(b'stepp', b'B1'), (b'y', b'B1'), (b'step 1 2', b'B2'), (b'step x', b'B3'), (b'back 1000000000000001', b'B3'), (b'until', b'B2'),
         (b'until 1 s', b'B2'), (b'until 1.5', b'B3'), (b'u 1.0ns', b'B3'), (b'u 1.0000us', b'B3'), (b'u .5s', b'B3'), (b'u 5.s', b'B3'),
         (b'u 01s', b'B3'), (b'u 1000000.000000001s', b'B3'), (b'u 1S', b'B3'), (b'br n 0', b'B1'), (b'br kind', b'B2'),
         (b'break drop 1', b'B2'), (b'clear x', b'B2'), (b'step\t1', b'B1'), (b'quit now', b'B2')],
@@ -64,7 +65,8 @@ REFUSALS = {
     3: [(b'lines 1 2', b'B2'), (b'l 1001', b'B3'), (b'l 01', b'B3'), (b'l x', b'B3')],
     4: [(b'state 1', b'B1'), (b'state kind rto', b'B1'), (b'state n 1', b'B1'), (b'state flows 1 2', b'B1'), (b'state node', b'B2'),
         (b'state link 0 1', b'B2'), (b'state node 2', b'B3'), (b'state link 2', b'B3'), (b'state flow 1', b'B3'), (b'state flow 00', b'B3')],
-    5: [(b'reverse 1', b'B2'), (b'rev drop', b'B2'), (b'reverses', b'B1')],
+    5: [(b'why', b'B2'), (b'w 0 0', b'B2'), (b'why 1', b'B3'), (b'wh 00', b'B3'), (b'why f', b'B3'), (b'whys 0', b'B1')],
+    6: [(b'reverse 1', b'B2'), (b'rev drop', b'B2'), (b'reverses', b'B1')],
 }
 
 

@@ -8,10 +8,10 @@ none reads lines as a session whose commands are all there (`debugger.obey`).
 2. Breakpoints by their numbers, and help.
 3. A move answers the lines that it passed in the place of the dump; lines that were run before.
 4. Parts of a state: of a node, of a link, of a flow.
-5. Back to where a breakpoint matches.
-6. Breakpoints of several conditions, each sort once, which a line has to meet all.
-7. Breakpoints where a flow is stalled and was not before.
-8. What a flow waits for.
+5. What a flow waits for.
+6. Back to where a breakpoint matches.
+7. Breakpoints of several conditions, each sort once, which a line has to meet all.
+8. Breakpoints where a flow is stalled and was not before.
 """
 import re
 
@@ -22,14 +22,14 @@ from text import NUMBER
 
 STEPS = 8
 # How many of them the program has.
-BUILT = 4
+BUILT = 5
 PROMPT = '(tcpsim) '
 MOST_LINE = 65_536      # bytes
 MOST_SHOWN = 10         # lines that a move passed
 MOST_LINES = 1_000      # of `lines`
 # The names that a first word can begin, the first of them first, and the step that each came with.
-NAMES = {b'step': 1, b'back': 1, b'break': 1, b'breaks': 2, b'run': 1, b'reverse': 5, b'until': 1, b'state': 1, b'lines': 3,
-         b'delete': 2, b'clear': 1, b'help': 2, b'quit': 1, b'why': 8}
+NAMES = {b'step': 1, b'back': 1, b'break': 1, b'breaks': 2, b'run': 1, b'reverse': 6, b'until': 1, b'state': 1, b'lines': 3,
+         b'delete': 2, b'clear': 1, b'help': 2, b'quit': 1, b'why': 5}
 # The conditions of a breakpoint, in the order in which its words are told.
 CONDITIONS = (b'node', b'flow', b'kind', b'drop', b'link', b'byte')
 MOST_BYTE = 9 * 10**12      # of the greatest flow
@@ -351,10 +351,10 @@ class Prompt:
 
     def breakpoint(self, words):
         """The breakpoint of `break`'s words, which stood as in a session whose commands are all there."""
-        if self.steps >= 7 and words[:1] == [b'stall']:
+        if self.steps >= 8 and words[:1] == [b'stall']:
             at_most(words, 2)
             return ((b'stall', number_to(len(self.debugger.scenario.flows) - 1, words[1]) if words[1:] else None),)
-        if self.steps >= 6:
+        if self.steps >= 7:
             return conditions_in(words, self.debugger.scenario)
         words = [b'break', *words]
         if len(words) != words_wanted(words):

@@ -47,10 +47,10 @@ def time(pick, moments, end):
 
 def breakpoint_of(pick, scenario, steps):
     """The words of a breakpoint, most of them right."""
-    if steps >= 7 and pick.random() < 0.3:
+    if steps >= 8 and pick.random() < 0.3:
         return [b'stall'] + [number(pick, pick.randrange(len(scenario.flows)))] * pick.choice((0, 1, 1))
     words = condition(pick, scenario, steps)
-    while steps >= 6 and pick.random() < 0.4:
+    while steps >= 7 and pick.random() < 0.4:
         words += condition(pick, scenario, steps)
     return words
 
@@ -58,7 +58,7 @@ def breakpoint_of(pick, scenario, steps):
 def condition(pick, scenario, steps):
     """The words of one condition of a breakpoint, most of them right."""
     sorts = (b'node', b'node', b'flow', b'flow', b'kind', b'kind', b'drop')
-    sort = pick.choice(sorts if steps < 6 else (*sorts, b'link', b'link', b'byte'))
+    sort = pick.choice(sorts if steps < 7 else (*sorts, b'link', b'link', b'byte'))
     if pick.random() < 0.1:
         sort = pick.choice((b'nod', b'n', b'f', b'link', b'kinds', b'queue', b'Drop', b'tx', b'break', b'', b'stall', b'byt'))
     words = [sort]

@@ -5,11 +5,12 @@ use Rattle.std.specs.List.{Contains}
 use Rattle.table_run.specs.State.{State as NetState}
 use Rattle.trace_text.specs.declared.dump.DumpPart.{DumpPart}
 use Rattle.trace_text.specs.DumpParts.{part_bytes}
+use Rattle.flow_waits.specs.Waits.{waits_bytes}
 use Rattle.debugger.specs.declared.breaks.Break.{Break}
 use Rattle.debugger.specs.Breaks.{IsTakenOut}
 use Rattle.debugger.specs.Debugging.{Debugging}
 use Rattle.debug_session.specs.declared.command.Command.TheVariants.{State, SetBreak, Clear}
-use Rattle.debug_session.specs.declared.command.Typed.TheVariants.{Plain, Part, Breaks, Delete, Help, HelpOn}
+use Rattle.debug_session.specs.declared.command.Typed.TheVariants.{Plain, Part, Why, Breaks, Delete, Help, HelpOn}
 use Rattle.debug_session.specs.declared.name.Name.{Name}
 use Rattle.debug_session.specs.declared.refusal.Refusal.TheVariants.{B4, B5, M}
 use Rattle.debug_session.specs.Answers.{Standing, standing, Obeys, refusal_line}
@@ -71,6 +72,10 @@ help_on_told d name out told = ⊎_elim (λ (t : out ≡ help_on name). inl (rec
 -- what is told of a part of the state
 pub part_told : (d : Debugging) (part : DumpPart) (out : List ℕ) → (out ≡ part_bytes part d.shown) ⊎ (out ≡ refusal_line M) → ObeysTyped d.start (Part part) (standing d) (standing d) out
 part_told d part out told = ⊎_elim (λ (t : out ≡ part_bytes part d.shown). inl (record { same = refl; told = t })) (λ (t : out ≡ refusal_line M). inr (tt, record { same = refl; told = t })) told
+
+-- what is told of a flow
+pub why_told : (d : Debugging) (flow : ℕ) (out : List ℕ) → (out ≡ waits_bytes flow d.shown.state) ⊎ (out ≡ refusal_line M) → ObeysTyped d.start (Why flow) (standing d) (standing d) out
+why_told d flow out told = ⊎_elim (λ (t : out ≡ waits_bytes flow d.shown.state). inl (record { same = refl; told = t })) (λ (t : out ≡ refusal_line M). inr (tt, record { same = refl; told = t })) told
 
 -- what is told of the breakpoints
 pub breaks_told : (d : Debugging) (breaks : List Break) (out : List ℕ) → breaks ≡ d.breaks → out ≡ listing breaks → ObeysTyped d.start Breaks (standing d) (standing d) out

@@ -2,7 +2,7 @@
 use Rattle.std.specs.Prelude.{ℕ, List, [], ◌∷◌, ◌++◌, codes}
 use Rattle.std.specs.List.{flat_map}
 use Rattle.debug_session.specs.declared.name.Name.{Name}
-use Rattle.debug_session.specs.declared.name.Name.TheVariants.{Step, Back, Break, Breaks, Run, Until, State, Delete, Clear, Lines, Help, Quit}
+use Rattle.debug_session.specs.declared.name.Name.TheVariants.{Step, Back, Break, Breaks, Run, Until, State, Delete, Clear, Lines, Why, Help, Quit}
 
 -- how a command is used
 abbrev pub usage : Name → List ℕ
@@ -16,6 +16,7 @@ usage Breaks = codes "breaks       list the breakpoints\n"
 usage Delete = codes "delete I     take breakpoint I away\n"
 usage Clear = codes "clear        take all breakpoints away\n"
 usage Lines = codes "lines [K]    show the last K lines of the trace (10)\n"
+usage Why = codes "why F        tell what flow F waits for\n"
 usage Help = codes "help [NAME]  show this, or how NAME is used\n"
 usage Quit = codes "quit         end the session\n"
 
@@ -30,11 +31,12 @@ example Breaks = codes "breaks\n"
 example Delete = codes "delete 1\n"
 example Clear = codes "clear\n"
 example Lines = codes "lines 20\n"
+example Why = codes "why 0\n"
 example Help = codes "help until\n"
 example Quit = codes "quit\n"
 
 abbrev pub all_names : List Name
-all_names = Step ∷ Back ∷ Run ∷ Until ∷ State ∷ Break ∷ Breaks ∷ Delete ∷ Clear ∷ Lines ∷ Help ∷ Quit ∷ []
+all_names = Step ∷ Back ∷ Run ∷ Until ∷ State ∷ Break ∷ Breaks ∷ Delete ∷ Clear ∷ Lines ∷ Why ∷ Help ∷ Quit ∷ []
 
 -- one line a command, and one on the empty line
 abbrev pub help_text : List ℕ

@@ -2,7 +2,7 @@
 use Rattle.std.specs.Prelude.{ℕ, nat_eq, Bool, if◌then◌else◌, List, codes, Option, None, Some}
 use Rattle.std.specs.List.{starts_with}
 use Rattle.debug_session.specs.declared.name.Name.{Name}
-use Rattle.debug_session.specs.declared.name.Name.TheVariants.{Step, Back, Break, Breaks, Run, Until, State, Lines, Delete, Clear, Help, Quit}
+use Rattle.debug_session.specs.declared.name.Name.TheVariants.{Step, Back, Break, Breaks, Run, Until, State, Lines, Delete, Clear, Help, Quit, Why}
 
 -- a word is the beginning of a name, or all of it
 abbrev pub begins : List ℕ → List ℕ → Bool
@@ -23,4 +23,5 @@ name_of word =
     else (if begins word (codes "clear") then Some Clear
     else (if begins word (codes "help") then Some Help
     else (if begins word (codes "quit") then Some Quit
-    else None)))))))))))
+    else (if begins word (codes "why") then Some Why
+    else None))))))))))))

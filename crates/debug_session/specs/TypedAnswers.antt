@@ -2,13 +2,14 @@
 use Rattle.std.specs.Prelude.{◌≡◌, ◌<◌, ◌+◌, ◌-◌, ◌⊎◌, ℕ, List, [], ◌∷◌, ◌++◌, length, Contains, Option, Some}
 use Rattle.table_run.specs.State.{State as NetState}
 use Rattle.trace_text.specs.DumpParts.{part_bytes}
+use Rattle.flow_waits.specs.Waits.{waits_bytes}
 use Rattle.debugger.specs.declared.breaks.Break.{Break}
 use Rattle.debugger.specs.Breaks.{IsTakenOut}
 use Rattle.debugger.specs.Moves.{StepGoesTo, RunGoesTo, UntilGoesTo}
 use Rattle.debug_session.specs.declared.command.Command.{Command}
 use Rattle.debug_session.specs.declared.command.Command.TheVariants.{Step, Back, Until, Run, State, SetBreak, Clear}
 use Rattle.debug_session.specs.declared.command.Typed.{Typed}
-use Rattle.debug_session.specs.declared.command.Typed.TheVariants.{Plain, Part, Breaks, Delete, Lines, Help, HelpOn}
+use Rattle.debug_session.specs.declared.command.Typed.TheVariants.{Plain, Part, Why, Breaks, Delete, Lines, Help, HelpOn}
 use Rattle.debug_session.specs.declared.refusal.Refusal.TheVariants.{B4, B5, M}
 use Rattle.debug_session.specs.Answers.{Standing, Stays, Does, CanBeRefused, refusal_line}
 use Rattle.debug_session.specs.Help.{help_text, help_on}
@@ -51,6 +52,7 @@ DoesTyped start (Plain State) old new out = Does start State old new out
 DoesTyped start (Plain (SetBreak b)) old new out = SetsNumbered b old new out
 DoesTyped start (Plain Clear) old new out = Does start Clear old new out
 DoesTyped start (Part part) old new out = Stays old new out (part_bytes part old.shown)
+DoesTyped start (Why flow) old new out = Stays old new out (waits_bytes flow old.shown.state)
 DoesTyped start Breaks old new out = Stays old new out (listing old.breaks)
 DoesTyped start (Delete i) old new out = Deletes i old new out
 DoesTyped start (Lines count) old new out = Stays old new out (last_lines start old.shown.position count)
@@ -61,6 +63,7 @@ DoesTyped start (HelpOn name) old new out = Stays old new out (help_on name)
 abbrev pub TypedCanBeRefused : Typed → Standing → Type 0
 TypedCanBeRefused (Plain asked) old = CanBeRefused asked old
 TypedCanBeRefused (Part part) old = Unit {0}
+TypedCanBeRefused (Why flow) old = Unit {0}
 TypedCanBeRefused (Delete i) old = ⊥
 TypedCanBeRefused Breaks old = 0 < length old.breaks
 TypedCanBeRefused (Lines count) old = Unit {0}
@@ -81,6 +84,7 @@ last_after (Plain State) last = last
 last_after (Plain (SetBreak b)) last = last
 last_after (Plain Clear) last = last
 last_after (Part part) last = last
+last_after (Why flow) last = last
 last_after Breaks last = last
 last_after (Delete i) last = last
 last_after (Lines count) last = last

@@ -7,7 +7,7 @@ use Rattle.trace_text.specs.declared.dump.DumpPart.TheVariants as part
 use Rattle.debug_session.specs.declared.command.Command.TheVariants.{Step, Back, Until, Run, State, Clear}
 use Rattle.debug_session.specs.declared.command.Limits.{Limits}
 use Rattle.debug_session.specs.declared.command.Typed.{Typed}
-use Rattle.debug_session.specs.declared.command.Typed.TheVariants.{Plain, Part, Breaks, Delete, Lines, Help, HelpOn}
+use Rattle.debug_session.specs.declared.command.Typed.TheVariants.{Plain, Part, Why, Breaks, Delete, Lines, Help, HelpOn}
 use Rattle.debug_session.specs.declared.name.Name.{Name}
 use Rattle.debug_session.specs.declared.name.Name.TheVariants as name
 use Rattle.debug_session.specs.declared.refusal.Refusal.{Refusal}
@@ -67,6 +67,15 @@ abbrev pub state_asked : Limits → List Word → TypedReading
 state_asked limits [] = Ok (Plain State)
 state_asked limits (sort ∷ words) = part_asked limits sort words
 
+-- of `why`: the flow
+abbrev pub asks_why : Result ℕ Refusal → TypedReading
+asks_why (Ok flow) = Ok (Why flow)
+asks_why (Err refusal) = Err refusal
+
+-- the number of a flow, which is the only word behind `why`
+abbrev pub why_asked : Limits → List Word → TypedReading
+why_asked limits words = asks_why (one_number limits.flows words)
+
 -- of `lines`: how many
 abbrev pub lists : Result ℕ Refusal → TypedReading
 lists (Ok count) = Ok (Lines count)
@@ -101,6 +110,7 @@ command_typed limits (Some name.Delete) words = deletes (one_break_number words)
 command_typed limits (Some name.Clear) words = plain (alone Clear words)
 command_typed limits (Some name.Help) words = help_asked words
 command_typed limits (Some name.Quit) words = Err B2
+command_typed limits (Some name.Why) words = why_asked limits words
 
 -- nothing where there are no words
 abbrev pub typed_of : Limits → List Word → Option TypedReading

@@ -34,6 +34,8 @@ pub enum Typed {
     Plain(Command),
     /// Nothing but to see a part of the state.
     Part(DumpPart),
+    /// Nothing but to see what a flow waits for.
+    Why(u16),
     /// Nothing but to see the breakpoints.
     Breaks,
     /// To take away the breakpoint of this number.

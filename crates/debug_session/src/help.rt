@@ -7,7 +7,7 @@ use crate::name::Name;
 use std::alloc::AllocError;
 
 /// The commands, in the order in which they are told of.
-const ALL_NAMES: [Name; 12] = [
+const ALL_NAMES: [Name; 13] = [
     Name::Step,
     Name::Back,
     Name::Run,
@@ -18,6 +18,7 @@ const ALL_NAMES: [Name; 12] = [
     Name::Delete,
     Name::Clear,
     Name::Lines,
+    Name::Why,
     Name::Help,
     Name::Quit,
 ];
@@ -39,6 +40,7 @@ fn usage(name: Name) -> &'static [u8]
         Name::Delete => b"delete I     take breakpoint I away\n",
         Name::Clear => b"clear        take all breakpoints away\n",
         Name::Lines => b"lines [K]    show the last K lines of the trace (10)\n",
+        Name::Why => b"why F        tell what flow F waits for\n",
         Name::Help => b"help [NAME]  show this, or how NAME is used\n",
         Name::Quit => b"quit         end the session\n",
     }
@@ -59,6 +61,7 @@ fn example(name: Name) -> &'static [u8]
         Name::Delete => b"delete 1\n",
         Name::Clear => b"clear\n",
         Name::Lines => b"lines 20\n",
+        Name::Why => b"why 0\n",
         Name::Help => b"help until\n",
         Name::Quit => b"quit\n",
     }

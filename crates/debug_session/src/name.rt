@@ -30,6 +30,8 @@ pub enum Name {
     Help,
     /// The session ends.
     Quit,
+    /// What a flow waits for is shown.
+    Why,
 }
 
 /// Whether a word is the beginning of a name, or all of it.
@@ -67,6 +69,8 @@ pub(crate) fn name_of(word: &[u8]) -> Option<Name>
         Some(Name::Help)
     } else if begins(word, b"quit") {
         Some(Name::Quit)
+    } else if begins(word, b"why") {
+        Some(Name::Why)
     } else {
         None
     }

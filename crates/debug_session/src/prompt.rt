@@ -65,6 +65,7 @@ fn last_after(asked: Typed, last: Option<Command>) -> Option<Command>
         Typed::Plain(Command::SetBreak(_)) => last,
         Typed::Plain(Command::Clear) => last,
         Typed::Part(_) => last,
+        Typed::Why(_) => last,
         Typed::Breaks => last,
         Typed::Delete(_) => last,
         Typed::Lines(_) => last,

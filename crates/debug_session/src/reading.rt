@@ -2,7 +2,7 @@
 ghost use Rattle.std.specs.Prelude.{◌≡◌, ◌<◌, ◌≤◌, ◌^◌, ◌-◌, IfOk};
 ghost use Rattle.debug_session.specs.Grammar.{breakpoint};
 ghost use Rattle.debug_session.specs.Input.{words_in};
-ghost use Rattle.debug_session.specs.TypedGrammar.{number_or, one_moment, break_number, one_break_number, plain, tells_part, part_asked, state_asked, typed_alone, help_asked, command_typed, typed_reading};
+ghost use Rattle.debug_session.specs.TypedGrammar.{number_or, one_moment, break_number, one_break_number, plain, tells_part, part_asked, state_asked, why_asked, typed_alone, help_asked, command_typed, typed_reading};
 
 use crate::command::{Command, Limits, Typed};
 use crate::cut::next_word;
@@ -126,6 +126,14 @@ fn state_asked(limits: Limits, line: &[u8]) -> Result<Typed, Refusal>
     }
 }
 
+/// The flow that is asked about by the words behind `why`.
+fn why_asked(limits: Limits, line: &[u8]) -> Result<Typed, Refusal>
+    ensures { result ≡ why_asked limits (words_in line.now) }
+{
+    let flow = one_number(line, u64::from(limits.flows))?;
+    Ok(Typed::Why(flow as u16))
+}
+
 /// How many events are asked for.
 fn count_typed(line: &[u8]) -> Result<u64, Refusal>
     ensures { result ≡ number_or 1 1000000000000001 (words_in line.now) }
@@ -158,6 +166,7 @@ fn command_typed(limits: Limits, name: Option<Name>, rest: &[u8]) -> Result<Type
         Some(Name::Clear) => plain(alone(Command::Clear, rest)),
         Some(Name::Help) => help_asked(rest),
         Some(Name::Quit) => Err(Refusal::B2),
+        Some(Name::Why) => why_asked(limits, rest),
     }
 }
 

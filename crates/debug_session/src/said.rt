@@ -2,6 +2,7 @@
 ghost use Rattle.std.specs.Prelude.{◌≡◌, ◌<◌, ◌≤◌, ◌+◌, ◌++◌, [], OnOk, OnErr, length, drop, decimal};
 ghost use Rattle.trace_text.specs.Dump.{dump_bytes};
 ghost use Rattle.trace_text.specs.DumpParts.{part_bytes};
+ghost use Rattle.flow_waits.specs.Waits.{waits_bytes};
 ghost use Rattle.debugger.specs.Moves.{HasPosition};
 ghost use Rattle.debug_session.specs.Answers.{standing, refusal_line, break_line, clear_line};
 ghost use Rattle.debug_session.specs.Help.{help_text, help_on};
@@ -235,5 +236,15 @@ impl Said {
         self.dump.clear();
         self.is_short = false;
         debugger.part_text(part, &mut self.dump)
+    }
+
+    /// Answers what a flow waits for in the state that is shown. Where memory is refused, the answer
+    /// is empty.
+    pub(crate) fn say_why(&mut self, debugger: &Debugger, flow: u16) -> Result<(), AllocError>
+        ensures { OnOk result (self.new ≡ waits_bytes flow debugger.now.shown.state) }
+    {
+        self.dump.clear();
+        self.is_short = false;
+        debugger.waits_text(flow, &mut self.dump)
     }
 }

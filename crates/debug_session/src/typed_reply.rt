@@ -1,6 +1,7 @@
 //! A session's answer to a command that is typed.
 ghost use Rattle.std.specs.Prelude.{◌≡◌, ◌<◌, ◌≤◌, ◌⊎◌, ℕ, Contains, IfOk, MatchBool, MatchOption, OnErr, length};
 ghost use Rattle.trace_text.specs.DumpParts.{part_bytes};
+ghost use Rattle.flow_waits.specs.Waits.{waits_bytes};
 ghost use Rattle.debugger.specs.Moves.{HasPosition};
 ghost use Rattle.debug_session.specs.Answers.{standing, refusal_line};
 ghost use Rattle.debug_session.specs.Help.{help_text, help_on};
@@ -96,6 +97,16 @@ fn tell_part(debugger: &Debugger, part: DumpPart, said: &mut Said)
     ensures { (said.new ≡ part_bytes part debugger.now.shown) ⊎ (said.new ≡ refusal_line Refusal.M) }
 {
     match said.say_part(debugger, part) {
+        Ok(()) => {}
+        Err(_) => said.say_refused(Refusal::M),
+    }
+}
+
+/// Tells what a flow waits for.
+fn tell_why(debugger: &Debugger, flow: u16, said: &mut Said)
+    ensures { (said.new ≡ waits_bytes flow debugger.now.shown.state) ⊎ (said.new ≡ refusal_line Refusal.M) }
+{
+    match said.say_why(debugger, flow) {
         Ok(()) => {}
         Err(_) => said.say_refused(Refusal::M),
     }
@@ -215,6 +226,10 @@ pub(crate) fn obey_typed(
         Typed::Plain(command) => obey_plain(debugger, command, said),
         Typed::Part(part) => {
             tell_part(debugger, part, said);
+            None
+        }
+        Typed::Why(flow) => {
+            tell_why(debugger, flow, said);
             None
         }
         Typed::Breaks => {

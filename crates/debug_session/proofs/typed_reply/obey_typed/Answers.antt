@@ -3,7 +3,7 @@ use Rattle.debug_session.specs.declared.command.Typed.{Typed}
 use Rattle.debug_session.specs.declared.command.Typed.TheVariants.{Plain}
 use Rattle.debug_session.specs.Answers.{standing}
 use Rattle.debug_session.specs.TypedAnswers.{ObeysTyped}
-use Rattle.debug_session.proofs.Deleting.{part_told, help_told, help_on_told}
+use Rattle.debug_session.proofs.Deleting.{part_told, why_told, help_told, help_on_told}
 use Rattle.debug_session.proofs.Left.{typed_plain}
 use Rattle.debug_session.proofs.typed_reply.obey_typed.Goals as goal
 
@@ -26,6 +26,14 @@ returns-in-Part-clause-obeyed c =
 
 pub returns-in-Part-clause-start : goal.returns-in-Part-clause-start
 returns-in-Part-clause-start c = refl
+
+pub returns-in-Why-clause-obeyed : goal.returns-in-Why-clause-obeyed
+returns-in-Why-clause-obeyed c =
+    subst (λ (k : Typed). ObeysTyped c.args.debugger.now.start k (standing c.args.debugger.now) (standing c.args.debugger.now) c.tell_why.new.said) (sym c.in-Why.is)
+    (why_told c.args.debugger.now c.in-Why.flow c.tell_why.new.said c.tell_why.ensures)
+
+pub returns-in-Why-clause-start : goal.returns-in-Why-clause-start
+returns-in-Why-clause-start c = refl
 
 pub returns-in-Breaks-clause-obeyed : goal.returns-in-Breaks-clause-obeyed
 returns-in-Breaks-clause-obeyed c =
