@@ -22,7 +22,7 @@ from text import NUMBER
 
 STEPS = 8
 # How many of them the program has.
-BUILT = 5
+BUILT = 6
 PROMPT = '(tcpsim) '
 MOST_LINE = 65_536      # bytes
 MOST_SHOWN = 10         # lines that a move passed

@@ -1,20 +1,18 @@
 -- What follows where a line that is typed was read.
 use Rattle.std.proofs.Common.{◌≡◌, [], List, ℕ, Option, Some, None, Ok, Err, refl, sym, subst}
 use Rattle.table_run.specs.State.{State}
-use Rattle.debug_session.specs.declared.command.Command.{Command}
 use Rattle.debug_session.specs.declared.command.Limits.{Limits}
 use Rattle.debug_session.specs.declared.command.Typed.{Typed}
-use Rattle.debug_session.specs.declared.command.Typed.TheVariants.{Plain}
 use Rattle.debug_session.specs.declared.refusal.Refusal.{Refusal}
 use Rattle.debug_session.specs.Answers.{refusal_line}
 use Rattle.debug_session.specs.Prompt.{AtPrompt, ObeysAtPrompt, MovesAgain, FollowsTyped, AnswersTyped}
 use Rattle.debug_session.specs.TypedGrammar.{TypedReading, typed_reading}
 
 pub nothing_again : (start : State) (old : AtPrompt) (out : List ℕ) → old.last ≡ None → out ≡ [] → MovesAgain start old.last old old out
-nothing_again start old out none told = subst (λ (m : Option Command). MovesAgain start m old old out) (sym none) (record { same = refl; told = told })
+nothing_again start old out none told = subst (λ (m : Option Typed). MovesAgain start m old old out) (sym none) (record { same = refl; told = told })
 
-pub done_again : (start : State) (old new : AtPrompt) (out : List ℕ) (move : Command) → old.last ≡ Some move → ObeysAtPrompt start (Plain move) old new out → MovesAgain start old.last old new out
-done_again start old new out move is obeys = subst (λ (m : Option Command). MovesAgain start m old new out) (sym is) obeys
+pub done_again : (start : State) (old new : AtPrompt) (out : List ℕ) (move : Typed) → old.last ≡ Some move → ObeysAtPrompt start move old new out → MovesAgain start old.last old new out
+done_again start old new out move is obeys = subst (λ (m : Option Typed). MovesAgain start m old new out) (sym is) obeys
 
 module _ (limits : Limits) (start : State) (line : List ℕ) (old new : AtPrompt) (out : List ℕ) where
   pub is_again : None ≡ typed_reading limits line → MovesAgain start old.last old new out → AnswersTyped limits start line old new out

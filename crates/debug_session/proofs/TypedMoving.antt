@@ -21,8 +21,8 @@ use Rattle.debugger.proofs.Between.{one_line, length_between, between_parts}
 use Rattle.debugger.proofs.Walks.{has_earlier}
 use Rattle.debug_session.specs.declared.refusal.Refusal.TheVariants.{M}
 use Rattle.debug_session.specs.Answers.{Standing, standing, Stays, refusal_line}
-use Rattle.debug_session.specs.Told.{GoesBack, ToldMove, AddsPlace, AddsMove, told_hit, shown_stretch}
-use Rattle.debug_session.specs.TypedMoves.{passed, more_line, first_ten, last_time, place_line, where_line, hit_line, TellsMove, Moves}
+use Rattle.debug_session.specs.Told.{GoesBack, ToldPast, ToldMove, AddsPlace, AddsMove, told_hit, shown_stretch}
+use Rattle.debug_session.specs.TypedMoves.{passed, more_line, first_ten, last_time, place_line, where_line, hit_line, TellsPast, MovesPast}
 use Rattle.debug_session.proofs.Moved.{left_of, start_of, breaks_of}
 
 -- ten are as many as there are, where there are fewer
@@ -131,7 +131,7 @@ module _ (start : State) (m : ℕ) (at : Standing) (out made : List ℕ) (at_end
       let place : place_line 0 0 at_end ≡ where_line start at.shown =
       ap (λ n. place_line n (last_time 0 (lines_between start 0 n)) at_end) (sym none) ∙ ap (place_line at.shown.position (last_time 0 (lines_between start 0 at.shown.position))) end_is in (
         [],
-        record { forwards = λ under. absurd (omega (arith, under, none)); backwards = λ _. refl },
+        record { past = λ under. absurd (omega (arith, under, none)); before = λ _. refl },
         is ∙ ap (λ l. out ++ l) (place ∙ sym (append-nil (where_line start at.shown))),
       )
 
@@ -143,39 +143,43 @@ module _ (start : State) (m : ℕ) (at : Standing) (out made : List ℕ) (at_end
       let place : place_line p event.time at_end ≡ where_line start at.shown = ap (λ t. place_line p t at_end) time ∙ ap (place_line p (last_time 0 (lines_between start 0 p))) end_is in (
         matched,
         record {
-          forwards = λ under. record { line = last.line; given = last.given; hit = event.hit; first = last.first; told_is = ap (λ b. hit_line (if b then event.hit else None)) (lt-ltb m p under) };
-          backwards = λ past. ap (λ b. hit_line (if b then event.hit else None)) (le-ltb m p past);
+          past = λ under. record { line = last.line; given = last.given; hit = event.hit; first = last.first; told_is = ap (λ b. hit_line (if b then event.hit else None)) (lt-ltb m p under) };
+          before = λ past. ap (λ b. hit_line (if b then event.hit else None)) (le-ltb m p past);
         },
         is ∙ ap (λ l. out ++ (l ++ matched)) place,
       )
 
 -- what was passed, and then where that is
-pub move_told : (start : State) (m : ℕ) (at : Standing) (out made all : List ℕ) → made ≡ out ++ first_ten (passed start m at.shown.position) → AddsPlace start m at made all → AddsMove start m at out all
-move_told start m at out made all lines place =
+pub move_told : (start : State) (m bound : ℕ) (at : Standing) (out made all : List ℕ) → made ≡ out ++ first_ten (passed start m at.shown.position) → AddsPlace start bound at made all → AddsMove start m bound at out all
+move_told start m bound at out made all lines place =
     let texts = first_ten (passed start m at.shown.position) in
     let behind = where_line start at.shown ++ place.0 in
     (texts ++ behind, record { matched = place.0; matches = place.1; told = refl }, place.2 ∙ ap (λ l. l ++ behind) lines ∙ append_assoc out texts behind)
 
 -- the answer alone
-pub only_move : (start : State) (m : ℕ) (at : Standing) (out all : List ℕ) → out ≡ [] → AddsMove start m at out all → TellsMove start m at all
-only_move start m at out all none adds =
-    subst (TellsMove start m at) (sym (adds.2 ∙ ap (λ l. l ++ adds.0) none)) adds.1
+pub only_move : (start : State) (m bound : ℕ) (at : Standing) (out all : List ℕ) → out ≡ [] → AddsMove start m bound at out all → TellsPast start m bound at all
+only_move start m bound at out all none adds =
+    subst (TellsPast start m bound at) (sym (adds.2 ∙ ap (λ l. l ++ adds.0) none)) adds.1
 
 -- the move is told, or nothing changed and memory was refused
-abbrev pub WentOn : State → (ℕ → Type 0) → Standing → Standing → List ℕ → Type 0
-WentOn start goes old new out = Moves start goes old new out ⊎ (Unit {0} × Stays old new out (refusal_line M))
+abbrev pub WentPast : State → ℕ → (ℕ → Type 0) → Standing → Standing → List ℕ → Type 0
+WentPast start bound goes old new out = MovesPast start bound goes old new out ⊎ (Unit {0} × Stays old new out (refusal_line M))
 
-pub record GoneOn (goes : ℕ → Type 0) (old new : Debugging) (out : List ℕ) : Type 0 where
+pub record GonePast (bound : ℕ) (goes : ℕ → Type 0) (old new : Debugging) (out : List ℕ) : Type 0 where
   pub start : new.start ≡ old.start
-  pub went : WentOn old.start goes (standing old) (standing new) out
+  pub went : WentPast old.start bound goes (standing old) (standing new) out
+
+-- so a move that a breakpoint stops forwards alone
+abbrev pub GoneOn : (ℕ → Type 0) → Debugging → Debugging → List ℕ → Type 0
+GoneOn goes old new out = GonePast old.shown.position goes old new out
 
 -- where a move began the run has a position
 pub has_from : (old between : Debugging) (moved : Result ℕ MoveFault) (m : ℕ) → m ≡ old.shown.position → Passes old.start old.shown → IfOk moved (HasMoved old between) → OnErr moved (between ≡ old) → HasPosition between.start m
 has_from old between (Ok p) m is here has err = subst (λ (s : State). HasPosition s m) (sym (start_of old between p has)) (subst (HasPosition old.start) (sym is) (old.shown.state, here))
 has_from old between (Err fault) m is here has err = subst (λ (d : Debugging). HasPosition d.start m) (sym err) (subst (HasPosition old.start) (sym is) (old.shown.state, here))
 
-on_told : (goes : ℕ → Type 0) (old new : Debugging) (m p : ℕ) (out : List ℕ) → m ≡ old.shown.position → HasMoved old new p → goes p → TellsMove new.start m (standing new) out → GoneOn goes old new out
-on_told goes old new m p out is moved there told =
+on_told : (bound : ℕ) (goes : ℕ → Type 0) (old new : Debugging) (m b p : ℕ) (out : List ℕ) → m ≡ old.shown.position → b ≡ bound → HasMoved old new p → goes p → TellsPast new.start m b (standing new) out → GonePast bound goes old new out
+on_told bound goes old new m b p out is bound_is moved there told =
     let same = start_of old new p moved in
     record {
       start = same;
@@ -183,12 +187,14 @@ on_told goes old new m p out is moved there told =
         at = subst goes (sym moved.at) there;
         on_run = subst (λ (s : State). Passes s new.shown) same moved.on_run;
         breaks = breaks_of old new p moved;
-        told = subst (λ n. TellsMove old.start n (standing new) out) is (subst (λ (s : State). TellsMove s m (standing new) out) same told);
+        told =
+            subst (λ n. TellsPast old.start n bound (standing new) out) is
+            (subst (λ n. TellsPast old.start m n (standing new) out) bound_is (subst (λ (s : State). TellsPast s m b (standing new) out) same told));
       });
     }
 
-back_again : (goes : ℕ → Type 0) (old between new : Debugging) (p : ℕ) (out : List ℕ) → HasMoved old between p → GoesBack between new → out ≡ refusal_line M → GoneOn goes old new out
-back_again goes old between new p out moved back told =
+back_again : (bound : ℕ) (goes : ℕ → Type 0) (old between new : Debugging) (p : ℕ) (out : List ℕ) → HasMoved old between p → GoesBack between new → out ≡ refusal_line M → GonePast bound goes old new out
+back_again bound goes old between new p out moved back told =
     let undone : new ≡ record between { shown = old.shown; left = None } = back old.shown (left_of old between p moved) in
     let shown : new.shown ≡ old.shown = ap (λ (d : Debugging). d.shown) undone in
     let breaks : new.breaks ≡ old.breaks = ap (λ (d : Debugging). d.breaks) undone ∙ breaks_of old between p moved in
@@ -197,15 +203,20 @@ back_again goes old between new p out moved back told =
       went = inr (tt, record { same = λ i. record { shown = shown i; breaks = breaks i }; told = told });
     }
 
+pub gone_past : (bound : ℕ) (goes : ℕ → Type 0) (old between new : Debugging) (m b : ℕ) (moved : Result ℕ MoveFault) (out : List ℕ) → m ≡ old.shown.position → b ≡ bound
+    → IfOk moved (HasMoved old between) → IfOk moved goes → OnErr moved (between ≡ old)
+    → IfOk moved (λ _. ToldPast m b between new out) → OnErr moved ((new ≡ between) × (out ≡ refusal_line M)) → GonePast bound goes old new out
+gone_past bound goes old between new m b (Ok p) out is bound_is has there err told refused =
+    ⊎_elim
+    (λ (t : (new ≡ between) × TellsPast between.start m b (standing between) out).
+    subst (λ (d : Debugging). GonePast bound goes old d out) (sym t.0) (on_told bound goes old between m b p out is bound_is has there t.1))
+    (λ (t : GoesBack between new × (out ≡ refusal_line M)). back_again bound goes old between new p out has t.0 t.1)
+    told
+gone_past bound goes old between new m b (Err fault) out is bound_is has there err told refused =
+    let same = refused.0 ∙ err in
+    record { start = ap (λ (d : Debugging). d.start) same; went = inr (tt, record { same = ap standing same; told = refused.1 }) }
+
 pub gone_on : (goes : ℕ → Type 0) (old between new : Debugging) (m : ℕ) (moved : Result ℕ MoveFault) (out : List ℕ) → m ≡ old.shown.position
     → IfOk moved (HasMoved old between) → IfOk moved goes → OnErr moved (between ≡ old)
     → IfOk moved (λ _. ToldMove m between new out) → OnErr moved ((new ≡ between) × (out ≡ refusal_line M)) → GoneOn goes old new out
-gone_on goes old between new m (Ok p) out is has there err told refused =
-    ⊎_elim
-    (λ (t : (new ≡ between) × TellsMove between.start m (standing between) out).
-    subst (λ (d : Debugging). GoneOn goes old d out) (sym t.0) (on_told goes old between m p out is has there t.1))
-    (λ (t : GoesBack between new × (out ≡ refusal_line M)). back_again goes old between new p out has t.0 t.1)
-    told
-gone_on goes old between new m (Err fault) out is has there err told refused =
-    let same = refused.0 ∙ err in
-    record { start = ap (λ (d : Debugging). d.start) same; went = inr (tt, record { same = ap standing same; told = refused.1 }) }
+gone_on goes old between new m moved out is has there err told refused = gone_past old.shown.position goes old between new m m moved out is is has there err told refused

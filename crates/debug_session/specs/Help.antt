@@ -2,13 +2,14 @@
 use Rattle.std.specs.Prelude.{ℕ, List, [], ◌∷◌, ◌++◌, codes}
 use Rattle.std.specs.List.{flat_map}
 use Rattle.debug_session.specs.declared.name.Name.{Name}
-use Rattle.debug_session.specs.declared.name.Name.TheVariants.{Step, Back, Break, Breaks, Run, Until, State, Delete, Clear, Lines, Why, Help, Quit}
+use Rattle.debug_session.specs.declared.name.Name.TheVariants.{Step, Back, Break, Breaks, Run, Reverse, Until, State, Delete, Clear, Lines, Why, Help, Quit}
 
 -- how a command is used
 abbrev pub usage : Name → List ℕ
 usage Step = codes "step [K]     run the next K events (1)\n"
 usage Back = codes "back [K]     take the last K events back (1)\n"
 usage Run = codes "run          run until a breakpoint matches, or to the end\n"
+usage Reverse = codes "reverse      go back until a breakpoint matches, or to the beginning\n"
 usage Until = codes "until T      run all events before the moment T, as 1.5s, 20ms or 10000ns\n"
 usage State = codes "state [PART] show all of the state, or of it: node N, link L or flow F\n"
 usage Break = codes "break COND   stop where COND matches: node N, flow F, kind K, drop\n"
@@ -24,6 +25,7 @@ abbrev pub example : Name → List ℕ
 example Step = codes "step 10\n"
 example Back = codes "back 10\n"
 example Run = codes "run\n"
+example Reverse = codes "reverse\n"
 example Until = codes "until 20ms\n"
 example State = codes "state flow 0\n"
 example Break = codes "break kind rto\n"
@@ -36,7 +38,7 @@ example Help = codes "help until\n"
 example Quit = codes "quit\n"
 
 abbrev pub all_names : List Name
-all_names = Step ∷ Back ∷ Run ∷ Until ∷ State ∷ Break ∷ Breaks ∷ Delete ∷ Clear ∷ Lines ∷ Why ∷ Help ∷ Quit ∷ []
+all_names = Step ∷ Back ∷ Run ∷ Reverse ∷ Until ∷ State ∷ Break ∷ Breaks ∷ Delete ∷ Clear ∷ Lines ∷ Why ∷ Help ∷ Quit ∷ []
 
 -- one line a command, and one on the empty line
 abbrev pub help_text : List ℕ

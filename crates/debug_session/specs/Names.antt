@@ -2,13 +2,13 @@
 use Rattle.std.specs.Prelude.{ℕ, nat_eq, Bool, if◌then◌else◌, List, codes, Option, None, Some}
 use Rattle.std.specs.List.{starts_with}
 use Rattle.debug_session.specs.declared.name.Name.{Name}
-use Rattle.debug_session.specs.declared.name.Name.TheVariants.{Step, Back, Break, Breaks, Run, Until, State, Lines, Delete, Clear, Help, Quit, Why}
+use Rattle.debug_session.specs.declared.name.Name.TheVariants.{Step, Back, Break, Breaks, Run, Reverse, Until, State, Lines, Delete, Clear, Help, Quit, Why}
 
 -- a word is the beginning of a name, or all of it
 abbrev pub begins : List ℕ → List ℕ → Bool
 begins word name = starts_with nat_eq name word
 
--- so `s` means step, `sta` state, `b` back, `br` break, and `breaks` alone breaks
+-- so `s` means step, `sta` state, `r` run, `re` reverse, `b` back, `br` break, and `breaks` alone breaks
 abbrev pub name_of : List ℕ → Option Name
 name_of word =
     if begins word (codes "step") then Some Step
@@ -16,6 +16,7 @@ name_of word =
     else (if begins word (codes "break") then Some Break
     else (if begins word (codes "breaks") then Some Breaks
     else (if begins word (codes "run") then Some Run
+    else (if begins word (codes "reverse") then Some Reverse
     else (if begins word (codes "until") then Some Until
     else (if begins word (codes "state") then Some State
     else (if begins word (codes "lines") then Some Lines
@@ -24,4 +25,4 @@ name_of word =
     else (if begins word (codes "help") then Some Help
     else (if begins word (codes "quit") then Some Quit
     else (if begins word (codes "why") then Some Why
-    else None))))))))))))
+    else None)))))))))))))

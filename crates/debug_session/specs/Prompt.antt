@@ -2,10 +2,8 @@
 use Rattle.std.specs.Prelude.{◌≡◌, ◌⊎◌, ℕ, nat_lt, nat_eq, Bool, true, false, not, MatchBool, if◌then◌else◌, List, [], ◌∷◌, ◌++◌, length, map, codes, Option, None, Some, Ok, Err}
 use Rattle.std.specs.List.{list_all, starts_with}
 use Rattle.table_run.specs.State.{State}
-use Rattle.debug_session.specs.declared.command.Command.{Command}
 use Rattle.debug_session.specs.declared.command.Limits.{Limits}
 use Rattle.debug_session.specs.declared.command.Typed.{Typed as TypedCommand}
-use Rattle.debug_session.specs.declared.command.Typed.TheVariants.{Plain}
 use Rattle.debug_session.specs.declared.dialogue.Dialogue.{Dialogue}
 use Rattle.debug_session.specs.declared.refusal.Refusal.TheVariants.{B2}
 use Rattle.debug_session.specs.Answers.{Standing, standing, refusal_line}
@@ -15,10 +13,10 @@ use Rattle.debug_session.specs.Taking.{Takes}
 use Rattle.debug_session.specs.TypedAnswers.{ObeysTyped, last_after}
 use Rattle.debug_session.specs.TypedGrammar.{TypedReading, typed_reading}
 
--- where a session at a prompt stands, with the last move: the last of `step`, `back`, `run` and `until` that was read
+-- where a session at a prompt stands, with the last move: the last of `step`, `back`, `run`, `reverse` and `until` that was read
 pub record AtPrompt : Type 0 where
   pub standing : Standing
-  pub last : Option Command
+  pub last : Option TypedCommand
 
 abbrev pub at_prompt : Dialogue → AtPrompt
 at_prompt d = record { standing = standing d.debugger; last = d.last }
@@ -52,9 +50,9 @@ pub record ObeysAtPrompt (start : State) (asked : TypedCommand) (old new : AtPro
   pub last : new.last ≡ last_after asked old.last
 
 -- the last move is done again, where there was one
-abbrev pub MovesAgain : State → Option Command → AtPrompt → AtPrompt → List ℕ → Type 0
+abbrev pub MovesAgain : State → Option TypedCommand → AtPrompt → AtPrompt → List ℕ → Type 0
 MovesAgain start None old new out = Rests old new out []
-MovesAgain start (Some move) old new out = ObeysAtPrompt start (Plain move) old new out
+MovesAgain start (Some move) old new out = ObeysAtPrompt start move old new out
 
 abbrev pub FollowsTyped : State → Option TypedReading → AtPrompt → AtPrompt → List ℕ → Type 0
 FollowsTyped start None old new out = MovesAgain start old.last old new out

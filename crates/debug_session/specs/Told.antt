@@ -9,7 +9,7 @@ use Rattle.debugger.specs.declared.passed.Stretch.{Stretch}
 use Rattle.debugger.specs.Debugging.{Debugging}
 use Rattle.debug_session.specs.declared.refusal.Refusal.TheVariants.{M}
 use Rattle.debug_session.specs.Answers.{Standing, standing, refusal_line}
-use Rattle.debug_session.specs.TypedMoves.{where_line, TellsMatch, TellsMove}
+use Rattle.debug_session.specs.TypedMoves.{where_line, TellsMatch, TellsPast}
 
 -- the state that the last move left is shown again
 abbrev pub GoesBack : Debugging → Debugging → Type 0
@@ -19,21 +19,25 @@ GoesBack old new = (was : Reached) → old.left ≡ Some was → new ≡ record 
 abbrev pub Told : Debugging → Debugging → List ℕ → Type 0
 Told old new out = ((new ≡ old) × (out ≡ dump_bytes old.shown)) ⊎ (GoesBack old new × (out ≡ refusal_line M))
 
--- a move from a position is told, or that memory was refused, and then it is undone
-abbrev pub ToldMove : ℕ → Debugging → Debugging → List ℕ → Type 0
-ToldMove m old new out = ((new ≡ old) × TellsMove old.start m (standing old) out) ⊎ (GoesBack old new × (out ≡ refusal_line M))
+-- a move from a position is told with a breakpoint past a bound, or that memory was refused, and then it is undone
+abbrev pub ToldPast : ℕ → ℕ → Debugging → Debugging → List ℕ → Type 0
+ToldPast m bound old new out = ((new ≡ old) × TellsPast old.start m bound (standing old) out) ⊎ (GoesBack old new × (out ≡ refusal_line M))
 
--- where a session stands after a move, and which breakpoint stopped it, behind other bytes
+-- and so one that a breakpoint stops forwards alone
+abbrev pub ToldMove : ℕ → Debugging → Debugging → List ℕ → Type 0
+ToldMove m old new out = ToldPast m m old new out
+
+-- where a session stands after a move, and past a bound which breakpoint stopped it, behind other bytes
 abbrev pub AddsPlace : NetState → ℕ → Standing → List ℕ → List ℕ → Type 0
-AddsPlace start m at old new = (matched : List ℕ) × TellsMatch start at.breaks m at.shown.position matched × (new ≡ old ++ (where_line start at.shown ++ matched))
+AddsPlace start bound at old new = (matched : List ℕ) × TellsMatch start at.breaks bound at.shown.position matched × (new ≡ old ++ (where_line start at.shown ++ matched))
 
 -- a move's answer behind other bytes
-abbrev pub AddsMove : NetState → ℕ → Standing → List ℕ → List ℕ → Type 0
-AddsMove start m at old new = (told : List ℕ) × TellsMove start m at told × (new ≡ old ++ told)
+abbrev pub AddsMove : NetState → ℕ → ℕ → Standing → List ℕ → List ℕ → Type 0
+AddsMove start m bound at old new = (told : List ℕ) × TellsPast start m bound at told × (new ≡ old ++ told)
 
--- the breakpoint that is told after a move
+-- the breakpoint that is told at a position
 abbrev pub told_hit : ℕ → ℕ → Option Hit → Option Hit
-told_hit m p hit = if nat_lt m p then hit else None
+told_hit bound p hit = if nat_lt bound p then hit else None
 
 -- the lines that a move shows of those that it passed
 abbrev pub shown_stretch : ℕ → ℕ → Stretch

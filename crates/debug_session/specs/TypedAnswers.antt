@@ -5,16 +5,15 @@ use Rattle.trace_text.specs.DumpParts.{part_bytes}
 use Rattle.flow_waits.specs.Waits.{waits_bytes}
 use Rattle.debugger.specs.declared.breaks.Break.{Break}
 use Rattle.debugger.specs.Breaks.{IsTakenOut}
-use Rattle.debugger.specs.Moves.{StepGoesTo, RunGoesTo, UntilGoesTo}
-use Rattle.debug_session.specs.declared.command.Command.{Command}
+use Rattle.debugger.specs.Moves.{StepGoesTo, RunGoesTo, ReverseGoesTo, UntilGoesTo}
 use Rattle.debug_session.specs.declared.command.Command.TheVariants.{Step, Back, Until, Run, State, SetBreak, Clear}
 use Rattle.debug_session.specs.declared.command.Typed.{Typed}
-use Rattle.debug_session.specs.declared.command.Typed.TheVariants.{Plain, Part, Why, Breaks, Delete, Lines, Help, HelpOn}
+use Rattle.debug_session.specs.declared.command.Typed.TheVariants.{Plain, Reverse, Part, Why, Breaks, Delete, Lines, Help, HelpOn}
 use Rattle.debug_session.specs.declared.refusal.Refusal.TheVariants.{B4, B5, M}
 use Rattle.debug_session.specs.Answers.{Standing, Stays, Does, CanBeRefused, refusal_line}
 use Rattle.debug_session.specs.Help.{help_text, help_on}
 use Rattle.debug_session.specs.Numbered.{IsNumber, HasNumber, set_line, deleted_line, listing}
-use Rattle.debug_session.specs.TypedMoves.{Moves, last_lines}
+use Rattle.debug_session.specs.TypedMoves.{MovesPast, Moves, last_lines}
 
 -- a breakpoint that is not set yet joins the others, as the last of them
 pub record JoinsLast (b : Break) (old new : Standing) (out : List ℕ) : Type 0 where
@@ -51,6 +50,7 @@ DoesTyped start (Plain Run) old new out = Moves start (RunGoesTo start old.break
 DoesTyped start (Plain State) old new out = Does start State old new out
 DoesTyped start (Plain (SetBreak b)) old new out = SetsNumbered b old new out
 DoesTyped start (Plain Clear) old new out = Does start Clear old new out
+DoesTyped start Reverse old new out = MovesPast start 0 (ReverseGoesTo start old.breaks old.shown.position) old new out
 DoesTyped start (Part part) old new out = Stays old new out (part_bytes part old.shown)
 DoesTyped start (Why flow) old new out = Stays old new out (waits_bytes flow old.shown.state)
 DoesTyped start Breaks old new out = Stays old new out (listing old.breaks)
@@ -62,6 +62,7 @@ DoesTyped start (HelpOn name) old new out = Stays old new out (help_on name)
 -- the command can be refused for want of memory or of workers, or as too many events were run
 abbrev pub TypedCanBeRefused : Typed → Standing → Type 0
 TypedCanBeRefused (Plain asked) old = CanBeRefused asked old
+TypedCanBeRefused Reverse old = Unit {0}
 TypedCanBeRefused (Part part) old = Unit {0}
 TypedCanBeRefused (Why flow) old = Unit {0}
 TypedCanBeRefused (Delete i) old = ⊥
@@ -75,14 +76,15 @@ abbrev pub ObeysTyped : NetState → Typed → Standing → Standing → List �
 ObeysTyped start asked old new out = DoesTyped start asked old new out ⊎ (TypedCanBeRefused asked old × Stays old new out (refusal_line M))
 
 -- the last move, once a command was read
-abbrev pub last_after : Typed → Option Command → Option Command
-last_after (Plain (Step count)) last = Some (Step count)
-last_after (Plain (Back count)) last = Some (Back count)
-last_after (Plain (Until time)) last = Some (Until time)
-last_after (Plain Run) last = Some Run
+abbrev pub last_after : Typed → Option Typed → Option Typed
+last_after (Plain (Step count)) last = Some (Plain (Step count))
+last_after (Plain (Back count)) last = Some (Plain (Back count))
+last_after (Plain (Until time)) last = Some (Plain (Until time))
+last_after (Plain Run) last = Some (Plain Run)
 last_after (Plain State) last = last
 last_after (Plain (SetBreak b)) last = last
 last_after (Plain Clear) last = last
+last_after Reverse last = Some Reverse
 last_after (Part part) last = last
 last_after (Why flow) last = last
 last_after Breaks last = last

@@ -7,7 +7,7 @@ use Rattle.trace_text.specs.declared.dump.DumpPart.TheVariants as part
 use Rattle.debug_session.specs.declared.command.Command.TheVariants.{Step, Back, Until, Run, State, Clear}
 use Rattle.debug_session.specs.declared.command.Limits.{Limits}
 use Rattle.debug_session.specs.declared.command.Typed.{Typed}
-use Rattle.debug_session.specs.declared.command.Typed.TheVariants.{Plain, Part, Why, Breaks, Delete, Lines, Help, HelpOn}
+use Rattle.debug_session.specs.declared.command.Typed.TheVariants.{Plain, Reverse, Part, Why, Breaks, Delete, Lines, Help, HelpOn}
 use Rattle.debug_session.specs.declared.name.Name.{Name}
 use Rattle.debug_session.specs.declared.name.Name.TheVariants as name
 use Rattle.debug_session.specs.declared.refusal.Refusal.{Refusal}
@@ -103,6 +103,7 @@ command_typed limits (Some name.Back) words = plain (with_number Back (number_or
 command_typed limits (Some name.Break) words = plain (breakpoint limits words)
 command_typed limits (Some name.Breaks) words = typed_alone Breaks words
 command_typed limits (Some name.Run) words = plain (alone Run words)
+command_typed limits (Some name.Reverse) words = typed_alone Reverse words
 command_typed limits (Some name.Until) words = plain (with_number Until (one_moment words))
 command_typed limits (Some name.State) words = state_asked limits words
 command_typed limits (Some name.Lines) words = lists (number_or 10 1001 words)

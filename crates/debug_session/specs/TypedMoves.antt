@@ -56,23 +56,31 @@ pub record TellsHit (start : NetState) (breaks : List Break) (p : ℕ) (told : L
   pub first : IsFirstHit breaks line hit
   pub told_is : told ≡ hit_line hit
 
--- it is told after a move forwards, and after no other
-pub record TellsMatch (start : NetState) (breaks : List Break) (m p : ℕ) (told : List ℕ) : Type 0 where
-  pub forwards : m < p → TellsHit start breaks p told
-  pub backwards : p ≤ m → told ≡ []
+-- it is told at a position past a bound, and at no other
+pub record TellsMatch (start : NetState) (breaks : List Break) (bound p : ℕ) (told : List ℕ) : Type 0 where
+  pub past : bound < p → TellsHit start breaks p told
+  pub before : p ≤ bound → told ≡ []
 
--- a move from a position is told: the lines that it passed, where it came to, and which breakpoint stopped it
-pub record TellsMove (start : NetState) (m : ℕ) (at : Standing) (out : List ℕ) : Type 0 where
+-- a move from a position m is told: the lines that it passed, where it came to, and past a bound which breakpoint matches there
+pub record TellsPast (start : NetState) (m bound : ℕ) (at : Standing) (out : List ℕ) : Type 0 where
   pub matched : List ℕ
-  pub matches : TellsMatch start at.breaks m at.shown.position matched
+  pub matches : TellsMatch start at.breaks bound at.shown.position matched
   pub told : out ≡ first_ten (passed start m at.shown.position) ++ (where_line start at.shown ++ matched)
 
+-- which one stopped it, where a breakpoint stops it forwards alone
+abbrev pub TellsMove : NetState → ℕ → Standing → List ℕ → Type 0
+TellsMove start m at out = TellsPast start m m at out
+
 -- the state at a position that the move goes to is shown, and the move is told
-pub record Moves (start : NetState) (goes : ℕ → Type 0) (old new : Standing) (out : List ℕ) : Type 0 where
+pub record MovesPast (start : NetState) (bound : ℕ) (goes : ℕ → Type 0) (old new : Standing) (out : List ℕ) : Type 0 where
   pub at : goes new.shown.position
   pub on_run : Passes start new.shown
   pub breaks : new.breaks ≡ old.breaks
-  pub told : TellsMove start old.shown.position new out
+  pub told : TellsPast start old.shown.position bound new out
+
+-- a breakpoint is told after a move forwards, and after no other
+abbrev pub Moves : NetState → (ℕ → Type 0) → Standing → Standing → List ℕ → Type 0
+Moves start goes old new out = MovesPast start old.shown.position goes old new out
 
 -- the last so many lines up to a position
 abbrev pub last_lines : NetState → ℕ → ℕ → List ℕ

@@ -32,6 +32,8 @@ pub enum Command {
 pub enum Typed {
     /// What a session whose lines are all there from the start is asked too.
     Plain(Command),
+    /// Back until a breakpoint matches.
+    Reverse,
     /// Nothing but to see a part of the state.
     Part(DumpPart),
     /// Nothing but to see what a flow waits for.

@@ -3,7 +3,7 @@ ghost use Rattle.std.specs.Prelude.{◌≡◌, IfOk, None};
 ghost use Rattle.debugger.specs.Debugging.{opened};
 ghost use Rattle.table_run.specs.State.{opening};
 
-use crate::command::Command;
+use crate::command::Typed;
 use debugger::Debugger;
 
 /// A debugger at a prompt.
@@ -12,7 +12,7 @@ pub struct Dialogue {
     /// The debugger.
     pub debugger: Debugger,
     /// The last move that was asked for, which an empty line asks for again.
-    pub last: Option<Command>,
+    pub last: Option<Typed>,
 }
 
 impl Dialogue {

@@ -7,10 +7,11 @@ use crate::name::Name;
 use std::alloc::AllocError;
 
 /// The commands, in the order in which they are told of.
-const ALL_NAMES: [Name; 13] = [
+const ALL_NAMES: [Name; 14] = [
     Name::Step,
     Name::Back,
     Name::Run,
+    Name::Reverse,
     Name::Until,
     Name::State,
     Name::Break,
@@ -31,6 +32,7 @@ fn usage(name: Name) -> &'static [u8]
         Name::Step => b"step [K]     run the next K events (1)\n",
         Name::Back => b"back [K]     take the last K events back (1)\n",
         Name::Run => b"run          run until a breakpoint matches, or to the end\n",
+        Name::Reverse => b"reverse      go back until a breakpoint matches, or to the beginning\n",
         Name::Until => {
             b"until T      run all events before the moment T, as 1.5s, 20ms or 10000ns\n"
         }
@@ -54,6 +56,7 @@ fn example(name: Name) -> &'static [u8]
         Name::Step => b"step 10\n",
         Name::Back => b"back 10\n",
         Name::Run => b"run\n",
+        Name::Reverse => b"reverse\n",
         Name::Until => b"until 20ms\n",
         Name::State => b"state flow 0\n",
         Name::Break => b"break kind rto\n",

@@ -16,6 +16,8 @@ pub enum Name {
     Breaks,
     /// Events are run until a breakpoint matches.
     Run,
+    /// Events are taken back until a breakpoint matches.
+    Reverse,
     /// Events are run until a moment.
     Until,
     /// The state is shown.
@@ -55,6 +57,8 @@ pub(crate) fn name_of(word: &[u8]) -> Option<Name>
         Some(Name::Breaks)
     } else if begins(word, b"run") {
         Some(Name::Run)
+    } else if begins(word, b"reverse") {
+        Some(Name::Reverse)
     } else if begins(word, b"until") {
         Some(Name::Until)
     } else if begins(word, b"state") {

@@ -53,17 +53,18 @@ pub fn is_refusal(said: &[u8]) -> bool
 }
 
 /// The last move, once a command was read.
-fn last_after(asked: Typed, last: Option<Command>) -> Option<Command>
+fn last_after(asked: Typed, last: Option<Typed>) -> Option<Typed>
     ensures { result ≡ answers.last_after asked last }
 {
     match asked {
-        Typed::Plain(Command::Step(count)) => Some(Command::Step(count)),
-        Typed::Plain(Command::Back(count)) => Some(Command::Back(count)),
-        Typed::Plain(Command::Until(time)) => Some(Command::Until(time)),
-        Typed::Plain(Command::Run) => Some(Command::Run),
+        Typed::Plain(Command::Step(_)) => Some(asked),
+        Typed::Plain(Command::Back(_)) => Some(asked),
+        Typed::Plain(Command::Until(_)) => Some(asked),
+        Typed::Plain(Command::Run) => Some(asked),
         Typed::Plain(Command::State) => last,
         Typed::Plain(Command::SetBreak(_)) => last,
         Typed::Plain(Command::Clear) => last,
+        Typed::Reverse => Some(asked),
         Typed::Part(_) => last,
         Typed::Why(_) => last,
         Typed::Breaks => last,
@@ -96,7 +97,7 @@ fn move_again(dialogue: &mut Dialogue, said: &mut Said) -> Option<WindowMove>
             said.clear();
             None
         }
-        Some(command) => obey_at_prompt(dialogue, Typed::Plain(command), said),
+        Some(asked) => obey_at_prompt(dialogue, asked, said),
     }
 }
 

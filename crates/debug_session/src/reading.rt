@@ -159,6 +159,7 @@ fn command_typed(limits: Limits, name: Option<Name>, rest: &[u8]) -> Result<Type
         Some(Name::Break) => plain(breakpoint(limits, rest)),
         Some(Name::Breaks) => typed_alone(Typed::Breaks, rest),
         Some(Name::Run) => plain(alone(Command::Run, rest)),
+        Some(Name::Reverse) => typed_alone(Typed::Reverse, rest),
         Some(Name::Until) => Ok(Typed::Plain(Command::Until(one_moment(rest)?))),
         Some(Name::State) => state_asked(limits, rest),
         Some(Name::Lines) => Ok(Typed::Lines(lines_typed(rest)?)),

@@ -7,7 +7,7 @@ ghost use Rattle.debugger.specs.Moves.{HasPosition};
 ghost use Rattle.debug_session.specs.Answers.{standing, refusal_line, break_line, clear_line};
 ghost use Rattle.debug_session.specs.Help.{help_text, help_on};
 ghost use Rattle.debug_session.specs.Numbered.{set_line, deleted_line, listing};
-ghost use Rattle.debug_session.specs.TypedMoves.{TellsMove, last_lines};
+ghost use Rattle.debug_session.specs.TypedMoves.{TellsPast, last_lines};
 
 use crate::help::{append_help, append_help_on};
 use crate::name::Name;
@@ -197,15 +197,21 @@ impl Said {
         append_help_on(&mut self.dump, name)
     }
 
-    /// Answers a move from a position. On a fault the answer is a part of that.
-    pub(crate) fn say_move(&mut self, debugger: &mut Debugger, from: u64) -> Result<(), MoveFault>
+    /// Answers a move from a position, with a breakpoint where it came past a bound. On a fault the
+    /// answer is a part of that.
+    pub(crate) fn say_move(
+        &mut self,
+        debugger: &mut Debugger,
+        from: u64,
+        bound: u64,
+    ) -> Result<(), MoveFault>
         requires { HasPosition debugger.old.start from }
-        ensures ok { OnOk result (TellsMove debugger.old.start from (standing debugger.old) self.new) }
+        ensures ok { OnOk result (TellsPast debugger.old.start from bound (standing debugger.old) self.new) }
         ensures same { debugger.new ≡ debugger.old }
     {
         self.dump.clear();
         self.is_short = false;
-        append_move(&mut self.dump, debugger, from)
+        append_move(&mut self.dump, debugger, from, bound)
     }
 
     /// Answers the last so many lines of the trace. On a fault the answer is a part of that.

@@ -149,31 +149,32 @@ fn append_hit(out: &mut Vec<u8>, hit: Option<Hit>) -> Result<(), MoveFault>
     }
 }
 
-/// The breakpoint that is told after a move: only one forwards is stopped by it.
-fn told_hit(from: u64, to: u64, hit: Option<Hit>) -> Option<Hit>
-    ensures { result ≡ told_hit from to hit }
+/// The breakpoint that is told at a position: none up to a bound, which is where the move began
+/// unless a breakpoint stops it backwards too.
+fn told_hit(bound: u64, position: u64, hit: Option<Hit>) -> Option<Hit>
+    ensures { result ≡ told_hit bound position hit }
 {
-    if from < to { hit } else { None }
+    if bound < position { hit } else { None }
 }
 
-/// Appends a position with the event before it, and the breakpoint that stopped a move there.
+/// Appends a position with the event before it, and past a bound the breakpoint that matches there.
 fn append_event(
     out: &mut Vec<u8>,
-    from: u64,
+    bound: u64,
     position: u64,
     event: LastEvent,
     at_end: bool,
 ) -> Result<(), MoveFault>
-    ensures { OnOk result (out.new.items ≡ out.old.items ++ (place_line position event.time at_end ++ hit_line (told_hit from position event.hit))) }
+    ensures { OnOk result (out.new.items ≡ out.old.items ++ (place_line position event.time at_end ++ hit_line (told_hit bound position event.hit))) }
 {
     append_place(out, position, event.time, at_end)?;
-    append_hit(out, told_hit(from, position, event.hit))
+    append_hit(out, told_hit(bound, position, event.hit))
 }
 
-/// Appends where a session stands after a move from a position, and the breakpoint that stopped it.
+/// Appends where a session stands, and past a bound the breakpoint that matches there.
 #[tactic(none)]
-fn append_where(out: &mut Vec<u8>, debugger: &mut Debugger, from: u64) -> Result<(), MoveFault>
-    ensures ok { OnOk result (AddsPlace debugger.old.start from (standing debugger.old) out.old.items out.new.items) }
+fn append_where(out: &mut Vec<u8>, debugger: &mut Debugger, bound: u64) -> Result<(), MoveFault>
+    ensures ok { OnOk result (AddsPlace debugger.old.start bound (standing debugger.old) out.old.items out.new.items) }
     ensures same { debugger.new ≡ debugger.old }
 {
     let at_end = debugger.is_at_end();
@@ -182,25 +183,26 @@ fn append_where(out: &mut Vec<u8>, debugger: &mut Debugger, from: u64) -> Result
         append_place(out, 0, 0, at_end)
     } else {
         match debugger.last_event() {
-            Ok(event) => append_event(out, from, position, event, at_end),
+            Ok(event) => append_event(out, bound, position, event, at_end),
             Err(fault) => Err(fault),
         }
     }
 }
 
-/// Appends what a move from a position answers.
+/// Appends what a move from a position answers, with a breakpoint where it came past a bound.
 #[tactic(none)]
 pub(crate) fn append_move(
     out: &mut Vec<u8>,
     debugger: &mut Debugger,
     from: u64,
+    bound: u64,
 ) -> Result<(), MoveFault>
     requires { HasPosition debugger.old.start from }
-    ensures ok { OnOk result (AddsMove debugger.old.start from (standing debugger.old) out.old.items out.new.items) }
+    ensures ok { OnOk result (AddsMove debugger.old.start from bound (standing debugger.old) out.old.items out.new.items) }
     ensures same { debugger.new ≡ debugger.old }
 {
     match append_passed(out, debugger, from) {
-        Ok(()) => append_where(out, debugger, from),
+        Ok(()) => append_where(out, debugger, bound),
         Err(fault) => Err(fault),
     }
 }

@@ -6,9 +6,9 @@ ghost use Rattle.debugger.specs.Moves.{HasPosition};
 ghost use Rattle.debug_session.specs.Answers.{standing, refusal_line};
 ghost use Rattle.debug_session.specs.Help.{help_text, help_on};
 ghost use Rattle.debug_session.specs.Numbered.{IsNumber, HasNumber, set_line};
-ghost use Rattle.debug_session.specs.Told.{ToldMove};
+ghost use Rattle.debug_session.specs.Told.{ToldPast, ToldMove};
 ghost use Rattle.debug_session.specs.TypedAnswers.{ObeysTyped};
-ghost use Rattle.debug_session.specs.TypedMoves.{TellsMove};
+ghost use Rattle.debug_session.specs.TypedMoves.{TellsPast};
 ghost use Rattle.debug_session.specs.WindowMoves.{IsAsked, IsTyped};
 
 use crate::command::{Command, Typed};
@@ -132,14 +132,15 @@ fn tell_help_on(name: Name, said: &mut Said)
     }
 }
 
-/// Tells a move from a position. The answer is whether it could be told.
+/// Tells a move from a position, with a breakpoint where it came past a bound. The answer is whether
+/// it could be told.
 #[tactic(none)]
-fn tell_move(debugger: &mut Debugger, from: u64, said: &mut Said) -> bool
+fn tell_move(debugger: &mut Debugger, from: u64, bound: u64, said: &mut Said) -> bool
     requires { HasPosition debugger.old.start from }
-    ensures told { MatchBool result (TellsMove debugger.old.start from (standing debugger.old) said.new) (said.new ≡ refusal_line Refusal.M) }
+    ensures told { MatchBool result (TellsPast debugger.old.start from bound (standing debugger.old) said.new) (said.new ≡ refusal_line Refusal.M) }
     ensures same { debugger.new ≡ debugger.old }
 {
-    match said.say_move(debugger, from) {
+    match said.say_move(debugger, from, bound) {
         Ok(()) => true,
         Err(_) => {
             said.say_refused(Refusal::M);
@@ -148,7 +149,32 @@ fn tell_move(debugger: &mut Debugger, from: u64, said: &mut Said) -> bool
     }
 }
 
-/// Tells what a move from a position came to. Where that cannot be told, the move is undone.
+/// Tells what a move from a position came to, with a breakpoint past a bound. Where that cannot be
+/// told, the move is undone.
+#[tactic(none)]
+fn show_past(
+    debugger: &mut Debugger,
+    from: u64,
+    bound: u64,
+    moved: Result<u64, MoveFault>,
+    said: &mut Said,
+)
+    requires { HasPosition debugger.old.start from }
+    ensures told { IfOk moved (λ _. ToldPast from bound debugger.old debugger.new said.new) }
+    ensures refused { OnErr moved ((debugger.new ≡ debugger.old) × (said.new ≡ refusal_line Refusal.M)) }
+{
+    match moved {
+        Ok(_) => {
+            if !tell_move(debugger, from, bound, said) {
+                let _undone = debugger.undo_move();
+            }
+        }
+        Err(_) => said.say_refused(Refusal::M),
+    }
+}
+
+/// Tells what a move from a position came to, with a breakpoint where it went forwards. Where that
+/// cannot be told, the move is undone.
 #[tactic(none)]
 pub(crate) fn show_passed(
     debugger: &mut Debugger,
@@ -160,14 +186,18 @@ pub(crate) fn show_passed(
     ensures told { IfOk moved (λ _. ToldMove from debugger.old debugger.new said.new) }
     ensures refused { OnErr moved ((debugger.new ≡ debugger.old) × (said.new ≡ refusal_line Refusal.M)) }
 {
-    match moved {
-        Ok(_) => {
-            if !tell_move(debugger, from, said) {
-                let _undone = debugger.undo_move();
-            }
-        }
-        Err(_) => said.say_refused(Refusal::M),
-    }
+    show_past(debugger, from, from, moved, said);
+}
+
+/// Goes back until a breakpoint matches, and tells that one.
+#[tactic(none)]
+fn reverse(debugger: &mut Debugger, said: &mut Said)
+    ensures obeyed { ObeysTyped debugger.old.start Typed.Reverse (standing debugger.old) (standing debugger.new) said.new }
+    ensures start { debugger.new.start ≡ debugger.old.start }
+{
+    let from = debugger.position();
+    let moved = debugger.reverse();
+    show_past(debugger, from, 0, moved, said);
 }
 
 /// Tells the last so many lines of the trace.
@@ -224,6 +254,10 @@ pub(crate) fn obey_typed(
 {
     match asked {
         Typed::Plain(command) => obey_plain(debugger, command, said),
+        Typed::Reverse => {
+            reverse(debugger, said);
+            None
+        }
         Typed::Part(part) => {
             tell_part(debugger, part, said);
             None

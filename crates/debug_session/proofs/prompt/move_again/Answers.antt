@@ -1,5 +1,4 @@
 use Rattle.std.proofs.Common.{refl}
-use Rattle.debug_session.specs.declared.command.Typed.TheVariants.{Plain}
 use Rattle.debug_session.specs.Prompt.{ObeysAtPrompt, MovesAgain, at_prompt}
 use Rattle.debug_session.proofs.Followed.{nothing_again, done_again}
 use Rattle.debug_session.proofs.Left.{typed_as}
@@ -15,8 +14,8 @@ pub returns-in-Some-clause-moves : goal.returns-in-Some-clause-moves
 returns-in-Some-clause-moves c =
     let start = c.args.dialogue.now.debugger.start in
     let old = at_prompt c.args.dialogue.now in
-    typed_as c.args.dialogue.now c.obey_at_prompt.new.dialogue (ObeysAtPrompt start (Plain c.in-Some.command) old) (MovesAgain start old.last old) c.obey_at_prompt.result c.obey_at_prompt.new.said
-    (λ at said obeys. done_again start old at said c.in-Some.command c.in-Some.is obeys) c.obey_at_prompt.ensures.obeys
+    typed_as c.args.dialogue.now c.obey_at_prompt.new.dialogue (ObeysAtPrompt start c.in-Some.asked old) (MovesAgain start old.last old) c.obey_at_prompt.result c.obey_at_prompt.new.said
+    (λ at said obeys. done_again start old at said c.in-Some.asked c.in-Some.is obeys) c.obey_at_prompt.ensures.obeys
 
 pub returns-in-Some-clause-start : goal.returns-in-Some-clause-start
 returns-in-Some-clause-start c = c.obey_at_prompt.ensures.start

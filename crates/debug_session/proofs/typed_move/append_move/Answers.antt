@@ -15,9 +15,9 @@ returns-in-Ok-clause-ok c =
     let out = c.args.out.now.items in
     let made = c.append_passed.new.out.items in
     let all = c.append_where.new.out.items in
-    on_ok {P = AddsPlace d.start c.args.from (standing d) made all} {Q = AddsMove d.start c.args.from (standing d) out all} c.append_where.result
-    (λ place. move_told d.start c.args.from (standing d) out made all c.in-Ok.ensures.ok place)
-    (subst (λ (e : Debugging). OnOk c.append_where.result (AddsPlace e.start c.args.from (standing e) made all)) c.append_passed.ensures.same c.append_where.ensures.ok)
+    on_ok {P = AddsPlace d.start c.args.bound (standing d) made all} {Q = AddsMove d.start c.args.from c.args.bound (standing d) out all} c.append_where.result
+    (λ place. move_told d.start c.args.from c.args.bound (standing d) out made all c.in-Ok.ensures.ok place)
+    (subst (λ (e : Debugging). OnOk c.append_where.result (AddsPlace e.start c.args.bound (standing e) made all)) c.append_passed.ensures.same c.append_where.ensures.ok)
 
 pub returns-in-Ok-clause-same : goal.returns-in-Ok-clause-same
 returns-in-Ok-clause-same c = c.append_where.ensures.same ∙ c.append_passed.ensures.same

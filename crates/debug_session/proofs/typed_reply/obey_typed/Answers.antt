@@ -19,6 +19,13 @@ returns-in-Plain-clause-obeyed c =
 pub returns-in-Plain-clause-start : goal.returns-in-Plain-clause-start
 returns-in-Plain-clause-start c = c.obey_plain.ensures.start
 
+pub returns-in-Reverse-clause-obeyed : goal.returns-in-Reverse-clause-obeyed
+returns-in-Reverse-clause-obeyed c =
+    subst (λ (k : Typed). ObeysTyped c.args.debugger.now.start k (standing c.args.debugger.now) (standing c.reverse.new.debugger) c.reverse.new.said) (sym c.in-Reverse.is) c.reverse.ensures.obeyed
+
+pub returns-in-Reverse-clause-start : goal.returns-in-Reverse-clause-start
+returns-in-Reverse-clause-start c = c.reverse.ensures.start
+
 pub returns-in-Part-clause-obeyed : goal.returns-in-Part-clause-obeyed
 returns-in-Part-clause-obeyed c =
     subst (λ (k : Typed). ObeysTyped c.args.debugger.now.start k (standing c.args.debugger.now) (standing c.args.debugger.now) c.tell_part.new.said) (sym c.in-Part.is)
