@@ -1,9 +1,12 @@
 #!/usr/bin/env python3
-"""Measures the built program and writes bench/RESULTS.md: bench/measure.py [--jobs N] [--program PATH] [NAME ..]
+"""Measures the built program and writes bench/RESULTS.md:
+bench/measure.py [--jobs N] [--program PATH] [--priority P] [--alone] [NAME ..]
 
 Run by `make bench`. With names of scenarios (bench/scenarios.py) only what their events cost is counted
 and printed. Instructions and bytes of heap are counted by valgrind and do not depend on the machine's
-speed. Seconds do, and say only what the machine at hand did.
+speed. Seconds do, and say only what the machine at hand did. On a machine with other work a real-time priority
+keeps a core for the timed runs (as root). With --alone the sections of images, of workers and of ns-2 stay as
+they are; else they are made anew too.
 """
 import argparse
 import os
@@ -31,6 +34,8 @@ FLOWS = (  # name, delayed acknowledgement in nanoseconds, losses
     ('the same, delayed ACKs', 200_000_000, LOSSES),
 )
 UNDER_WAY = (40, 400, 4_000)
+# Segments of a run of 10^8 events, whose figures are to take so many seconds at most.
+LONGEST, FIGURED = 25_000_000, 10
 # Each scenario, what it is, and the most instructions that one of its events is to cost.
 BARS = (
     ('one_flow', 'one flow, 100 Mbit/s, 1 ms each way', 1_000),
@@ -43,6 +48,8 @@ BARS = (
     ('tree', '100 flows through a tree of routers, one bottleneck', 1_300),
     ('chain', 'one flow through a chain of 16 routers', 1_000),
 )
+# The sections of bench/RESULTS.md that other scripts make, behind this one's.
+OTHERS = re.compile(r'\n## (?!What ).*', re.S)
 DHAT = ('valgrind', '--tool=dhat', '--dhat-out-file=/dev/null')
 Case = namedtuple('Case', 'name segments path')
 Run = namedtuple('Run', 'name segments events packets written resident seconds instructions heap')
@@ -100,14 +107,23 @@ def watch(path):
     return number(r'end (\d+)\n$', tail.decode()), packets, written, memory
 
 
-def seconds(path):
-    """The least of three runs."""
+def seconds(path, before, subcommand='run', runs=3):
+    """The least of three runs, or of so many."""
     took = []
-    for _ in range(3):
+    for _ in range(runs):
         begin = time.perf_counter()
-        run(path)
+        run(path, before, subcommand)
         took.append(time.perf_counter() - begin)
     return min(took)
+
+
+def longest(before):
+    """How many events a long run has, and the seconds of it and of its figures."""
+    path = saved('longest', text(LONGEST))
+    with open(path) as scenario:
+        table = subprocess.run([PROGRAM, 'figures'], stdin=scenario, capture_output=True, text=True, env=ENVIRONMENT,
+                               check=True).stdout
+    return number(r'run,,events,events,(\d+)', table), *(seconds(path, before, it, 1) for it in ('run', 'figures'))
 
 
 def without_text(path):
@@ -165,9 +181,9 @@ def cost_table(rows):
                        within(r.figures, r.bare + ABOVE)) for r in rows])
 
 
-def measured(cases, jobs):
+def measured(cases, jobs, before):
     """Times the cases one after another, then counts, which may run side by side."""
-    seen = [(*watch(c.path), seconds(c.path)) for c in cases]
+    seen = [(*watch(c.path), seconds(c.path, before)) for c in cases]
     with ThreadPoolExecutor(jobs) as pool:
         counts = list(pool.map(lambda c: run(c.path, CALLGRIND), cases))
         heaps = list(pool.map(lambda c: run(c.path, DHAT), cases))
@@ -179,7 +195,7 @@ def told(*command):
     return subprocess.run(command, capture_output=True, text=True, check=True).stdout.strip()
 
 
-def report(start, runs, crowded, networks):
+def report(start, runs, crowded, networks, long):
     def an_event(r):
         return (r.instructions - start.instructions) / (r.events - start.events)
 
@@ -220,6 +236,11 @@ def report(start, runs, crowded, networks):
         ('Flow', 'Segments', 'Seconds', 'Packets sent a second', 'Events a second', 'Resident memory (VmHWM), bytes'),
         [(r.name, f'{r.segments:,}', f'{r.seconds:.3f}', f'{r.packets / r.seconds:,.0f}',
           f'{r.events / r.seconds:,.0f}', f'{r.resident:,}') for r in runs])
+    events, whole, figures = long
+    yield f'A flow of {LONGEST:,} segments, {events:,} events, once:\n'
+    yield from table(('', 'Seconds', 'At most', 'Within'),
+                     [('`run`', f'{whole:.2f}', '', ''),
+                      ('`figures`', f'{figures:.2f}', f'{FIGURED}', within(figures, FIGURED))])
 
 
 def build():
@@ -239,6 +260,8 @@ def words_of():
                        help='count these scenarios only, and write nothing: ' + ', '.join(name for name, *_ in BARS))
     words.add_argument('--jobs', type=int, default=os.cpu_count(), help='counts that run side by side')
     words.add_argument('--program', help='else the built one, which is built where it is not there')
+    words.add_argument('--priority', type=int, help='the real-time priority of the timed runs, 1 to 99')
+    words.add_argument('--alone', action='store_true', help='leave the sections of images, workers and ns-2 as they are')
     return words.parse_args()
 
 
@@ -255,17 +278,22 @@ def main():
     if given.names:
         print('\n'.join(cost_table(list(costs(given.names, given.jobs)))))
         return
+    before = ('chrt', '-f', str(given.priority)) if given.priority else ()
     start, *runs = measured(
         [case('start', 1, text(1, end=1))]
         + [case(name, n, text(n, delack, losses)) for name, delack, losses in FLOWS for n in (FEW, MANY)]
         + [case(f'{w} under way', FEW, text(FEW, link='10000000000 100000000 droptail 65535', window=w))
-           for w in UNDER_WAY], given.jobs)
+           for w in UNDER_WAY], given.jobs, before)
     crowded = runs[-len(UNDER_WAY):]
     networks = list(costs([name for name, *_ in BARS], given.jobs))
-    results = '\n'.join(report(start, runs[:-len(UNDER_WAY)], crowded, networks))
+    results = '\n'.join(report(start, runs[:-len(UNDER_WAY)], crowded, networks, longest(before))).rstrip('\n') + '\n'
+    with open(RESULTS) as file:
+        made_by_others = OTHERS.search(file.read())
     with open(RESULTS, 'w') as file:
-        file.write(results.rstrip('\n') + '\n')
+        file.write(results + (made_by_others[0] if made_by_others else ''))
     print(results)
+    if given.alone:
+        return
     images.main([f'--program={PROGRAM}'])
     workers.main([f'--program={PROGRAM}'])
     if beside_ns2.installed():
