@@ -30,11 +30,13 @@ fn links(alloc: Global, ends: &[(u16, u16)]) -> Result<Vec<LinkPart>, AllocError
     Ok(links)
 }
 
-// Segments of 1,000 bytes from the beginning on, so many over each of these ways.
-fn flows_over(
+// Segments of 1,000 bytes from the beginning on, so many over each of these ways, with a receiver's
+// window of so many bytes.
+fn flows_within(
     alloc: Global,
     ways: &[(u16, u16)],
     segments: u32,
+    rwnd: u32,
 ) -> Result<Vec<FlowPart>, AllocError> {
     let mut flows = Vec::new(alloc);
     for (sender, receiver) in ways {
@@ -44,12 +46,21 @@ fn flows_over(
             mss: 1_000,
             segments,
             start: 0,
-            rwnd: 64_000,
+            rwnd,
             delack: 0,
             variant: RENO,
         })?;
     }
     Ok(flows)
+}
+
+// The same with a window of 64,000 bytes.
+fn flows_over(
+    alloc: Global,
+    ways: &[(u16, u16)],
+    segments: u32,
+) -> Result<Vec<FlowPart>, AllocError> {
+    flows_within(alloc, ways, segments, 64_000)
 }
 
 // The routes of router 2: for which end, over which link.
@@ -111,6 +122,19 @@ pub(super) fn one_flow(alloc: Global, segments: u32) -> Result<Scenario, Fail> {
 pub(super) fn two_flows(alloc: Global, segments: u32) -> Result<Scenario, Fail> {
     let links = links(alloc, &[(0, 1), (1, 0), (2, 3), (3, 2)])?;
     let flows = flows_over(alloc, &[(0, 1), (2, 3)], segments)?;
+    scenario(
+        1_000_000_000,
+        pairs(alloc, 2)?,
+        links,
+        flows,
+        Vec::new(alloc),
+    )
+}
+
+/// The same, with windows of 8 segments, so that nothing is lost and the links are always busy.
+pub(super) fn steady_flows(alloc: Global, segments: u32) -> Result<Scenario, Fail> {
+    let links = links(alloc, &[(0, 1), (1, 0), (2, 3), (3, 2)])?;
+    let flows = flows_within(alloc, &[(0, 1), (2, 3)], segments, 8_000)?;
     scenario(
         1_000_000_000,
         pairs(alloc, 2)?,
