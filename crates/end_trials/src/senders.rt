@@ -1,19 +1,14 @@
 //! Worked rows, the caps, and the limits of fields.
 ghost use Rattle.sim_time.specs.Moment.{IsMoment};
 
-use reno_sender::{Iw, Plan, Sender, SenderFields, Timing, Variant, after_sample};
-use sim_time::Time;
+use reno_sender::{Plan, Sender, SenderFields, SenderSettings, Timing, Variant, after_sample};
+use sim_time::{RENO, Time};
 use std::process::Abort;
 use std::test::Fail;
 
-const RENO: Variant = Variant {
-    newreno: false,
-    iw: Iw::Iw3,
-};
-
 const NEWRENO: Variant = Variant {
     newreno: true,
-    iw: Iw::Iw3,
+    ..RENO
 };
 
 /// Ten segments of 1,000 bytes in flight.
@@ -124,7 +119,12 @@ fn samples_give_the_timeout(rt: HostRuntime) {
 
 #[test]
 fn a_flow_starts_with_the_initial_window(rt: HostRuntime) {
-    let mut sender = Sender::new(1_000, 10, 64_000, RENO);
+    let mut sender = Sender::new(SenderSettings {
+        mss: 1_000,
+        segments: 10,
+        rwnd: 64_000,
+        variant: RENO,
+    });
     let plan = sender.start(0);
     assert_eq!(rt; (plan.resent(), plan.first(), plan.count()), (None, 0, 4));
     sender.commit(plan);

@@ -2,8 +2,10 @@
 ghost use Rattle.std.specs.Prelude.{◌≡◌, IfSome, length};
 
 use byteorder::{BigEndian, ByteOrder};
-use scenario_image::{FlowPart, LinkPart, NodeKind, QueueKind, Records, RoutePart, ScenarioParts};
-use sim_time::{Iw, Variant};
+use scenario_image::layout::{CODEL, LOST, VARIANT};
+use scenario_image::{
+    FlowPart, LinkPart, NodeKind, Records, RoutePart, ScenarioParts, plain_flow, plain_link,
+};
 use std::alloc::{AllocError, Global};
 
 /// The bytes that are still to be read.
@@ -83,43 +85,27 @@ fn read_node(left: &mut Left<'_>) -> Option<NodeKind> {
 
 /// The next link, without how its queue drops and which packets it loses.
 fn read_link(alloc: Global, left: &mut Left<'_>) -> Option<LinkPart> {
-    let from = left.short()?;
-    let to = left.short()?;
-    let rate = left.long()?;
-    let delay = left.long()?;
+    let mut part = plain_link(alloc, left.short()?, left.short()?);
+    part.rate = left.long()?;
+    part.delay = left.long()?;
     let _queue = left.byte()?;
-    let capacity = left.short()?;
-    let _codel = left.take(18)?;
+    part.capacity = left.short()?;
+    let _codel = left.take(CODEL)?;
     let lost = left.byte()?;
-    let _lose = left.take(4 * usize::from(lost))?;
-    Some(LinkPart {
-        from,
-        to,
-        rate,
-        delay,
-        queue: QueueKind::DropTail,
-        capacity,
-        lose: Records::new(Vec::new(alloc)),
-    })
+    let _lose = left.take(LOST * usize::from(lost))?;
+    Some(part)
 }
 
 /// The next flow, as one of the first variant.
 fn read_flow(has_variants: bool, left: &mut Left<'_>) -> Option<FlowPart> {
-    let part = FlowPart {
-        sender: left.short()?,
-        receiver: left.short()?,
-        mss: left.short()?,
-        segments: left.number()?,
-        start: left.long()?,
-        rwnd: left.number()?,
-        delack: left.number()?,
-        variant: Variant {
-            newreno: false,
-            iw: Iw::Iw3,
-        },
-    };
+    let mut part = plain_flow(left.short()?, left.short()?);
+    part.mss = left.short()?;
+    part.segments = left.number()?;
+    part.start = left.long()?;
+    part.rwnd = left.number()?;
+    part.delack = left.number()?;
     if has_variants {
-        let _variant = left.byte()?;
+        let _variant = left.take(VARIANT)?;
     }
     Some(part)
 }

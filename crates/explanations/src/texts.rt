@@ -1,7 +1,7 @@
 //! The texts.
 
 /// What each code means.
-pub(crate) const TEXTS: [&str; 25] = [
+pub(crate) const TEXTS: [&str; 26] = [
     "E1: a byte of the line is outside 0x20 to 0x7E, also one in its comment
 
 A text has the bytes from 0x20 (space) to 0x7E (~), and line feeds between its lines. A tab, a
@@ -415,7 +415,7 @@ Right is:
     "B1: no command has this name, or no sort of breakpoint
 
 The commands are step, back, until, run, state, break and clear; a breakpoint is of a node, a flow, a
-kind or a drop. The session goes on.
+kind or a drop. At a prompt there are more of both, and `help` lists them. The session goes on.
 
 Refused, with the answer `refused B1`, where one.txt is the text that `tcpsim explain E2` ends with:
 
@@ -428,7 +428,9 @@ Right is:
     "B2: the number of words is another
 
 `step`, `back` and `until` want a number; `run`, `state` and `clear` stand alone; `break node`, `break
-flow` and `break kind` want one word more, and `break drop` none. The session goes on.
+flow` and `break kind` want one word more, and `break drop` none. At a prompt a number of events or of
+lines can be left out, and a breakpoint has each sort of condition once; a line there has at most 65,536
+bytes. The session goes on.
 
 Refused, with the answer `refused B2`, where one.txt is the text that `tcpsim explain E2` ends with:
 
@@ -441,7 +443,8 @@ Right is:
     "B3: a word is no number, or out of its range; there is no such node, flow or kind
 
 A number is decimal digits without a leading zero, and counts and moments are from 0 to
-1000000000000000. The kinds are start, rto, delack, free, data and ack. The session goes on.
+1000000000000000. The kinds are start, rto, delack, free, data and ack. At a prompt a moment can have a
+unit, as 1.5s, 20ms, 3us or 10ns, and is in whole nanoseconds. The session goes on.
 
 Refused, with the answer `refused B3`, where one.txt is the text that `tcpsim explain E2` ends with:
 
@@ -465,6 +468,19 @@ Right is:
 
     $ tcpsim-net tree --flows 40 > many.txt
     $ { cat many.txt; echo ---; seq -f 'break node %g' 0 63; } | tcpsim debug
+",
+    "B5: there is no breakpoint of this number
+
+`delete` is a command at a prompt, and takes one breakpoint away. They have the numbers from 1 on, which
+`breaks` lists; where one is taken away, those behind it move up. The session goes on.
+
+Refused, with the note `refused B5`, where one.txt is the text that `tcpsim explain E2` ends with:
+
+    $ printf 'delete 1\\n' | tcpsim debug one.txt
+
+Right is:
+
+    $ printf 'break drop\\ndelete 1\\n' | tcpsim debug one.txt
 ",
     "M: there was no memory, the run has more than 10^15 events, or a worker could not be started or did not give back what it ran
 

@@ -19,9 +19,9 @@ window_bounds mss Iw3 least most = (grind (arith, nat_tests), grind (arith, nat_
 window_bounds mss Iw10 least most = (omega arith, omega arith)
 
 pub opening_sound : OpeningIsSound
-opening_sound mss segments rwnd variant flow =
-    let zero_whole : 0 % mss ≡ 0 = multiple_zero mss flow.mss_least in
-    let window : (mss ≤ initial_window_of mss variant.iw) × (initial_window_of mss variant.iw ≤ 90000) = window_bounds mss variant.iw flow.mss_least flow.mss_most in
+opening_sound s flow =
+    let zero_whole : 0 % s.mss ≡ 0 = multiple_zero s.mss flow.mss_least in
+    let window : (s.mss ≤ initial_window_of s.mss s.variant.iw) × (initial_window_of s.mss s.variant.iw ≤ 90000) = window_bounds s.mss s.variant.iw flow.mss_least flow.mss_most in
     record {
       mss_least = flow.mss_least;
       mss_most = flow.mss_most;
@@ -76,10 +76,10 @@ pub timed_out_keeps : TimeoutKeeps
 timed_out_keeps f now sound moment set = timed_out_row_keeps f now sound moment set
 
 pub reachable_sound : ReachableIsSound
-reachable_sound mss segments rwnd variant f flow (opening e) = subst IsSound (sym e) (opening_sound mss segments rwnd variant flow)
-reachable_sound mss segments rwnd variant g flow (by_start {f} now from moment e) =
-    subst IsSound (sym e) (started_keeps f now (reachable_sound mss segments rwnd variant f flow from) moment).sound
-reachable_sound mss segments rwnd variant g flow (by_acknowledgement {f} ack now from moment is_ack e) =
-    subst IsSound (sym e) (acknowledged_keeps f ack now (reachable_sound mss segments rwnd variant f flow from) moment is_ack).sound
-reachable_sound mss segments rwnd variant g flow (by_timeout {f} now from moment set e) =
-    subst IsSound (sym e) (timed_out_keeps f now (reachable_sound mss segments rwnd variant f flow from) moment set).sound
+reachable_sound s f flow (opening e) = subst IsSound (sym e) (opening_sound s flow)
+reachable_sound s g flow (by_start {f} now from moment e) =
+    subst IsSound (sym e) (started_keeps f now (reachable_sound s f flow from) moment).sound
+reachable_sound s g flow (by_acknowledgement {f} ack now from moment is_ack e) =
+    subst IsSound (sym e) (acknowledged_keeps f ack now (reachable_sound s f flow from) moment is_ack).sound
+reachable_sound s g flow (by_timeout {f} now from moment set e) =
+    subst IsSound (sym e) (timed_out_keeps f now (reachable_sound s f flow from) moment set).sound

@@ -2,7 +2,7 @@
 use Rattle.std.specs.Prelude.{◌≡◌, ◌≤◌, ◌<◌, ◌+◌, ◌*◌, ◌⊎◌, ◌↔◌, ℕ, IsTrue, true, false, min, List, length, Contains, Option, None, Some, IsSome, IfSome}
 use Rattle.std.specs.List.{AllByRecursion}
 use Rattle.sim_time.specs.Moment.{IsMoment}
-use Rattle.sim_time.specs.declared.variant.Variant.{Variant}
+use Rattle.sim_time.specs.declared.settings.SenderSettings.{SenderSettings}
 use Rattle.reno_sender.specs.declared.fields.SenderFields.{SenderFields}
 use Rattle.reno_sender.specs.Fields.{IsSound, IsMultiple, total}
 use Rattle.reno_sender.specs.Sending.{Planned, filling}
@@ -56,26 +56,26 @@ TimeoutKeeps =
     RowKeeps f (timed_out f now).fields (timed_out f now).sent now
 
 -- the ranges of a flow
-pub record IsFlow (mss segments rwnd : ℕ) : Type 0 where
-  pub mss_least : 1 ≤ mss
-  pub mss_most : mss ≤ 9000
-  pub segments_least : 1 ≤ segments
-  pub segments_most : segments ≤ 1000000000
-  pub rwnd_least : mss ≤ rwnd
-  pub rwnd_most : rwnd ≤ 1073741824
+pub record IsFlow (s : SenderSettings) : Type 0 where
+  pub mss_least : 1 ≤ s.mss
+  pub mss_most : s.mss ≤ 9000
+  pub segments_least : 1 ≤ s.segments
+  pub segments_most : s.segments ≤ 1000000000
+  pub rwnd_least : s.mss ≤ s.rwnd
+  pub rwnd_most : s.rwnd ≤ 1073741824
 
 abbrev pub OpeningIsSound : Type 0
-OpeningIsSound = (mss segments rwnd : ℕ) (variant : Variant) → IsFlow mss segments rwnd → IsSound (opening_fields mss segments rwnd variant)
+OpeningIsSound = (s : SenderSettings) → IsFlow s → IsSound (opening_fields s)
 
 -- the states that events lead to from the opening of a flow
-pub data IsReachable (mss segments rwnd : ℕ) (variant : Variant) : SenderFields → Type 0 where
-  opening : {f : SenderFields} → f ≡ opening_fields mss segments rwnd variant → IsReachable mss segments rwnd variant f
-  by_start : {f g : SenderFields} (now : ℕ) → IsReachable mss segments rwnd variant f → IsMoment now → g ≡ (started f now).fields → IsReachable mss segments rwnd variant g
-  by_acknowledgement : {f g : SenderFields} (ack now : ℕ) → IsReachable mss segments rwnd variant f → IsMoment now → IsAckFor f ack now → g ≡ (acknowledged f ack now).fields → IsReachable mss segments rwnd variant g
-  by_timeout : {f g : SenderFields} (now : ℕ) → IsReachable mss segments rwnd variant f → IsMoment now → IsSome f.deadline → g ≡ (timed_out f now).fields → IsReachable mss segments rwnd variant g
+pub data IsReachable (s : SenderSettings) : SenderFields → Type 0 where
+  opening : {f : SenderFields} → f ≡ opening_fields s → IsReachable s f
+  by_start : {f g : SenderFields} (now : ℕ) → IsReachable s f → IsMoment now → g ≡ (started f now).fields → IsReachable s g
+  by_acknowledgement : {f g : SenderFields} (ack now : ℕ) → IsReachable s f → IsMoment now → IsAckFor f ack now → g ≡ (acknowledged f ack now).fields → IsReachable s g
+  by_timeout : {f g : SenderFields} (now : ℕ) → IsReachable s f → IsMoment now → IsSome f.deadline → g ≡ (timed_out f now).fields → IsReachable s g
 
 abbrev pub ReachableIsSound : Type 0
-ReachableIsSound = (mss segments rwnd : ℕ) (variant : Variant) (f : SenderFields) → IsFlow mss segments rwnd → IsReachable mss segments rwnd variant f → IsSound f
+ReachableIsSound = (s : SenderSettings) (f : SenderFields) → IsFlow s → IsReachable s f → IsSound f
 
 -- filling sends the segments from nxt on, before the flow's end, that end within both windows, and no others
 abbrev pub FillIsAllAllowed : Type 0

@@ -6,20 +6,20 @@ use Rattle.reno_sender.specs.Fields.{total, flight_size}
 use Rattle.reno_sender.specs.Timer.{Estimate, sampled, backed_off}
 use Rattle.reno_sender.specs.Sending.{Planned, sending, filling}
 use Rattle.sim_time.specs.InitialWindow.{initial_window_of}
-use Rattle.sim_time.specs.declared.variant.Variant.{Variant}
+use Rattle.sim_time.specs.declared.settings.SenderSettings.{SenderSettings}
 
 -- at first: nothing sent, the initial window, no round trip measured (RFC 5681 section 3.1, RFC 6298 section 2.1)
-abbrev pub opening_fields : ℕ → ℕ → ℕ → Variant → SenderFields
-opening_fields mss segments rwnd variant = record {
-  mss = mss;
-  segments = segments;
-  rwnd = rwnd;
-  variant = variant;
+abbrev pub opening_fields : SenderSettings → SenderFields
+opening_fields s = record {
+  mss = s.mss;
+  segments = s.segments;
+  rwnd = s.rwnd;
+  variant = s.variant;
   una = 0;
   nxt = 0;
   high = 0;
-  cwnd = initial_window_of mss variant.iw;
-  ssthresh = rwnd;
+  cwnd = initial_window_of s.mss s.variant.iw;
+  ssthresh = s.rwnd;
   dups = 0;
   lt = 0;
   recovery = false;

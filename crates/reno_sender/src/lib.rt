@@ -18,5 +18,5 @@ pub mod window;
 pub use fields::{SenderFields, Timing};
 pub use plan::Plan;
 pub use sender::Sender;
-pub use sim_time::{Iw, Variant};
+pub use sim_time::{Iw, SenderSettings, Variant};
 pub use timer::after_sample;

@@ -13,7 +13,7 @@ use crate::plan::Plan;
 use crate::soundness::is_sound;
 use crate::timeout::timed_out;
 use crate::timer::LEAST_RTO;
-use sim_time::{Time, Variant, initial_window};
+use sim_time::{SenderSettings, Time, initial_window};
 use std::marker::Model;
 
 /// The sender of one flow: Reno or NewReno.
@@ -37,21 +37,21 @@ impl Model for Sender {
 
 impl Sender {
     /// A sender that has sent nothing yet (RFC 5681 section 3.1, RFC 6298 section 2.1).
-    pub fn new(mss: u64, segments: u64, rwnd: u64, variant: Variant) -> Self
-        requires { IsFlow mss segments rwnd }
-        ensures { result ≡ opening_fields mss segments rwnd variant }
+    pub fn new(settings: SenderSettings) -> Self
+        requires { IsFlow settings }
+        ensures { result ≡ opening_fields settings }
     {
         Sender {
             fields: SenderFields {
-                mss,
-                segments,
-                rwnd,
-                variant,
+                mss: settings.mss,
+                segments: settings.segments,
+                rwnd: settings.rwnd,
+                variant: settings.variant,
                 una: 0,
                 nxt: 0,
                 high: 0,
-                cwnd: initial_window(mss, variant.iw),
-                ssthresh: rwnd,
+                cwnd: initial_window(settings.mss, settings.variant.iw),
+                ssthresh: settings.rwnd,
                 dups: 0,
                 lt: 0,
                 recovery: false,
@@ -139,6 +139,15 @@ impl Sender {
     pub fn commit(&mut self, plan: Plan)
         requires { IsPlanOf self.old plan }
         ensures { self.new ≡ plan.fields }
+    {
+        self.fields = *plan.as_fields();
+    }
+
+    /// Does what was planned, as `commit` does, by a plan that is lent: it is copied once.
+    #[inline(always)]
+    pub fn commit_lent(&mut self, plan: &Plan)
+        requires { IsPlanOf self.old plan.now }
+        ensures { self.new ≡ plan.now.fields }
     {
         self.fields = *plan.as_fields();
     }

@@ -5,8 +5,8 @@ use Rattle.sim_time.specs.declared.variant.Iw.{Iw}
 use Rattle.sim_time.specs.declared.variant.Iw.TheVariants.{Iw3, Iw10}
 use Rattle.scenario_image.specs.declared.parts.NodeKind.{NodeKind}
 use Rattle.scenario_image.specs.declared.parts.NodeKind.TheVariants.{Sender, Receiver, Router}
-use Rattle.scenario_image.specs.declared.parts.QueueKind.{QueueKind}
-use Rattle.scenario_image.specs.declared.parts.QueueKind.TheVariants.{DropTail, Codel}
+use Rattle.sim_time.specs.declared.queue_kind.QueueKind.{QueueKind}
+use Rattle.sim_time.specs.declared.queue_kind.QueueKind.TheVariants.{DropTail, Codel}
 use Rattle.scenario_asm.specs.declared.statement.Statement.{Statement}
 use Rattle.scenario_asm.specs.declared.statement.Statement.TheVariants.{Sim, Node, Link, Flow, Route, Lose}
 use Rattle.scenario_asm.specs.Lines.{Word}

@@ -7,8 +7,8 @@ use Rattle.sim_time.specs.declared.variant.Iw.TheVariants.{Iw3, Iw10}
 use Rattle.scenario_asm.specs.Bounds.{LEAST_RATE, GREATEST_RATE, LATEST_END, LONGEST_DELAY, GREATEST_MSS, MOST_SEGMENTS, GREATEST_RWND, LONGEST_DELACK, MOST_LOSE, MOST_NODES, MOST_LINKS, MOST_FLOWS}
 use Rattle.scenario_image.specs.declared.parts.NodeKind.{NodeKind}
 use Rattle.scenario_image.specs.declared.parts.NodeKind.TheVariants.{Sender, Receiver, Router}
-use Rattle.scenario_image.specs.declared.parts.QueueKind.{QueueKind}
-use Rattle.scenario_image.specs.declared.parts.QueueKind.TheVariants.{DropTail, Codel}
+use Rattle.sim_time.specs.declared.queue_kind.QueueKind.{QueueKind}
+use Rattle.sim_time.specs.declared.queue_kind.QueueKind.TheVariants.{DropTail, Codel}
 use Rattle.scenario_image.specs.declared.parts.FlowPart.{FlowPart}
 use Rattle.scenario_asm.specs.declared.fault.Fault.{Fault}
 use Rattle.scenario_asm.specs.declared.fault.Fault.TheVariants.{E1, E2, E4}

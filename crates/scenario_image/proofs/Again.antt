@@ -7,7 +7,8 @@ use Rattle.std.proofs.lemmas.List.Elements.{recursion_from_All}
 use Rattle.byteorder.specs.Endian.{big_number, big_bytes}
 use Rattle.byteorder.specs.Numbers.{big_number-reads_back}
 use Rattle.scenario_image.specs.Limits.{IsInLimits}
-use Rattle.scenario_image.specs.LinkLimits.{IsQueueInLimits, IsLinkInLimits}
+use Rattle.sim_time.specs.QueueLimits.{IsQueueInLimits}
+use Rattle.scenario_image.specs.LinkLimits.{IsLinkInLimits}
 use Rattle.scenario_image.specs.FlowLimits.{IsFlowInLimits}
 use Rattle.scenario_image.specs.RouteLimits.{IsRouteInLimits}
 use Rattle.sim_time.specs.declared.variant.Iw.{Iw}
@@ -17,8 +18,8 @@ use Rattle.scenario_image.specs.Layout.{version_of, node_count, link_count, flow
 use Rattle.scenario_image.specs.Reading.{each_at, node_of_byte, nodes_at, link_at, links_at, variant_of_byte, variant_at, flow_with, flow_at, flows_at, route_at, parts_with, parts_behind, parts_at}
 use Rattle.scenario_image.specs.declared.parts.NodeKind.{NodeKind}
 use Rattle.scenario_image.specs.declared.parts.NodeKind.TheVariants.{Sender, Receiver, Router}
-use Rattle.scenario_image.specs.declared.parts.QueueKind.{QueueKind}
-use Rattle.scenario_image.specs.declared.parts.QueueKind.TheVariants.{DropTail, Codel}
+use Rattle.sim_time.specs.declared.queue_kind.QueueKind.{QueueKind}
+use Rattle.sim_time.specs.declared.queue_kind.QueueKind.TheVariants.{DropTail, Codel}
 use Rattle.scenario_image.specs.declared.parts.LinkPart.{LinkPart}
 use Rattle.scenario_image.specs.declared.parts.FlowPart.{FlowPart}
 use Rattle.scenario_image.specs.declared.parts.RoutePart.{RoutePart}

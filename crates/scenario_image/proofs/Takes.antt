@@ -15,9 +15,9 @@ use Rattle.scenario_image.proofs.Courses.{mapped_some}
 use Rattle.scenario_image.proofs.Numbers.{IsBytes, bytes_drop, one, two, four, eight}
 use Rattle.scenario_image.specs.declared.parts.NodeKind.{NodeKind}
 use Rattle.scenario_image.specs.declared.parts.NodeKind.TheVariants.{Sender, Receiver, Router}
-use Rattle.scenario_image.specs.declared.parts.Codel.{Codel as CodelNumbers}
-use Rattle.scenario_image.specs.declared.parts.QueueKind.{QueueKind}
-use Rattle.scenario_image.specs.declared.parts.QueueKind.TheVariants.{DropTail, Codel}
+use Rattle.sim_time.specs.declared.queue_kind.Codel.{Codel as CodelNumbers}
+use Rattle.sim_time.specs.declared.queue_kind.QueueKind.{QueueKind}
+use Rattle.sim_time.specs.declared.queue_kind.QueueKind.TheVariants.{DropTail, Codel}
 use Rattle.scenario_image.specs.declared.parts.LinkPart.{LinkPart}
 use Rattle.scenario_image.specs.declared.parts.FlowPart.{FlowPart}
 use Rattle.scenario_image.specs.declared.parts.ScenarioParts.{ScenarioParts}

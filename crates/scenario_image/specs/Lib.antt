@@ -10,8 +10,11 @@ pub mod Scenario
 pub mod Fault
 pub mod WayLaws
 pub mod Image
+pub mod Plain
+pub mod Settings
 pub mod Layout
 pub mod Reading
 pub mod ImageFault
 pub use Rattle.sim_time.specs.Serial
+pub use Rattle.sim_time.specs.QueueLimits
 pub use Rattle.byteorder.specs.Endian

@@ -1,23 +1,10 @@
 -- The ranges of a link's numbers.
 use Rattle.std.specs.Prelude.{ℕ, ◌<◌, ◌≤◌, ◌^◌, List, length, All}
 use Rattle.std.specs.List.Sorted.{IsStrictlyIncreasing}
+use Rattle.sim_time.specs.QueueLimits.{IsQueueInLimits}
 use Rattle.sim_time.specs.Serial.{IsRate}
 use Rattle.scenario_image.specs.Range.{IsBetween}
-use Rattle.scenario_image.specs.declared.parts.Codel.{Codel as CodelNumbers}
-use Rattle.scenario_image.specs.declared.parts.QueueKind.{QueueKind}
-use Rattle.scenario_image.specs.declared.parts.QueueKind.TheVariants.{DropTail, Codel}
 use Rattle.scenario_image.specs.declared.parts.LinkPart.{LinkPart}
-
--- CoDel's numbers (RFC 8289 section 4): nanoseconds, nanoseconds, bytes
-pub record IsCodelInLimits (codel : CodelNumbers) : Type 0 where
-  pub target_range : IsBetween 1 (10 ^ 10) codel.target
-  pub interval_range : IsBetween 1 (10 ^ 10) codel.interval
-  pub maxpacket_range : IsBetween 1 65535 codel.maxpacket
-
--- only CoDel has numbers
-abbrev pub IsQueueInLimits : QueueKind → Type 0
-IsQueueInLimits DropTail = Unit {0}
-IsQueueInLimits (Codel codel) = IsCodelInLimits codel
 
 -- the numbers of the lost packets: at most 64, and rising
 pub record IsLoseInLimits (lose : List ℕ) : Type 0 where

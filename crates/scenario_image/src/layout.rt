@@ -6,25 +6,28 @@ use crate::version::Version;
 use byteorder::{BigEndian, ByteOrder};
 
 /// The bytes of the header.
-pub(crate) const HEADER: usize = 22;
+pub const HEADER: usize = 22;
 
 /// The bytes of a link without its lost packets.
-pub(crate) const LINK: usize = 42;
+pub const LINK: usize = 42;
+
+/// The bytes of a link's target, interval and maxpacket, which are 0 with drop-tail.
+pub const CODEL: usize = 18;
 
 /// Which of a link's bytes counts its lost packets: the last but these.
-pub(crate) const LOST_COUNT: usize = 41;
+pub const LOST_COUNT: usize = 41;
 
 /// The bytes of the number of a lost packet.
-pub(crate) const LOST: usize = 4;
+pub const LOST: usize = 4;
 
 /// The bytes of a flow without its variant.
-pub(crate) const FLOW: usize = 26;
+pub const FLOW: usize = 26;
 
 /// The bytes of a flow's variant, in version 2.
-pub(crate) const VARIANT: usize = 1;
+pub const VARIANT: usize = 1;
 
 /// The bytes of a route.
-pub(crate) const ROUTE: usize = 6;
+pub const ROUTE: usize = 6;
 
 /// The bytes behind the first of them.
 pub(crate) fn behind(bytes: &[u8], first: usize) -> &[u8]

@@ -1,14 +1,15 @@
 //! Whether the numbers of parts are in their ranges.
 ghost use Rattle.std.specs.Prelude.{◌↔◌, IsTrue, All, AllPairs, length};
 ghost use Rattle.std.specs.List.Sorted.{IsStrictlyIncreasing};
+ghost use Rattle.sim_time.specs.QueueLimits.{IsCodelInLimits, IsQueueInLimits};
 ghost use Rattle.scenario_image.specs.Range.{IsBetween};
-ghost use Rattle.scenario_image.specs.LinkLimits.{IsCodelInLimits, IsQueueInLimits, IsLoseInLimits, IsLinkInLimits};
+ghost use Rattle.scenario_image.specs.LinkLimits.{IsLoseInLimits, IsLinkInLimits};
 ghost use Rattle.scenario_image.specs.FlowLimits.{IsFlowInLimits};
 ghost use Rattle.scenario_image.specs.RouteLimits.{IsRouteInLimits, IsRouteBefore};
 ghost use Rattle.scenario_image.specs.Limits.{AreCountsInLimits, IsInLimits};
 
-use crate::parts::{Codel, FlowPart, LinkPart, QueueKind, RoutePart, ScenarioParts};
-use sim_time::{Rate, Time};
+use crate::parts::{FlowPart, LinkPart, RoutePart, ScenarioParts};
+use sim_time::{Codel, QueueKind, Rate, Time};
 
 /// The latest end of a scenario, in nanoseconds.
 pub const LATEST_END: Time = 1_000_000_000_000_000;

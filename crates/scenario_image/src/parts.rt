@@ -1,7 +1,9 @@
 //! What a scenario is made of.
+ghost use Rattle.std.specs.Prelude.{◌≡◌};
+ghost use Rattle.scenario_image.specs.Settings.{sender_settings};
 
 use crate::records::Records;
-use sim_time::{Time, Variant};
+use sim_time::{QueueKind, SenderSettings, Time, Variant};
 
 /// What a node does.
 #[derive(Clone, Copy, Debug, PartialEq, Eq)]
@@ -12,26 +14,6 @@ pub enum NodeKind {
     Receiver,
     /// Passes packets on.
     Router,
-}
-
-/// CoDel's parameters (RFC 8289 section 4).
-#[derive(Clone, Copy, Debug, PartialEq, Eq)]
-pub struct Codel {
-    /// The acceptable standing delay, in nanoseconds: 1 to 10^10.
-    pub target: u64,
-    /// The width of the moving window, in nanoseconds: 1 to 10^10.
-    pub interval: u64,
-    /// With no more bytes than this left, nothing is dropped: 1 to 65,535 bytes.
-    pub maxpacket: u16,
-}
-
-/// How a link's queue drops packets.
-#[derive(Clone, Copy, Debug, PartialEq, Eq)]
-pub enum QueueKind {
-    /// Only what comes while it is full.
-    DropTail,
-    /// Also by CoDel, as packets leave it.
-    Codel(Codel),
 }
 
 /// A directed link, with its queue at the sending side.
@@ -72,6 +54,20 @@ pub struct FlowPart {
     pub delack: u32,
     /// Which sender the flow has.
     pub variant: Variant,
+}
+
+impl FlowPart {
+    /// What the flow's sender is told.
+    pub fn sender_settings(&self) -> SenderSettings
+        ensures { result ≡ sender_settings self.now }
+    {
+        SenderSettings {
+            mss: u64::from(self.mss),
+            segments: u64::from(self.segments),
+            rwnd: u64::from(self.rwnd),
+            variant: self.variant,
+        }
+    }
 }
 
 /// Where a router sends packets for a destination.

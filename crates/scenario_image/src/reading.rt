@@ -9,11 +9,11 @@ use crate::layout::{
     FLOW, HEADER, LINK, LOST, LOST_COUNT, ROUTE, behind, flow_count, flow_size, flows_size,
     link_count, link_size, node_count, route_count, version_of,
 };
-use crate::parts::{Codel, FlowPart, LinkPart, NodeKind, QueueKind, RoutePart, ScenarioParts};
+use crate::parts::{FlowPart, LinkPart, NodeKind, RoutePart, ScenarioParts};
 use crate::records::Records;
 use crate::version::Version;
 use byteorder::{BigEndian, ByteOrder};
-use sim_time::{Iw, Variant};
+use sim_time::{Codel, Iw, QueueKind, Variant};
 use std::alloc::{AllocError, Global};
 
 /// The node that a byte stands for.

@@ -6,10 +6,10 @@ ghost use Rattle.scenario_image.specs.Limits.{AreCountsInLimits};
 ghost use Rattle.scenario_image.specs.Image.{header_image, node_byte, queue_byte as byte_of_queue, codel_image, link_image, variant_byte as byte_of_variant, flow_image, route_image, image};
 ghost use Rattle.scenario_image.specs.declared.version.Version.TheVariants.{Two};
 
-use crate::parts::{FlowPart, LinkPart, NodeKind, QueueKind, RoutePart, ScenarioParts};
+use crate::parts::{FlowPart, LinkPart, NodeKind, RoutePart, ScenarioParts};
 use crate::scenario::Scenario;
 use byteorder::{BigEndian, ByteOrder};
-use sim_time::{Iw, Variant};
+use sim_time::{Iw, QueueKind, Variant};
 use std::alloc::{AllocError, Global};
 
 /// Adds a number of one byte.

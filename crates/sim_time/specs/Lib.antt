@@ -3,3 +3,4 @@ pub mod Keys
 pub mod Serial
 pub mod InitialWindow
 pub mod ControlLaw
+pub mod QueueLimits

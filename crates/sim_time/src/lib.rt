@@ -6,15 +6,19 @@
 
 pub mod control_law;
 pub mod key;
+pub mod queue_kind;
 pub mod rate;
+pub mod settings;
 pub mod slow_start;
 pub mod variant;
 
 pub use control_law::{gap, gaps_shrink};
 pub use key::{Key, key_order};
+pub use queue_kind::{Codel, QueueKind};
 pub use rate::{Rate, serial_ns};
+pub use settings::SenderSettings;
 pub use slow_start::initial_window;
-pub use variant::{Iw, Variant};
+pub use variant::{Iw, RENO, Variant};
 
 /// A moment or a span: nanoseconds.
 pub type Time = u64;

@@ -18,3 +18,9 @@ pub struct Variant {
     /// How large its initial window is at most.
     pub iw: Iw,
 }
+
+/// The sender of a flow that names none: Reno with the smaller initial window.
+pub const RENO: Variant = Variant {
+    newreno: false,
+    iw: Iw::Iw3,
+};
