@@ -1,5 +1,6 @@
 pub mod TakenCases
 pub mod Front
+pub mod Given
 pub mod Stays
 pub mod SoFar
 pub mod Schedule

@@ -1,5 +1,6 @@
--- What a queue keeps whatever is taken from it or offered to it, and where a packet enters.
+-- What a queue is at first, what it keeps whatever is taken from it or offered to it, and where a packet enters.
 use Rattle.std.proofs.Common.{◌≡◌, ◌++◌, ℕ, Bool, true, false, cond, [], ◌∷◌, refl, sym, ap, ◌∙◌}
+use Rattle.sim_time.specs.declared.queue_kind.QueueKind.TheVariants.{DropTail as DropTailKind, Codel as CodelKind}
 use Rattle.packet_chain.specs.Stamped.{Stamped}
 use Rattle.aqm.specs.declared.queue.Queue.{Queue}
 use Rattle.aqm.specs.declared.queue.Queue.TheVariants.{DropTail, Codel}
@@ -8,8 +9,12 @@ use Rattle.aqm.specs.Codel.{CodelState, opening_codel}
 use Rattle.aqm.specs.Judgement.{judgement}
 use Rattle.aqm.specs.Taken.{codel_taken}
 use Rattle.aqm.specs.Queue.{fifo_of, emptied}
-use Rattle.aqm.specs.Laws.{QueuesStay, EntersLast}
+use Rattle.aqm.specs.Laws.{QueuesOpenEmpty, QueuesStay, EntersLast}
 use Rattle.aqm.proofs.TakenCases.{taken_in_drop_state, taken_at_first_drop, taken_undropped}
+
+pub queues_open_empty : QueuesOpenEmpty
+queues_open_empty DropTailKind capacity = record { empty = refl; afresh = refl }
+queues_open_empty (CodelKind codel) capacity = record { empty = refl; afresh = refl }
 
 -- an offer changes no capacity
 same_capacity : (s : DropTailState) (cell : Stamped) (now : ℕ) (full : Bool) → (cond full s (record s { waiting = s.waiting ++ (cell.0, now) ∷ [] })).capacity ≡ s.capacity

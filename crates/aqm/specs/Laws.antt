@@ -1,11 +1,12 @@
 -- What every take keeps to, whatever waits and whenever it comes.
 use Rattle.std.specs.Prelude.{◌≡◌, ◌↔◌, ◌+◌, ◌-◌, ◌<◌, ◌≤◌, ◌++◌, ℕ, true, false, List, [], ◌∷◌, length, drop, slice_get, Option, Some, None, IfSome, IsSomeAnd}
+use Rattle.sim_time.specs.declared.queue_kind.QueueKind.{QueueKind}
 use Rattle.packet_chain.specs.Stamped.{Stamped, bytes_of}
 use Rattle.aqm.specs.DropTail.{DropTailState, is_full, after_offer}
 use Rattle.aqm.specs.Codel.{CodelState, IsCodel}
 use Rattle.aqm.specs.Drops.{stops, due, drops}
 use Rattle.aqm.specs.Taken.{codel_taken}
-use Rattle.aqm.specs.Queue.{fifo_of, waiting_in, emptied, offered_to, taken_from}
+use Rattle.aqm.specs.Queue.{fifo_of, waiting_in, opening_queue, emptied, offered_to, taken_from}
 use Rattle.aqm.specs.declared.queue.Queue.{Queue}
 use Rattle.aqm.specs.declared.queue.Queue.TheVariants.{DropTail, Codel}
 
@@ -31,6 +32,14 @@ pub record StaysTheSame (q : Queue) (now : ℕ) : Type 0 where
 
 abbrev pub QueuesStay : Type 0
 QueuesStay = (q : Queue) (now : ℕ) → StaysTheSame q now
+
+-- a queue of a kind is empty at first, and as it was before anything was offered to it
+pub record OpensEmpty (kind : QueueKind) (capacity : ℕ) : Type 0 where
+  pub empty : waiting_in (opening_queue kind capacity) ≡ []
+  pub afresh : emptied (opening_queue kind capacity) ≡ opening_queue kind capacity
+
+abbrev pub QueuesOpenEmpty : Type 0
+QueuesOpenEmpty = (kind : QueueKind) (capacity : ℕ) → OpensEmpty kind capacity
 
 -- where a queue has room, a packet that is offered is the last that waits, with the moment at which it entered
 abbrev pub EntersLast : Type 0

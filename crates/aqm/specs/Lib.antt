@@ -10,3 +10,4 @@ pub mod Laws
 pub use Rattle.packet_chain.specs.Stamped
 pub use Rattle.sim_time.specs.ControlLaw
 pub use Rattle.sim_time.specs.Moment
+pub use Rattle.sim_time.specs.QueueLimits

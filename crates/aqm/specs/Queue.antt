@@ -1,6 +1,10 @@
 -- A queue of either kind.
 use Rattle.std.specs.Prelude.{ℕ, Bool, true, false, List, [], slice_get, Option}
+use Rattle.sim_time.specs.declared.queue_kind.QueueKind.{QueueKind}
+use Rattle.sim_time.specs.declared.queue_kind.QueueKind.TheVariants.{DropTail as DropTailKind, Codel as CodelKind}
 use Rattle.packet_chain.specs.Stamped.{Stamped}
+use Rattle.aqm.specs.declared.drop_reason.TakeDrop.{TakeDrop}
+use Rattle.aqm.specs.declared.drop_reason.TakeDrop.TheVariants.{Codel as ByCodel}
 use Rattle.aqm.specs.declared.queue.Queue.{Queue}
 use Rattle.aqm.specs.declared.queue.Queue.TheVariants.{DropTail, Codel}
 use Rattle.aqm.specs.DropTail.{DropTailState, empty_fifo, after_offer, without_first}
@@ -16,6 +20,11 @@ fifo_of (Codel s) = s.fifo
 abbrev pub waiting_in : Queue → List Stamped
 waiting_in q = (fifo_of q).waiting
 
+-- a queue of a kind and a capacity, before anything was offered to it
+abbrev pub opening_queue : QueueKind → ℕ → Queue
+opening_queue DropTailKind capacity = DropTail (empty_fifo capacity)
+opening_queue (CodelKind codel) capacity = Codel (opening_codel (empty_fifo capacity) codel.target codel.interval codel.maxpacket)
+
 -- a queue as it was before anything was offered to it
 abbrev pub emptied : Queue → Queue
 emptied (DropTail s) = DropTail (empty_fifo s.capacity)
@@ -30,6 +39,11 @@ offered_to (Codel s) cell now = Codel (record s { fifo = after_offer s.fifo cell
 abbrev pub may_drop : Queue → Bool
 may_drop (DropTail s) = false
 may_drop (Codel s) = true
+
+-- why a take drops packets; a take from drop-tail drops none, so that what stands for it here is told of no packet
+abbrev pub take_reason : Queue → TakeDrop
+take_reason (DropTail s) = ByCodel
+take_reason (Codel s) = ByCodel
 
 -- the packets that are dropped, in order; the packet that is given, if there is one; the queue afterwards
 pub record Taken : Type 0 where

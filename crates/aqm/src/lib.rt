@@ -5,14 +5,17 @@
 #![tactic(auto)]
 
 pub mod codel;
+pub mod drop_reason;
 pub mod drop_tail;
 pub mod guarantees;
 pub mod offered;
 pub mod queue;
 #[cfg(test)]
 mod tests;
+pub mod waits;
 
 pub use codel::Codel;
+pub use drop_reason::{DropReason, TakeDrop};
 pub use drop_tail::DropTail;
 pub use guarantees::{
     drop_tail_keeps_what_entered, drops_come_closer, drops_stop_at_the_first_stop,

@@ -3,16 +3,18 @@ ghost use Rattle.std.specs.Prelude.{◌≡◌, ◌≤◌, ◌^◌, ◌++◌, ℕ
 ghost use Rattle.std.specs.Iterator.{YieldsFirst};
 ghost use Rattle.std.specs.Iterator.Runs.{YieldsInOrder};
 ghost use Rattle.sim_time.specs.Moment.{IsMoment};
+ghost use Rattle.sim_time.specs.QueueLimits.{IsQueueInLimits};
 ghost use Rattle.packet_chain.specs.Stamped.{Stamped};
 ghost use Rattle.aqm.specs.DropTail.{IsDropTail, answer_to};
-ghost use Rattle.aqm.specs.Queue.{fifo_of, waiting_in, offered_to, may_drop, taken_from};
+ghost use Rattle.aqm.specs.Queue.{fifo_of, waiting_in, opening_queue, offered_to, may_drop, take_reason, taken_from};
 
 use crate::codel::Codel;
+use crate::drop_reason::TakeDrop;
 use crate::drop_tail::DropTail;
 use crate::offered::Offered;
 use packet_chain::{Iter, PacketCell, PacketChain};
-use sim_time::Time;
-use std::alloc::AllocError;
+use sim_time::{QueueKind, Time};
+use std::alloc::{AllocError, Global};
 
 /// A link's queue.
 #[derive(Drop)]
@@ -24,6 +26,25 @@ pub enum Queue {
 }
 
 impl Queue {
+    /// An empty queue of a kind, in which so many packets may wait, 1 to 65,535. Its copies take
+    /// their memory from `alloc`.
+    pub fn new(alloc: Global, kind: QueueKind, capacity: u16) -> Queue
+        requires capacity { 1 ≤ capacity }
+        requires numbers { IsQueueInLimits kind }
+        ensures { result ≡ opening_queue kind capacity }
+    {
+        match kind {
+            QueueKind::DropTail => Queue::DropTail(DropTail::new(alloc, capacity)),
+            QueueKind::Codel(codel) => Queue::Codel(Codel::new(
+                alloc,
+                capacity,
+                codel.target,
+                codel.interval,
+                codel.maxpacket,
+            )),
+        }
+    }
+
     /// How many packets wait.
     pub fn len(&self) -> usize
         ensures value { result ≡ length (waiting_in self.now) }
@@ -60,6 +81,16 @@ impl Queue {
         match self {
             Queue::DropTail(_) => false,
             Queue::Codel(_) => true,
+        }
+    }
+
+    /// Why a take drops packets. Drop-tail's drops none, so that of it nothing is told by this.
+    #[inline(always)]
+    pub fn take_reason(&self) -> TakeDrop
+        ensures { result ≡ take_reason self.now }
+    {
+        match self {
+            Queue::DropTail(_) | Queue::Codel(_) => TakeDrop::Codel,
         }
     }
 

@@ -6,7 +6,7 @@ use Rattle.packet_chain.specs.Stamped.{Stamped}
 use Rattle.aqm.specs.DropTail.{is_full}
 use Rattle.aqm.specs.Queue.{fifo_of}
 use Rattle.port.specs.declared.acts.Act.TheVariants.{Dropped}
-use Rattle.port.specs.declared.acts.DropReason.TheVariants.{Lost, Full}
+use Rattle.aqm.specs.declared.drop_reason.DropReason.TheVariants.{Lost, Full}
 use Rattle.port.specs.Losses.{is_lost}
 use Rattle.port.specs.Port.{PortState, PortStep, begun, taken, only, with_packet, offered_one}
 
@@ -16,7 +16,7 @@ counted_one port = record port { offered = port.offered + 1 }
 -- an offering, by whether the packet is lost, the queue is full and the link is idle
 abbrev pub after_tests : ℕ → PortState → Packet → Bool → Bool → Bool → PortStep
 after_tests now port packet lost full idle =
-    cond lost (only port (Dropped Lost packet ∷ [])) (cond full (only port (Dropped Full packet ∷ [])) (cond idle (taken now (with_packet now port packet)) (only (with_packet now port packet) [])))
+    cond lost (only port (Dropped port.link Lost packet ∷ [])) (cond full (only port (Dropped port.link Full packet ∷ [])) (cond idle (taken now (with_packet now port packet)) (only (with_packet now port packet) [])))
 
 -- so what holds in each of these cases holds of an offering
 pub offered_by_case : (P : PortStep → Type 0) (now : ℕ) (port : PortState) (packet : Packet)

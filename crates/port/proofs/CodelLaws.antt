@@ -5,35 +5,36 @@ use Rattle.std.specs.List.{filter_map}
 use Rattle.std.proofs.lemmas.List.Elements.{filter_map-append}
 use Rattle.packet_chain.specs.declared.packet.Packet.{Packet}
 use Rattle.packet_chain.specs.Stamped.{Stamped, bytes_of}
+use Rattle.aqm.specs.declared.drop_reason.TakeDrop.{TakeDrop}
 use Rattle.aqm.specs.declared.queue.Queue.{Queue}
 use Rattle.aqm.specs.declared.queue.Queue.TheVariants.{DropTail, Codel}
 use Rattle.aqm.specs.DropTail.{DropTailState, is_full, after_offer, without_first}
 use Rattle.aqm.specs.Codel.{CodelState}
-use Rattle.aqm.specs.Queue.{fifo_of, waiting_in, offered_to, taken_from}
+use Rattle.aqm.specs.Queue.{fifo_of, waiting_in, offered_to, take_reason, taken_from}
 use Rattle.aqm.specs.Laws.{listed, IsForCause}
 use Rattle.aqm.proofs.Front.{takes_the_front, gives_what_waits, drops_at_most_what_waits}
 use Rattle.aqm.proofs.Causes.{every_drop_has_a_cause}
 use Rattle.aqm.proofs.Stays.{queues_stay}
-use Rattle.port.specs.Port.{PortState, PortStep, begun, dropped_by_codel, taken, with_packet, offered_one}
+use Rattle.port.specs.Port.{PortState, PortStep, begun, dropped_for, taken, with_packet, offered_one}
 use Rattle.port.specs.Room.{drops_at, drops_at_offer}
 use Rattle.port.specs.History.{Offer, Free, history}
-use Rattle.port.specs.Laws.{codel_drop_in, DropTailDropsNothingThatEntered, EveryCodelDropHasACause, NothingWaitsWhereIdle, OfferingsDropNothing}
+use Rattle.port.specs.Laws.{queue_drop_in, DropTailDropsNothingThatEntered, EveryCodelDropHasACause, NothingWaitsWhereIdle, OfferingsDropNothing}
 use Rattle.port.proofs.Cases.{counted_one, after_tests, offered_by_case, queue_stays}
 
--- what CoDel drops at a taking is what its queue drops
-drops_told : (now : ℕ) (port : PortState) (dropped : List Stamped) (given : Option Stamped) → filter_map codel_drop_in (map dropped_by_codel dropped ++ (begun now port given).acts) ≡ map (λ cell. cell.0) dropped
-drops_told now port [] None = refl
-drops_told now port [] (Some cell) = refl
-drops_told now port (c ∷ dropped) given = ap (λ ps. c.0 ∷ ps) (drops_told now port dropped given)
+-- what is told to be dropped at a taking is what the queue drops
+drops_told : (now : ℕ) (port : PortState) (reason : TakeDrop) (dropped : List Stamped) (given : Option Stamped) → filter_map queue_drop_in (map (dropped_for port.link reason) dropped ++ (begun now port given).acts) ≡ map (λ cell. cell.0) dropped
+drops_told now port reason [] None = refl
+drops_told now port reason [] (Some cell) = refl
+drops_told now port reason (c ∷ dropped) given = ap (λ ps. c.0 ∷ ps) (drops_told now port reason dropped given)
 
-drops_of_taking : (now : ℕ) (port : PortState) → filter_map codel_drop_in (taken now port).acts ≡ map (λ cell. cell.0) (taken_from port.queue now).dropped
-drops_of_taking now port = let take = taken_from port.queue now in drops_told now (record port { queue = take.queue }) take.dropped take.given
+drops_of_taking : (now : ℕ) (port : PortState) → filter_map queue_drop_in (taken now port).acts ≡ map (λ cell. cell.0) (taken_from port.queue now).dropped
+drops_of_taking now port = let take = taken_from port.queue now in drops_told now (record port { queue = take.queue }) (take_reason port.queue) take.dropped take.given
 
 -- drop-tail: the queue stays one, and nothing that entered is dropped
 record IsDropTailStep (step : PortStep) : Type 0 where
   pub state : DropTailState
   pub queue_is : step.port.queue ≡ DropTail state
-  pub none : filter_map codel_drop_in step.acts ≡ []
+  pub none : filter_map queue_drop_in step.acts ≡ []
 
 taking_in_order : (now : ℕ) (port : PortState) (q : Queue) (s : DropTailState) → port.queue ≡ q → q ≡ DropTail s → IsDropTailStep (taken now port)
 taking_in_order now port q s is kind =
@@ -57,12 +58,12 @@ drop_tail_drops_nothing_that_entered port (Offer now packet ∷ calls) s is =
     let first = offered_one now port packet in
     let later = history first.port calls in
     let step = offered_by_case IsDropTailStep now port packet (λ idle _ lost full. offering_in_order now port packet s is lost full idle) in
-    filter_map-append codel_drop_in first.acts later.acts ∙ ap (λ ps. ps ++ filter_map codel_drop_in later.acts) step.none ∙ drop_tail_drops_nothing_that_entered first.port calls step.state step.queue_is
+    filter_map-append queue_drop_in first.acts later.acts ∙ ap (λ ps. ps ++ filter_map queue_drop_in later.acts) step.none ∙ drop_tail_drops_nothing_that_entered first.port calls step.state step.queue_is
 drop_tail_drops_nothing_that_entered port (Free now ∷ calls) s is =
     let first = taken now port in
     let later = history first.port calls in
     let step = taking_in_order now port port.queue s refl is in
-    filter_map-append codel_drop_in first.acts later.acts ∙ ap (λ ps. ps ++ filter_map codel_drop_in later.acts) step.none ∙ drop_tail_drops_nothing_that_entered first.port calls step.state step.queue_is
+    filter_map-append queue_drop_in first.acts later.acts ∙ ap (λ ps. ps ++ filter_map queue_drop_in later.acts) step.none ∙ drop_tail_drops_nothing_that_entered first.port calls step.state step.queue_is
 
 -- what is dropped is the front of what waits
 front_at : (dropped rest : List Stamped) (i : ℕ) → IfSome (slice_get dropped i) (λ cell. slice_get (dropped ++ rest) i ≡ Some cell)
@@ -90,7 +91,7 @@ codel_taking now i s =
 pub every_codel_drop_has_a_cause : EveryCodelDropHasACause
 every_codel_drop_has_a_cause now i port s is =
     let P : Packet → Type 0 = λ packet. IsSomeAnd (slice_get s.fifo.waiting i) (λ cell. (cell.0 ≡ packet) × IsForCause s now (bytes_of (drop (i + 1) s.fifo.waiting)) cell) in
-    let told : filter_map codel_drop_in (taken now port).acts ≡ map (λ cell. cell.0) (taken_from (Codel s) now).dropped = drops_of_taking now port ∙ ap (λ q. map (λ (cell : Stamped). cell.0) (taken_from q now).dropped) is in
+    let told : filter_map queue_drop_in (taken now port).acts ≡ map (λ cell. cell.0) (taken_from (Codel s) now).dropped = drops_of_taking now port ∙ ap (λ q. map (λ (cell : Stamped). cell.0) (taken_from q now).dropped) is in
     subst (λ ps. IfSome (slice_get ps i) P) (sym told) (packet_at (taken_from (Codel s) now).dropped i P (codel_taking now i s))
 
 -- the last packet that waits is never dropped

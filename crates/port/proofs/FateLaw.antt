@@ -5,16 +5,17 @@ use Rattle.std.proofs.lemmas.List.{map-append}
 use Rattle.std.proofs.lemmas.List.Elements.{filter-append}
 use Rattle.packet_chain.specs.declared.packet.Packet.{Packet}
 use Rattle.packet_chain.specs.Stamped.{Stamped}
+use Rattle.aqm.specs.declared.drop_reason.TakeDrop.{TakeDrop}
 use Rattle.aqm.specs.declared.queue.Queue.{Queue}
 use Rattle.aqm.specs.DropTail.{is_full}
-use Rattle.aqm.specs.Queue.{fifo_of, waiting_in, offered_to, taken_from}
+use Rattle.aqm.specs.Queue.{fifo_of, waiting_in, offered_to, take_reason, taken_from}
 use Rattle.aqm.specs.Laws.{listed}
 use Rattle.aqm.proofs.Front.{takes_the_front}
 use Rattle.aqm.proofs.Stays.{enters_last}
 use Rattle.port.specs.declared.acts.Act.TheVariants.{Dropped}
-use Rattle.port.specs.declared.acts.DropReason.TheVariants.{Lost, Full}
+use Rattle.aqm.specs.declared.drop_reason.DropReason.TheVariants.{Lost, Full}
 use Rattle.port.specs.Losses.{is_lost}
-use Rattle.port.specs.Port.{PortState, PortStep, begun, dropped_by_codel, taken, only, with_packet, offered_one}
+use Rattle.port.specs.Port.{PortState, PortStep, begun, dropped_for, taken, only, with_packet, offered_one}
 use Rattle.port.specs.History.{Call, Offer, Free, called, history, offered_in}
 use Rattle.port.specs.Fates.{Fate, Wait, told_by, told, has_entered}
 use Rattle.port.specs.Laws.{EveryPacketHasOneFate}
@@ -50,18 +51,18 @@ told_more port call calls =
     ∙ append_assoc (map told_by (called port call).acts) (map told_by later.acts) (waits (waiting_in later.port.queue))
 
 -- what a taking tells: all of it had entered
-abbrev tale_of_taking : List Stamped → PortStep → List (Packet × Fate)
-tale_of_taking dropped sending = map told_by (map dropped_by_codel dropped ++ sending.acts)
+abbrev tale_of_taking : ℕ → TakeDrop → List Stamped → PortStep → List (Packet × Fate)
+tale_of_taking link reason dropped sending = map told_by (map (dropped_for link reason) dropped ++ sending.acts)
 
-all_left : (now : ℕ) (port : PortState) (dropped : List Stamped) (given : Option Stamped) → AllEntered (tale_of_taking dropped (begun now port given))
-all_left now port [] None = tt
-all_left now port [] (Some cell) = (refl, tt)
-all_left now port (d ∷ dropped) given = (refl, all_left now port dropped given)
+all_left : (now : ℕ) (port : PortState) (reason : TakeDrop) (dropped : List Stamped) (given : Option Stamped) → AllEntered (tale_of_taking port.link reason dropped (begun now port given))
+all_left now port reason [] None = tt
+all_left now port reason [] (Some cell) = (refl, tt)
+all_left now port reason (d ∷ dropped) given = (refl, all_left now port reason dropped given)
 
-packets_left : (now : ℕ) (port : PortState) (dropped : List Stamped) (given : Option Stamped) → map packet_in (tale_of_taking dropped (begun now port given)) ≡ packets_of (dropped ++ listed given)
-packets_left now port [] None = refl
-packets_left now port [] (Some cell) = refl
-packets_left now port (d ∷ dropped) given = ap (λ ps. d.0 ∷ ps) (packets_left now port dropped given)
+packets_left : (now : ℕ) (port : PortState) (reason : TakeDrop) (dropped : List Stamped) (given : Option Stamped) → map packet_in (tale_of_taking port.link reason dropped (begun now port given)) ≡ packets_of (dropped ++ listed given)
+packets_left now port reason [] None = refl
+packets_left now port reason [] (Some cell) = refl
+packets_left now port reason (d ∷ dropped) given = ap (λ ps. d.0 ∷ ps) (packets_left now port reason dropped given)
 
 taken_apart : (now : ℕ) (port : PortState) → waiting_at port ≡ map packet_in (map told_by (taken now port).acts) ++ waiting_at (taken now port).port
 taken_apart now port =
@@ -69,7 +70,7 @@ taken_apart now port =
     let at = record port { queue = take.queue } in
     ap packets_of (sym (takes_the_front port.queue now))
     ∙ map-append (λ (cell : Stamped). cell.0) (take.dropped ++ listed take.given) (waiting_in take.queue)
-    ∙ ap (λ ps. ps ++ packets_of (waiting_in take.queue)) (sym (packets_left now at take.dropped take.given))
+    ∙ ap (λ ps. ps ++ packets_of (waiting_in take.queue)) (sym (packets_left now at (take_reason port.queue) take.dropped take.given))
     ∙ ap (λ q. map packet_in (map told_by (taken now port).acts) ++ packets_of (waiting_in q)) (sym (queue_stays now at take.given))
 
 -- a taking
@@ -78,7 +79,7 @@ takes now port offered later tale =
     let take = taken_from port.queue now in
     let fs = map told_by (taken now port).acts in
     subst (λ ps. IsTale ps offered (fs ++ later)) (sym (taken_apart now port))
-    (leave fs (waiting_at (taken now port).port) offered later (all_left now (record port { queue = take.queue }) take.dropped take.given) tale)
+    (leave fs (waiting_at (taken now port).port) offered later (all_left now (record port { queue = take.queue }) (take_reason port.queue) take.dropped take.given) tale)
 
 -- a packet that isn't refused is last in the queue
 last_in : (q : Queue) (packet : Packet) (now : ℕ) → is_full (fifo_of q) ≡ false → packets_of (waiting_in (offered_to q (packet, now) now)) ≡ packets_of (waiting_in q) ++ packet ∷ []
@@ -94,8 +95,8 @@ lets_in now port packet false offered later room tale = enters packet (waiting_a
 -- an offering
 offers : (now : ℕ) (port : PortState) (packet : Packet) (lost full idle : Bool) (offered : List Packet) (later : List (Packet × Fate)) → is_full (fifo_of port.queue) ≡ full
     → let step = after_tests now port packet lost full idle in IsTale (waiting_at step.port) offered later → IsTale (waiting_at port) (packet ∷ offered) (map told_by step.acts ++ later)
-offers now port packet true full idle offered later room tale = refuses (told_by (Dropped Lost packet)) (waiting_at port) offered later refl tale
-offers now port packet false true idle offered later room tale = refuses (told_by (Dropped Full packet)) (waiting_at port) offered later refl tale
+offers now port packet true full idle offered later room tale = refuses (told_by (Dropped port.link Lost packet)) (waiting_at port) offered later refl tale
+offers now port packet false true idle offered later room tale = refuses (told_by (Dropped port.link Full packet)) (waiting_at port) offered later refl tale
 offers now port packet false false idle offered later room tale = lets_in now port packet idle offered later room tale
 
 tale : (port : PortState) (calls : List Call) → IsTold port calls (told (history port calls))

@@ -6,10 +6,11 @@ use Rattle.std.specs.Option.{option_or}
 use Rattle.std.proofs.lemmas.List.Elements.{filter_map-append}
 use Rattle.packet_chain.specs.declared.packet.Packet.{Packet}
 use Rattle.packet_chain.specs.Stamped.{Stamped}
-use Rattle.aqm.specs.Queue.{waiting_in, taken_from}
+use Rattle.aqm.specs.declared.drop_reason.TakeDrop.{TakeDrop}
+use Rattle.aqm.specs.Queue.{waiting_in, take_reason, taken_from}
 use Rattle.aqm.specs.Laws.{listed}
 use Rattle.aqm.proofs.Front.{takes_the_front, gives_what_waits}
-use Rattle.port.specs.Port.{PortState, PortStep, Departure, begun, dropped_by_codel, taken, with_packet, offered_one, offered_all}
+use Rattle.port.specs.Port.{PortState, PortStep, Departure, begun, dropped_for, taken, with_packet, offered_one, offered_all}
 use Rattle.port.specs.History.{Offer, Free, history, offered_in}
 use Rattle.port.proofs.Cases.{counted_one, after_tests, offered_by_case, queue_stays}
 use Rattle.port.specs.Laws.{sent_by, BusyLinkBeginsNothing, OneDepartsAtMost, NothingWaitsWhereIdle, IdleLinksKeepNothing, IsCounted, EveryPacketIsCounted}
@@ -49,13 +50,13 @@ pub record SendsWhatDeparts (step : PortStep) : Type 0 where
   pub sends : filter_map sent_by step.acts ≡ packets_in step.departure
   pub busy_then : (d : Departure) → step.departure ≡ Some d → step.port.next_free ≡ Some d.free
 
-taking_sends : (now : ℕ) (port : PortState) (dropped : List Stamped) (given : Option Stamped) → let sending = begun now port given in SendsWhatDeparts (record sending { acts = map dropped_by_codel dropped ++ sending.acts })
-taking_sends now port [] None = record { sends = refl; busy_then = λ d e. cc }
-taking_sends now port [] (Some cell) = record { sends = refl; busy_then = λ d e. let same : (begun now port (Some cell)).departure ≡ Some d = e in cc }
-taking_sends now port (c ∷ dropped) given = let rest = taking_sends now port dropped given in record { sends = rest.sends; busy_then = rest.busy_then }
+taking_sends : (now : ℕ) (port : PortState) (reason : TakeDrop) (dropped : List Stamped) (given : Option Stamped) → let sending = begun now port given in SendsWhatDeparts (record sending { acts = map (dropped_for port.link reason) dropped ++ sending.acts })
+taking_sends now port reason [] None = record { sends = refl; busy_then = λ d e. cc }
+taking_sends now port reason [] (Some cell) = record { sends = refl; busy_then = λ d e. let same : (begun now port (Some cell)).departure ≡ Some d = e in cc }
+taking_sends now port reason (c ∷ dropped) given = let rest = taking_sends now port reason dropped given in record { sends = rest.sends; busy_then = rest.busy_then }
 
 pub taken_sends : (now : ℕ) (port : PortState) → SendsWhatDeparts (taken now port)
-taken_sends now port = let take = taken_from port.queue now in taking_sends now (record port { queue = take.queue }) take.dropped take.given
+taken_sends now port = let take = taken_from port.queue now in taking_sends now (record port { queue = take.queue }) (take_reason port.queue) take.dropped take.given
 
 offered_sends : (now : ℕ) (port : PortState) (packet : Packet) (lost full idle : Bool) → SendsWhatDeparts (after_tests now port packet lost full idle)
 offered_sends now port packet true full idle = record { sends = refl; busy_then = λ d e. cc }

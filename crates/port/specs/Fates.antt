@@ -1,11 +1,11 @@
 -- What becomes of each packet that is offered.
 use Rattle.std.specs.Prelude.{◌≡◌, Bool, true, false, not, List, ◌++◌, map, filter}
 use Rattle.packet_chain.specs.declared.packet.Packet.{Packet}
+use Rattle.aqm.specs.declared.drop_reason.DropReason.{DropReason}
+use Rattle.aqm.specs.declared.drop_reason.DropReason.TheVariants.{Lost, Full}
 use Rattle.aqm.specs.Queue.{waiting_in}
 use Rattle.port.specs.declared.acts.Act.{Act}
 use Rattle.port.specs.declared.acts.Act.TheVariants.{Tx, Dropped}
-use Rattle.port.specs.declared.acts.DropReason.{DropReason}
-use Rattle.port.specs.declared.acts.DropReason.TheVariants.{Lost, Full}
 use Rattle.port.specs.Port.{PortState}
 use Rattle.port.specs.History.{Call, History, history, offered_in}
 
@@ -17,7 +17,7 @@ pub data Fate : Type 0 where
 
 abbrev pub told_by : Act → Packet × Fate
 told_by (Tx link packet) = (packet, Send)
-told_by (Dropped reason packet) = (packet, Drop reason)
+told_by (Dropped link reason packet) = (packet, Drop reason)
 
 -- what the acts tell, in their order, and then the queue
 abbrev pub told : History → List (Packet × Fate)

@@ -10,28 +10,28 @@ use Rattle.aqm.specs.DropTail.{DropTailState}
 use Rattle.aqm.specs.Codel.{CodelState}
 use Rattle.aqm.specs.Queue.{waiting_in}
 use Rattle.aqm.specs.Laws.{IsForCause}
+use Rattle.aqm.specs.declared.drop_reason.DropReason.TheVariants.{Take}
 use Rattle.aqm.specs.declared.queue.Queue.TheVariants.{DropTail, Codel}
 use Rattle.port.specs.declared.acts.Act.{Act}
 use Rattle.port.specs.declared.acts.Act.TheVariants.{Tx, Dropped}
-use Rattle.port.specs.declared.acts.DropReason.TheVariants.{Codel as ByCodel}
 use Rattle.port.specs.Port.{PortState, offered_all, taken}
 use Rattle.port.specs.Room.{drops_at_offer}
 use Rattle.port.specs.History.{Call, history, offered_in, AreTimely}
 use Rattle.port.specs.Fates.{Fate, AreFates}
 
--- every packet that waits at first or is offered is lost, dropped as full, dropped by CoDel, sent, or waits at the end: one of these, in order and once
+-- every packet that waits at first or is offered is lost, dropped as full, dropped by its queue at a taking, sent, or waits at the end: one of these, in order and once
 abbrev pub EveryPacketHasOneFate : Type 0
 EveryPacketHasOneFate = (port : PortState) (calls : List Call) → (fates : List (Packet × Fate)) × AreFates port calls fates
 
 -- the packet that an act sends
 abbrev pub sent_by : Act → Option Packet
 sent_by (Tx link packet) = Some packet
-sent_by (Dropped reason packet) = None
+sent_by (Dropped link reason packet) = None
 
--- the packet that an act tells to be dropped by CoDel
-abbrev pub codel_drop_in : Act → Option Packet
-codel_drop_in (Dropped ByCodel packet) = Some packet
-codel_drop_in act = None
+-- the packet that an act tells to be dropped by its queue at a take
+abbrev pub queue_drop_in : Act → Option Packet
+queue_drop_in (Dropped link (Take reason) packet) = Some packet
+queue_drop_in act = None
 
 -- a busy link begins nothing: it stays busy as long, and has sent as many
 abbrev pub BusyLinkBeginsNothing : Type 0
@@ -61,13 +61,13 @@ ArrivalsRise =
 -- with drop-tail nothing that entered is dropped
 abbrev pub DropTailDropsNothingThatEntered : Type 0
 DropTailDropsNothingThatEntered =
-    (port : PortState) (calls : List Call) (s : DropTailState) → port.queue ≡ DropTail s → filter_map codel_drop_in (history port calls).acts ≡ []
+    (port : PortState) (calls : List Call) (s : DropTailState) → port.queue ≡ DropTail s → filter_map queue_drop_in (history port calls).acts ≡ []
 
 -- the packets that CoDel drops at a taking are the first that wait, and each is dropped for cause
 abbrev pub EveryCodelDropHasACause : Type 0
 EveryCodelDropHasACause =
     (now i : ℕ) (port : PortState) (s : CodelState) → port.queue ≡ Codel s →
-    IfSome (slice_get (filter_map codel_drop_in (taken now port).acts) i)
+    IfSome (slice_get (filter_map queue_drop_in (taken now port).acts) i)
     (λ packet. IsSomeAnd (slice_get s.fifo.waiting i) (λ cell. (cell.0 ≡ packet) × IsForCause s now (bytes_of (drop (i + 1) s.fifo.waiting)) cell))
 
 -- where a link is idle, nothing waits
@@ -78,7 +78,7 @@ NothingWaitsWhereIdle port = port.next_free ≡ None → waiting_in port.queue �
 abbrev pub IdleLinksKeepNothing : Type 0
 IdleLinksKeepNothing = (port : PortState) (calls : List Call) → NothingWaitsWhereIdle port → NothingWaitsWhereIdle (history port calls).port
 
--- and then an offering makes CoDel drop nothing
+-- and then an offering drops nothing
 abbrev pub OfferingsDropNothing : Type 0
 OfferingsDropNothing = (now : ℕ) (port : PortState) (packet : Packet) → NothingWaitsWhereIdle port → drops_at_offer now port packet ≡ 0
 

@@ -4,13 +4,14 @@ use Rattle.std.specs.Option.{option_or}
 use Rattle.sim_time.specs.Serial.{serial, IsRate}
 use Rattle.packet_chain.specs.declared.packet.Packet.{Packet}
 use Rattle.packet_chain.specs.Stamped.{Stamped}
+use Rattle.aqm.specs.declared.drop_reason.TakeDrop.{TakeDrop}
+use Rattle.aqm.specs.declared.drop_reason.DropReason.TheVariants.{Lost, Full, Take}
 use Rattle.aqm.specs.declared.queue.Queue.{Queue}
 use Rattle.aqm.specs.DropTail.{is_full}
-use Rattle.aqm.specs.Queue.{fifo_of, offered_to, taken_from}
+use Rattle.aqm.specs.Queue.{fifo_of, offered_to, take_reason, taken_from}
 use Rattle.port.specs.Losses.{is_lost}
 use Rattle.port.specs.declared.acts.Act.{Act}
 use Rattle.port.specs.declared.acts.Act.TheVariants.{Tx, Dropped}
-use Rattle.port.specs.declared.acts.DropReason.TheVariants.{Lost, Full, Codel}
 
 -- the link's number, its rate in bits a second and its delay in nanoseconds; which of the packets offered are lost, counted from 1; how many were offered and how many began to be sent; until when it is busy, if it is; the packets that wait
 pub record PortState : Type 0 where
@@ -72,15 +73,16 @@ begun now port (Some head) =
       acts = Tx port.link head.0 ∷ [];
     }
 
-abbrev pub dropped_by_codel : Stamped → Act
-dropped_by_codel cell = Dropped Codel cell.0
+-- a packet is dropped at a take for a link
+abbrev pub dropped_for : ℕ → TakeDrop → Stamped → Act
+dropped_for link reason cell = Dropped link (Take reason) cell.0
 
--- a port takes from its queue: what CoDel drops comes first, then what is given
+-- a port takes from its queue: what the queue drops comes first, then what is given
 abbrev pub taken : ℕ → PortState → PortStep
 taken now port =
     let take = taken_from port.queue now in
     let sending = begun now (record port { queue = take.queue }) take.given in
-    record sending { acts = map dropped_by_codel take.dropped ++ sending.acts }
+    record sending { acts = map (dropped_for port.link (take_reason port.queue)) take.dropped ++ sending.acts }
 
 -- nothing departs, and this is all that happened
 abbrev pub only : PortState → List Act → PortStep
@@ -98,8 +100,8 @@ entered now port packet = if is_none port.next_free then taken now (with_packet 
 abbrev pub offered_one : ℕ → PortState → Packet → PortStep
 offered_one now port packet =
     let counted = record port { offered = port.offered + 1 } in
-    if is_lost port.lose counted.offered then only counted (Dropped Lost packet ∷ [])
-    else (if is_full (fifo_of port.queue) then only counted (Dropped Full packet ∷ [])
+    if is_lost port.lose counted.offered then only counted (Dropped port.link Lost packet ∷ [])
+    else (if is_full (fifo_of port.queue) then only counted (Dropped port.link Full packet ∷ [])
     else entered now counted packet)
 
 -- packets are offered at one moment, in their order: at most one departs, as a busy link begins nothing

@@ -4,7 +4,7 @@ use Rattle.packet_chain.specs.declared.packet.Packet.{Packet}
 use Rattle.aqm.specs.Queue.{taken_from}
 use Rattle.port.specs.Port.{PortState, with_packet}
 
--- how many packets CoDel drops where the port takes at a moment
+-- how many packets the queue drops where the port takes at a moment
 abbrev pub drops_at : ℕ → PortState → ℕ
 drops_at now port = length (taken_from port.queue now).dropped
 

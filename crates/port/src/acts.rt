@@ -1,29 +1,19 @@
 //! What one event does to packets.
 ghost use Rattle.std.specs.Prelude.{◌≡◌, ◌+◌, ◌<◌, ◌≤◌, [], ◌∷◌, ◌++◌, length, IsOk, OnOk, OnErr};
 
+use aqm::DropReason;
 use packet_chain::{Kind, Packet, PacketBytes};
 use smallvec::SmallVec;
 use std::alloc::{AllocError, Global};
 use std::marker::Model;
-
-/// Why a packet was dropped.
-#[derive(Clone, Copy, Debug, PartialEq, Eq)]
-pub enum DropReason {
-    /// The link's list of lost packets names it.
-    Lost,
-    /// The queue held its capacity.
-    Full,
-    /// CoDel dropped it (RFC 8289 section 5).
-    Codel,
-}
 
 /// One thing that an event did.
 #[derive(Clone, Copy, Debug, PartialEq, Eq)]
 pub enum Act {
     /// The link of this number began to send the packet.
     Tx(u16, Packet),
-    /// The packet was dropped.
-    Dropped(DropReason, Packet),
+    /// The packet was dropped where it was offered to the link of this number, or waited for it.
+    Dropped(u16, DropReason, Packet),
 }
 
 /// An act for the places of a small vector that are not used.

@@ -3,7 +3,7 @@
 ghost use Rattle.port.specs.Laws.{EveryPacketHasOneFate, EveryPacketIsCounted, BusyLinkBeginsNothing, OneDepartsAtMost, ArrivalsRise, DropTailDropsNothingThatEntered, EveryCodelDropHasACause, IdleLinksKeepNothing, OfferingsDropNothing};
 
 /// Every packet that waits at first or is offered is lost, dropped as the queue is full, dropped
-/// by CoDel, sent, or waits at the end: one of these, in order and once.
+/// by its queue at a taking, sent, or waits at the end: one of these, in order and once.
 pub fn every_packet_has_one_fate()
     ensures { EveryPacketHasOneFate }
 {}
@@ -37,8 +37,8 @@ pub fn every_codel_drop_has_a_cause()
     ensures { EveryCodelDropHasACause }
 {}
 
-/// Where nothing waits while a link is idle, so it stays, and an offering makes CoDel drop
-/// nothing.
+/// Where nothing waits while a link is idle, so it stays, and an offering makes its queue drop
+/// nothing that entered.
 pub fn idle_links_keep_nothing()
     ensures kept { IdleLinksKeepNothing }
     ensures offerings { OfferingsDropNothing }

@@ -11,7 +11,8 @@ pub mod guarantees;
 mod losses;
 pub mod port;
 
-pub use acts::{Act, Acts, DropReason};
+pub use acts::{Act, Acts};
+pub use aqm::{DropReason, TakeDrop};
 pub use guarantees::{
     a_busy_link_begins_nothing, arrivals_rise, drop_tail_drops_nothing_that_entered,
     every_codel_drop_has_a_cause, every_packet_has_one_fate, every_packet_is_counted,

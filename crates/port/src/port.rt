@@ -11,9 +11,9 @@ ghost use Rattle.port.specs.Room.{drops_at, drops_at_offer};
 mod taking;
 
 use self::taking::drop_cell;
-use crate::acts::{Acts, DropReason};
+use crate::acts::Acts;
 use crate::losses::Losses;
-use aqm::{Offered, Queue};
+use aqm::{DropReason, Offered, Queue};
 use packet_chain::{PacketCell, PacketChain};
 use sim_time::{Rate, Time};
 use std::alloc::{AllocError, Global};
@@ -128,7 +128,7 @@ impl Port {
         self.queue.len() + 2
     }
 
-    /// For how many acts there is to be room at `now`: two, and one for each packet that CoDel
+    /// For how many acts there is to be room at `now`: two, and one for each packet that the queue
     /// drops where the link takes. The cost doesn't grow with what stays in the queue.
     pub fn room_at(&self, now: Time) -> usize
         requires { IsMoment now }
@@ -160,11 +160,11 @@ impl Port {
         ensures caught_up { NothingWaitsWhereIdle self.old → NothingWaitsWhereIdle self.new }
     {
         if self.losses.count() {
-            drop_cell(cell, DropReason::Lost, acts);
+            drop_cell(cell, self.link, DropReason::Lost, acts);
             return;
         }
         match self.queue.offer(cell, now) {
-            Offered::Full(cell) => drop_cell(cell, DropReason::Full, acts),
+            Offered::Full(cell) => drop_cell(cell, self.link, DropReason::Full, acts),
             Offered::Entered => {
                 if self.next_free.is_none() {
                     self.take(now, acts, out);

@@ -2,11 +2,12 @@
 ghost use Rattle.std.specs.Prelude.{◌≡◌, None, ◌+◌, ◌<◌, ◌≤◌, [], ◌∷◌, ◌++◌, map, length};
 ghost use Rattle.sim_time.specs.Moment.{IsMoment};
 ghost use Rattle.sim_time.specs.Serial.{serial};
-ghost use Rattle.port.specs.Port.{begun, dropped_by_codel, taken, departed};
+ghost use Rattle.port.specs.Port.{begun, dropped_for, taken, departed};
 ghost use Rattle.port.specs.Room.{drops_at};
 
 use super::Port;
-use crate::acts::{Act, Acts, DropReason};
+use crate::acts::{Act, Acts};
+use aqm::{DropReason, TakeDrop};
 use packet_chain::{Packet, PacketCell, PacketChain};
 use sim_time::{Rate, Time, serial_ns};
 
@@ -46,8 +47,9 @@ impl Port {
         ensures idle { self.new.next_free ≡ None → (self.new.sent ≡ self.old.sent) × (out.new ≡ out.old) }
     {
         let mut dropped = PacketChain::new(self.alloc);
+        let reason = self.queue.take_reason();
         let given = self.queue.take(now, &mut dropped);
-        tell_drops(dropped, acts);
+        tell_drops(dropped, self.link, reason, acts);
         self.begin(given, now, acts, out);
     }
 
@@ -91,23 +93,23 @@ fn packet_time(packet: &Packet, rate: Rate) -> Time
     serial_ns(u64::from(packet.bytes.get()), rate)
 }
 
-// Frees the cells of packets that CoDel dropped, and tells of each.
-fn tell_drops(mut dropped: PacketChain, acts: &mut Acts)
+// Frees the cells of packets that a queue dropped at a take, and tells of each.
+fn tell_drops(mut dropped: PacketChain, link: u16, reason: TakeDrop, acts: &mut Acts)
     requires { length dropped ≤ acts.old.room }
-    ensures acts { acts.new.acts ≡ acts.old.acts ++ map dropped_by_codel dropped }
+    ensures acts { acts.new.acts ≡ acts.old.acts ++ map (dropped_for link reason) dropped }
     ensures places { acts.new.room + length acts.new.acts ≡ acts.old.room + length acts.old.acts }
 {
     while let Some(cell) = dropped.pop_front() {
-        drop_cell(cell, DropReason::Codel, acts);
+        drop_cell(cell, link, DropReason::Take(reason), acts);
     }
 }
 
 /// Frees the cell of a packet that is dropped, and tells why. Out of line, as few are.
 #[inline(never)]
-pub(super) fn drop_cell(cell: PacketCell, reason: DropReason, acts: &mut Acts)
+pub(super) fn drop_cell(cell: PacketCell, link: u16, reason: DropReason, acts: &mut Acts)
     requires { 1 ≤ acts.old.room }
-    ensures acts { acts.new.acts ≡ acts.old.acts ++ Act.Dropped reason cell.0 ∷ [] }
+    ensures acts { acts.new.acts ≡ acts.old.acts ++ Act.Dropped link reason cell.0 ∷ [] }
     ensures places { acts.new.room + length acts.new.acts ≡ acts.old.room + length acts.old.acts }
 {
-    acts.push(Act::Dropped(reason, cell.into_packet()));
+    acts.push(Act::Dropped(link, reason, cell.into_packet()));
 }
