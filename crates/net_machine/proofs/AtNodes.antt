@@ -1,7 +1,7 @@
 -- What a change of one node does to what is pending at all.
 use Rattle.std.proofs.Common.{◌≡◌, ◌≢◌, ℕ, ◌<◌, List, length, set, map, sym, ap, subst, ◌∙◌, Some, None, Option, ⊎_elim, arith}
 use Rattle.std.proofs.lemmas.Bool.{cases_eq}
-use Rattle.std.proofs.lemmas.List.{get_or-set_same, get_or-set_other, length-set, length-map, map-set}
+use Rattle.std.proofs.lemmas.List.{get_or-set_same, get_or-set_other, length-set, length-map, map-set, set-get_or}
 use Rattle.std.proofs.Math.ListN.{get_or-map}
 use Rattle.std.specs.FinMap as fin
 use Rattle.std.specs.List.{AllByRecursion}
@@ -10,7 +10,7 @@ use Rattle.ranking.specs.Leading.{rank_at, Leads}
 use Rattle.ranking.specs.Keyed.{apply, least, next_key, EachKey}
 use Rattle.ranking.specs.Gathered.{gathered, map_at, AtHome}
 use Rattle.ranking.proofs.Maps.{each_apply}
-use Rattle.ranking.proofs.Gathered.{home_set, gathered-apply, gathered_has, none_gathered, IsFirst as IsFirstMap, is_first}
+use Rattle.ranking.proofs.Gathered.{rank-next, home_set, gathered-apply, gathered_has, none_gathered, IsFirst as IsFirstMap, is_first}
 use Rattle.node_core.specs.declared.event.Event.{Event}
 use Rattle.node_core.specs.Pending.{Events, Change}
 use Rattle.node_core.specs.Node.{NodeState}
@@ -57,6 +57,12 @@ ranked_set nodes ranks i x is placed = record {
   ranked = ap (λ r. set r i (next_key x.pending)) is.ranked ∙ sym (map-set next_key (pendings nodes) i x.pending) ∙ ap (map next_key) (sym (map-set (λ (n : NodeState). n.pending) nodes i x));
   placed = placed;
 }
+
+-- and stands where the node's next key does
+pub ranked_stays : (nodes : List NodeState) (ranks : List (Option Key)) (i : ℕ) (x : NodeState) → IsRanked nodes ranks → IsPlaced (set nodes i x) → next_key x.pending ≡ next_key (node_at nodes i).pending → IsRanked (set nodes i x) ranks
+ranked_stays nodes ranks i x is placed same = subst (IsRanked (set nodes i x))
+    (ap (set ranks i) (same ∙ ap next_key (sym (pending_at nodes i)) ∙ sym (rank-next (pendings nodes) i) ∙ ap (λ (r : List (Option Key)). rank_at r i) (sym is.ranked)) ∙ set-get_or ranks i None)
+    (ranked_set nodes ranks i x is placed)
 
 module _ (nodes : List NodeState) (ranks : List (Option Key)) (is : IsRanked nodes ranks) where
   pub net_none : ((place : ℕ) → rank_at ranks place ≡ None) → least (net_pending nodes) ≡ None

@@ -1,7 +1,7 @@
 -- Where the links of a scenario leave and end, and that nodes are joined by them so.
 use Rattle.std.specs.Prelude.{◌≡◌, ◌<◌, ◌≤◌, ◌==◌, ℕ, List, [], length, count_by, take, slice_index_or}
 use Rattle.scenario_image.specs.declared.parts.LinkPart.{LinkPart}
-use Rattle.scenario_image.specs.declared.parts.QueueKind.TheVariants.{DropTail}
+use Rattle.sim_time.specs.declared.queue_kind.QueueKind.TheVariants.{DropTail}
 use Rattle.node_core.specs.Part.{LinkState, link_at}
 use Rattle.node_core.specs.AgendaState.{Incoming, incoming_at}
 use Rattle.node_core.specs.Node.{NodeState}

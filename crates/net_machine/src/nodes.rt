@@ -148,7 +148,10 @@ impl Nodes {
         ensures emptied { chain.new ≡ [] }
     {
         let node = &mut self.nodes[place];
-        node.deliver_at(index, chain);
+        // Packets that come behind others change nothing of the ranking.
+        if node.deliver_behind(index, chain) {
+            return;
+        }
         let next = node.least();
         self.ranking.set(place, next);
     }

@@ -1,5 +1,6 @@
 pub mod Wires
 pub mod Slots
+pub mod Stays
 pub mod Offers
 pub mod Fresh
 pub mod Runs

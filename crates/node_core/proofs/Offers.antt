@@ -4,9 +4,9 @@ use Rattle.std.specs.Prelude.{is_none}
 use Rattle.std.proofs.lemmas.List.{length-map}
 use Rattle.packet_chain.specs.declared.packet.Packet.{Packet}
 use Rattle.packet_chain.specs.Stamped.{Stamped}
-use Rattle.aqm.specs.Queue.{taken_from}
+use Rattle.aqm.specs.Queue.{take_reason, taken_from}
 use Rattle.port.specs.declared.acts.Act.{Act}
-use Rattle.port.specs.Port.{PortState, Departure, begun, with_packet, dropped_by_codel, offered_one, offered_all, departed}
+use Rattle.port.specs.Port.{PortState, Departure, begun, with_packet, dropped_for, offered_one, offered_all, departed}
 use Rattle.port.specs.Room.{drops_at}
 use Rattle.port.specs.Laws.{NothingWaitsWhereIdle}
 use Rattle.port.specs.History.{Offer}
@@ -104,7 +104,7 @@ few_acts now port packet nothing = offered_by_case (λ step. length step.acts �
         let with = with_packet now (counted_one port) packet in
         let take = taken_from with.queue now in
         let sending = begun now (record with { queue = take.queue }) take.given in
-        omega (arith, none, length-append (map dropped_by_codel take.dropped) sending.acts, length-map take.dropped dropped_by_codel, begun_acts now (record with { queue = take.queue }) take.given)
+        omega (arith, none, length-append (map (dropped_for with.link (take_reason with.queue)) take.dropped) sending.acts, length-map take.dropped (dropped_for with.link (take_reason with.queue)), begun_acts now (record with { queue = take.queue }) take.given)
 
 -- so it stays
 pub still_nothing : (now : ℕ) (port : PortState) (packet : Packet) → NothingWaitsWhereIdle port → NothingWaitsWhereIdle (offered_one now port packet).port

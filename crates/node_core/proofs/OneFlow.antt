@@ -14,6 +14,7 @@ use Rattle.scenario_image.specs.Ends.{leaves, names, HasItsLinks}
 use Rattle.scenario_image.specs.Kinds.{IsNode}
 use Rattle.scenario_image.specs.FlowLimits.{IsFlowInLimits}
 use Rattle.scenario_image.specs.Scenario.{IsScenario}
+use Rattle.scenario_image.specs.Settings.{sender_settings}
 use Rattle.reno_sender.specs.Laws.{IsFlow}
 use Rattle.node_core.specs.Opening.{node_kind, leaving_links, starting_flows}
 use Rattle.node_core.specs.OpeningAgenda.{numbers_of, flow_sent, flow_received}
@@ -24,15 +25,15 @@ pub record IsFlowOf (p : ScenarioParts) (node : ℕ) (kind : NodeKind) (flow : F
   pub limits : IsFlowInLimits (length p.nodes) p.end flow
   pub is_kind : node_kind p node ≡ kind
 
--- the numbers of a flow are those that a sender can have
-pub sender_limits : (nodes end mss segments rwnd : ℕ) (flow : FlowPart) → IsFlowInLimits nodes end flow → mss ≡ flow.mss → segments ≡ flow.segments → rwnd ≡ flow.rwnd → IsFlow mss segments rwnd
-sender_limits nodes end mss segments rwnd flow limits same_mss same_segments same_rwnd = record {
-  mss_least = omega (arith, same_mss, limits.mss_range.0);
-  mss_most = omega (arith, same_mss, limits.mss_range.1);
-  segments_least = omega (arith, same_segments, limits.segments_range.0);
-  segments_most = omega (arith, same_segments, limits.segments_range.1);
-  rwnd_least = omega (arith, same_mss, same_rwnd, limits.rwnd_range.0);
-  rwnd_most = omega (arith, same_rwnd, limits.rwnd_range.1);
+-- the settings of a flow are those that a sender can have
+pub sender_limits : (nodes end : ℕ) (flow : FlowPart) → IsFlowInLimits nodes end flow → IsFlow (sender_settings flow)
+sender_limits nodes end flow limits = record {
+  mss_least = limits.mss_range.0;
+  mss_most = limits.mss_range.1;
+  segments_least = limits.segments_range.0;
+  segments_most = (let most = limits.segments_range.1 in omega (arith, most));
+  rwnd_least = limits.rwnd_range.0;
+  rwnd_most = (let most = limits.rwnd_range.1 in omega (arith, most));
 }
 
 -- a node's kind, read at any default

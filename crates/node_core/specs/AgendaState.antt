@@ -1,9 +1,10 @@
 -- A node's agenda: what is pending at it, kept in slots, one for each alarm and one for each incoming link.
-use Rattle.std.specs.Prelude.{◌≡◌, ◌≢◌, ◌<◌, ◌≤◌, ◌+◌, ◌-◌, ◌==◌, if◌then◌else◌, ℕ, List, [], ◌∷◌, ◌++◌, map, length, replicate, slice_index, slice_index_or, slice_set, Option, None, Some}
+use Rattle.std.specs.Prelude.{◌≡◌, ◌≢◌, ◌<◌, ◌≤◌, ◌+◌, ◌-◌, ◌==◌, ◌^◌, if◌then◌else◌, ℕ, All, List, [], ◌∷◌, ◌++◌, map, length, replicate, slice_index, slice_index_or, slice_set, Option, None, Some}
 use Rattle.std.specs.List.{position_or_len}
+use Rattle.std.specs.List.Sorted.{IsStrictlyIncreasing}
 use Rattle.sim_time.specs.declared.key.Key.{Key}
 use Rattle.packet_chain.specs.Stamped.{Stamped}
-use Rattle.ranking.specs.Keyed.{next_key, changed, apply, entering, nothing_due}
+use Rattle.ranking.specs.Keyed.{next_key, changed, apply, entering, nothing_due, EachKey}
 use Rattle.ranking.specs.Gathered.{gathered}
 use Rattle.node_core.specs.declared.event.Event.{Event}
 use Rattle.node_core.specs.declared.event.Event.TheVariants.{Start, Rto, DelAck, Free, Arrive}
@@ -11,7 +12,7 @@ use Rattle.node_core.specs.Pending.{Events}
 use Rattle.node_core.specs.declared.alarm.Alarm.{Alarm}
 use Rattle.node_core.specs.declared.alarm.Alarm.TheVariants.{Start as FlowStarts, Retransmission, DelayedAcknowledgement}
 use Rattle.node_core.specs.Alarms.{first_free, alarm_number, numbered_key}
-use Rattle.node_core.specs.WireState.{WireState, pending_on, came_over, arrivals}
+use Rattle.node_core.specs.WireState.{WireState, pending_on, came_over, arrivals, stamps_of}
 
 -- an incoming link: its number, and how many packets have come to the node over it, those that are still to be taken among them
 pub record Incoming : Type 0 where
@@ -97,6 +98,13 @@ incoming_at incoming index = slice_index_or incoming index no_incoming
 -- which of the incoming links has this number, counted from 0; how many there are, where none has
 abbrev pub entry_of : List Incoming → ℕ → ℕ
 entry_of incoming link = position_or_len (λ (over : Incoming). over.link == link) incoming
+
+-- packets can come over the incoming link of an index: it is there, they arrive one after another and behind all that is under way over it, and are not too many
+pub record CanCome (pending : Events) (incoming : List Incoming) (index : ℕ) (sent : List Stamped) : Type 0 where
+  pub within : index < length incoming
+  pub rising : IsStrictlyIncreasing (stamps_of sent)
+  pub later : All (λ stamp. EachKey (λ k. k.source ≡ (incoming_at incoming index).link + 1 → k.time < stamp) pending) (stamps_of sent)
+  pub few : (incoming_at incoming index).came + length sent ≤ 2 ^ 50
 
 -- packets come over an incoming link, and are pending from now on
 abbrev pub come_over : AgendaState → ℕ → List Stamped → AgendaState

@@ -1,22 +1,18 @@
 -- The nodes of a scenario, before anything is sent.
-use Rattle.std.specs.Prelude.{ℕ, false, ◌==◌, List, [], map, filter, find, slice_index_or, unwrap_or, Option, Some}
+use Rattle.std.specs.Prelude.{ℕ, ◌==◌, List, map, filter, find, slice_index_or, unwrap_or, Option, Some}
 use Rattle.std.specs.List.{enumerate_from, position}
 use Rattle.std.specs.Option.{option_and_then}
-use Rattle.sim_time.specs.declared.variant.Iw.TheVariants.{Iw3}
 use Rattle.scenario_image.specs.declared.parts.NodeKind.{NodeKind}
 use Rattle.scenario_image.specs.declared.parts.NodeKind.TheVariants.{Sender, Receiver, Router}
-use Rattle.scenario_image.specs.declared.parts.QueueKind.{QueueKind}
-use Rattle.scenario_image.specs.declared.parts.QueueKind.TheVariants.{DropTail as DropTailKind, Codel as CodelKind}
 use Rattle.scenario_image.specs.declared.parts.LinkPart.{LinkPart}
 use Rattle.scenario_image.specs.declared.parts.FlowPart.{FlowPart}
 use Rattle.scenario_image.specs.declared.parts.ScenarioParts.{ScenarioParts}
 use Rattle.scenario_image.specs.Ways.{route_link}
+use Rattle.scenario_image.specs.Plain.{plain_flow}
+use Rattle.scenario_image.specs.Settings.{sender_settings}
 use Rattle.reno_sender.specs.Table.{opening_fields}
 use Rattle.reno_receiver.specs.Received.{opening_receiver}
-use Rattle.aqm.specs.declared.queue.Queue.{Queue}
-use Rattle.aqm.specs.declared.queue.Queue.TheVariants.{DropTail, Codel}
-use Rattle.aqm.specs.DropTail.{DropTailState}
-use Rattle.aqm.specs.Codel.{opening_codel}
+use Rattle.aqm.specs.Queue.{opening_queue}
 use Rattle.port.specs.Port.{opening_port}
 use Rattle.node_core.specs.declared.event.Event.TheVariants.{Start}
 use Rattle.node_core.specs.declared.alarm.Alarm.TheVariants.{Start as FlowStarts}
@@ -30,15 +26,6 @@ use Rattle.node_core.specs.Part.{LinkState, PartState}
 -- what a scenario's node is
 abbrev pub node_kind : ScenarioParts → ℕ → NodeKind
 node_kind p node = slice_index_or p.nodes node Router
-
--- nothing waits, and so many packets may
-abbrev pub empty_fifo : ℕ → DropTailState
-empty_fifo capacity = record { waiting = []; capacity = capacity }
-
--- a link's queue, before anything was offered to it
-abbrev pub opening_queue : QueueKind → ℕ → Queue
-opening_queue DropTailKind capacity = DropTail (empty_fifo capacity)
-opening_queue (CodelKind codel) capacity = Codel (opening_codel (empty_fifo capacity) codel.target codel.interval codel.maxpacket)
 
 -- a link with its number, before anything was offered to it
 abbrev pub opening_link : ℕ × LinkPart → LinkState
@@ -60,7 +47,7 @@ abbrev pub exits_of : ScenarioParts → ℕ → FlowPart → FlowExits
 exits_of p node flow = record { for_data = exit_to p node flow.receiver; for_acks = exit_to p node flow.sender }
 
 abbrev pub no_flow : ℕ × FlowPart
-no_flow = (0, record { sender = 0; receiver = 0; mss = 1; segments = 1; start = 0; rwnd = 1; delack = 0; variant = record { newreno = false; iw = Iw3 } })
+no_flow = (0, plain_flow 0 0)
 
 -- the flow that a node sends, or receives, with its number
 abbrev pub flow_from : List FlowPart → ℕ → ℕ × FlowPart
@@ -70,7 +57,7 @@ abbrev pub flow_to : List FlowPart → ℕ → ℕ × FlowPart
 flow_to flows node = unwrap_or (find (λ (x : ℕ × FlowPart). x.1.receiver == node) (enumerate_from 0 flows)) no_flow
 
 abbrev pub sends : ℕ × FlowPart → Role
-sends numbered = Sends numbered.0 (opening_fields numbered.1.mss numbered.1.segments numbered.1.rwnd numbered.1.variant)
+sends numbered = Sends numbered.0 (opening_fields (sender_settings numbered.1))
 
 abbrev pub receives : ℕ × FlowPart → Role
 receives numbered = Receives numbered.0 (opening_receiver numbered.1.mss numbered.1.delack)

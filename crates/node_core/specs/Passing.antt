@@ -1,14 +1,23 @@
 -- What passes one of a node's links, and what that changes of the node's agenda.
-use Rattle.std.specs.Prelude.{ℕ, List, [], ◌∷◌, ◌++◌, slice_index_or, slice_set, Option, None, Some}
+use Rattle.std.specs.Prelude.{◌≡◌, ℕ, List, [], ◌∷◌, ◌++◌, slice_index_or, slice_set, Option, None, Some}
 use Rattle.std.specs.FinMap as map
 use Rattle.sim_time.specs.declared.key.Key.{Key}
+use Rattle.packet_chain.specs.Stamped.{Stamped}
 use Rattle.ranking.specs.Keyed.{apply}
-use Rattle.port.specs.Port.{Departure, PortStep}
+use Rattle.port.specs.declared.acts.Act.{Act}
+use Rattle.port.specs.Port.{Departure, PortStep, departed}
 use Rattle.node_core.specs.declared.alarm.Alarm.TheVariants.{Free as BecomesFree}
 use Rattle.node_core.specs.declared.event.Event.TheVariants.{Free}
 use Rattle.node_core.specs.Pending.{Change}
 use Rattle.node_core.specs.Alarms.{alarm_number, alarm_key, numbered_key, alarm_cleared, alarm_set}
 use Rattle.node_core.specs.AgendaState.{AgendaState, alarm_event, cleared}
+use Rattle.node_core.specs.Part.{LinkState}
+
+-- a link has done this step: what departs is behind those that have left over it, and the acts are behind those before
+pub record HasStepped (step : PortStep) (link new : LinkState) (chain filled : List Stamped) (before done : List Act) : Type 0 where
+  pub link_is : new ≡ record link { port = step.port }
+  pub out_is : filled ≡ chain ++ departed step.departure
+  pub acts_are : done ≡ before ++ step.acts
 
 -- the link of an index and a number is busy from now on, where a packet departs over it
 abbrev pub busied : ℕ → ℕ → ℕ → Option Departure → List Change

@@ -1,6 +1,7 @@
 -- What a node needs so that its event can be run.
-use Rattle.std.specs.Prelude.{◌≡◌, ℕ, ◌+◌, ◌%◌, ◌<◌, ◌≤◌, ◌^◌, length, Option, Some, IsSome}
+use Rattle.std.specs.Prelude.{◌≡◌, ℕ, ◌+◌, ◌%◌, ◌<◌, ◌≤◌, ◌^◌, List, length, Option, Some, IsSome}
 use Rattle.std.specs.List.{AllByRecursion}
+use Rattle.packet_chain.specs.Stamped.{Stamped}
 use Rattle.packet_chain.specs.declared.packet.Packet.{Packet}
 use Rattle.packet_chain.specs.declared.packet.Kind.{Kind}
 use Rattle.packet_chain.specs.declared.packet.Kind.TheVariants.{Data, Ack}
@@ -15,8 +16,9 @@ use Rattle.node_core.specs.declared.role.Role.{Role}
 use Rattle.node_core.specs.declared.role.Role.TheVariants.{Sends, Receives, Routes}
 use Rattle.node_core.specs.RouteTable.{exit_for}
 use Rattle.node_core.specs.Alarms.{first_free}
-use Rattle.node_core.specs.InStep.{deadline_of, delayed_of}
+use Rattle.node_core.specs.InStep.{HasItsLink, deadline_of, delayed_of}
 use Rattle.node_core.specs.Part.{LinkState, PartState}
+use Rattle.node_core.specs.Running.{part}
 
 -- an acknowledgement has to be one for the sender
 abbrev pub SenderTakes : SenderFields → ℕ → Kind → ℕ → Type 0
@@ -51,6 +53,12 @@ pub record LinkCan (link : LinkState) : Type 0 where
   pub sent_fits : link.port.sent < 1000000000000000
   pub offered_fits : link.port.offered < 2 ^ 90
 
+-- packets can be offered to a link at a moment, and one of them put behind those that have left over it
+pub record CanOffer (now : ℕ) (link : LinkState) (chain : List Stamped) : Type 0 where
+  pub moment : IsMoment now
+  pub can : LinkCan link
+  pub chain_fits : length chain < 1000000000000000
+
 -- what is needed of the event that is a node's least
 pub record IsRunnable (part : PartState) (k : Key) (v : Event) : Type 0 where
   pub moment : IsMoment k.time
@@ -78,3 +86,12 @@ IsOfLink number links (Rto flow) = Unit {0}
 IsOfLink number links (DelAck flow) = Unit {0}
 IsOfLink number links (Free link) = (first_free ≤ number) × (number < first_free + links)
 IsOfLink number links (Arrive packet) = Unit {0}
+
+-- what is needed of a role, its links and an event, so that what the event does is decided
+pub record CanDecide (role : Role) (links : List LinkState) (key : Key) (event : Event) : Type 0 where
+  pub moment : IsMoment key.time
+  pub set : IsSetBy role event
+  pub own : IsOfLink key.number (length links) event
+  pub takes : CanRun (part role links) key.time event
+  pub linked : HasItsLink role links
+  pub few : length links ≤ 1024

@@ -26,3 +26,10 @@ pub record HasRun (key : Key) (effect : Effect) (role : Role) (links : List Link
   pub owner : after.owner ≡ before.owner
   pub in_step : IsInStep role links after
   pub out : filled ≡ put_out effect.leaving chains
+
+-- nothing has changed
+pub record IsAsBefore (role new_role : Role) (links new_links : List LinkState) (before after : AgendaState) (chains filled : List (List Stamped)) : Type 0 where
+  pub role_is : new_role ≡ role
+  pub links_are : new_links ≡ links
+  pub agenda_is : after ≡ before
+  pub out_is : filled ≡ chains

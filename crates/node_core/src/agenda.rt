@@ -1,13 +1,11 @@
 //! What is pending at a node: its alarms and what comes over its links, ranked by their next keys.
-ghost use Rattle.std.specs.Prelude.{◌≡◌, ◌+◌, ◌<◌, ◌≤◌, ◌^◌, [], All, EachIndex, IfOk, Option, Some, None, length, map as each, replicate, slice_index, vec_len};
+ghost use Rattle.std.specs.Prelude.{◌≡◌, ◌≢◌, ◌+◌, ◌<◌, ◌≤◌, ◌^◌, [], EachIndex, IfOk, Option, Some, None, length, map as each, replicate, slice_index, true, vec_len};
 ghost use Rattle.std.specs.Option.{option_map};
-ghost use Rattle.std.specs.List.Sorted.{IsStrictlyIncreasing};
 ghost use Rattle.std.specs.FinMap as map;
 ghost use Rattle.sim_time.specs.declared.key.Key.{Key};
-ghost use Rattle.ranking.specs.Keyed.{least, next_key, EachKey};
+ghost use Rattle.ranking.specs.Keyed.{least, next_key};
 ghost use Rattle.node_core.specs.Alarms.{alarm_number, numbered_key};
-ghost use Rattle.node_core.specs.WireState.{stamps_of};
-ghost use Rattle.node_core.specs.AgendaState.{alarm_event, cleared, incoming_at, entry_of, come_over, AreApart, fresh_wire, fresh_agenda, IsAlarm, IsDue};
+ghost use Rattle.node_core.specs.AgendaState.{alarm_event, cleared, incoming_at, entry_of, come_over, CanCome, AreApart, fresh_wire, fresh_agenda, IsAlarm, IsDue};
 ghost use Rattle.node_core.specs.Passing.{after_take, moved_to};
 ghost use Rattle.packet_chain.specs.declared.packet.Packet.{Packet};
 ghost use Rattle.node_core.specs.declared.event.Event.{Event};
@@ -244,6 +242,30 @@ impl Agenda {
         }
     }
 
+    /// Tells the least key and its event where these are kept, so that they lie nowhere else before.
+    #[inline(always)]
+    pub fn tell_least(&self, key: &mut Key, event: &mut Event)
+        requires { next_key self.now.pending ≢ None }
+        ensures value { least self.now.pending ≡ Some (key.new, event.new) }
+        ensures due { IsDue self.now key.new event.new }
+    {
+        match self.ranking.first() {
+            Some((slot, first)) => {
+                let alarms = self.alarms.len();
+                if slot < alarms {
+                    *key = first;
+                    *event = self.announced(slot);
+                    return;
+                }
+                let wire = &self.wires[slot - alarms];
+                let (coming, arrival) = wire.head().unwrap();
+                *key = coming;
+                *event = arrival;
+            }
+            None => {}
+        }
+    }
+
     // What an alarm announces.
     fn announced(&self, number: usize) -> Event
         ensures { result ≡ alarm_event self.now.owner number }
@@ -280,21 +302,29 @@ impl Agenda {
 
     /// Packets come over an incoming link, after all that came over it before. It takes no memory.
     pub fn append(&mut self, index: usize, sent: &mut PacketChain)
-        requires within { index < length self.old.incoming }
-        requires rising { IsStrictlyIncreasing (stamps_of sent.old) }
-        requires later { All (λ stamp. EachKey (λ k. k.source ≡ (incoming_at self.old.incoming index).link + 1 → k.time < stamp) self.old.pending) (stamps_of sent.old) }
-        requires few { (incoming_at self.old.incoming index).came + length sent.old ≤ 2 ^ 50 }
+        requires { CanCome self.old.pending self.old.incoming index sent.old }
         ensures state { self.new ≡ come_over self.old index sent.old }
         ensures sent { sent.new ≡ [] }
+    {
+        let _behind = self.append_behind(index, sent);
+    }
+
+    /// The same. The answer is whether others are under way before them: then the least key stays.
+    pub fn append_behind(&mut self, index: usize, sent: &mut PacketChain) -> bool
+        requires { CanCome self.old.pending self.old.incoming index sent.old }
+        ensures state { self.new ≡ come_over self.old index sent.old }
+        ensures sent { sent.new ≡ [] }
+        ensures stays { result ≡ true → next_key self.new.pending ≡ next_key self.old.pending }
     {
         let wire = &mut self.wires[index];
         let waiting = wire.next_key().is_some();
         wire.append(sent);
         if waiting {
-            return;
+            return true;
         }
         let next = wire.next_key();
         let slot = self.alarms.len() + index;
         self.ranking.set(slot, next);
+        false
     }
 }

@@ -1,12 +1,13 @@
 //! What is decided of each event, by what its node does.
-ghost use Rattle.std.specs.Prelude.{◌≡◌, ◌≤◌, ℕ, List, IfOk, OnErr, IsSome, length};
+ghost use Rattle.std.specs.Prelude.{◌≡◌, ℕ, List, IfOk, OnErr, IsSome};
 ghost use Rattle.sim_time.specs.Moment.{IsMoment};
 ghost use Rattle.node_core.specs.declared.event.Event.TheVariants.{Start, Rto, DelAck, Arrive};
 ghost use Rattle.node_core.specs.Decided.{IsDecided};
 ghost use Rattle.node_core.specs.InStep.{HasItsLink, deadline_of, delayed_of};
 ghost use Rattle.node_core.specs.Part.{LinkState};
-ghost use Rattle.node_core.specs.Ready.{CanRun, EndTakes, IsExit, IsOfLink, IsSetBy, Takes};
+ghost use Rattle.node_core.specs.Ready.{CanDecide, EndTakes, Takes};
 ghost use Rattle.node_core.specs.Running.{part};
+ghost use Rattle.node_core.specs.TraceLine.{IsSameEvent};
 
 use crate::cells::Origin;
 use crate::decision::Decision;
@@ -124,17 +125,11 @@ pub(crate) fn decide(
     links: &Vec<Link>,
     line: &mut Line,
 ) -> Result<Decision, AllocError>
-    requires moment { IsMoment line.old.key.time }
-    requires set { IsSetBy role.old line.old.event }
-    requires own { IsOfLink line.old.key.number (length links.now.items) line.old.event }
-    requires takes { CanRun (part role.old links.now.items) line.old.key.time line.old.event }
-    requires linked { HasItsLink role.old links.now.items }
-    requires few { length links.now.items ≤ 1024 }
+    requires { CanDecide role.old links.now.items line.old.key line.old.event }
     ensures decided { IfOk result (IsDecided role.old role.new links.now.items line.old.key line.old.event line.new.acts.room) }
     ensures same { OnErr result (role.new ≡ role.old) }
     ensures acts { line.new.acts.acts ≡ line.old.acts.acts }
-    ensures key { line.new.key ≡ line.old.key }
-    ensures event { line.new.event ≡ line.old.event }
+    ensures same_event { IsSameEvent line.old.key line.new.key line.old.event line.new.event }
 {
     let key = line.key;
     let acts = &mut line.acts;

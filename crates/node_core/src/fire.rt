@@ -5,8 +5,9 @@ ghost use Rattle.node_core.specs.CarriedOut.{IsNext, IsCarriedOut};
 ghost use Rattle.node_core.specs.Decided.{CanDo};
 ghost use Rattle.node_core.specs.InStep.{IsInStep};
 ghost use Rattle.node_core.specs.Ready.{CanRun};
-ghost use Rattle.node_core.specs.Running.{HasRun, part};
+ghost use Rattle.node_core.specs.Running.{HasRun, IsAsBefore, part};
 ghost use Rattle.node_core.specs.Row.{Leaving, row};
+ghost use Rattle.node_core.specs.TraceLine.{IsSameEvent};
 
 use crate::agenda::Agenda;
 use crate::decision::Decision;
@@ -30,8 +31,7 @@ pub(crate) fn carry_out(
     requires next { IsNext line.old.key line.old.event links.old.items agenda.old out.old }
     requires can { CanDo line.old.key line.old.event links.old.items line.old.acts.room decision }
     ensures done { IsCarriedOut line.old.key line.old.event decision links.old.items links.new.items agenda.old agenda.new out.old out.new line.old.acts.acts line.new.acts.acts result }
-    ensures key { line.new.key ≡ line.old.key }
-    ensures event { line.new.event ≡ line.old.event }
+    ensures same_event { IsSameEvent line.old.key line.new.key line.old.event line.new.event }
 {
     match decision {
         Decision::Leave => {
@@ -58,12 +58,8 @@ pub(crate) fn run(
     ensures ran { OnOk result (HasRun line.old.key (row (part role.old links.old.items) line.old.key line.old.event) role.new links.new.items agenda.old agenda.new out.old out.new) }
     ensures acts { OnOk result (line.new.acts.acts ≡ line.old.acts.acts ++ (row (part role.old links.old.items) line.old.key line.old.event).acts) }
     ensures leaving { IfOk result (λ index. index ≡ option_map (λ (leaving : Leaving). leaving.index) (row (part role.old links.old.items) line.old.key line.old.event).leaving) }
-    ensures key { line.new.key ≡ line.old.key }
-    ensures event { line.new.event ≡ line.old.event }
-    ensures same_role { OnErr result (role.new ≡ role.old) }
-    ensures same_links { OnErr result (links.new.items ≡ links.old.items) }
-    ensures same_agenda { OnErr result (agenda.new ≡ agenda.old) }
-    ensures same_out { OnErr result (out.new ≡ out.old) }
+    ensures same_event { IsSameEvent line.old.key line.new.key line.old.event line.new.event }
+    ensures same { OnErr result (IsAsBefore role.old role.new links.old.items links.new.items agenda.old agenda.new out.old out.new) }
 {
     let decision = decide(agenda.alloc(), role, links, line)?;
     Ok(carry_out(decision, links, agenda, line, out))

@@ -28,5 +28,5 @@ pub use event::Event;
 pub use line::{After, Line};
 pub use node::Node;
 pub use outbox::Outbox;
-pub use port::{Act, Acts, DropReason};
+pub use port::{Act, Acts, DropReason, TakeDrop};
 pub use wire::Wire;

@@ -5,7 +5,8 @@ ghost use Rattle.port.specs.Laws.{NothingWaitsWhereIdle};
 ghost use Rattle.port.specs.Port.{IsPort, offered_one, offered_all, taken, departed};
 ghost use Rattle.port.specs.Room.{drops_at};
 ghost use Rattle.node_core.specs.Links.{packets_of, all_of};
-ghost use Rattle.node_core.specs.Ready.{LinkCan};
+ghost use Rattle.node_core.specs.Passing.{HasStepped};
+ghost use Rattle.node_core.specs.Ready.{CanOffer};
 
 use packet_chain::{PacketCell, PacketChain};
 use port::{Acts, Port};
@@ -73,13 +74,9 @@ impl Link {
         acts: &mut Acts,
         out: &mut PacketChain,
     )
-        requires moment { IsMoment now }
+        requires can { CanOffer now self.old out.old }
         requires room { 2 ≤ acts.old.room }
-        requires can { LinkCan self.old }
-        requires chain { length out.old < 1000000000000000 }
-        ensures state { self.new ≡ record self.old { port = (offered_one now self.old.port cell.0).port } }
-        ensures departed { out.new ≡ out.old ++ departed (offered_one now self.old.port cell.0).departure }
-        ensures acts { acts.new.acts ≡ acts.old.acts ++ (offered_one now self.old.port cell.0).acts }
+        ensures { HasStepped (offered_one now self.old.port cell.0) self.old self.new out.old out.new acts.old.acts acts.new.acts }
     {
         self.port.send(cell, now, acts, out);
     }
@@ -117,14 +114,10 @@ impl Link {
         acts: &mut Acts,
         out: &mut PacketChain,
     )
-        requires moment { IsMoment now }
+        requires can { CanOffer now self.old out.old }
         requires room { length (all_of cells last) + 1 ≤ acts.old.room }
         requires few { length cells ≤ 2 ^ 40 }
-        requires can { LinkCan self.old }
-        requires chain { length out.old < 1000000000000000 }
-        ensures state { self.new ≡ record self.old { port = (offered_all now self.old.port (all_of cells last)).port } }
-        ensures departed { out.new ≡ out.old ++ departed (offered_all now self.old.port (all_of cells last)).departure }
-        ensures acts { acts.new.acts ≡ acts.old.acts ++ (offered_all now self.old.port (all_of cells last)).acts }
+        ensures { HasStepped (offered_all now self.old.port (all_of cells last)) self.old self.new out.old out.new acts.old.acts acts.new.acts }
     {
         let Some(cell) = last else {
             self.offer(cells, now, acts, out);

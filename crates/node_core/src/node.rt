@@ -1,5 +1,5 @@
 //! A node: what it does, its outgoing links, and what is pending at it.
-ghost use Rattle.std.specs.Prelude.{◌≡◌, ◌≢◌, ◌+◌, ◌<◌, ◌≤◌, ◌^◌, [], ◌∷◌, ◌++◌, ℕ, All, IfOk, IfSome, OnOk, OnErr, MatchOption, Option, Some, None, length, map as each, slice_index_or, slice_set};
+ghost use Rattle.std.specs.Prelude.{◌≡◌, ◌≢◌, ◌+◌, ◌<◌, ◌≤◌, ◌^◌, [], ◌∷◌, ◌++◌, ℕ, All, IfOk, IfSome, OnOk, OnErr, MatchOption, Option, Some, None, length, map as each, slice_index_or, slice_set, true};
 ghost use Rattle.std.specs.Option.{option_map};
 ghost use Rattle.std.specs.List.{slice_get};
 ghost use Rattle.std.specs.List.Sorted.{IsStrictlyIncreasing};
@@ -206,6 +206,20 @@ impl Node {
         self.agenda.append(index, chain);
     }
 
+    /// The same. The answer is whether others are under way before them: then the least key stays.
+    #[inline(always)]
+    pub fn deliver_behind(&mut self, index: usize, chain: &mut PacketChain) -> bool
+        requires within { index < length self.old.incoming }
+        requires rising { IsStrictlyIncreasing (stamps_of chain.old) }
+        requires later { All (λ stamp. EachKey (λ k. k.source ≡ (incoming_at self.old.incoming index).link + 1 → k.time < stamp) self.old.pending) (stamps_of chain.old) }
+        requires few { (incoming_at self.old.incoming index).came + length chain.old ≤ 2 ^ 50 }
+        ensures node { self.new ≡ delivered self.old index chain.old }
+        ensures emptied { chain.new ≡ [] }
+        ensures stays { result ≡ true → next_key self.new.pending ≡ next_key self.old.pending }
+    {
+        self.agenda.append_behind(index, chain)
+    }
+
     /// Runs the event of the least key: `line` tells what it was and did, and a packet that
     /// begins to be sent goes to its link's chain in `out`. The answer is the index of that link.
     /// Where memory is refused, neither the node nor `out` changes.
@@ -223,10 +237,7 @@ impl Node {
         ensures same { OnErr result (self.new ≡ self.old) }
         ensures same_out { OnErr result (out.new ≡ out.old) }
     {
-        let (key, event) = self.agenda.least().unwrap();
-        // Written before the event is run, it need not be kept elsewhere until then.
-        line.key = key;
-        line.event = event;
+        self.agenda.tell_least(&mut line.key, &mut line.event);
         line.acts.clear();
         let left = run(&mut self.role, &mut self.links, &mut self.agenda, line, out)?;
         self.role.show(&mut line.after);

@@ -3,11 +3,11 @@ ghost use Rattle.std.specs.Prelude.{◌≡◌, ◌==◌, ◌<◌, ◌≤◌, ℕ
 ghost use Rattle.std.specs.List.{position};
 ghost use Rattle.std.specs.Option.{option_and_then};
 ghost use Rattle.scenario_image.specs.Limits.{IsInLimits};
-ghost use Rattle.scenario_image.specs.LinkLimits.{IsLinkInLimits, IsQueueInLimits};
+ghost use Rattle.scenario_image.specs.LinkLimits.{IsLinkInLimits};
 ghost use Rattle.scenario_image.specs.Scenario.{IsScenario};
 ghost use Rattle.scenario_image.specs.Ways.{route_link as link_of_route};
 ghost use Rattle.node_core.specs.InStep.{flow_of};
-ghost use Rattle.node_core.specs.Opening.{node_kind, opening_queue as queue_at_first, opening_link as link_at_first, leaving_links, coming_links, opening_links as links_at_first, exits_of, opening_role as role_at_first};
+ghost use Rattle.node_core.specs.Opening.{node_kind, opening_link as link_at_first, leaving_links, coming_links, opening_links as links_at_first, exits_of, opening_role as role_at_first};
 ghost use Rattle.node_core.specs.OpeningAgenda.{numbers_of, flow_sent, flow_received, start_at as start_of_flow, opening_agenda as agenda_at_first};
 
 use crate::agenda::Agenda;
@@ -15,31 +15,13 @@ use crate::alarm::Alarm;
 use crate::link::Link;
 use crate::role::Role;
 use crate::routes::{FlowExits, RouteTable};
-use aqm::{Codel, DropTail, Queue};
+use aqm::Queue;
 use port::Port;
 use reno_receiver::Receiver;
 use reno_sender::Sender;
-use scenario_image::{FlowPart, LinkPart, NodeKind, QueueKind, ScenarioParts, route_link};
+use scenario_image::{FlowPart, LinkPart, NodeKind, ScenarioParts, route_link};
 use sim_time::{Rate, Time};
 use std::alloc::{AllocError, Global};
-
-// A link's queue, in which nothing waits.
-fn opening_queue(alloc: Global, kind: QueueKind, capacity: u16) -> Queue
-    requires capacity { 1 ≤ capacity }
-    requires numbers { IsQueueInLimits kind }
-    ensures { result ≡ queue_at_first kind capacity }
-{
-    match kind {
-        QueueKind::DropTail => Queue::DropTail(DropTail::new(alloc, capacity)),
-        QueueKind::Codel(codel) => Queue::Codel(Codel::new(
-            alloc,
-            capacity,
-            codel.target,
-            codel.interval,
-            codel.maxpacket,
-        )),
-    }
-}
 
 // The link of a number, before anything was offered to it.
 fn opening_link(alloc: Global, number: u16, part: &LinkPart) -> Result<Link, AllocError>
@@ -48,7 +30,7 @@ fn opening_link(alloc: Global, number: u16, part: &LinkPart) -> Result<Link, All
     ensures { IfOk result (λ link. link ≡ link_at_first (number, part.now)) }
 {
     let rate = Rate::new(part.rate).unwrap();
-    let queue = opening_queue(alloc, part.queue, part.capacity);
+    let queue = Queue::new(alloc, part.queue, part.capacity);
     let lose = part.lose.as_slice().to_vec(alloc)?;
     let port = Port::new(alloc, number, rate, part.delay, queue, lose);
     Ok(Link::new(part.to, port))
@@ -178,9 +160,7 @@ pub fn opening_role(
     match parts.nodes.as_slice()[usize::from(node)] {
         NodeKind::Sender => {
             let (number, flow) = flow_from(flows, node).unwrap();
-            let (mss, segments) = (u64::from(flow.mss), u64::from(flow.segments));
-            let sender = Sender::new(mss, segments, u64::from(flow.rwnd), flow.variant);
-            Ok(Role::Sends(number, sender))
+            Ok(Role::Sends(number, Sender::new(flow.sender_settings())))
         }
         NodeKind::Receiver => {
             let (number, flow) = flow_to(flows, node).unwrap();

@@ -10,6 +10,7 @@ ghost use Rattle.node_core.specs.Decided.{CanPass, CanSend, CanTake, arriving, s
 ghost use Rattle.node_core.specs.Links.{packets_of};
 ghost use Rattle.node_core.specs.Part.{link_at};
 ghost use Rattle.node_core.specs.Passing.{after_take, moved_to};
+ghost use Rattle.node_core.specs.TraceLine.{IsSameEvent};
 
 use crate::agenda::Agenda;
 use crate::alarm::Alarm;
@@ -55,8 +56,7 @@ pub(crate) fn pass_on(
     requires next { IsNext line.old.key line.old.event links.old.items agenda.old out.old }
     requires can { CanPass line.old.event links.old.items line.old.acts.room index }
     ensures passed { HasPassed index (offered_all line.old.key.time (link_at links.old.items index).port (arriving line.old.event)) links.old.items links.new.items (after_take agenda.old line.old.key) agenda.new out.old out.new line.old.acts.acts line.new.acts.acts result }
-    ensures key { line.new.key ≡ line.old.key }
-    ensures event { line.new.event ≡ line.old.event }
+    ensures same_event { IsSameEvent line.old.key line.new.key line.old.event line.new.event }
 {
     let cell = agenda.take(line.key).unwrap();
     let place = index as usize;
@@ -78,8 +78,7 @@ pub(crate) fn take_next(
     requires next { IsNext line.old.key line.old.event links.old.items agenda.old out.old }
     requires can { CanTake line.old.key line.old.event links.old.items line.old.acts.room index }
     ensures passed { HasPassed index (taken line.old.key.time (link_at links.old.items index).port) links.old.items links.new.items (after_take agenda.old line.old.key) agenda.new out.old out.new line.old.acts.acts line.new.acts.acts result }
-    ensures key { line.new.key ≡ line.old.key }
-    ensures event { line.new.event ≡ line.old.event }
+    ensures same_event { IsSameEvent line.old.key line.new.key line.old.event line.new.event }
 {
     let place = index as usize;
     let link = &mut links[place];
@@ -112,8 +111,7 @@ pub(crate) fn send(
     requires next { IsNext line.old.key line.old.event links.old.items agenda.old out.old }
     requires can { CanSend line.old.event links.old.items line.old.acts.room sending }
     ensures passed { HasPassed 0 (offered_all line.old.key.time (link_at links.old.items 0).port (sent_by sending)) links.old.items links.new.items (moved_to (after_take agenda.old line.old.key) (alarm_number sending.alarm) sending.time) agenda.new out.old out.new line.old.acts.acts line.new.acts.acts result }
-    ensures key { line.new.key ≡ line.old.key }
-    ensures event { line.new.event ≡ line.old.event }
+    ensures same_event { IsSameEvent line.old.key line.new.key line.old.event line.new.event }
 {
     let Sending {
         cells,

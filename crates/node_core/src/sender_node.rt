@@ -33,7 +33,7 @@ pub(crate) fn send_plan(
     acts.reserve(plan.count() as usize + 2)?;
     let mss = plan.as_fields().mss;
     let cells = segments(origin, mss, plan.resent(), plan.first(), plan.count())?;
-    sender.commit(*plan);
+    sender.commit_lent(plan);
     Ok(Decision::Send(Sending {
         cells,
         last: None,
@@ -57,8 +57,7 @@ fn send_behind(
 {
     acts.reserve(plan.count() as usize + 2)?;
     let (cells, last) = but_last(origin, plan)?;
-    // The plan is lent, so that it is copied once, into the sender.
-    sender.commit(*plan);
+    sender.commit_lent(plan);
     Ok(Decision::Send(Sending {
         cells,
         last,

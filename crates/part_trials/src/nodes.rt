@@ -3,103 +3,59 @@ ghost use Rattle.ranking.specs.Keyed.{EachKey};
 ghost use Rattle.node_core.specs.AgendaState.{incoming_at};
 
 use crate::wires::{segment, sent};
-use aqm::Queue;
 use node_core::opening::{leaving_numbers, opening_role};
 use node_core::role::Role;
 use node_core::{Event, Node};
 use packet_chain::{Kind, Packet, PacketBytes, PacketChain};
 use reno_sender::SenderFields;
-use scenario_image::{
-    Codel, FlowPart, LinkPart, NodeKind, QueueKind, Records, RoutePart, Scenario, ScenarioParts,
-};
-use sim_time::{Iw, Key, Variant};
+use scenario_asm::assemble;
+use scenario_image::{RENO, Scenario};
+use sim_time::Key;
 use std::alloc::Global;
 use std::test::Fail;
 
-/// The sender of a flow that names none.
-pub(crate) const RENO: Variant = Variant {
-    newreno: false,
-    iw: Iw::Iw3,
-};
+// Two flows, 0 from node 1 to node 3, and 1 from node 0 to node 4, over the router 2. The links: two
+// senders' (0 and 1), the router's to the receivers, the first with CoDel (2 and 3), the receivers' (4
+// and 5), the router's to the senders (6 and 7). Link 0 loses two packets.
+const TEXT: &str = "sim 1000000000
+node s sender
+node t sender
+node q router
+node u receiver
+node v receiver
+link a s q 8000000 1000000 droptail 10
+link b t q 8000000 1000000 droptail 10
+link c q u 8000000 1000000 codel 10 5000000 100000000 1500
+link d q v 8000000 1000000 droptail 10
+link e u q 8000000 1000000 droptail 10
+link g v q 8000000 1000000 droptail 10
+link h q s 8000000 1000000 droptail 10
+link i q t 8000000 1000000 droptail 10
+flow x t u 1000 3 5 64000 40000000
+flow y s v 1000 3 7 64000 40000000
+route q s h
+route q t i
+route q u c
+route q v d
+lose a 2
+lose a 5
+";
 
-// A link of a megabyte a second.
-fn link(alloc: Global, from: u16, to: u16) -> LinkPart {
-    LinkPart {
-        from,
-        to,
-        rate: 8_000_000,
-        delay: 1_000_000,
-        queue: QueueKind::DropTail,
-        capacity: 10,
-        lose: Records::new(Vec::new(alloc)),
+// The scenario of a text of five nodes.
+fn scenario_of(alloc: Global, text: &str) -> Result<Scenario, Fail>
+    ensures { IfOk result (λ scenario. length scenario.nodes ≡ 5) }
+{
+    let scenario = assemble(alloc, text.as_bytes()).map_err(|_| "a scenario")?;
+    if scenario.parts().nodes.len() != 5 {
+        return Err(Fail::from("nodes"));
     }
+    Ok(scenario)
 }
 
-// The links: two senders' (0 and 1), the router's to the receivers, the first with CoDel (2 and
-// 3), the receivers' (4 and 5), the router's to the senders (6 and 7). Link 0 loses two packets.
-fn links(alloc: Global) -> Result<Vec<LinkPart>, Fail> {
-    let mut links = Vec::new(alloc);
-    let mut first = link(alloc, 0, 2);
-    first.lose = Records::new(vec![in alloc; 2, 5]?);
-    links.push(first)?;
-    links.push(link(alloc, 1, 2))?;
-    let mut codel = link(alloc, 2, 3);
-    codel.queue = QueueKind::Codel(Codel {
-        target: 5_000_000,
-        interval: 100_000_000,
-        maxpacket: 1_500,
-    });
-    links.push(codel)?;
-    for (from, to) in [(2, 4), (3, 2), (4, 2), (2, 0), (2, 1)] {
-        links.push(link(alloc, from, to))?;
-    }
-    Ok(links)
-}
-
-// A flow of three segments.
-fn flow(sender: u16, receiver: u16, start: u64) -> FlowPart {
-    FlowPart {
-        sender,
-        receiver,
-        mss: 1_000,
-        segments: 3,
-        start,
-        rwnd: 64_000,
-        delack: 40_000_000,
-        variant: RENO,
-    }
-}
-
-// The router's route for a destination.
-fn route(destination: u16, link: u16) -> RoutePart {
-    RoutePart {
-        router: 2,
-        destination,
-        link,
-    }
-}
-
-// Two flows, 0 from node 1 to node 3, and 1 from node 0 to node 4, over the router 2.
 fn scenario(alloc: Global) -> Result<Scenario, Fail>
     ensures { IfOk result (λ scenario. length scenario.nodes ≡ 5) }
 {
-    let nodes = [
-        NodeKind::Sender,
-        NodeKind::Sender,
-        NodeKind::Router,
-        NodeKind::Receiver,
-        NodeKind::Receiver,
-    ];
-    let flows = [flow(1, 3, 5), flow(0, 4, 7)];
-    let routes = [route(0, 6), route(1, 7), route(3, 2), route(4, 3)];
-    let parts = ScenarioParts {
-        end: 1_000_000_000,
-        nodes: Records::new(Vec::from_slice(alloc, &nodes)?),
-        links: Records::new(links(alloc)?),
-        flows: Records::new(Vec::from_slice(alloc, &flows)?),
-        routes: Records::new(Vec::from_slice(alloc, &routes)?),
-    };
-    Ok(Scenario::of_parts(parts)?)
+    scenario_of(alloc, TEXT)
 }
 
 fn node(alloc: Global, number: u16) -> Result<Node, Fail>
@@ -223,11 +179,7 @@ fn a_router_has_its_links_in_rising_number(rt: HostRuntime) -> Result<(), Fail> 
     assert_eq!(rt; incoming.as_slice(), [0, 1, 4, 5].as_slice());
     assert!(rt; node.pending()?.is_empty());
     for link in node.ports() {
-        let is_codel = match link.port().queue() {
-            Queue::Codel(_) => true,
-            Queue::DropTail(_) => false,
-        };
-        assert_eq!(rt; is_codel, link.to() == 3);
+        assert_eq!(rt; link.port().queue().may_drop(), link.to() == 3);
         assert!(rt; link.port().queue().len() == 0 && link.port().sent() == 0);
     }
     Ok(())

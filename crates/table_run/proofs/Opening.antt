@@ -10,18 +10,16 @@ use Rattle.std.specs.FinMap as finmap
 use Rattle.sim_time.specs.declared.key.Key.{Key}
 use Rattle.packet_chain.specs.declared.packet.Packet.{Packet}
 use Rattle.scenario_image.specs.declared.parts.NodeKind.{NodeKind}
-use Rattle.scenario_image.specs.declared.parts.QueueKind.{QueueKind}
-use Rattle.scenario_image.specs.declared.parts.QueueKind.TheVariants.{DropTail as DropTailKind, Codel as CodelKind}
 use Rattle.scenario_image.specs.declared.parts.FlowPart.{FlowPart}
 use Rattle.scenario_image.specs.declared.parts.LinkPart.{LinkPart}
 use Rattle.scenario_image.specs.declared.parts.ScenarioParts.{ScenarioParts}
-use Rattle.aqm.specs.Queue.{waiting_in, emptied}
+use Rattle.aqm.proofs.Stays.{queues_open_empty}
 use Rattle.port.specs.Port.{opening_port}
 use Rattle.node_core.specs.declared.alarm.Alarm.TheVariants.{Start as FlowStarts}
 use Rattle.node_core.specs.declared.event.Event.{Event}
 use Rattle.node_core.specs.declared.event.Event.TheVariants.{Start}
 use Rattle.node_core.specs.Alarms.{alarm_key}
-use Rattle.node_core.specs.Opening.{opening_queue, opening_link, opening_part, start_of}
+use Rattle.node_core.specs.Opening.{opening_link, opening_part, start_of}
 use Rattle.node_core.specs.Part.{LinkState}
 use Rattle.node_core.specs.Pending.{Events, Change}
 use Rattle.ranking.specs.Keyed.{apply, changed}
@@ -66,34 +64,23 @@ opened_part p node kind is =
     zero_plus x = omega arith
 
 -- an opening link is as it was before anything was offered to it
-afresh_queue : (kind : QueueKind) (capacity : ℕ) → emptied (opening_queue kind capacity) ≡ opening_queue kind capacity
-afresh_queue DropTailKind capacity = refl
-afresh_queue (CodelKind codel) capacity = refl
-
 pub afresh_all : (xs : List (ℕ × LinkPart)) → map afresh (map opening_link xs) ≡ map opening_link xs
 afresh_all [] = refl
-afresh_all (x ∷ xs) = λ i. record { to = x.1.to; port = opening_port x.0 x.1.rate x.1.delay x.1.lose (afresh_queue x.1.queue x.1.capacity i) } ∷ afresh_all xs i
-
-none_waits : (p : ScenarioParts) (s : State) (kind : QueueKind) (capacity link : ℕ) → AllByRecursion (λ (x : Packet × ℕ). IsUnderWay p s link x.0) (waiting_in (opening_queue kind capacity))
-none_waits p s DropTailKind capacity link = tt
-none_waits p s (CodelKind codel) capacity link = tt
-
-empty_queue : (kind : QueueKind) (capacity : ℕ) → waiting_in (opening_queue kind capacity) ≡ []
-empty_queue DropTailKind capacity = refl
-empty_queue (CodelKind codel) capacity = refl
+afresh_all (x ∷ xs) = λ i. record { to = x.1.to; port = opening_port x.0 x.1.rate x.1.delay x.1.lose ((queues_open_empty x.1.queue x.1.capacity).afresh i) } ∷ afresh_all xs i
 
 pub all_opened : (p : ScenarioParts) (s : State) (xs : List (ℕ × LinkPart)) → AllByRecursion (λ (l : LinkState). IsSoundLink p s 0 l.port) (map opening_link xs)
 all_opened p s [] = tt
-all_opened p s (x ∷ xs) = (
-  record {
-    sent_most = omega arith;
-    offered_most = omega arith;
-    queued = none_waits p s x.1.queue x.1.capacity x.0;
-    idle_empty = λ _. empty_queue x.1.queue x.1.capacity;
-    room = (let none = ap length (empty_queue x.1.queue x.1.capacity) in omega (arith, none));
-  },
-  all_opened p s xs,
-)
+all_opened p s (x ∷ xs) =
+    let empty = (queues_open_empty x.1.queue x.1.capacity).empty in (
+      record {
+        sent_most = omega arith;
+        offered_most = omega arith;
+        queued = subst (AllByRecursion (λ (y : Packet × ℕ). IsUnderWay p s x.0 y.0)) (sym empty) tt;
+        idle_empty = λ _. empty;
+        room = (let none = ap length empty in omega (arith, none));
+      },
+      all_opened p s xs,
+    )
 
 pub all_idle : (xs : List (ℕ × LinkPart)) → AllByRecursion (λ (l : LinkState). l.port.next_free ≡ None) (map opening_link xs)
 all_idle [] = tt

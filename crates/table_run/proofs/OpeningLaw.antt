@@ -18,6 +18,7 @@ use Rattle.scenario_image.specs.declared.parts.FlowPart.{FlowPart}
 use Rattle.scenario_image.specs.declared.parts.ScenarioParts.{ScenarioParts}
 use Rattle.scenario_image.specs.Kinds.{HasFlowItsKinds}
 use Rattle.scenario_image.specs.Scenario.{IsScenario}
+use Rattle.scenario_image.specs.Settings.{sender_settings}
 use Rattle.scenario_image.proofs.Courses.{all_at}
 use Rattle.scenario_image.proofs.Arrivals.{ends_have_one_flow}
 use Rattle.node_core.specs.declared.alarm.Alarm.TheVariants.{Retransmission, DelayedAcknowledgement, Free as BecomesFree}
@@ -28,6 +29,7 @@ use Rattle.node_core.specs.Alarms.{alarm_key}
 use Rattle.node_core.specs.Opening.{leaving_links, no_flow, flow_from, flow_to, sends, receives, opening_part, start_of}
 use Rattle.node_core.specs.Part.{LinkState, PartState, link_at, no_link}
 use Rattle.node_core.specs.Pending.{Events}
+use Rattle.node_core.proofs.OneFlow.{sender_limits}
 use Rattle.ranking.proofs.Maps.{each_empty}
 use Rattle.table_run.specs.State.{State, opening, part_at}
 use Rattle.table_run.specs.Flow.{high_of, deadline_of, alarm_of, IsSoundFlow}
@@ -84,7 +86,7 @@ module _ (p : ScenarioParts) (is_scenario : IsScenario p) where
       (find_only (λ (x : ℕ × FlowPart). x.1.receiver == flow.receiver) 0 p.flows number flow its (eq-eqb flow.receiver flow.receiver refl) (λ j y found passes. one_receiver number flow its j y found (eqb-true y.receiver flow.receiver passes)))
       ∙ ap (λ n. (n, flow)) zero_plus
 
-  sender_opens : (number : ℕ) (flow : FlowPart) → slice_get p.flows number ≡ Some flow → (part_at s flow.sender).role ≡ Sends number (opening_fields flow.mss flow.segments flow.rwnd flow.variant)
+  sender_opens : (number : ℕ) (flow : FlowPart) → slice_get p.flows number ≡ Some flow → (part_at s flow.sender).role ≡ Sends number (opening_fields (sender_settings flow))
   sender_opens number flow its = ap (λ (x : PartState). x.role) (opened_part p flow.sender Sender (kinds number flow its).sender) ∙ ap sends (flow_from_is number flow its)
 
   receiver_opens : (number : ℕ) (flow : FlowPart) → slice_get p.flows number ≡ Some flow → (part_at s flow.receiver).role ≡ Receives number (opening_receiver flow.mss flow.delack)
@@ -95,18 +97,11 @@ module _ (p : ScenarioParts) (is_scenario : IsScenario p) where
       let limits = flow_limits p is_scenario number flow its in
       let opened = opening_holds flow.mss flow.delack limits.mss_range.0 limits.mss_range.1 limits.delack_range in
       record {
-        fields = opening_fields flow.mss flow.segments flow.rwnd flow.variant;
+        fields = opening_fields (sender_settings flow);
         received = opening_receiver flow.mss flow.delack;
         sender_role = sender_opens number flow its;
         receiver_role = receiver_opens number flow its;
-        sound = opening_sound flow.mss flow.segments flow.rwnd flow.variant record {
-          mss_least = limits.mss_range.0;
-          mss_most = limits.mss_range.1;
-          segments_least = limits.segments_range.0;
-          segments_most = (let most = limits.segments_range.1 in omega (arith, most));
-          rwnd_least = limits.rwnd_range.0;
-          rwnd_most = (let most = limits.rwnd_range.1 in omega (arith, most));
-        };
+        sound = opening_sound (sender_settings flow) (sender_limits _ _ flow limits);
         its_mss = refl;
         its_segments = refl;
         its_rwnd = refl;

@@ -12,7 +12,7 @@ use Rattle.sim_time.specs.declared.key.Key.{Key}
 use Rattle.aqm.specs.Codel.{CodelState}
 use Rattle.aqm.specs.Queue.{waiting_in}
 use Rattle.aqm.specs.declared.queue.Queue.{Queue}
-use Rattle.aqm.specs.declared.queue.Queue.TheVariants.{DropTail, Codel}
+use Rattle.aqm.specs.declared.queue.Queue.TheVariants.{Codel}
 use Rattle.node_core.specs.declared.event.Event.{Event}
 use Rattle.node_core.specs.declared.role.Role.{Role}
 use Rattle.node_core.specs.declared.role.Role.TheVariants.{Sends, Receives, Routes}
@@ -86,8 +86,8 @@ codel_words q =
     ∷ (codes "last=" ++ decimal q.lastcount) ∷ (codes "drop=" ++ flag q.dropping) ∷ []
 
 abbrev pub control_words : Queue → List (List ℕ)
-control_words (DropTail q) = []
 control_words (Codel q) = codel_words q
+control_words _ = []
 
 -- a link's line: what was offered to it, what it has sent, and its queue from the head
 abbrev pub link_line : LinkState → List ℕ

@@ -4,7 +4,7 @@ ghost use Rattle.trace_text.specs.Words.{spaced};
 ghost use Rattle.trace_text.specs.Line.{act_word, packet_name, reason_name};
 
 use crate::backward::{put_number, put_small, put_text};
-use node_core::{Act, DropReason};
+use node_core::{Act, DropReason, TakeDrop};
 use packet_chain::Packet;
 use std::alloc::AllocError;
 
@@ -63,7 +63,7 @@ fn put_act(bytes: &mut [u8], end: usize, act: &Act) -> usize
             let at = put_small(bytes, at, *link);
             put_text(bytes, at, b" tx=")
         }
-        Act::Dropped(reason, packet) => {
+        Act::Dropped(_, reason, packet) => {
             let at = put_packet(bytes, end, packet);
             put_drop(bytes, at, *reason)
         }
@@ -98,6 +98,6 @@ fn put_drop(bytes: &mut [u8], end: usize, reason: DropReason) -> usize
     match reason {
         DropReason::Lost => put_text(bytes, end, b" drop=lost"),
         DropReason::Full => put_text(bytes, end, b" drop=full"),
-        DropReason::Codel => put_text(bytes, end, b" drop=codel"),
+        DropReason::Take(TakeDrop::Codel) => put_text(bytes, end, b" drop=codel"),
     }
 }

@@ -13,4 +13,4 @@ mod line;
 
 pub use dump::{DumpPart, dump_text, part_text, pending_events};
 pub use end::end_text;
-pub use line::line_text;
+pub use line::{LINE_ROOM, line_text, line_text_in};

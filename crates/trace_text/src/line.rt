@@ -16,7 +16,7 @@ use std::alloc::AllocError;
 const ROOM: usize = 224;
 
 /// The greatest length of a line of one act whose number is less than `MANY`.
-const SHORT: usize = 256;
+pub const LINE_ROOM: usize = 256;
 
 /// The least number of 15 digits.
 const MANY: u64 = 100_000_000_000_000;
@@ -35,6 +35,23 @@ pub fn line_text(n: u64, line: &Line, out: &mut Vec<u8>) -> Result<(), AllocErro
     appended
 }
 
+/// The same, where room is lent for a line of at most one act: whatever it holds is not cleared for each line.
+#[inline(always)]
+pub fn line_text_in(
+    room: &mut [u8; LINE_ROOM],
+    n: u64,
+    line: &Line,
+    out: &mut Vec<u8>,
+) -> Result<(), AllocError>
+    ensures ok { OnOk result (out.new.items ≡ out.old.items ++ line_bytes n (shown line.now)) }
+    ensures err { OnErr result (out.new.items ≡ out.old.items) }
+{
+    if n < MANY && line.acts.as_slice().len() <= 1 {
+        return append_short(room, n, line, out);
+    }
+    line_text(n, line, out)
+}
+
 /// Appends the line. Where memory is refused, a part of it may have been appended.
 #[inline(always)]
 fn append_line(n: u64, line: &Line, out: &mut Vec<u8>) -> Result<(), AllocError>
@@ -42,14 +59,19 @@ fn append_line(n: u64, line: &Line, out: &mut Vec<u8>) -> Result<(), AllocError>
     ensures err { OnErr result (take (vec_len out.old) out.new.items ≡ out.old.items) }
 {
     if n < MANY && line.acts.as_slice().len() <= 1 {
-        return append_short(n, line, out);
+        return append_short(&mut [0; LINE_ROOM], n, line, out);
     }
     append_long(n, line, out)
 }
 
-/// Appends a line of at most one act, as nearly all are, or nothing.
+/// Appends a line of at most one act, as nearly all are, or nothing. It is written into `bytes` first.
 #[inline(always)]
-fn append_short(n: u64, line: &Line, out: &mut Vec<u8>) -> Result<(), AllocError>
+fn append_short(
+    bytes: &mut [u8; LINE_ROOM],
+    n: u64,
+    line: &Line,
+    out: &mut Vec<u8>,
+) -> Result<(), AllocError>
     requires count { n < MANY }
     requires few { length line.now.acts.acts ≤ 1 }
     ensures ok { OnOk result (out.new.items ≡ out.old.items ++ (decimal n
@@ -58,13 +80,12 @@ fn append_short(n: u64, line: &Line, out: &mut Vec<u8>) -> Result<(), AllocError
         ++ codes "\n")) }
     ensures err { OnErr result (out.new.items ≡ out.old.items) }
 {
-    let mut bytes = [0; SHORT];
-    let at = put_text(&mut bytes, SHORT, b"\n");
-    let at = put_acts(&mut bytes, at, line.acts.as_slice());
-    let at = put_after(&mut bytes, at, &line.after);
-    let at = put_event(&mut bytes, at, &line.event);
-    let at = put_key(&mut bytes, at, &line.key);
-    let start = put_count(&mut bytes, at, n);
+    let at = put_text(bytes, LINE_ROOM, b"\n");
+    let at = put_acts(bytes, at, line.acts.as_slice());
+    let at = put_after(bytes, at, &line.after);
+    let at = put_event(bytes, at, &line.event);
+    let at = put_key(bytes, at, &line.key);
+    let start = put_count(bytes, at, n);
     out.extend_from_slice(&bytes[start..])
 }
 

@@ -204,8 +204,8 @@ fn append_control(queue: &Queue, out: &mut Vec<u8>) -> Result<(), AllocError>
     ensures { OnOk result (out.new.items ≡ out.old.items ++ spaced (control_words queue.now)) }
 {
     match queue {
-        Queue::DropTail(_) => Ok(()),
         Queue::Codel(codel) => append_codel(codel, out),
+        _ => Ok(()),
     }
 }
 

@@ -7,36 +7,40 @@ use Rattle.node_core.proofs.Carried.{ran}
 use Rattle.node_core.proofs.Due.{of_link, set_by}
 use Rattle.node_core.proofs.fire.run.Goals as goal
 
-pub decide-requires-clause-set : goal.decide-requires-clause-set
-decide-requires-clause-set c = set_by c.args.role.now c.args.links.now.items c.args.agenda.now c.args.line.now.key c.args.line.now.event c.requires.in_step c.requires.next.due
-
-pub decide-requires-clause-own : goal.decide-requires-clause-own
-decide-requires-clause-own c = of_link c.args.role.now c.args.links.now.items c.args.agenda.now c.args.line.now.key c.args.line.now.event c.requires.in_step c.requires.next.due
+pub decide-requires : goal.decide-requires
+decide-requires c = record {
+  moment = c.requires.next.moment;
+  set = set_by c.args.role.now c.args.links.now.items c.args.agenda.now c.args.line.now.key c.args.line.now.event c.requires.in_step c.requires.next.due;
+  own = of_link c.args.role.now c.args.links.now.items c.args.agenda.now c.args.line.now.key c.args.line.now.event c.requires.in_step c.requires.next.due;
+  takes = c.requires.runs;
+  linked = c.requires.in_step.linked;
+  few = c.requires.in_step.few;
+}
 
 pub carry_out-requires-clause-next : goal.carry_out-requires-clause-next
 carry_out-requires-clause-next c =
-    subst (λ (k : Key). IsNext k c.decide.new.line.event c.args.links.now.items c.args.agenda.now c.args.out.now) (sym c.decide.ensures.key)
-    (subst (λ (e : Event). IsNext c.args.line.now.key e c.args.links.now.items c.args.agenda.now c.args.out.now) (sym c.decide.ensures.event) c.requires.next)
+    subst (λ (k : Key). IsNext k c.decide.new.line.event c.args.links.now.items c.args.agenda.now c.args.out.now) (sym c.decide.ensures.same_event.key_is)
+    (subst (λ (e : Event). IsNext c.args.line.now.key e c.args.links.now.items c.args.agenda.now c.args.out.now) (sym c.decide.ensures.same_event.event_is) c.requires.next)
 
 pub carry_out-requires-clause-can : goal.carry_out-requires-clause-can
 carry_out-requires-clause-can c =
-    subst (λ (k : Key). CanDo k c.decide.new.line.event c.args.links.now.items c.decide.new.line.acts.room c.in_ok-decision.decision) (sym c.decide.ensures.key)
-    (subst (λ (e : Event). CanDo c.args.line.now.key e c.args.links.now.items c.decide.new.line.acts.room c.in_ok-decision.decision) (sym c.decide.ensures.event) c.in_ok-decision.ensures.decided.can)
+    subst (λ (k : Key). CanDo k c.decide.new.line.event c.args.links.now.items c.decide.new.line.acts.room c.in_ok-decision.decision) (sym c.decide.ensures.same_event.key_is)
+    (subst (λ (e : Event). CanDo c.args.line.now.key e c.args.links.now.items c.decide.new.line.acts.room c.in_ok-decision.decision) (sym c.decide.ensures.same_event.event_is) c.in_ok-decision.ensures.decided.can)
 
 pub returns-clause-ran : goal.returns-clause-ran
 returns-clause-ran c =
     (ran c.args.role.now c.decide.new.role c.args.links.now.items c.carry_out.new.links.items c.args.agenda.now c.carry_out.new.agenda c.args.out.now c.carry_out.new.out c.args.line.now.acts.acts c.carry_out.new.line.acts.acts c.carry_out.result
     c.args.line.now.key c.args.line.now.event c.decide.new.line.acts.room c.requires.in_step c.requires.next c.in_ok-decision.decision c.in_ok-decision.ensures.decided
-    c.decide.new.line.key c.decide.new.line.event c.decide.new.line.acts.acts c.decide.ensures.key c.decide.ensures.event c.decide.ensures.acts c.carry_out.ensures.done).has_run
+    c.decide.new.line.key c.decide.new.line.event c.decide.new.line.acts.acts c.decide.ensures.same_event.key_is c.decide.ensures.same_event.event_is c.decide.ensures.acts c.carry_out.ensures.done).has_run
 
 pub returns-clause-acts : goal.returns-clause-acts
 returns-clause-acts c =
     (ran c.args.role.now c.decide.new.role c.args.links.now.items c.carry_out.new.links.items c.args.agenda.now c.carry_out.new.agenda c.args.out.now c.carry_out.new.out c.args.line.now.acts.acts c.carry_out.new.line.acts.acts c.carry_out.result
     c.args.line.now.key c.args.line.now.event c.decide.new.line.acts.room c.requires.in_step c.requires.next c.in_ok-decision.decision c.in_ok-decision.ensures.decided
-    c.decide.new.line.key c.decide.new.line.event c.decide.new.line.acts.acts c.decide.ensures.key c.decide.ensures.event c.decide.ensures.acts c.carry_out.ensures.done).did
+    c.decide.new.line.key c.decide.new.line.event c.decide.new.line.acts.acts c.decide.ensures.same_event.key_is c.decide.ensures.same_event.event_is c.decide.ensures.acts c.carry_out.ensures.done).did
 
 pub returns-clause-leaving : goal.returns-clause-leaving
 returns-clause-leaving c =
     (ran c.args.role.now c.decide.new.role c.args.links.now.items c.carry_out.new.links.items c.args.agenda.now c.carry_out.new.agenda c.args.out.now c.carry_out.new.out c.args.line.now.acts.acts c.carry_out.new.line.acts.acts c.carry_out.result
     c.args.line.now.key c.args.line.now.event c.decide.new.line.acts.room c.requires.in_step c.requires.next c.in_ok-decision.decision c.in_ok-decision.ensures.decided
-    c.decide.new.line.key c.decide.new.line.event c.decide.new.line.acts.acts c.decide.ensures.key c.decide.ensures.event c.decide.ensures.acts c.carry_out.ensures.done).leaves
+    c.decide.new.line.key c.decide.new.line.event c.decide.new.line.acts.acts c.decide.ensures.same_event.key_is c.decide.ensures.same_event.event_is c.decide.ensures.acts c.carry_out.ensures.done).leaves

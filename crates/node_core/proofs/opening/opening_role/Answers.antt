@@ -1,6 +1,7 @@
 use Rattle.std.proofs.Common.{sym, ap, subst, ◌∙◌, arith, List, IsSome}
 use Rattle.scenario_image.specs.declared.parts.NodeKind.TheVariants.{Sender, Receiver}
 use Rattle.scenario_image.specs.declared.parts.FlowPart.{FlowPart}
+use Rattle.reno_sender.specs.Laws.{IsFlow}
 use Rattle.node_core.specs.OpeningAgenda.{flow_sent, flow_received}
 use Rattle.node_core.proofs.OneFlow.{IsFlowOf, sender_finds, receiver_finds, sent_is, received_is, sender_limits, kind_read}
 use Rattle.node_core.proofs.opening.opening_role.Goals as goal
@@ -12,13 +13,13 @@ unwrap-number-requires c =
     let found = c.flow_from.ensures ∙ ap (λ (flows : List FlowPart). flow_sent flows c.args.node) c.as_slice-flows.ensures.value in
     subst IsSome (sym found) (sender_finds p c.requires.scenario c.args.node c.requires.within kind)
 
-pub new-sender-requires : goal.new-sender-requires
-new-sender-requires c =
+pub new-requires : goal.new-requires
+new-requires c =
     let p = c.args.parts.now in
     let found = sym c.unwrap-number.ensures ∙ c.flow_from.ensures ∙ ap (λ (flows : List FlowPart). flow_sent flows c.args.node) c.as_slice-flows.ensures.value in
     let flow = c.unwrap-number.result in
     let is = sent_is p c.requires.scenario c.args.node c.requires.within flow.0 flow.1 (sym found) in
-    sender_limits _ _ c.from-mss.result c.from-segments.result c.from-in-Sender.result flow.1 is.limits c.from-mss.ensures c.from-segments.ensures c.from-in-Sender.ensures
+    subst IsFlow (sym c.sender_settings.ensures) (sender_limits _ _ flow.1 is.limits)
 
 pub unwrap-number-requires-in-Receiver : goal.unwrap-number-requires-in-Receiver
 unwrap-number-requires-in-Receiver c =

@@ -44,14 +44,14 @@ returns-clause-passed c =
     ap (offered_one now old.port) cell ∙ sym (one_alone now old.port packet) ∙ ap (λ (e : Event). offered_all now old.port (arriving e)) (sym can.arrives.1) in
     let due : IsDueAs agenda key (Arrive packet) = subst (IsDueAs agenda key) can.arrives.1 next.due in
     let was = c.is_busy-was_busy.ensures in
-    let free = c.next_free.ensures ∙ ap (λ (p : PortState). p.next_free) c.port.ensures.value ∙ ap (λ (l : LinkState). l.port.next_free) c.send.ensures.state ∙ ap (λ (s : PortStep). s.port.next_free) one in
+    let free = c.next_free.ensures ∙ ap (λ (p : PortState). p.next_free) c.port.ensures.value ∙ ap (λ (l : LinkState). l.port.next_free) c.send.ensures.link_is ∙ ap (λ (s : PortStep). s.port.next_free) one in
     let alarm = ap (λ (a : List (Option Rattle.std.proofs.Common.ℕ)). get_or a (3 + index) None) (cleared_other key agenda.alarms due) ∙ next_alarm key event links agenda chains next index ∙ ap (λ (l : LinkState). l.port.next_free) (sym is) in
     let exit = next_exit key event links agenda chains next index ∙ ap (λ (l : LinkState). l.port.link) (sym is) in
     has_passed index (λ (p : PortState). offered_all now p (arriving event)) links old c.send.new.self (after_take agenda key) c.follow.new.agenda chains c.chain-chain.result.now c.send.new.out c.args.line.now.acts.acts c.send.new.acts.acts c.follow.result is
-    (c.send.ensures.state ∙ ap (λ (s : PortStep). record old { port = s.port }) one)
+    (c.send.ensures.link_is ∙ ap (λ (s : PortStep). record old { port = s.port }) one)
     c.chain-chain.ensures.value
-    (c.send.ensures.departed ∙ ap (λ (s : PortStep). c.chain-chain.result.now ++ departed s.departure) one)
-    (c.send.ensures.acts ∙ ap (λ (s : PortStep). c.args.line.now.acts.acts ++ s.acts) one)
+    (c.send.ensures.out_is ∙ ap (λ (s : PortStep). c.chain-chain.result.now ++ departed s.departure) one)
+    (c.send.ensures.acts_are ∙ ap (λ (s : PortStep). c.args.line.now.acts.acts ++ s.acts) one)
     (offered_follows (after_take agenda key) c.follow.new.agenda index now old.port (arriving event) c.is_busy-was_busy.result c.next_free.result alarm exit was free
     (c.follow.ensures.agenda ∙ ap (λ (s : AgendaState). cond c.is_busy-was_busy.result s (moved_to s (3 + index) c.next_free.result)) c.take.ensures.state))
     (offered_left index now old.port (arriving event) c.is_busy-was_busy.result c.next_free.result c.follow.result was free c.follow.ensures.left)

@@ -4,7 +4,7 @@ use Rattle.std.specs.List.{AllByRecursion}
 use Rattle.sim_time.specs.declared.key.Key.{Key}
 use Rattle.scenario_image.specs.declared.parts.FlowPart.{FlowPart}
 use Rattle.scenario_image.specs.declared.parts.LinkPart.{LinkPart}
-use Rattle.scenario_image.specs.declared.parts.QueueKind.TheVariants.{DropTail}
+use Rattle.sim_time.specs.declared.queue_kind.QueueKind.TheVariants.{DropTail}
 use Rattle.ranking.specs.Keyed.{nothing_due, EachKey}
 use Rattle.ranking.proofs.Maps.{each_apply, each_empty}
 use Rattle.node_core.specs.declared.event.Event.{Event}

@@ -1,4 +1,4 @@
-use Rattle.std.proofs.Common.{◌≡◌, ◌≤◌, Some, length, sym, subst, ◌∙◌}
+use Rattle.std.proofs.Common.{◌≡◌, ◌≤◌, Some, length, sym, subst}
 use Rattle.sim_time.specs.declared.key.Key.{Key}
 use Rattle.ranking.specs.Keyed.{least}
 use Rattle.node_core.specs.declared.event.Event.{Event}
@@ -12,8 +12,8 @@ Due s = (k : Key) (v : Event) → least s.pending ≡ Some (k, v) → IsRunnable
 
 pub run-requires-clause-next : goal.run-requires-clause-next
 run-requires-clause-next c =
-    let key = c.unwrap-event.result.0 in
-    let event = c.unwrap-event.result.1 in
-    let is_least = sym c.least.ensures.value ∙ c.unwrap-event.ensures in
-    is_next c.self.inside.role c.self.inside.links.items c.self.inside.agenda c.args.out.now key event c.self.invariant (c.least.ensures.due key event is_least) (subst Due (sym c.self.view_is) c.requires.due key event is_least) is_least
+    let key = c.tell_least.new.key in
+    let event = c.tell_least.new.event in
+    let is_least = c.tell_least.ensures.value in
+    is_next c.self.inside.role c.self.inside.links.items c.self.inside.agenda c.args.out.now key event c.self.invariant c.tell_least.ensures.due (subst Due (sym c.self.view_is) c.requires.due key event is_least) is_least
     (subst (λ (s : NodeState). length s.part.links ≤ length c.args.out.now) (sym c.self.view_is) c.requires.chains) c.requires.room

@@ -8,8 +8,9 @@ use Rattle.ranking.specs.Keyed.{next_key, apply, entering, EachKey}
 use Rattle.node_core.specs.WireState.{WireState, pending_on, came_over, arrivals, stamps_of}
 use Rattle.node_core.specs.AgendaState.{AgendaState, Incoming, IsAgenda, slots, no_wire, wire_at, incoming_of, incoming_at, come_over}
 use Rattle.node_core.specs.AgendaOf.{owner_of}
-use Rattle.node_core.proofs.Slots.{still_ranked, length-slots, wire_ranked, wire_keys, joined_state}
-use Rattle.node_core.proofs.agenda.Agenda.append.Goals as goal
+use Rattle.node_core.proofs.Slots.{still_ranked, length-slots, slots_home, home_of, wire_ranked, wire_keys, joined_state}
+use Rattle.node_core.proofs.Stays.{same_next}
+use Rattle.node_core.proofs.agenda.Agenda.append_behind.Goals as goal
 
 pub append-requires-clause-later : goal.append-requires-clause-later
 append-requires-clause-later c = λ i d under k v there.
@@ -84,3 +85,29 @@ returns-then-waiting-clause-state c =
     (c.append.ensures.state ∙ ap (λ (w : WireState). record w { under_way = w.under_way ++ c.args.sent.now }) is)
     (c.append.ensures.pending ∙ ap (λ (w : WireState). apply (entering (arrivals w.node w.link (came_over w) c.args.sent.now)) (pending_on w)) is)
     ∙ ap (λ (s : AgendaState). come_over s j c.args.sent.now) c.self.view_is
+
+pub returns-then-waiting-clause-stays : goal.returns-then-waiting-clause-stays
+returns-then-waiting-clause-stays c = λ _.
+    let a = c.self.inside in
+    let owner = owner_of a in
+    let alarms = a.alarms.items in
+    let wires = a.wires.items in
+    let j = c.args.index in
+    let w = c.append.new.self in
+    let among : j < length (each incoming_of wires) = subst (λ (s : AgendaState). j < length s.incoming) (sym c.self.view_is) c.requires.within in
+    let within : j < length wires = omega (arith, among, length-map wires incoming_of) in
+    let is : c.index_mut-wire.result.now ≡ wire_at wires j = get_or_read wires j c.index_mut-wire.result.now within c.index_mut-wire.ensures.value no_wire in
+    let new : w ≡ record (wire_at wires j) { under_way = (wire_at wires j).under_way ++ c.args.sent.now } =
+    c.append.ensures.state ∙ ap (λ (x : WireState). record x { under_way = x.under_way ++ c.args.sent.now }) is in
+    let some : is_some (next_key (pending_on c.index_mut-wire.result.now)) ≡ true = ap is_some (sym c.next_key.ensures) ∙ sym c.is_some-waiting.ensures ∙ c.if-waiting.true in
+    let stays : next_key (pending_on w) ≡ next_key (pending_on (wire_at wires j)) = c.append.ensures.next (made (next_key (pending_on c.index_mut-wire.result.now)) some) ∙ ap (λ (x : WireState). next_key (pending_on x)) is in
+    let node = ap (λ (x : WireState). x.node) new in
+    let link = ap (λ (x : WireState). x.link) new in
+    let again : IsAgenda owner alarms (set wires j w) a.ranking = subst (IsAgenda owner alarms (set wires j w)) (still_ranked owner alarms wires a.ranking c.self.invariant j within w node link stays)
+    (wire_ranked owner alarms wires a.ranking c.self.invariant j within w node link) in
+    same_next (home_of alarms wires) (home_of alarms (set wires j w)) (slots owner alarms wires) (slots owner alarms (set wires j w))
+    (slots_home owner alarms wires a.ranking c.self.invariant) (slots_home owner alarms (set wires j w) a.ranking again) (sym c.self.invariant.ranked ∙ again.ranked)
+    ∙ ap (λ (s : AgendaState). next_key s.pending) c.self.view_is
+  where
+    made : (o : Option Key) → is_some o ≡ true → IsSome o
+    made o e = search rules
