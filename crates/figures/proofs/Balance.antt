@@ -7,17 +7,19 @@ use Rattle.std.proofs.lemmas.List.Sums.{sum_by-cons}
 use Rattle.packet_chain.specs.declared.packet.Packet.{Packet}
 use Rattle.packet_chain.specs.Stamped.{Stamped}
 use Rattle.aqm.specs.declared.queue.Queue.{Queue}
-use Rattle.aqm.specs.declared.queue.Queue.TheVariants.{DropTail, Codel}
-use Rattle.aqm.specs.DropTail.{DropTailState, is_full, after_offer}
-use Rattle.aqm.specs.Queue.{fifo_of, waiting_in, taken_from, offered_to}
+use Rattle.aqm.specs.DropTail.{is_full}
+use Rattle.aqm.specs.Queue.{fifo_of, waiting_in, take_reason, taken_from, offered_to}
 use Rattle.aqm.specs.Laws.{listed}
 use Rattle.aqm.proofs.Front.{takes_the_front}
+use Rattle.aqm.proofs.Stays.{enters_last}
 use Rattle.port.specs.declared.acts.Act.{Act}
 use Rattle.port.specs.declared.acts.Act.TheVariants.{Tx, Dropped}
-use Rattle.port.specs.declared.acts.DropReason.{DropReason}
-use Rattle.port.specs.declared.acts.DropReason.TheVariants.{Lost, Full, Codel as ByCodel}
+use Rattle.aqm.specs.declared.drop_reason.DropReason.{DropReason}
+use Rattle.aqm.specs.declared.drop_reason.DropReason.TheVariants.{Lost, Full, Take}
+use Rattle.aqm.specs.declared.drop_reason.TakeDrop.{TakeDrop}
+use Rattle.aqm.specs.declared.drop_reason.TakeDrop.TheVariants.{Codel as ByCodel}
 use Rattle.port.specs.Losses.{is_lost}
-use Rattle.port.specs.Port.{PortState, Departure, begun, dropped_by_codel, taken, only, with_packet, offered_one, offered_all}
+use Rattle.port.specs.Port.{PortState, Departure, begun, dropped_for, taken, only, with_packet, offered_one, offered_all}
 use Rattle.port.specs.Laws.{sent_by}
 use Rattle.port.proofs.Cases.{counted_one, queue_stays}
 use Rattle.port.proofs.StepLaws.{taken_counts, one_departs_at_most}
@@ -25,7 +27,7 @@ use Rattle.figures.specs.Links.{waiting_at, is_for, dropped_in, is_tx, tx_in}
 
 -- each act is a drop for one reason, or a sending
 abbrev pub told_in : List Act → ℕ
-told_in acts = dropped_in Lost acts + dropped_in Full acts + dropped_in ByCodel acts + tx_in acts
+told_in acts = dropped_in Lost acts + dropped_in Full acts + dropped_in (Take ByCodel) acts + tx_in acts
 
 more_dropped : (reason : DropReason) (act : Act) (acts : List Act) → dropped_in reason (act ∷ acts) ≡ cond (is_for reason act) 1 0 + dropped_in reason acts
 more_dropped reason act acts = sum_by-cons (λ (a : Act). cond {A = ℕ} (is_for reason a) 1 0) act acts
@@ -33,29 +35,29 @@ more_dropped reason act acts = sum_by-cons (λ (a : Act). cond {A = ℕ} (is_for
 more_sent : (act : Act) (acts : List Act) → tx_in (act ∷ acts) ≡ cond (is_tx act) 1 0 + tx_in acts
 more_sent act acts = sum_by-cons (λ (a : Act). cond {A = ℕ} (is_tx a) 1 0) act acts
 
-more_told : (act : Act) (acts : List Act) → cond (is_for Lost act) 1 0 + cond (is_for Full act) 1 0 + cond (is_for ByCodel act) 1 0 + cond (is_tx act) 1 0 ≡ 1 → told_in acts ≡ length acts → told_in (act ∷ acts) ≡ length (act ∷ acts)
+more_told : (act : Act) (acts : List Act) → cond (is_for Lost act) 1 0 + cond (is_for Full act) 1 0 + cond (is_for (Take ByCodel) act) 1 0 + cond (is_tx act) 1 0 ≡ 1 → told_in acts ≡ length acts → told_in (act ∷ acts) ≡ length (act ∷ acts)
 more_told act acts one rest =
     let a = more_dropped Lost act acts in
     let b = more_dropped Full act acts in
-    let c = more_dropped ByCodel act acts in
+    let c = more_dropped (Take ByCodel) act acts in
     let d = more_sent act acts in
     omega (arith, one, rest, a, b, c, d)
 
 pub told_once : (acts : List Act) → told_in acts ≡ length acts
 told_once [] = refl
 told_once (Tx link packet ∷ acts) = more_told (Tx link packet) acts refl (told_once acts)
-told_once (Dropped Lost packet ∷ acts) = more_told (Dropped Lost packet) acts refl (told_once acts)
-told_once (Dropped Full packet ∷ acts) = more_told (Dropped Full packet) acts refl (told_once acts)
-told_once (Dropped ByCodel packet ∷ acts) = more_told (Dropped ByCodel packet) acts refl (told_once acts)
+told_once (Dropped link Lost packet ∷ acts) = more_told (Dropped link Lost packet) acts refl (told_once acts)
+told_once (Dropped link Full packet ∷ acts) = more_told (Dropped link Full packet) acts refl (told_once acts)
+told_once (Dropped link (Take reason) packet ∷ acts) = more_told (Dropped link (Take reason) packet) acts refl (told_once acts)
 
 -- what was offered and waited is what was offered before, what the acts tell of, and what waits
 abbrev pub Balanced : PortState → PortState → List Act → Type 0
 Balanced old new acts = new.offered + waiting_at old ≡ old.offered + waiting_at new + length acts
 
-taken_acts : (now : ℕ) (port : PortState) (dropped : List Stamped) (given : Option Stamped) → length (map dropped_by_codel dropped ++ (begun now port given).acts) ≡ length (dropped ++ listed given)
-taken_acts now port [] None = refl
-taken_acts now port [] (Some cell) = refl
-taken_acts now port (d ∷ dropped) given = let rest = taken_acts now port dropped given in omega (arith, rest)
+taken_acts : (now : ℕ) (port : PortState) (reason : TakeDrop) (dropped : List Stamped) (given : Option Stamped) → length (map (dropped_for port.link reason) dropped ++ (begun now port given).acts) ≡ length (dropped ++ listed given)
+taken_acts now port reason [] None = refl
+taken_acts now port reason [] (Some cell) = refl
+taken_acts now port reason (d ∷ dropped) given = let rest = taken_acts now port reason dropped given in omega (arith, rest)
 
 pub taken_balances : (now : ℕ) (port : PortState) → Balanced port (taken now port).port (taken now port).acts
 taken_balances now port =
@@ -63,18 +65,14 @@ taken_balances now port =
     let at = record port { queue = take.queue } in
     let front = ap length (takes_the_front port.queue now) in
     let parts = length-append (take.dropped ++ listed take.given) (waiting_in take.queue) in
-    let acts = taken_acts now at take.dropped take.given in
+    let acts = taken_acts now at (take_reason port.queue) take.dropped take.given in
     let rest : waiting_at (taken now port).port ≡ length (waiting_in take.queue) = ap (λ q. length (waiting_in q)) (queue_stays now at take.given) in
     let same = (taken_counts now port).offered in
     omega (arith, front, parts, acts, rest, same)
 
 -- a packet that enters a queue is one more
-more_in_fifo : (s : DropTailState) (packet : Packet) (now : ℕ) → is_full s ≡ false → length (after_offer s (packet, now) now).waiting ≡ length s.waiting + 1
-more_in_fifo s packet now room = ap (λ b. length (cond b s (record s { waiting = s.waiting ++ (packet, now) ∷ [] })).waiting) room ∙ length-append s.waiting ((packet, now) ∷ [])
-
 more_in : (q : Queue) (packet : Packet) (now : ℕ) → is_full (fifo_of q) ≡ false → length (waiting_in (offered_to q (packet, now) now)) ≡ length (waiting_in q) + 1
-more_in (DropTail s) packet now room = more_in_fifo s packet now room
-more_in (Codel s) packet now room = more_in_fifo s.fifo packet now room
+more_in q packet now room = ap length (enters_last q (packet, now) now room) ∙ length-append (waiting_in q) ((packet, now) ∷ [])
 
 enters : (now : ℕ) (port : PortState) (packet : Packet) (idle : Bool) → is_full (fifo_of port.queue) ≡ false → let step = cond idle (taken now (with_packet now (counted_one port) packet)) (only (with_packet now (counted_one port) packet) []) in Balanced port step.port step.acts
 enters now port packet true room =
@@ -84,7 +82,7 @@ enters now port packet true room =
 enters now port packet false room = let more = more_in port.queue packet now room in omega (arith, more)
 
 offers : (now : ℕ) (port : PortState) (packet : Packet) (lost full idle : Bool) → is_full (fifo_of port.queue) ≡ full →
-    let step = cond lost (only (counted_one port) (Dropped Lost packet ∷ [])) (cond full (only (counted_one port) (Dropped Full packet ∷ [])) (cond idle (taken now (with_packet now (counted_one port) packet)) (only (with_packet now (counted_one port) packet) []))) in Balanced port step.port step.acts
+    let step = cond lost (only (counted_one port) (Dropped port.link Lost packet ∷ [])) (cond full (only (counted_one port) (Dropped port.link Full packet ∷ [])) (cond idle (taken now (with_packet now (counted_one port) packet)) (only (with_packet now (counted_one port) packet) []))) in Balanced port step.port step.acts
 offers now port packet true full idle room = omega arith
 offers now port packet false true idle room = omega arith
 offers now port packet false false idle room = enters now port packet idle room
@@ -106,7 +104,7 @@ all_balance now port (packet ∷ packets) =
 sent_are : (acts : List Act) → tx_in acts ≡ length (filter_map sent_by acts)
 sent_are [] = refl
 sent_are (Tx link packet ∷ acts) = let rest = sent_are acts in let more = more_sent (Tx link packet) acts in omega (arith, rest, more)
-sent_are (Dropped reason packet ∷ acts) = let rest = sent_are acts in let more = more_sent (Dropped reason packet) acts in omega (arith, rest, more)
+sent_are (Dropped link reason packet ∷ acts) = let rest = sent_are acts in let more = more_sent (Dropped link reason packet) acts in omega (arith, rest, more)
 
 one_at_most : (d : Option Departure) → length (map (λ (departure : Departure). departure.packet) (option_to_list d)) ≤ 1
 one_at_most None = omega arith
@@ -121,7 +119,7 @@ offerings_send_one now port packets =
     omega (arith, are, departs, one)
 
 -- a taking sends what it is given
-pub taken_sends_given : (now : ℕ) (at : PortState) (dropped : List Stamped) (given : Option Stamped) → length (option_to_list (option_map {U = ℕ} (λ (cell : Stamped). now - cell.1) given)) ≡ tx_in (map dropped_by_codel dropped ++ (begun now at given).acts)
-taken_sends_given now at [] None = refl
-taken_sends_given now at [] (Some cell) = refl
-taken_sends_given now at (d ∷ dropped) given = let rest = taken_sends_given now at dropped given in let more = more_sent (dropped_by_codel d) (map dropped_by_codel dropped ++ (begun now at given).acts) in omega (arith, rest, more)
+pub taken_sends_given : (now : ℕ) (at : PortState) (reason : TakeDrop) (dropped : List Stamped) (given : Option Stamped) → length (option_to_list (option_map {U = ℕ} (λ (cell : Stamped). now - cell.1) given)) ≡ tx_in (map (dropped_for at.link reason) dropped ++ (begun now at given).acts)
+taken_sends_given now at reason [] None = refl
+taken_sends_given now at reason [] (Some cell) = refl
+taken_sends_given now at reason (d ∷ dropped) given = let rest = taken_sends_given now at reason dropped given in let more = more_sent (dropped_for at.link reason d) (map (dropped_for at.link reason) dropped ++ (begun now at given).acts) in omega (arith, rest, more)

@@ -11,7 +11,6 @@ pub mod Steps
 pub mod Begun
 pub mod After
 pub mod Along
-pub mod Given
 pub mod OfLinks
 pub mod OneLink
 pub mod Counted

@@ -5,17 +5,17 @@ use Rattle.std.specs.List.{AllByRecursion}
 use Rattle.std.specs.Option.{option_map}
 use Rattle.std.proofs.lemmas.Bool.{cases_eq, cases_lt, lt-ltb, le-ltb}
 use Rattle.std.proofs.lemmas.Option.{option_and_then_some, slice_get-get_or}
-use Rattle.aqm.specs.Queue.{waiting_in, taken_from}
+use Rattle.aqm.specs.Queue.{waiting_in, take_reason, taken_from}
+use Rattle.aqm.proofs.Stays.{queues_open_empty}
 use Rattle.port.specs.declared.acts.Act.{Act}
-use Rattle.port.specs.declared.acts.DropReason.TheVariants.{Lost, Full, Codel}
+use Rattle.aqm.specs.declared.drop_reason.DropReason.TheVariants.{Lost, Full, Take}
+use Rattle.aqm.specs.declared.drop_reason.TakeDrop.TheVariants.{Codel}
 use Rattle.port.specs.Port.{PortState, taken, offered_all}
 use Rattle.scenario_image.specs.declared.parts.LinkPart.{LinkPart}
 use Rattle.scenario_image.specs.declared.parts.NodeKind.TheVariants.{Router}
-use Rattle.scenario_image.specs.declared.parts.QueueKind.{QueueKind}
-use Rattle.scenario_image.specs.declared.parts.QueueKind.TheVariants.{DropTail as DropTailKind, Codel as CodelKind}
 use Rattle.scenario_image.specs.declared.parts.ScenarioParts.{ScenarioParts}
 use Rattle.scenario_image.specs.Scenario.{IsScenario}
-use Rattle.node_core.specs.Opening.{opening_queue, opening_link, leaving_links}
+use Rattle.node_core.specs.Opening.{opening_link, leaving_links}
 use Rattle.node_core.specs.Part.{LinkState, PartState, no_link, link_at}
 use Rattle.node_core.specs.TraceLine.{TraceLine}
 use Rattle.ranking.proofs.Maps.{same_some}
@@ -51,7 +51,7 @@ passes : (now : ℕ) (old new : PortState) (freed : Bool) (acts : List Act) → 
 passes now old new freed acts (inl is) = record {
   balance = subst (λ (q : PortState). Balanced old q acts) (sym is.port_is) (subst (Balanced old (taken now old).port) (sym is.acts_are) (taken_balances now old));
   waits = ap (λ b. length (option_to_list (cond b (wait_of_given now old) (cond (nat_lt 0 (tx_in acts)) (Some 0) None)))) is.test
-      ∙ taken_sends_given now (record old { queue = (taken_from old.queue now).queue }) (taken_from old.queue now).dropped (taken_from old.queue now).given ∙ ap tx_in (sym is.acts_are);
+      ∙ taken_sends_given now (record old { queue = (taken_from old.queue now).queue }) (take_reason old.queue) (taken_from old.queue now).dropped (taken_from old.queue now).given ∙ ap tx_in (sym is.acts_are);
 }
 passes now old new freed acts (inr is) = record {
   balance = subst (λ (q : PortState). Balanced old q acts) (sym is.port_is) (subst (Balanced old (offered_all now old is.packets).port) (sym is.acts_are) (all_balance now old is.packets));
@@ -61,7 +61,7 @@ passes now old new freed acts (inr is) = record {
 
 -- what is counted of a link so far
 record IsCountedUpto (ms : List Moment) (s : State) (node index : ℕ) : Type 0 where
-  placed : (port_at s node index).offered ≡ dropped_of Lost node index ms + dropped_of Full node index ms + dropped_of Codel node index ms + tx_of node index ms + waiting_at (port_at s node index)
+  placed : (port_at s node index).offered ≡ dropped_of Lost node index ms + dropped_of Full node index ms + dropped_of (Take Codel) node index ms + tx_of node index ms + waiting_at (port_at s node index)
   waits : length (waits_of node index ms) ≡ tx_of node index ms
 
 counted_more : (ms : List Moment) (m : Moment) (node index : ℕ) → IsCountedUpto ms m.before node index → IsCounted (port_at m.before node index) (port_at m.after node index) (acts_at node index m) (wait_at node index m) → IsCountedUpto (ms ++ m ∷ []) m.after node index
@@ -69,7 +69,7 @@ counted_more ms m node index upto is = record {
   placed =
       let lost = sum_more (λ (n : Moment). dropped_in Lost (acts_at node index n)) ms m in
       let full = sum_more (λ (n : Moment). dropped_in Full (acts_at node index n)) ms m in
-      let codel = sum_more (λ (n : Moment). dropped_in Codel (acts_at node index n)) ms m in
+      let codel = sum_more (λ (n : Moment). dropped_in (Take Codel) (acts_at node index n)) ms m in
       let sent = sum_more (λ (n : Moment). tx_in (acts_at node index n)) ms m in
       let once = told_once (acts_at node index m) in
       omega (arith, lost, full, codel, sent, once, upto.placed, is.balance);
@@ -126,16 +126,12 @@ module _ (p : ScenarioParts) (is_scenario : IsScenario p) (n : ℕ) (lines : Lis
       omega (arith, inside, same)
 
 -- before any event
-none_waits : (kind : QueueKind) (capacity : ℕ) → length (waiting_in (opening_queue kind capacity)) ≡ 0
-none_waits DropTailKind capacity = refl
-none_waits (CodelKind codel) capacity = refl
-
 abbrev IsFresh : LinkState → Type 0
 IsFresh link = (link.port.offered ≡ 0) × (waiting_at link.port ≡ 0)
 
 all_fresh : (xs : List (ℕ × LinkPart)) → AllByRecursion IsFresh (map opening_link xs)
 all_fresh [] = tt
-all_fresh (x ∷ xs) = ((refl, none_waits x.1.queue x.1.capacity), all_fresh xs)
+all_fresh (x ∷ xs) = ((refl, ap length (queues_open_empty x.1.queue x.1.capacity).empty), all_fresh xs)
 
 opened : (p : ScenarioParts) → IsScenario p → (node index : ℕ) → index < length (part_at (opening p) node).links → IsCountedUpto [] (opening p) node index
 opened p is_scenario node index inside =

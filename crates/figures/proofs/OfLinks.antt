@@ -3,8 +3,9 @@ use Rattle.std.proofs.Common.{◌≡◌, ◌≢◌, ℕ, ◌+◌, ◌-◌, ◌*�
 use Rattle.std.specs.Prelude.{option_to_list}
 use Rattle.std.proofs.Math.Nat.{mul-add, zero-mul, one-mul, mul-zero}
 use Rattle.std.proofs.lemmas.List.{map-append, append-nil}
-use Rattle.port.specs.declared.acts.DropReason.{DropReason}
-use Rattle.port.specs.declared.acts.DropReason.TheVariants.{Lost, Full, Codel}
+use Rattle.aqm.specs.declared.drop_reason.DropReason.{DropReason}
+use Rattle.aqm.specs.declared.drop_reason.DropReason.TheVariants.{Lost, Full, Take}
+use Rattle.aqm.specs.declared.drop_reason.TakeDrop.TheVariants.{Codel}
 use Rattle.port.specs.Port.{PortState}
 use Rattle.node_core.specs.Part.{PartState, link_at}
 use Rattle.node_core.specs.TraceLine.{TraceLine}
@@ -123,7 +124,7 @@ module _ (ms : List Moment) (s : State) (line : TraceLine) (t : State) (node ind
       since = let at = nothing_since in omega (arith, at);
       lost = dropped Lost f.lost g.lost is.lost after.lost;
       full = dropped Full f.full g.full is.full after.full;
-      codel = dropped Codel f.codel g.codel is.codel after.codel;
+      codel = dropped (Take Codel) f.codel g.codel is.codel after.codel;
       sent = after.sent ∙ ap (λ n. n + tx_in (acts_between f.offered (port_at t node index) line)) is.sent
           ∙ ap (λ list. tx_of node index ms + tx_in list) (sym acts) ∙ sym (sum_more (λ (n : Moment). tx_in (acts_at node index n)) ms m);
       bytes = after.bytes ∙ ap (λ n. n + bytes_in (acts_between f.offered (port_at t node index) line)) is.bytes
@@ -158,7 +159,7 @@ module _ (ms : List Moment) (s : State) (line : TraceLine) (t : State) (node ind
       since = let at = last_more 0 ms m in let before = is.since in omega (arith, at, before, order);
       lost = none_dropped Lost f.lost is.lost;
       full = none_dropped Full f.full is.full;
-      codel = none_dropped Codel f.codel is.codel;
+      codel = none_dropped (Take Codel) f.codel is.codel;
       sent = (let more = sum_more (λ (n : Moment). tx_in (acts_at node index n)) ms m in let none : tx_in (acts_at node index m) ≡ 0 = ap tx_in no_acts in let before = is.sent in omega (arith, before, more, none));
       bytes = (let more = sum_more (λ (n : Moment). bytes_in (acts_at node index n)) ms m in let none : bytes_in (acts_at node index m) ≡ 0 = ap bytes_in no_acts in let before = is.bytes in omega (arith, before, more, none));
       waited = ap (λ n. f.waited + f.waiting * (n - f.since)) (last_more 0 ms m) ∙ waited_more f is;

@@ -4,7 +4,8 @@ use Rattle.std.specs.List.{slice_get}
 use Rattle.packet_chain.specs.declared.packet.Packet.{Packet}
 use Rattle.aqm.specs.DropTail.{is_full}
 use Rattle.aqm.specs.Queue.{fifo_of}
-use Rattle.port.specs.declared.acts.DropReason.TheVariants.{Lost, Full, Codel}
+use Rattle.aqm.specs.declared.drop_reason.DropReason.TheVariants.{Lost, Full, Take}
+use Rattle.aqm.specs.declared.drop_reason.TakeDrop.TheVariants.{Codel}
 use Rattle.port.specs.Port.{PortState, with_packet}
 use Rattle.port.specs.Laws.{NothingWaitsWhereIdle}
 use Rattle.scenario_image.specs.declared.parts.FlowPart.{FlowPart}
@@ -49,7 +50,7 @@ AtEachLink P = (p : ScenarioParts) (n : ℕ) (lines : List TraceLine) (s : State
 abbrev pub OfferedArePlaced : Type 0
 OfferedArePlaced =
     AtEachLink (λ p n s node index. let ms = moments (opening p) n in
-    (port_at s node index).offered ≡ dropped_of Lost node index ms + dropped_of Full node index ms + dropped_of Codel node index ms + tx_of node index ms + waiting_at (port_at s node index))
+    (port_at s node index).offered ≡ dropped_of Lost node index ms + dropped_of Full node index ms + dropped_of (Take Codel) node index ms + tx_of node index ms + waiting_at (port_at s node index))
 
 -- there are as many waits as packets that were sent
 abbrev pub EachSentHasItsWait : Type 0

@@ -6,8 +6,9 @@ use Rattle.packet_chain.specs.Stamped.{Stamped}
 use Rattle.aqm.specs.Queue.{waiting_in, taken_from}
 use Rattle.port.specs.declared.acts.Act.{Act}
 use Rattle.port.specs.declared.acts.Act.TheVariants.{Tx, Dropped}
-use Rattle.port.specs.declared.acts.DropReason.{DropReason}
-use Rattle.port.specs.declared.acts.DropReason.TheVariants.{Lost, Full, Codel}
+use Rattle.aqm.specs.declared.drop_reason.DropReason.{DropReason}
+use Rattle.aqm.specs.declared.drop_reason.DropReason.TheVariants.{Lost, Full, Take}
+use Rattle.aqm.specs.declared.drop_reason.TakeDrop.TheVariants.{Codel}
 use Rattle.port.specs.Port.{PortState}
 use Rattle.node_core.specs.declared.event.Event.{Event}
 use Rattle.node_core.specs.declared.event.Event.TheVariants.{Start, Rto, DelAck, Free, Arrive}
@@ -45,15 +46,16 @@ acts_between offered after line = if frees after.link line.event || not (after.o
 abbrev pub acts_at : ℕ → ℕ → Moment → List Act
 acts_at node index m = if m.line.key.node == node then acts_between (port_at m.before node index).offered (port_at m.after node index) m.line else []
 
+-- a packet is dropped for this reason; those that queues drop at takes are counted together
 abbrev pub is_for : DropReason → Act → Bool
-is_for Lost (Dropped Lost packet) = true
-is_for Full (Dropped Full packet) = true
-is_for Codel (Dropped Codel packet) = true
+is_for Lost (Dropped link Lost packet) = true
+is_for Full (Dropped link Full packet) = true
+is_for (Take any) (Dropped link (Take reason) packet) = true
 is_for reason act = false
 
 abbrev pub is_tx : Act → Bool
 is_tx (Tx link packet) = true
-is_tx (Dropped reason packet) = false
+is_tx (Dropped link reason packet) = false
 
 -- the packets that are dropped for a reason, those that begin to be sent, and the bytes of these
 abbrev pub dropped_in : DropReason → List Act → ℕ
@@ -64,7 +66,7 @@ tx_in acts = count_by is_tx acts
 
 abbrev pub bytes_by : Act → ℕ
 bytes_by (Tx link packet) = packet.bytes
-bytes_by (Dropped reason packet) = 0
+bytes_by (Dropped link reason packet) = 0
 
 abbrev pub bytes_in : List Act → ℕ
 bytes_in acts = sum_by bytes_by acts
@@ -73,7 +75,7 @@ bytes_in acts = sum_by bytes_by acts
 pub record IsSentAlone (acts : List Act) (bytes : ℕ) : Type 0 where
   pub lost : dropped_in Lost acts ≡ 0
   pub full : dropped_in Full acts ≡ 0
-  pub codel : dropped_in Codel acts ≡ 0
+  pub codel : dropped_in (Take Codel) acts ≡ 0
   pub sent : tx_in acts ≡ 1
   pub bytes_are : bytes_in acts ≡ bytes
   pub most : bytes ≤ 9040
@@ -172,7 +174,7 @@ pub record AreOfLink (ms : List Moment) (s : State) (node index : ℕ) (f : Link
   pub since : f.since ≤ last_from 0 ms
   pub lost : f.lost ≡ dropped_of Lost node index ms
   pub full : f.full ≡ dropped_of Full node index ms
-  pub codel : f.codel ≡ dropped_of Codel node index ms
+  pub codel : f.codel ≡ dropped_of (Take Codel) node index ms
   pub sent : f.sent ≡ tx_of node index ms
   pub bytes : f.bytes ≡ bytes_of node index ms
   pub waited : f.waited + f.waiting * (last_from 0 ms - f.since) ≡ waited_of node index ms
@@ -202,7 +204,7 @@ pub record IsPassed (f : LinkFigures) (port : PortState) (now : ℕ) (g : LinkFi
 pub record IsCountedOf (f : LinkFigures) (acts : List Act) (g : LinkFigures) : Type 0 where
   pub lost : g.lost ≡ f.lost + dropped_in Lost acts
   pub full : g.full ≡ f.full + dropped_in Full acts
-  pub codel : g.codel ≡ f.codel + dropped_in Codel acts
+  pub codel : g.codel ≡ f.codel + dropped_in (Take Codel) acts
   pub sent : g.sent ≡ f.sent + tx_in acts
   pub bytes : g.bytes ≡ f.bytes + bytes_in acts
   pub turns : g.turns ≡ f.turns + 1
@@ -223,7 +225,7 @@ pub record IsLinkCounted (f : LinkFigures) (port : PortState) (now : ℕ) (acts 
   pub since : g.since ≡ now
   pub lost : g.lost ≡ f.lost + dropped_in Lost acts
   pub full : g.full ≡ f.full + dropped_in Full acts
-  pub codel : g.codel ≡ f.codel + dropped_in Codel acts
+  pub codel : g.codel ≡ f.codel + dropped_in (Take Codel) acts
   pub sent : g.sent ≡ f.sent + tx_in acts
   pub bytes : g.bytes ≡ f.bytes + bytes_in acts
   pub waited : g.waited ≡ f.waited + f.waiting * (now - f.since)

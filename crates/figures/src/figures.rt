@@ -17,7 +17,8 @@ use net_machine::net::MOST_EVENTS;
 use net_machine::{Net, StepFault};
 use node_core::{Event, Line, Node};
 use packet_chain::{Kind, Packet};
-use reno_sender::{Iw, Sender, Variant};
+use reno_sender::Sender;
+use scenario_image::plain_flow;
 use sim_time::Time;
 use std::alloc::{AllocError, Global};
 
@@ -92,11 +93,8 @@ fn begun(alloc: Global, node: &Node) -> Result<SenderFigures, AllocError>
     match node.sender() {
         Some((_, sender)) => SenderFigures::new(alloc, sender),
         None => {
-            let variant = Variant {
-                newreno: false,
-                iw: Iw::Iw3,
-            };
-            SenderFigures::new(alloc, &Sender::new(1, 1, 1, variant))
+            let settings = plain_flow(0, 0).sender_settings();
+            SenderFigures::new(alloc, &Sender::new(settings))
         }
     }
 }

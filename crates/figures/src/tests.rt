@@ -1,21 +1,16 @@
 use crate::figures::Figures;
 use crate::run::run_figures;
-use scenario_image::{FlowPart, LinkPart, NodeKind, QueueKind, Records, Scenario, ScenarioParts};
-use sim_time::{Iw, Variant};
+use scenario_image::{
+    LinkPart, NodeKind, Records, Scenario, ScenarioParts, plain_flow, plain_link,
+};
 use std::alloc::Global;
 use std::test::Fail;
 
 // A link of a megabyte a second and a millisecond, which loses some of the packets offered.
 fn link(alloc: Global, from: u16, to: u16, lose: &[u32]) -> Result<LinkPart, Fail> {
-    Ok(LinkPart {
-        from,
-        to,
-        rate: 8_000_000,
-        delay: 1_000_000,
-        queue: QueueKind::DropTail,
-        capacity: 10,
-        lose: Records::new(Vec::from_slice(alloc, lose)?),
-    })
+    let mut part = plain_link(alloc, from, to);
+    part.lose = Records::new(Vec::from_slice(alloc, lose)?);
+    Ok(part)
 }
 
 // Node 0 sends so many segments of 1,000 bytes to node 1, over link 0, which loses some.
@@ -24,19 +19,8 @@ fn one_flow(alloc: Global, segments: u32, lose: &[u32]) -> Result<Scenario, Fail
     let mut links = Vec::new(alloc);
     links.push(link(alloc, 0, 1, lose)?)?;
     links.push(link(alloc, 1, 0, &[])?)?;
-    let flow = FlowPart {
-        sender: 0,
-        receiver: 1,
-        mss: 1_000,
-        segments,
-        start: 0,
-        rwnd: 64_000,
-        delack: 0,
-        variant: Variant {
-            newreno: false,
-            iw: Iw::Iw3,
-        },
-    };
+    let mut flow = plain_flow(0, 1);
+    flow.segments = segments;
     let parts = ScenarioParts {
         end: 10_000_000_000,
         nodes: Records::new(Vec::from_slice(alloc, &nodes)?),

@@ -1,6 +1,7 @@
 //! What an event's acts tell of a link.
 ghost use Rattle.std.specs.Prelude.{◌≡◌, ◌*◌, ◌≤◌, ◌<◌, ◌^◌, ℕ, [], if◌then◌else◌, IfSome, length};
-ghost use Rattle.port.specs.declared.acts.DropReason.TheVariants.{Lost, Full, Codel};
+ghost use Rattle.aqm.specs.declared.drop_reason.DropReason.TheVariants.{Lost, Full, Take};
+ghost use Rattle.aqm.specs.declared.drop_reason.TakeDrop.TheVariants.{Codel};
 ghost use Rattle.node_core.specs.TraceLine.{shown};
 ghost use Rattle.figures.specs.Links.{frees as frees_is, acts_between, dropped_in, tx_in, bytes_in, wait_in as wait_is, IsSentAlone};
 
@@ -15,7 +16,7 @@ pub struct Told {
     pub lost: u64,
     /// How many packets were dropped as the queue was full.
     pub full: u64,
-    /// How many packets CoDel dropped.
+    /// How many packets a queue dropped at a take.
     pub codel: u64,
     /// How many packets began to be sent.
     pub sent: u64,
@@ -27,7 +28,7 @@ pub struct Told {
 pub fn told_by(acts: &[Act]) -> Told
     ensures lost { result.lost ≡ dropped_in Lost acts.now }
     ensures full { result.full ≡ dropped_in Full acts.now }
-    ensures codel { result.codel ≡ dropped_in Codel acts.now }
+    ensures codel { result.codel ≡ dropped_in (Take Codel) acts.now }
     ensures sent { result.sent ≡ tx_in acts.now }
     ensures bytes { result.bytes ≡ bytes_in acts.now }
     ensures most { result.bytes ≤ length acts.now * 9040 }
@@ -45,9 +46,9 @@ pub fn told_by(acts: &[Act]) -> Told
                 told.sent += 1;
                 told.bytes += u128::from(packet.bytes.get());
             }
-            Act::Dropped(DropReason::Lost, _) => told.lost += 1,
-            Act::Dropped(DropReason::Full, _) => told.full += 1,
-            Act::Dropped(DropReason::Codel, _) => told.codel += 1,
+            Act::Dropped(_, DropReason::Lost, _) => told.lost += 1,
+            Act::Dropped(_, DropReason::Full, _) => told.full += 1,
+            Act::Dropped(_, DropReason::Take(_), _) => told.codel += 1,
         }
     }
     told
@@ -82,7 +83,7 @@ pub fn sent_alone(acts: &[Act]) -> Option<u64>
     }
     match &acts[0] {
         Act::Tx(_, packet) => Some(u64::from(packet.bytes.get())),
-        Act::Dropped(_, _) => None,
+        Act::Dropped(_, _, _) => None,
     }
 }
 

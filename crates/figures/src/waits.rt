@@ -1,44 +1,14 @@
 //! How long packets wait at a link before they begin to be sent.
-ghost use Rattle.std.specs.Prelude.{◌≡◌, ◌-◌, ◌<◌, ◌≤◌, ◌^◌, slice_get, IfSome};
-ghost use Rattle.std.specs.Option.{option_map};
+ghost use Rattle.std.specs.Prelude.{◌≡◌, ◌-◌, ◌<◌, ◌≤◌, ◌^◌, IfSome};
 ghost use Rattle.sim_time.specs.Moment.{IsMoment};
-ghost use Rattle.packet_chain.specs.Stamped.{Stamped};
-ghost use Rattle.aqm.specs.Taken.{codel_taken};
 ghost use Rattle.node_core.specs.Part.{link_at};
 ghost use Rattle.net_machine.specs.Nodes.{node_at};
 ghost use Rattle.figures.specs.Links.{port_at, wait_of_given};
 
-use aqm::{Codel, DropTail, Queue};
 use net_machine::Net;
 use node_core::{Alarm, Node};
 use port::Port;
 use sim_time::{Key, Time};
-
-// For how long the packet has waited that drop-tail gives, if it gives one: it is the first, and none is dropped.
-#[inline(always)]
-fn wait_at_head(queue: &DropTail, now: Time) -> Option<Time>
-    ensures value { result ≡ option_map (λ (cell : Stamped). now - cell.1) (slice_get queue.now.waiting 0) }
-    ensures most { IfSome result (λ wait. wait ≤ now) }
-{
-    match queue.packets().next() {
-        Some((_, entered)) => Some(now.saturating_sub(entered)),
-        None => None,
-    }
-}
-
-// The same of CoDel, which gives the packet behind those that it drops.
-#[inline(always)]
-fn wait_behind_drops(queue: &Codel, now: Time) -> Option<Time>
-    requires { IsMoment now }
-    ensures value { result ≡ option_map (λ (cell : Stamped). now - cell.1) (codel_taken queue.now now).given }
-    ensures most { IfSome result (λ wait. wait ≤ now) }
-{
-    let drops = queue.drops_at(now);
-    match queue.packets().nth(drops) {
-        Some((_, entered)) => Some(now.saturating_sub(entered)),
-        None => None,
-    }
-}
 
 // For how long the packet has waited that is given where a link takes from its queue, if one is.
 #[inline(always)]
@@ -47,10 +17,7 @@ fn wait_of(port: &Port, now: Time) -> Option<Time>
     ensures value { result ≡ wait_of_given now port.now }
     ensures most { IfSome result (λ wait. wait ≤ now) }
 {
-    match port.queue() {
-        Queue::DropTail(queue) => wait_at_head(queue, now),
-        Queue::Codel(queue) => wait_behind_drops(queue, now),
-    }
+    port.queue().wait_at(now)
 }
 
 // The same for the link that is freed by the alarm of a key.

@@ -1,7 +1,8 @@
 -- What the table says of a run: over its events, and its last state.
 use Rattle.std.specs.Prelude.{◌≡◌, ℕ, ◌+◌, ◌-◌, ◌*◌, ◌≤◌, List, [], length, map, Option, Some, None}
 use Rattle.std.specs.List.{enumerate_from}
-use Rattle.port.specs.declared.acts.DropReason.TheVariants.{Lost, Full, Codel}
+use Rattle.aqm.specs.declared.drop_reason.DropReason.TheVariants.{Lost, Full, Take}
+use Rattle.aqm.specs.declared.drop_reason.TakeDrop.TheVariants.{Codel}
 use Rattle.scenario_image.specs.declared.parts.FlowPart.{FlowPart}
 use Rattle.scenario_image.specs.declared.parts.LinkPart.{LinkPart}
 use Rattle.scenario_image.specs.declared.parts.ScenarioParts.{ScenarioParts}
@@ -45,7 +46,7 @@ summary_of_exit node index end ms s = record {
   offered = (port_at s node index).offered;
   lost = dropped_of Lost node index ms;
   full = dropped_of Full node index ms;
-  codel = dropped_of Codel node index ms;
+  codel = dropped_of (Take Codel) node index ms;
   sent = tx_of node index ms;
   bytes = bytes_of node index ms;
   busy = busy_of node index ms + busy_at (port_at s node index) * (end - last_from 0 ms);

@@ -1,2 +1,7 @@
 mod Appended
 mod Told
+pub mod Any
+pub mod Waiting
+mod Totals
+pub mod Pending
+pub mod Found

@@ -1,11 +1,15 @@
 -- What holds of the definitions, whatever the state.
-use Rattle.std.specs.Prelude.{◌≡◌, ◌↔◌, ℕ, true, Some}
+use Rattle.std.specs.Prelude.{◌≡◌, ◌↔◌, ◌&&◌, ℕ, true, List, Some}
 use Rattle.std.specs.FinMap as map
 use Rattle.reno_sender.specs.declared.fields.SenderFields.{SenderFields}
-use Rattle.table_run.specs.State.{State}
+use Rattle.scenario_image.specs.declared.parts.ScenarioParts.{ScenarioParts}
+use Rattle.scenario_image.specs.Scenario.{IsScenario}
+use Rattle.node_core.specs.TraceLine.{TraceLine}
+use Rattle.table_run.specs.State.{State, step}
+use Rattle.table_run.specs.Laws.{ComesTo}
 use Rattle.flow_waits.specs.declared.standing.Standing.{Standing}
 use Rattle.flow_waits.specs.declared.standing.Standing.TheVariants.{Stalled}
-use Rattle.flow_waits.specs.Stalled.{sender_of, start_of, has_packets, is_stalled}
+use Rattle.flow_waits.specs.Stalled.{sender_of, start_of, has_packets, is_stalled, becomes_stalled, may_stall}
 use Rattle.flow_waits.specs.Standing.{standing_of}
 
 -- how a flow stands in a state, by what its sender keeps
@@ -15,3 +19,9 @@ standing_in flow state f = standing_of (start_of flow (map.entries state.pending
 -- of a flow that a node sends, it is told that it is stalled exactly where it is
 abbrev pub StalledIsTold : Type 0
 StalledIsTold = (flow : ℕ) (state : State) (f : SenderFields) → sender_of flow state.parts ≡ Some f → (standing_in flow state f ≡ Stalled) ↔ (is_stalled flow state ≡ true)
+
+-- in every run a flow becomes stalled only by an event that leaves it with less that goes on with it, and by such an event wherever it is stalled afterwards
+abbrev pub StallsAreFound : Type 0
+StallsAreFound =
+    (p : ScenarioParts) (n : ℕ) (lines : List TraceLine) (s t : State) (line : TraceLine) (flow : ℕ) → IsScenario p → ComesTo p n lines s → step s ≡ Some (line, t)
+    → becomes_stalled flow s t ≡ (may_stall flow line.event line.acts && is_stalled flow t)

@@ -6,6 +6,8 @@ use Rattle.std.specs.FinMap as map
 use Rattle.sim_time.specs.declared.key.Key.{Key}
 use Rattle.reno_sender.specs.declared.fields.SenderFields.{SenderFields}
 use Rattle.reno_sender.specs.Fields.{total}
+use Rattle.port.specs.declared.acts.Act.{Act}
+use Rattle.port.specs.declared.acts.Act.TheVariants.{Tx, Dropped}
 use Rattle.node_core.specs.declared.event.Event.{Event}
 use Rattle.node_core.specs.declared.event.Event.TheVariants.{Start, Rto, DelAck, Free, Arrive}
 use Rattle.node_core.specs.Part.{PartState, sender_in}
@@ -83,3 +85,33 @@ is_left_alone flow pending = is_none (start_of flow pending) && not (is_under_wa
 -- a flow is stalled where all four hold: at most an alarm of its own goes on with it
 abbrev pub is_stalled : ℕ → State → Bool
 is_stalled flow state = may_be_stalled flow state.parts && is_left_alone flow (map.entries state.pending)
+
+-- a flow is stalled in a state, and was not in the one before
+abbrev pub becomes_stalled : ℕ → State → State → Bool
+becomes_stalled flow before after = not (is_stalled flow before) && is_stalled flow after
+
+-- a packet of a flow is dropped
+abbrev pub is_drop_of : ℕ → Act → Bool
+is_drop_of flow (Tx link packet) = false
+is_drop_of flow (Dropped link reason packet) = packet.flow == flow
+
+-- an event that leaves a flow with less that goes on with it: its start, the arrival of a packet of it, or a link that becomes free and whose queue drops one
+abbrev pub may_stall : ℕ → Event → List Act → Bool
+may_stall flow (Start own) acts = own == flow
+may_stall flow (Rto own) acts = false
+may_stall flow (DelAck own) acts = false
+may_stall flow (Free link) acts = list_any (is_drop_of flow) acts
+may_stall flow (Arrive packet) acts = packet.flow == flow
+
+-- the flow of a packet that is dropped is stalled
+abbrev pub is_stalled_by_drop : State → Act → Bool
+is_stalled_by_drop state (Tx link packet) = false
+is_stalled_by_drop state (Dropped link reason packet) = is_stalled packet.flow state
+
+-- a flow for which an event may do so is stalled after it
+abbrev pub some_stalls : Event → List Act → State → Bool
+some_stalls (Start own) acts state = is_stalled own state
+some_stalls (Rto own) acts state = false
+some_stalls (DelAck own) acts state = false
+some_stalls (Free link) acts state = list_any (is_stalled_by_drop state) acts
+some_stalls (Arrive packet) acts state = is_stalled packet.flow state

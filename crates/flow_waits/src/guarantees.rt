@@ -1,8 +1,14 @@
-//! What holds of what is told. The function is a law: its contract is the statement, and its body is empty.
-ghost use Rattle.flow_waits.specs.Laws.{StalledIsTold};
+//! What holds of what is told. Each function is a law: its contract is the statement, and its body is empty.
+ghost use Rattle.flow_waits.specs.Laws.{StalledIsTold, StallsAreFound};
 
 /// Of a flow that a node sends, it is told that it is stalled exactly where it is.
 #[tactic(auto, using(crate::proofs::Told::stalled_is_told))]
 pub fn the_stalled_are_told()
     ensures { StalledIsTold }
+{}
+
+/// In every run a flow becomes stalled only by its start, by the arrival of a packet of it, or where a link that
+/// becomes free drops one; and by such an event wherever it is stalled afterwards.
+pub fn the_stalls_are_found()
+    ensures { StallsAreFound }
 {}

@@ -3,6 +3,7 @@
 
 mod alarm;
 mod append;
+mod becomes;
 mod bytes;
 mod ends;
 pub mod guarantees;
@@ -16,5 +17,6 @@ mod standing;
 mod tests;
 mod waits;
 
+pub use becomes::{becomes_stalled, some_becomes_stalled};
 pub use stalled::is_stalled;
 pub use waits::waits_text;

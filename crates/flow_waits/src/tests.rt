@@ -4,45 +4,30 @@ use crate::sentence::append_standing;
 use crate::standing::standing_of;
 use crate::{is_stalled, waits_text};
 use net_machine::Net;
-use reno_sender::Sender;
-use scenario_image::{FlowPart, LinkPart, NodeKind, QueueKind, Records, Scenario, ScenarioParts};
-use sim_time::{Iw, Variant};
+use reno_sender::{Sender, SenderSettings};
+use scenario_image::{
+    FlowPart, LinkPart, NodeKind, RENO, Records, Scenario, ScenarioParts, plain_flow, plain_link,
+};
 use std::alloc::Global;
 use std::process::Abort;
 use std::test::Fail;
 
-const RENO: Variant = Variant {
-    newreno: false,
-    iw: Iw::Iw3,
-};
-
-// A link with room for 10 packets, which arrive so many nanoseconds after they are sent, and of which these are
-// lost.
+// A link whose packets arrive so many nanoseconds after they are sent, and of which these are lost.
 fn link(alloc: Global, from: u16, delay: u64, lose: &[u32]) -> Result<LinkPart, Fail> {
-    Ok(LinkPart {
-        from,
-        to: 1 - from.min(1),
-        rate: 8_000_000,
-        delay,
-        queue: QueueKind::DropTail,
-        capacity: 10,
-        lose: Records::new(Vec::from_slice(alloc, lose)?),
-    })
+    let mut link = plain_link(alloc, from, 1 - from.min(1));
+    link.delay = delay;
+    link.lose = Records::new(Vec::from_slice(alloc, lose)?);
+    Ok(link)
 }
 
 // A flow of so many segments from a node to another, with a receiver's window in bytes, whose acknowledgements
 // wait for 200 milliseconds.
 fn flow(sender: u16, segments: u32, rwnd: u32) -> FlowPart {
-    FlowPart {
-        sender,
-        receiver: 1 - sender.min(1),
-        mss: 1_000,
-        segments,
-        start: 0,
-        rwnd,
-        delack: 200_000_000,
-        variant: RENO,
-    }
+    let mut flow = plain_flow(sender, 1 - sender.min(1));
+    flow.segments = segments;
+    flow.rwnd = rwnd;
+    flow.delack = 200_000_000;
+    flow
 }
 
 // The net of a flow between two nodes, link 0 from the sender with this delay, which loses these packets, and
@@ -200,7 +185,13 @@ const FITS: &str =
 
 #[test]
 fn one_more_segment_just_fits(rt: HostRuntime) -> Result<(), Fail> {
-    let mut fields = Sender::new(1_000, 5, 64_000, RENO).fields();
+    let settings = SenderSettings {
+        mss: 1_000,
+        segments: 5,
+        rwnd: 64_000,
+        variant: RENO,
+    };
+    let mut fields = Sender::new(settings).fields();
     fields.nxt = 3_000;
     fields.high = 3_000;
     fields.deadline = Some(1_000_000_000);

@@ -1,5 +1,6 @@
 use Rattle.std.proofs.Common.{◌≡◌, ◌*◌, ◌≤◌, take}
-use Rattle.port.specs.declared.acts.DropReason.TheVariants.{Lost, Full, Codel}
+use Rattle.aqm.specs.declared.drop_reason.DropReason.TheVariants.{Lost, Full, Take}
+use Rattle.aqm.specs.declared.drop_reason.TakeDrop.TheVariants.{Codel}
 use Rattle.figures.specs.Links.{dropped_in, tx_in, bytes_in}
 use Rattle.figures.proofs.told.told_by.Given as goal
 
@@ -8,7 +9,7 @@ abbrev pub invariant-loop-act : goal.invariant-loop-act
 invariant-loop-act l = record {
   lost : l.told.lost ≡ dropped_in Lost (take l.act-index l.acts);
   full : l.told.full ≡ dropped_in Full (take l.act-index l.acts);
-  codel : l.told.codel ≡ dropped_in Codel (take l.act-index l.acts);
+  codel : l.told.codel ≡ dropped_in (Take Codel) (take l.act-index l.acts);
   sent : l.told.sent ≡ tx_in (take l.act-index l.acts);
   bytes : l.told.bytes ≡ bytes_in (take l.act-index l.acts);
   lost_most : l.told.lost ≤ l.act-index;
