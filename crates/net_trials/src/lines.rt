@@ -1,9 +1,8 @@
 //! That the definitions say what a reader of a trace sees.
-
-use crate::nets::RENO;
-use node_core::{Act, Acts, After, DropReason, Event, Line};
+use node_core::{Act, Acts, After, DropReason, Event, Line, TakeDrop};
 use packet_chain::{Kind, Packet, PacketBytes};
 use reno_sender::SenderFields;
+use scenario_image::RENO;
 use sim_time::Key;
 use std::alloc::{AllocError, Global};
 use std::process::Abort;
@@ -61,7 +60,7 @@ fn tx(link: u16, flow: u16, number: u64) -> Act {
 }
 
 fn dropped(reason: DropReason, number: u64) -> Act {
-    Act::Dropped(reason, packet(Kind::Data, 0, number))
+    Act::Dropped(0, reason, packet(Kind::Data, 0, number))
 }
 
 fn acts_of(alloc: Global, list: &[Act]) -> Result<Acts, AllocError> {
@@ -173,7 +172,10 @@ fn lines_of_a_sender(rt: HostRuntime) -> Result<(), AllocError> {
         key(2080000, 0, 0, 3),
         Event::Free(0),
         sender(0, 4000, 4000, 64000, false),
-        &[dropped(DropReason::Codel, 2000), tx(0, 0, 3000)],
+        &[
+            dropped(DropReason::Take(TakeDrop::Codel), 2000),
+            tx(0, 0, 3000),
+        ],
         "4 2080000 0 0 3 free 0 una=0 nxt=4000 cwnd=4000 ssthresh=64000 phase=ss drop=codel:0:2000 tx=0:0:3000\n",
     )?;
     expect_text(

@@ -1,69 +1,31 @@
 mod by_nodes;
 mod copies;
-mod star;
 mod two_flows;
 
 use net_machine::{LinkEnds, Net, Place};
-use scenario_image::{
-    FlowPart, LinkPart, NodeKind, QueueKind, Records, RoutePart, Scenario, ScenarioParts,
-};
-use sim_time::{Iw, Key, Variant};
+use scenario_asm::assemble;
+use scenario_image::Scenario;
+use sim_time::Key;
 use std::alloc::Global;
 use std::process::Abort;
 use std::test::Fail;
 
-/// The sender of a flow that names none.
-pub(crate) const RENO: Variant = Variant {
-    newreno: false,
-    iw: Iw::Iw3,
-};
-
-// A link of 8 Mbit/s and a millisecond, with room for 10 packets.
-fn link(alloc: Global, from: u16, to: u16) -> LinkPart {
-    LinkPart {
-        from,
-        to,
-        rate: 8_000_000,
-        delay: 1_000_000,
-        queue: QueueKind::DropTail,
-        capacity: 10,
-        lose: Records::new(Vec::new(alloc)),
-    }
-}
-
-// A router's route for a destination.
-fn route(router: u16, destination: u16, link: u16) -> RoutePart {
-    RoutePart {
-        router,
-        destination,
-        link,
+// The scenario of a text. What is refused memory is asked for again.
+fn scenario(alloc: Global, text: &str) -> Result<Scenario, Fail> {
+    match assemble(alloc, text.as_bytes()) {
+        Ok(scenario) => Ok(scenario),
+        Err(_) => Ok(assemble(alloc, text.as_bytes()).map_err(|_| "a scenario")?),
     }
 }
 
 // A sender gives a receiver one segment of 1,000 bytes, over a link each way.
-fn one_segment(alloc: Global) -> Result<Scenario, Fail> {
-    let mut links = Vec::new(alloc);
-    links.push(link(alloc, 0, 1))?;
-    links.push(link(alloc, 1, 0))?;
-    let flow = FlowPart {
-        sender: 0,
-        receiver: 1,
-        mss: 1_000,
-        segments: 1,
-        start: 0,
-        rwnd: 64_000,
-        delack: 0,
-        variant: RENO,
-    };
-    let parts = ScenarioParts {
-        end: 1_000_000_000,
-        nodes: Records::new(vec![in alloc; NodeKind::Sender, NodeKind::Receiver]?),
-        links: Records::new(links),
-        flows: Records::new(vec![in alloc; flow]?),
-        routes: Records::new(Vec::new(alloc)),
-    };
-    Ok(Scenario::of_parts(parts).map_err(|_| "scenario")?)
-}
+const ONE_SEGMENT: &str = "sim 1000000000
+node s sender
+node r receiver
+link a s r 8000000 1000000 droptail 10
+link b r s 8000000 1000000 droptail 10
+flow f s r 1000 1 0 64000 0
+";
 
 // The start, the segment's way there, and the acknowledgement's way back.
 const KEYS: [(u64, u16, u16, u64); 5] = [
@@ -97,7 +59,7 @@ fn runs_on(rt: &impl Abort, net: &mut Net, from: usize) -> Result<(), Fail> {
 
 #[test]
 fn one_segment_goes_there_and_is_acknowledged(rt: HostRuntime) -> Result<(), Fail> {
-    let scenario = one_segment(rt.alloc())?;
+    let scenario = scenario(rt.alloc(), ONE_SEGMENT)?;
     let mut net = Net::new(rt.alloc(), &scenario)?;
     assert_eq!(rt; net.end(), 1_000_000_000);
     assert_eq!(rt; net.nodes().len(), 2);
@@ -106,7 +68,7 @@ fn one_segment_goes_there_and_is_acknowledged(rt: HostRuntime) -> Result<(), Fai
 
 #[test]
 fn a_copy_and_a_net_of_the_same_parts_go_on(rt: HostRuntime) -> Result<(), Fail> {
-    let scenario = one_segment(rt.alloc())?;
+    let scenario = scenario(rt.alloc(), ONE_SEGMENT)?;
     let mut net = Net::new(rt.alloc(), &scenario)?;
     for _event in 0..2 {
         net.step().map_err(|_| "step")?;

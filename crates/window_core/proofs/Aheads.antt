@@ -3,7 +3,7 @@ use Rattle.std.proofs.Common.{◌≡◌, ℕ, suc, ◌<◌, List, [], ◌∷◌,
 use Rattle.scenario_image.specs.declared.parts.LinkPart.{LinkPart}
 use Rattle.net_machine.specs.declared.places.LinkEnds.{LinkEnds}
 use Rattle.net_machine.specs.Wiring.{AreEnds, ends_at, link_part}
-use Rattle.window_core.specs.Lookahead.{lesser, lookahead}
+use Rattle.window_law.specs.Lookahead.{lesser, lookahead}
 
 -- the least delay of those whose ends are in two groups
 abbrev pub ahead : (ℕ → ℕ) → List LinkEnds → Option ℕ

@@ -13,7 +13,7 @@ use Rattle.node_core.specs.declared.event.Event.TheVariants.{Arrive}
 use Rattle.node_core.specs.Alarms.{arrival_key}
 use Rattle.node_core.specs.Pending.{Events}
 use Rattle.node_core.specs.WireState.{WireState, arrivals, arrivals_on, pending_on}
-use Rattle.window_core.proofs.Changes.{same, same_is, over, get-apply}
+use Rattle.window_law.proofs.Changes.{same, same_is, over, get-apply}
 
 -- keys of later numbers
 none_before : (node link before : ℕ) (q : List Stamped) (k : Key) → k.number ≤ before → find key_cmp k (arrivals node link before q) ≡ None

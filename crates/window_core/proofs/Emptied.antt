@@ -1,8 +1,8 @@
 -- Lists that have no line.
 use Rattle.std.proofs.Common.{◌≡◌, ℕ, suc, List, [], ◌∷◌, ◌++◌, refl, sym, ap, subst, ◌∙◌}
 use Rattle.node_core.specs.TraceLine.{TraceLine}
-use Rattle.window_core.specs.Merged.{all_of, lines_of, AreApart, HasKey}
-use Rattle.window_core.specs.Sheaves.{IsRising}
+use Rattle.line_merge.specs.Merged.{all_of, lines_of, AreApart, HasKey}
+use Rattle.line_merge.specs.Sheaves.{IsRising}
 
 pub none_in_all : (lists : List (List TraceLine)) → ((i : ℕ) → lines_of lists i ≡ []) → all_of lists ≡ []
 none_in_all [] none = refl

@@ -20,18 +20,18 @@ use Rattle.table_run.specs.Laws.{IsSoundRun}
 use Rattle.table_run.specs.Sound.{Belongs}
 use Rattle.table_run.proofs.Runs.{run_add}
 use Rattle.table_run.proofs.RunLaws.{sound_run}
-use Rattle.window_core.specs.Calls.{IsInRun}
-use Rattle.window_core.specs.Groups.{GroupState, no_group, group_at}
-use Rattle.window_core.specs.Lookahead.{lookahead}
-use Rattle.window_core.specs.Merged.{lines_of, HasKey, AreApart}
-use Rattle.window_core.specs.Windows.{WindowState, all_done, setting_of, keyed}
-use Rattle.window_core.proofs.Brought.{Done, window}
-use Rattle.window_core.proofs.Calls.{done_at, below_end, opening_matches}
-use Rattle.window_core.proofs.EveryRun.{same_end}
-use Rattle.window_core.proofs.Fair.{maker_of, every_run_is_fair}
-use Rattle.window_core.proofs.Matches.{Matches}
-use Rattle.window_core.proofs.Tidy.{Tidy, run_tidy}
-use Rattle.window_core.proofs.Turn.{keyed_filter}
+use Rattle.window_law.specs.Calls.{IsInRun}
+use Rattle.window_law.specs.Groups.{GroupState, no_group, group_at}
+use Rattle.window_law.specs.Lookahead.{lookahead}
+use Rattle.line_merge.specs.Merged.{lines_of, HasKey, AreApart}
+use Rattle.window_law.specs.Windows.{WindowState, all_done, setting_of, keyed}
+use Rattle.window_law.proofs.Brought.{Done, window}
+use Rattle.window_law.proofs.Calls.{done_at, below_end, opening_matches}
+use Rattle.window_law.proofs.EveryRun.{same_end}
+use Rattle.window_law.proofs.Fair.{maker_of, every_run_is_fair}
+use Rattle.window_law.proofs.Matches.{Matches}
+use Rattle.window_law.proofs.Tidy.{Tidy, run_tidy}
+use Rattle.window_law.proofs.Turn.{keyed_filter}
 
 -- the run has come to a state that the groups hold together
 pub record IsAtEnd (p : ScenarioParts) (group : ℕ → ℕ) (edge : State) (w : WindowState) : Type 0 where
@@ -52,7 +52,7 @@ at_end p group m before edge w r all =
     let until = w.until in
     let o = r.is_open in
     let fair = every_run_is_fair p m before edge r.is_scenario r.comes group in
-    let done : (h : ℕ) → Done group until (group_at (Rattle.window_core.specs.Groups.fires group until o.firings o.start) h) = λ h. subst (λ (g : List GroupState). Done group until (group_at g h)) o.groups_are (done_at until w.groups all h) in
+    let done : (h : ℕ) → Done group until (group_at (Rattle.window_law.specs.Groups.fires group until o.firings o.start) h) = λ h. subst (λ (g : List GroupState). Done group until (group_at g h)) o.groups_are (done_at until w.groups all h) in
     let c = window group maker ahead until (length o.firings) o.firings edge [] o.start refl (below_end x edge w o maker (same_end p m before edge r.comes) fair) fair (opening_matches x edge w o maker) done in
     let tidy : Tidy c.state c.more = run_tidy group maker ahead c.n edge c.state [] c.more c.is_run fair record { sorted = tt; before = λ q v e. tt } in
     record {

@@ -10,13 +10,13 @@ use Rattle.ranking.proofs.Maps.{not_some, same_some}
 use Rattle.node_core.specs.declared.event.Event.{Event}
 use Rattle.table_run.specs.State.{State, due}
 use Rattle.window_core.specs.Full.{events_with}
-use Rattle.window_core.specs.Group.{GroupValue, AfterFirings, Fired, state_of}
-use Rattle.window_core.specs.Groups.{GroupState, no_group, group_at, up_to, fire, fire_on}
-use Rattle.window_core.specs.Partition.{group_in}
+use Rattle.node_group.specs.Group.{GroupValue, AfterFirings, Fired, state_of}
+use Rattle.window_law.specs.Groups.{GroupState, no_group, group_at, up_to, fire, fire_on}
+use Rattle.net_partition.specs.Partition.{group_in}
 use Rattle.window_core.specs.Window.{WindowValue, no_value, value_at, states_of, machine_of, setting_in, IsFrom, IsWindow, HasFiredOr}
-use Rattle.window_core.specs.Windows.{WindowState, Fire, moved}
-use Rattle.window_core.proofs.Calls.{nothing_due}
-use Rattle.window_core.proofs.Lines.{no_firing}
+use Rattle.window_law.specs.Windows.{WindowState, Fire, moved}
+use Rattle.window_law.proofs.Calls.{nothing_due}
+use Rattle.node_group.proofs.Lines.{no_firing}
 use Rattle.window_core.proofs.Windowed.{split_returned, from_returned, state_at, length_states}
 
 -- there is no such group

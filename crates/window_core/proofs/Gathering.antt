@@ -3,7 +3,7 @@ use Rattle.std.proofs.Common.{◌≡◌, ◌<◌, ◌≤◌, ◌+◌, ℕ, zero,
 use Rattle.std.proofs.lemmas.Bool.{cases_lt}
 use Rattle.node_core.specs.Node.{NodeState}
 use Rattle.net_machine.specs.Nodes.{node_at}
-use Rattle.window_core.specs.Group.{GroupValue, member}
+use Rattle.node_group.specs.Group.{GroupValue, member}
 use Rattle.window_core.specs.Together.{group_with, AreTogether}
 
 before_last : (nodes : List NodeState) (x : NodeState) (i : ℕ) → i < length nodes → node_at (nodes ++ x ∷ []) i ≡ node_at nodes i

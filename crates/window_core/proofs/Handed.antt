@@ -16,18 +16,18 @@ use Rattle.node_core.specs.WireState.{WireState, pending_on, came_over}
 use Rattle.net_machine.specs.declared.places.LinkEnds.{LinkEnds}
 use Rattle.net_machine.specs.Nodes.{parts_of}
 use Rattle.net_machine.specs.Wiring.{ends_at, place_at}
-use Rattle.window_core.specs.Group.{GroupValue, state_of, came_in, group_from, group_to}
-use Rattle.window_core.specs.Groups.{GroupState, no_group}
-use Rattle.window_core.specs.Held.{no_wire, wire_at, held_on}
-use Rattle.window_core.specs.Partition.{group_in}
-use Rattle.window_core.specs.Seats.{seated, taken}
+use Rattle.node_group.specs.Group.{GroupValue, state_of, came_in, group_from, group_to}
+use Rattle.window_law.specs.Groups.{GroupState, no_group}
+use Rattle.node_group.specs.Held.{no_wire, wire_at, held_on}
+use Rattle.net_partition.specs.Partition.{group_in}
+use Rattle.node_group.specs.Seats.{seated, taken}
 use Rattle.window_core.specs.Turning.{from_group, to_group, held_over, pending_in, AreReady, CanHand, WasHanded, HasHanded, handed, ComesLater}
 use Rattle.window_core.specs.Window.{value_at, states_of}
-use Rattle.window_core.specs.Windows.{delivered, delivered_to}
+use Rattle.window_law.specs.Windows.{delivered, delivered_to}
 use Rattle.window_core.proofs.Arriving.{get_arriving}
-use Rattle.window_core.proofs.HeldBack.{over_link, wire_map}
-use Rattle.window_core.proofs.Changes.{get-entering}
-use Rattle.window_core.proofs.Turn.{length_delivered, delivered_at}
+use Rattle.node_group.proofs.HeldBack.{over_link, wire_map}
+use Rattle.window_law.proofs.Changes.{get-entering}
+use Rattle.window_law.proofs.Turn.{length_delivered, delivered_at}
 use Rattle.window_core.proofs.Windowed.{state_at, length_states}
 use Rattle.window_core.proofs.HeldForOthers.{held, no_key, in_range, crossing, on_wire, off_wire}
 

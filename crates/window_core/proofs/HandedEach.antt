@@ -6,8 +6,8 @@ use Rattle.std.specs.List.{sum_by}
 use Rattle.packet_chain.specs.Stamped.{Stamped}
 use Rattle.node_core.specs.WireState.{WireState}
 use Rattle.net_machine.specs.declared.places.LinkEnds.{LinkEnds}
-use Rattle.window_core.specs.Group.{GroupValue}
-use Rattle.window_core.specs.Held.{no_wire, wire_at, is_idle, HoldsNothing}
+use Rattle.node_group.specs.Group.{GroupValue}
+use Rattle.node_group.specs.Held.{no_wire, wire_at, is_idle, HoldsNothing}
 use Rattle.window_core.specs.Turning.{from_group, to_group, held_over, handed, AreReady, CanHand, CanHandEach, WasHanded, HasHanded, HasHandedOne}
 use Rattle.window_core.specs.Window.{value_at}
 use Rattle.window_core.proofs.Handed.{HandedOver, can_hand, more, handed_across, handed_rest, has_handed}

@@ -12,10 +12,10 @@ use Rattle.net_machine.specs.declared.places.LinkEnds.{LinkEnds}
 use Rattle.net_machine.specs.Nodes.{no_node, node_at, parts_of, net_pending}
 use Rattle.net_machine.specs.Wiring.{place_at}
 use Rattle.net_machine.proofs.Home.{come_pending}
-use Rattle.window_core.specs.Group.{GroupValue, IsGroup, group_to, member, came_in, entry_at}
-use Rattle.window_core.specs.Seats.{seated}
+use Rattle.node_group.specs.Group.{GroupValue, IsGroup, group_to, member, came_in, entry_at}
+use Rattle.node_group.specs.Seats.{seated}
 use Rattle.window_core.specs.Turning.{pending_in}
-use Rattle.window_core.proofs.Seated.{length-seated}
+use Rattle.node_group.proofs.Seated.{length-seated}
 
 parts_delivered : (nodes : List NodeState) (i index : ℕ) (packets : List Stamped) → parts_of (set nodes i (delivered (node_at nodes i) index packets)) ≡ parts_of nodes
 parts_delivered [] i index packets = refl

@@ -14,14 +14,14 @@ use Rattle.node_core.specs.WireState.{WireState, pending_on}
 use Rattle.node_core.proofs.Wires.{each_on, each_at, nothing_on}
 use Rattle.net_machine.specs.declared.places.LinkEnds.{LinkEnds}
 use Rattle.net_machine.specs.Wiring.{ends_at}
-use Rattle.window_core.specs.Group.{GroupValue, state_of}
-use Rattle.window_core.specs.Groups.{GroupState}
-use Rattle.window_core.specs.Held.{held_on}
-use Rattle.window_core.specs.Partition.{group_in}
+use Rattle.node_group.specs.Group.{GroupValue, state_of}
+use Rattle.window_law.specs.Groups.{GroupState}
+use Rattle.node_group.specs.Held.{held_on}
+use Rattle.net_partition.specs.Partition.{group_in}
 use Rattle.window_core.specs.Turning.{from_group, to_group, held_over, AreReady}
 use Rattle.window_core.specs.Window.{value_at, states_of}
-use Rattle.window_core.specs.Windows.{all_held}
-use Rattle.window_core.proofs.HeldBack.{over_link, held_home, wire_map}
+use Rattle.window_law.specs.Windows.{all_held}
+use Rattle.node_group.proofs.HeldBack.{over_link, held_home, wire_map}
 use Rattle.window_core.proofs.Windowed.{group_below}
 
 module _ {entries : List ℕ} {links : List LinkEnds} {old : List GroupValue} (ready : AreReady entries links old) where

@@ -12,14 +12,14 @@ use Rattle.node_core.specs.WireState.{WireState}
 use Rattle.table_run.specs.State.{State, no_part, part_at}
 use Rattle.net_machine.specs.declared.places.LinkEnds.{LinkEnds}
 use Rattle.net_machine.specs.Nodes.{no_node, net_state, IsPlaced}
-use Rattle.window_core.specs.Partition.{group_in}
-use Rattle.window_core.specs.Seats.{Seats, seated}
-use Rattle.window_core.specs.Groups.{GroupState, no_group, group_at}
-use Rattle.window_core.specs.Standing.{Stands}
-use Rattle.window_core.specs.Group.{state_of}
-use Rattle.window_core.specs.Shares.{AreSeatsOf, AreIdle}
-use Rattle.window_core.proofs.Seated.{length-seated}
-use Rattle.window_core.proofs.OfNet.{mine, past_seats, pending_mine, idle_none}
+use Rattle.net_partition.specs.Partition.{group_in}
+use Rattle.node_group.specs.Seats.{Seats, seated}
+use Rattle.window_law.specs.Groups.{GroupState, no_group, group_at}
+use Rattle.window_law.specs.Standing.{Stands}
+use Rattle.node_group.specs.Group.{state_of}
+use Rattle.node_group.specs.Shares.{AreSeatsOf, AreIdle}
+use Rattle.node_group.proofs.Seated.{length-seated}
+use Rattle.node_group.proofs.OfNet.{mine, past_seats, pending_mine, idle_none}
 
 -- a group holds what is its own of a state
 pub record HoldsPart (group : ℕ → ℕ) (s : State) (h : ℕ) (g : GroupState) : Type 0 where

@@ -26,22 +26,22 @@ use Rattle.net_machine.specs.NetOf.{AreNetParts}
 use Rattle.net_machine.specs.Nodes.{no_node, node_at, pendings, net_pending, parts_of, net_state}
 use Rattle.net_machine.specs.Wiring.{from_of, exit_of, to_of, entry_of, leaving_at, coming_at, link_ends, ends_at, place_at, IsJoined}
 use Rattle.net_machine.proofs.AtNodes.{pending_at}
-use Rattle.window_core.specs.Group.{GroupValue, state_of, member, exit_at, entry_at, came_in, group_to, IsGroup}
-use Rattle.window_core.specs.Groups.{GroupState, group_at}
-use Rattle.window_core.specs.Held.{wire_at, held_on, AreByLink}
-use Rattle.window_core.specs.Partition.{group_in}
-use Rattle.window_core.specs.Seats.{seated}
-use Rattle.window_core.specs.Standing.{Stands}
+use Rattle.node_group.specs.Group.{GroupValue, state_of, member, exit_at, entry_at, came_in, group_to, IsGroup}
+use Rattle.window_law.specs.Groups.{GroupState, group_at}
+use Rattle.node_group.specs.Held.{wire_at, held_on, AreByLink}
+use Rattle.net_partition.specs.Partition.{group_in}
+use Rattle.node_group.specs.Seats.{seated}
+use Rattle.window_law.specs.Standing.{Stands}
 use Rattle.window_core.specs.Together.{group_with, AreSeated, AreTogether}
 use Rattle.window_core.specs.Window.{WindowValue, value_at, states_of, machine_of, leaves_from, comes_to, IsFrom, IsWindow}
-use Rattle.window_core.specs.Windows.{none_fired, setting_of}
-use Rattle.window_core.proofs.Calls.{unfired_stand}
+use Rattle.window_law.specs.Windows.{none_fired, setting_of}
+use Rattle.window_law.proofs.Calls.{unfired_stand}
 use Rattle.window_core.proofs.EndOfWindow.{packet_at}
-use Rattle.window_core.proofs.EveryRun.{same_end}
-use Rattle.window_core.proofs.GroupKept.{seat_count, seat_taken}
-use Rattle.window_core.proofs.HeldBack.{over_link, held_home, wire_map}
+use Rattle.window_law.proofs.EveryRun.{same_end}
+use Rattle.node_group.proofs.GroupKept.{seat_count, seat_taken}
+use Rattle.node_group.proofs.HeldBack.{over_link, held_home, wire_map}
 use Rattle.window_core.proofs.Leaving.{exit_there}
-use Rattle.window_core.proofs.Seated.{length-seated}
+use Rattle.node_group.proofs.Seated.{length-seated}
 use Rattle.window_core.proofs.Windowed.{state_at, group_below}
 
 -- where nothing is held back nothing is under way
@@ -192,7 +192,7 @@ module _ (v : WindowValue) (is : IsWindow v) (are : (h : ℕ) → h < length v.g
         own : group_to (with_node t) number ≡ (with_node t).number
         own = (λ i. group_in (its_entries t i) (place i).node) ∙ sym (its_number t)
 
-        has : Rattle.window_core.specs.Group.IsOwnEntry (with_node t) number
+        has : Rattle.node_group.specs.Group.IsOwnEntry (with_node t) number
         has = (are (group t) (in_range t)).entries_are number (subst (λ (ls : List LinkEnds). number < length ls) (sym (its_links t)) known) own
 
         coming : coming_at p.links nodes number ≡ entry_at (with_node t) number
@@ -212,7 +212,7 @@ module _ (v : WindowValue) (is : IsWindow v) (are : (h : ℕ) → h < length v.g
         named : (exit_at (with_node f) f x).port.link ≡ number
         named = ap (λ (q : PartState). (link_at q.links x).port.link) (sym (part_is f)) ∙ there.1
 
-        exit : Rattle.window_core.specs.Group.IsOwnExit (with_node f) f x
+        exit : Rattle.node_group.specs.Group.IsOwnExit (with_node f) f x
         exit = (are (group f) (in_range f)).exits f x inside
 
         -- inside a group

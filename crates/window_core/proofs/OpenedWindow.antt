@@ -9,19 +9,19 @@ use Rattle.net_machine.specs.declared.places.LinkEnds.{LinkEnds}
 use Rattle.net_machine.specs.NetOf.{AreNetParts}
 use Rattle.net_machine.specs.Nodes.{node_at, net_state}
 use Rattle.net_machine.specs.Wiring.{AreEnds, ends_at, place_at}
-use Rattle.window_core.specs.Calls.{IsOpenFrom}
-use Rattle.window_core.specs.Group.{GroupValue, state_of}
-use Rattle.window_core.specs.Lookahead.{lookahead}
+use Rattle.window_law.specs.Calls.{IsOpenFrom}
+use Rattle.node_group.specs.Group.{GroupValue, state_of}
+use Rattle.window_law.specs.Lookahead.{lookahead}
 use Rattle.window_core.specs.Opening.{IsFirstWindow}
-use Rattle.window_core.specs.Partition.{group_in, groups_of}
-use Rattle.window_core.specs.Seats.{seated}
-use Rattle.window_core.specs.Shares.{IsShareOf}
+use Rattle.net_partition.specs.Partition.{group_in, groups_of}
+use Rattle.node_group.specs.Seats.{seated}
+use Rattle.node_group.specs.Shares.{IsShareOf}
 use Rattle.window_core.specs.Window.{WindowValue, value_at, states_of, setting_in, IsSplit, IsFrom}
-use Rattle.window_core.specs.Windows.{Setting, setting_of, window_end, none_fired, is_empty}
-use Rattle.window_core.proofs.Calls.{opens}
-use Rattle.window_core.proofs.EveryRun.{same_end}
+use Rattle.window_law.specs.Windows.{Setting, setting_of, window_end, none_fired, is_empty}
+use Rattle.window_law.proofs.Calls.{opens}
+use Rattle.window_law.proofs.EveryRun.{same_end}
 use Rattle.window_core.proofs.HoldsNet.{HoldsPart, share_holds, all_stand}
-use Rattle.window_core.proofs.OfNet.{mine}
+use Rattle.node_group.proofs.OfNet.{mine}
 use Rattle.window_core.proofs.Windowed.{state_at, length_states, group_below}
 
 -- a share in all its fields

@@ -9,15 +9,15 @@ use Rattle.std.specs.Vec.{with_item}
 use Rattle.sim_time.specs.declared.key.Key.{Key}
 use Rattle.node_core.specs.declared.event.Event.{Event}
 use Rattle.table_run.specs.State.{below, due}
-use Rattle.window_core.specs.declared.share.Share.{Share}
+use Rattle.node_group.specs.declared.share.Share.{Share}
 use Rattle.window_core.specs.declared.window.roster.Roster.TheInside.{Inside}
-use Rattle.window_core.specs.Group.{GroupValue, state_of}
-use Rattle.window_core.specs.Groups.{GroupState, up_to}
-use Rattle.window_core.specs.Lookahead.{lesser}
+use Rattle.node_group.specs.Group.{GroupValue, state_of}
+use Rattle.window_law.specs.Groups.{GroupState, up_to}
+use Rattle.window_law.specs.Lookahead.{lesser}
 use Rattle.window_core.specs.RosterOf.{IsRoster}
 use Rattle.window_core.specs.Rosters.{next_of, nexts_of, least_of}
 use Rattle.window_core.specs.Window.{no_value, value_at, states_of}
-use Rattle.window_core.specs.Windows.{all_done, all_lines, first_time, soonest}
+use Rattle.window_law.specs.Windows.{all_done, all_lines, first_time, soonest}
 use Rattle.window_core.proofs.Readings.{told_more}
 use Rattle.window_core.proofs.TurnReady.{cleared}
 

@@ -16,7 +16,7 @@ use Rattle.table_run.specs.Laws.{ComesTo}
 use Rattle.table_run.proofs.RunLaws.{sound_run}
 use Rattle.net_machine.specs.Wiring.{no_link_part, link_part, from_of}
 use Rattle.net_machine.proofs.Counting.{at_count, passing_at}
-use Rattle.window_core.specs.Lookahead.{lesser, lookahead}
+use Rattle.window_law.specs.Lookahead.{lesser, lookahead}
 
 -- a link of one list is that of its number in another
 record IsSame (p q : List LinkPart) (number : ℕ) : Type 0 where

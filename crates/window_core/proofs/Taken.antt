@@ -7,13 +7,13 @@ use Rattle.node_core.specs.Pending.{Events}
 use Rattle.node_core.specs.TraceLine.{TraceLine}
 use Rattle.table_run.specs.State.{State}
 use Rattle.window_core.specs.declared.window.Window.TheInside.{Inside}
-use Rattle.window_core.specs.Batches.{BatchValue}
-use Rattle.window_core.specs.Groups.{GroupState}
-use Rattle.window_core.specs.Partition.{group_in}
+use Rattle.line_merge.specs.Batches.{BatchValue}
+use Rattle.window_law.specs.Groups.{GroupState}
+use Rattle.net_partition.specs.Partition.{group_in}
 use Rattle.window_core.specs.Window.{WindowValue, states_of, machine_of, setting_in, IsSplit, IsFrom, HasGoneOn, HasTurned}
 use Rattle.window_core.specs.WindowOf.{window_of, IsWindowInside}
-use Rattle.window_core.specs.Windows.{WindowState, all_done, all_held, all_lines, delivered, delivered_to, in_order, none_fired, opened}
-use Rattle.window_core.proofs.Turn.{length_delivered}
+use Rattle.window_law.specs.Windows.{WindowState, all_done, all_held, all_lines, delivered, delivered_to, in_order, none_fired, opened}
+use Rattle.window_law.proofs.Turn.{length_delivered}
 use Rattle.window_core.proofs.Windowed.{length_states}
 
 -- ANOTHER BATCH

@@ -9,18 +9,18 @@ use Rattle.node_core.specs.declared.event.Event.{Event}
 use Rattle.node_core.specs.TraceLine.{TraceLine}
 use Rattle.table_run.specs.State.{State, below, due, run}
 use Rattle.table_run.proofs.Runs.{run_length, run_parts}
-use Rattle.window_core.specs.Calls.{IsInRun}
+use Rattle.window_law.specs.Calls.{IsInRun}
 use Rattle.window_core.specs.Full.{HasTooMany, FullGroupHasTooMany, FullTurnHasTooMany}
-use Rattle.window_core.specs.Group.{GroupValue, state_of}
-use Rattle.window_core.specs.Groups.{GroupState, group_at, up_to}
-use Rattle.window_core.specs.Partition.{group_in}
+use Rattle.node_group.specs.Group.{GroupValue, state_of}
+use Rattle.window_law.specs.Groups.{GroupState, group_at, up_to}
+use Rattle.net_partition.specs.Partition.{group_in}
 use Rattle.window_core.specs.Window.{WindowValue, no_value, value_at, states_of, machine_of}
-use Rattle.window_core.specs.Windows.{all_lines}
-use Rattle.window_core.proofs.Caught.{no_further}
+use Rattle.window_law.specs.Windows.{all_lines}
+use Rattle.window_law.proofs.Caught.{no_further}
 use Rattle.window_core.proofs.EndOfWindow.{at_end}
-use Rattle.window_core.proofs.EveryRun.{caught}
+use Rattle.window_law.proofs.EveryRun.{caught}
 use Rattle.window_core.proofs.FiredAt.{from_fired}
-use Rattle.window_core.proofs.Matches.{the_value}
+use Rattle.window_law.proofs.Matches.{the_value}
 use Rattle.window_core.proofs.Windowed.{state_at, length_states}
 
 abbrev most : ℕ

@@ -20,18 +20,18 @@ use Rattle.node_core.specs.TraceLine.{TraceLine}
 use Rattle.node_core.specs.WireState.{WireState, arrivals_on, pending_on, stamps_of}
 use Rattle.net_machine.specs.declared.places.LinkEnds.{LinkEnds}
 use Rattle.net_machine.specs.Wiring.{no_link_part, link_part, ends_at, place_at}
-use Rattle.window_core.specs.Group.{GroupValue, IsGroup, came_in}
-use Rattle.window_core.specs.Groups.{GroupState, group_at}
-use Rattle.window_core.specs.Held.{wire_at, held_on}
-use Rattle.window_core.specs.Merged.{AreApart}
-use Rattle.window_core.specs.Partition.{group_in}
+use Rattle.node_group.specs.Group.{GroupValue, IsGroup, came_in}
+use Rattle.window_law.specs.Groups.{GroupState, group_at}
+use Rattle.node_group.specs.Held.{wire_at, held_on}
+use Rattle.line_merge.specs.Merged.{AreApart}
+use Rattle.net_partition.specs.Partition.{group_in}
 use Rattle.window_core.specs.Turning.{from_group, to_group, held_over, pending_in, IsShape, ComesLater, AreReady}
 use Rattle.window_core.specs.Window.{WindowValue, value_at, states_of, machine_of, IsWindow}
-use Rattle.window_core.specs.Windows.{all_done}
+use Rattle.window_law.specs.Windows.{all_done}
 use Rattle.window_core.proofs.EndOfWindow.{IsAtEnd, at_end, arrives, are_apart, packet_at}
-use Rattle.window_core.proofs.Fair.{maker_of, maker_over, others_node}
-use Rattle.window_core.proofs.HeldBack.{over_link, held_home, wire_map}
-use Rattle.window_core.proofs.Matches.{IsHeld, the_value, pending_under}
+use Rattle.window_law.proofs.Fair.{maker_of, maker_over, others_node}
+use Rattle.node_group.proofs.HeldBack.{over_link, held_home, wire_map}
+use Rattle.window_law.proofs.Matches.{IsHeld, the_value, pending_under}
 use Rattle.window_core.proofs.Windowed.{value_map, state_at, group_below}
 
 -- a group that has given its lines, after so many events
@@ -127,7 +127,7 @@ module _ (v : WindowValue) (is : IsWindow v) (are : (h : ℕ) → h < length v.g
       pub sooner : (t : ℕ) → t < length v.groups → came_in (value_at v.groups t) link ≡ w.taken → (k : Key) (u : Event) → get (pending_in (value_at v.groups t)) k ≡ Some u → k.source ≡ w.link + 1 → k.time < get_or (stamps_of w.under_way) j d
       sooner t t_in came k u there source =
           let there_state : get (group_at (states_of v.groups) t).pending k ≡ Some u = ap (λ (s : GroupState). get s.pending k) (state_at v.groups t t_in) ∙ there in
-          let some = the_value (get e.state.pending k) (pending_under group (maker_of p.links) (Rattle.window_core.specs.Lookahead.lookahead group p.links) v.until e.state e.lines (states_of v.groups) e.matches t k u there_state) in
+          let some = the_value (get e.state.pending k) (pending_under group (maker_of p.links) (Rattle.window_law.specs.Lookahead.lookahead group p.links) v.until e.state e.lines (states_of v.groups) e.matches t k u there_state) in
           let belongs = e.sound.sound.belongs k some.0 some.1 in
           let arrival = arrives p e.state e.sound.moment k some.0 belongs (λ z. absurd (omega (arith, source, z))) in
           let number = (are t t_in).counted link (subst (λ (ls : List LinkEnds). link < length ls) (sym (is.split.parts t t_in).links_are) under) k u there (let at = w_link in omega (arith, source, at)) in
@@ -156,7 +156,7 @@ module _ (v : WindowValue) (is : IsWindow v) (are : (h : ℕ) → h < length v.g
     past_none h here link past =
         let wires = (are h here).wires in
         let size = ap length (is.split.parts h here).links_are in
-        ap (λ (x : WireState). x.under_way) (get_or_past (value_at v.groups h).held link Rattle.window_core.specs.Held.no_wire (omega (arith, past, wires, size)))
+        ap (λ (x : WireState). x.under_way) (get_or_past (value_at v.groups h).held link Rattle.node_group.specs.Held.no_wire (omega (arith, past, wires, size)))
 
     pub ready : AreReady v.entries v.links mid
     ready = record {

@@ -6,16 +6,16 @@ use Rattle.node_core.specs.TraceLine.{TraceLine}
 use Rattle.node_core.specs.Pending.{Events}
 use Rattle.table_run.specs.State.{State, opening, run}
 use Rattle.table_run.proofs.Runs.{run_add}
-use Rattle.window_core.specs.Calls.{IsOpenFrom}
-use Rattle.window_core.specs.Group.{GroupValue, state_of, came_in}
-use Rattle.window_core.specs.Groups.{GroupState}
-use Rattle.window_core.specs.Held.{wire_at}
-use Rattle.window_core.specs.Merged.{all_of}
-use Rattle.window_core.specs.Partition.{group_in}
+use Rattle.window_law.specs.Calls.{IsOpenFrom}
+use Rattle.node_group.specs.Group.{GroupValue, state_of, came_in}
+use Rattle.window_law.specs.Groups.{GroupState}
+use Rattle.node_group.specs.Held.{wire_at}
+use Rattle.line_merge.specs.Merged.{all_of}
+use Rattle.net_partition.specs.Partition.{group_in}
 use Rattle.window_core.specs.Turning.{from_group, to_group, HasHanded}
 use Rattle.window_core.specs.Window.{WindowValue, value_at, states_of, machine_of, setting_in, IsSplit, IsFrom, IsWindow, IsPart, HasGoneOn, HasTurned}
-use Rattle.window_core.specs.Windows.{Setting, AreBelow, all_done, all_lines, all_held, delivered, delivered_to, in_order, opened, setting_of, window_end}
-use Rattle.window_core.proofs.EveryRun.{turn_of}
+use Rattle.window_law.specs.Windows.{Setting, AreBelow, all_done, all_lines, all_held, delivered, delivered_to, in_order, opened, setting_of, window_end}
+use Rattle.window_law.proofs.EveryRun.{turn_of}
 use Rattle.window_core.proofs.Readings.{lines_of_groups}
 use Rattle.window_core.proofs.TurnReady.{cleared}
 use Rattle.window_core.proofs.Windowed.{bounded, same_states, value_map, group_below}

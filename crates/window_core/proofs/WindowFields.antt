@@ -1,7 +1,7 @@
 -- What a window's fields are after its calls.
 use Rattle.std.proofs.Common.{◌≡◌, ℕ, List, set, Bool, false, ap, ◌∙◌}
 use Rattle.window_core.specs.declared.window.Window.TheInside.{Inside}
-use Rattle.window_core.specs.Group.{GroupValue}
+use Rattle.node_group.specs.Group.{GroupValue}
 use Rattle.window_core.specs.Rosters.{RosterValue}
 use Rattle.window_core.specs.Window.{WindowValue}
 use Rattle.window_core.specs.WindowOf.{window_of}

@@ -5,15 +5,15 @@ use Rattle.table_run.specs.State.{State}
 use Rattle.net_machine.specs.Wiring.{AreEnds, ends_at, place_at}
 use Rattle.net_machine.specs.declared.places.LinkEnds.{LinkEnds}
 use Rattle.node_core.specs.WireState.{WireState}
-use Rattle.window_core.specs.Calls.{IsInRun, HaveFired}
-use Rattle.window_core.specs.Group.{GroupValue, state_of, came_in, group_from, bare, IsOnRun, AfterFirings}
-use Rattle.window_core.specs.Groups.{GroupState, group_at, fire_times}
-use Rattle.window_core.specs.Held.{wire_at}
-use Rattle.window_core.specs.Partition.{group_in, groups_of}
-use Rattle.window_core.specs.Windows.{none_fired, setting_of}
+use Rattle.window_law.specs.Calls.{IsInRun, HaveFired}
+use Rattle.node_group.specs.Group.{GroupValue, state_of, came_in, group_from, bare, IsOnRun, AfterFirings}
+use Rattle.window_law.specs.Groups.{GroupState, group_at, fire_times}
+use Rattle.node_group.specs.Held.{wire_at}
+use Rattle.net_partition.specs.Partition.{group_in, groups_of}
+use Rattle.window_law.specs.Windows.{none_fired, setting_of}
 use Rattle.window_core.specs.Window.{WindowValue, value_at, states_of, machine_of, leaves_from, comes_to, IsPart, IsSplit, IsFrom, IsWindow}
-use Rattle.window_core.proofs.Calls.{limit_keeps, apart_keeps}
-use Rattle.window_core.proofs.Partitions.{upto_greatest}
+use Rattle.window_law.proofs.Calls.{limit_keeps, apart_keeps}
+use Rattle.net_partition.proofs.Partitions.{upto_greatest}
 
 pub value_map : (f : GroupValue → GroupValue) (groups : List GroupValue) (h : ℕ) → h < length groups → value_at (map f groups) h ≡ f (value_at groups h)
 value_map f [] h under = absurd (omega (arith, under))
@@ -115,7 +115,7 @@ from_limited v moment none edge is =
       in_run = record {
         is_scenario = is.in_run.is_scenario;
         comes = is.in_run.comes;
-        is_open = subst (λ (groups : List GroupState). Rattle.window_core.specs.Calls.IsOpenFrom (setting_of (group_in v.entries) is.scenario) edge record { groups = groups; until = min v.until moment }) (sym (same_states (min v.until moment) v.groups)) (limit_keeps (setting_of (group_in v.entries) is.scenario) edge (machine_of v) is.in_run.is_open none moment);
+        is_open = subst (λ (groups : List GroupState). Rattle.window_law.specs.Calls.IsOpenFrom (setting_of (group_in v.entries) is.scenario) edge record { groups = groups; until = min v.until moment }) (sym (same_states (min v.until moment) v.groups)) (limit_keeps (setting_of (group_in v.entries) is.scenario) edge (machine_of v) is.in_run.is_open none moment);
       };
       links_are = is.links_are;
       ahead_is = is.ahead_is;

@@ -5,12 +5,12 @@ use Rattle.window_core.specs.declared.window.acting.Action.{Action}
 use Rattle.window_core.specs.declared.window.acting.Action.TheVariants.{Fire as FireOf, Turn as TakeTurn}
 use Rattle.window_core.specs.declared.window.turning.TurnFault.{TurnFault}
 use Rattle.window_core.specs.declared.window.turning.TurnFault.TheVariants.{NotDone, CountFull, NoMemory}
-use Rattle.window_core.specs.declared.group.GroupFault.{GroupFault}
-use Rattle.window_core.specs.declared.group.GroupFault.TheVariants.{NoMemory as WithoutMemory, CountFull as WithFullCount}
-use Rattle.window_core.specs.Batches.{BatchValue}
+use Rattle.node_group.specs.declared.group.GroupFault.{GroupFault}
+use Rattle.node_group.specs.declared.group.GroupFault.TheVariants.{NoMemory as WithoutMemory, CountFull as WithFullCount}
+use Rattle.line_merge.specs.Batches.{BatchValue}
 use Rattle.window_core.specs.Full.{IsDueAt, events_with}
 use Rattle.window_core.specs.Window.{WindowValue, IsFrom, HasGoneOn, HasTurned, machine_of, setting_in, states_of}
-use Rattle.window_core.specs.Windows.{Move, Fire, Turn, moved, all_done, all_lines, none_fired}
+use Rattle.window_law.specs.Windows.{Move, Fire, Turn, moved, all_done, all_lines, none_fired}
 
 -- no line yet, after so many events
 abbrev pub nothing_after : ℕ → BatchValue

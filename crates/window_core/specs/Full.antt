@@ -3,9 +3,9 @@ use Rattle.std.specs.Prelude.{◌≡◌, ◌≢◌, ◌<◌, ◌≤◌, ◌+◌,
 use Rattle.node_core.specs.TraceLine.{TraceLine}
 use Rattle.table_run.specs.State.{State, due, run}
 use Rattle.net_machine.specs.Run.{Reached}
-use Rattle.window_core.specs.Groups.{up_to}
-use Rattle.window_core.specs.Windows.{all_done, all_lines}
-use Rattle.window_core.specs.Group.{GroupValue, state_of, AfterFirings}
+use Rattle.window_law.specs.Groups.{up_to}
+use Rattle.window_law.specs.Windows.{all_done, all_lines}
+use Rattle.node_group.specs.Group.{GroupValue, state_of, AfterFirings}
 use Rattle.window_core.specs.Window.{WindowValue, value_at, states_of, IsWindow, IsFrom}
 
 -- the run has more than 10^15 events: after so many in all one more is due

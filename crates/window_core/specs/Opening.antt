@@ -5,10 +5,10 @@ use Rattle.node_core.specs.Node.{NodeState}
 use Rattle.net_machine.specs.declared.places.LinkEnds.{LinkEnds}
 use Rattle.net_machine.specs.Nodes.{net_state}
 use Rattle.net_machine.specs.Wiring.{AreEnds}
-use Rattle.window_core.specs.Lookahead.{lookahead}
-use Rattle.window_core.specs.Partition.{group_in}
+use Rattle.window_law.specs.Lookahead.{lookahead}
+use Rattle.net_partition.specs.Partition.{group_in}
 use Rattle.window_core.specs.Window.{WindowValue, IsFrom, setting_in, states_of}
-use Rattle.window_core.specs.Windows.{none_fired, window_end}
+use Rattle.window_law.specs.Windows.{none_fired, window_end}
 
 -- the window opened on a net of these nodes and links, and no group has fired
 pub record IsFirstWindow (nodes : List NodeState) (links : List LinkEnds) (end : ℕ) (v : WindowValue) : Type 0 where

@@ -1,8 +1,8 @@
 -- How a roster's value is stored.
 use Rattle.std.specs.Prelude.{Bool, List, refl}
 use Rattle.std.specs.Coded.{Coded, code_by, coded×, coded_bool, coded_list}
-use Rattle.window_core.specs.Group.{GroupValue}
-use Rattle.window_core.specs.GroupCode.{group_code}
+use Rattle.node_group.specs.Group.{GroupValue}
+use Rattle.node_group.specs.GroupCode.{group_code}
 use Rattle.window_core.specs.Rosters.{RosterValue}
 
 abbrev pub roster_code : Coded RosterValue

@@ -3,7 +3,7 @@ use Rattle.std.specs.Prelude.{◌≡◌, ◌≤◌, [], false, true, length, IfS
 use Rattle.window_core.specs.declared.window.roster.Roster.TheInside.{Inside}
 use Rattle.window_core.specs.Rosters.{RosterValue, least_of, nexts_of}
 use Rattle.window_core.specs.Window.{states_of}
-use Rattle.window_core.specs.Windows.{all_lines}
+use Rattle.window_law.specs.Windows.{all_lines}
 
 abbrev pub roster_of : Inside → RosterValue
 roster_of r = record { groups = if r.out then r.lent.value.items else r.shares.items; out = r.out }

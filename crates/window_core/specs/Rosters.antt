@@ -1,8 +1,8 @@
 -- The groups of a window, and what is kept of all of them.
 use Rattle.std.specs.Prelude.{ℕ, min, Bool, List, [], ◌∷◌, map as each, unwrap_or}
-use Rattle.window_core.specs.Group.{GroupValue}
-use Rattle.window_core.specs.Groups.{GroupState}
-use Rattle.window_core.specs.Windows.{first_time}
+use Rattle.node_group.specs.Group.{GroupValue}
+use Rattle.window_law.specs.Groups.{GroupState}
+use Rattle.window_law.specs.Windows.{first_time}
 
 -- the groups, by number, and whether they are out: then they are as they went
 pub record RosterValue : Type 0 where

@@ -2,8 +2,8 @@
 use Rattle.std.specs.Prelude.{◌≡◌, ◌<◌, ℕ, List, length, is_some, true, slice_index_or, None}
 use Rattle.node_core.specs.Node.{NodeState}
 use Rattle.net_machine.specs.Nodes.{node_at}
-use Rattle.window_core.specs.Group.{GroupValue, member}
-use Rattle.window_core.specs.Partition.{group_in}
+use Rattle.node_group.specs.Group.{GroupValue, member}
+use Rattle.net_partition.specs.Partition.{group_in}
 use Rattle.window_core.specs.Window.{value_at}
 
 -- the group of a node

@@ -6,12 +6,12 @@ use Rattle.node_core.specs.WireState.{WireState, arrivals_on, came_over, stamps_
 use Rattle.net_machine.specs.declared.places.LinkEnds.{LinkEnds}
 use Rattle.net_machine.specs.Nodes.{net_pending, parts_of}
 use Rattle.net_machine.specs.Wiring.{ends_at, place_at}
-use Rattle.window_core.specs.Group.{GroupValue, IsGroup, group_from, group_to, came_in}
-use Rattle.window_core.specs.Held.{wire_at, is_idle, AreByLink}
-use Rattle.window_core.specs.Partition.{group_in, groups_of}
-use Rattle.window_core.specs.Seats.{seated, taken}
+use Rattle.node_group.specs.Group.{GroupValue, IsGroup, group_from, group_to, came_in}
+use Rattle.node_group.specs.Held.{wire_at, is_idle, AreByLink}
+use Rattle.net_partition.specs.Partition.{group_in, groups_of}
+use Rattle.node_group.specs.Seats.{seated, taken}
 use Rattle.window_core.specs.Window.{WindowValue, value_at, states_of}
-use Rattle.window_core.specs.Windows.{all_done, all_lines, delivered}
+use Rattle.window_law.specs.Windows.{all_done, all_lines, delivered}
 
 -- a turn can be taken, with so many lines
 pub record CanTurn (v : WindowValue) (count : ℕ) : Type 0 where

@@ -5,14 +5,14 @@ use Rattle.node_core.specs.TraceLine.{TraceLine}
 use Rattle.table_run.specs.State.{State, run}
 use Rattle.net_machine.specs.declared.places.LinkEnds.{LinkEnds}
 use Rattle.net_machine.specs.Wiring.{AreEnds, ends_at, place_at}
-use Rattle.window_core.specs.Batches.{BatchValue}
-use Rattle.window_core.specs.Calls.{IsInRun}
-use Rattle.window_core.specs.Group.{GroupValue, state_of, came_in}
-use Rattle.window_core.specs.Groups.{GroupState}
-use Rattle.window_core.specs.Held.{wire_at}
-use Rattle.window_core.specs.Lookahead.{lookahead}
-use Rattle.window_core.specs.Partition.{group_in, groups_of}
-use Rattle.window_core.specs.Windows.{Setting, WindowState, Turn, Fire, moved}
+use Rattle.line_merge.specs.Batches.{BatchValue}
+use Rattle.window_law.specs.Calls.{IsInRun}
+use Rattle.node_group.specs.Group.{GroupValue, state_of, came_in}
+use Rattle.window_law.specs.Groups.{GroupState}
+use Rattle.node_group.specs.Held.{wire_at}
+use Rattle.window_law.specs.Lookahead.{lookahead}
+use Rattle.net_partition.specs.Partition.{group_in, groups_of}
+use Rattle.window_law.specs.Windows.{Setting, WindowState, Turn, Fire, moved}
 
 -- the group of each node; where each link leaves and ends; the least delay of a link between two groups; the run's end, and the window's; how many events were run to the last turn; the groups, by number, and whether they are out: then they are as they went; what the last turn gave
 pub record WindowValue : Type 0 where

@@ -3,10 +3,10 @@ use Rattle.std.specs.Prelude.{ℕ, Bool, List, Option, refl}
 use Rattle.std.specs.Coded.{Coded, code_by, coded×, coded_ℕ, coded_bool, coded_list, coded_option}
 use Rattle.net_machine.specs.declared.places.LinkEnds.{LinkEnds}
 use Rattle.net_machine.specs.contracts.places.LinkEnds as link_ends
-use Rattle.window_core.specs.Batches.{BatchValue}
-use Rattle.window_core.specs.BatchCode.{batch_code}
-use Rattle.window_core.specs.Group.{GroupValue}
-use Rattle.window_core.specs.GroupCode.{group_code}
+use Rattle.line_merge.specs.Batches.{BatchValue}
+use Rattle.line_merge.specs.BatchCode.{batch_code}
+use Rattle.node_group.specs.Group.{GroupValue}
+use Rattle.node_group.specs.GroupCode.{group_code}
 use Rattle.window_core.specs.Window.{WindowValue}
 
 abbrev pub window_code : Coded WindowValue

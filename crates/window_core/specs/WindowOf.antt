@@ -1,7 +1,7 @@
 -- The window that a window's fields are.
 use Rattle.std.specs.Prelude.{◌≡◌, length}
 use Rattle.window_core.specs.declared.window.Window.TheInside.{Inside}
-use Rattle.window_core.specs.Partition.{groups_of}
+use Rattle.net_partition.specs.Partition.{groups_of}
 use Rattle.window_core.specs.Window.{WindowValue, IsWindow}
 
 abbrev pub window_of : Inside → WindowValue

@@ -3,12 +3,12 @@ ghost use Rattle.std.specs.Prelude.{◌≡◌, ◌<◌, All, List, length, Optio
 ghost use Rattle.scenario_image.specs.declared.parts.LinkPart.{LinkPart};
 ghost use Rattle.net_machine.specs.declared.places.LinkEnds.{LinkEnds};
 ghost use Rattle.net_machine.specs.Wiring.{AreEnds};
-ghost use Rattle.window_core.specs.Partition.{group_in};
-ghost use Rattle.window_core.specs.Lookahead.{lesser, lookahead};
-ghost use Rattle.window_core.specs.Windows.{at_most, sum_of};
+ghost use Rattle.net_partition.specs.Partition.{group_in};
+ghost use Rattle.window_law.specs.Lookahead.{lesser, lookahead};
+ghost use Rattle.window_law.specs.Windows.{at_most, sum_of};
 
-use crate::partition::Partition;
 use net_machine::LinkEnds;
+use net_partition::Partition;
 use sim_time::Time;
 
 // The lesser of a time, where there is one, and another.

@@ -1,11 +1,11 @@
 //! A net's run by windows: groups run apart up to a common end, and a turn brings them together.
 ghost use Rattle.std.specs.Prelude.{◌≡◌, ◌≢◌, ◌+◌, ◌<◌, ◌≤◌, [], ℕ, length, map as each, min, true, false, All, IfOk, IfErr, OnOk, OnErr, None, slice_set, vec_capacity};
 ghost use Rattle.table_run.specs.State.{State, due};
-ghost use Rattle.window_core.specs.Groups.{up_to};
+ghost use Rattle.window_law.specs.Groups.{up_to};
 ghost use Rattle.window_core.specs.Full.{IsDueAt, events_with};
-ghost use Rattle.window_core.specs.Group.{GroupValue, AfterFirings, IsOnRun, state_of};
+ghost use Rattle.node_group.specs.Group.{GroupValue, AfterFirings, IsOnRun, state_of};
 ghost use Rattle.window_core.specs.Window.{IsFrom, IsWindow, HasFiredOr, states_of, value_at};
-ghost use Rattle.window_core.specs.Windows.{none_fired, soonest};
+ghost use Rattle.window_law.specs.Windows.{none_fired, soonest};
 
 mod acting;
 mod handing;
@@ -20,11 +20,10 @@ mod turning;
 pub use self::acting::Action;
 use self::roster::Roster;
 pub use self::turning::TurnFault;
-use crate::batch::Batch;
-use crate::group::{Group, GroupFault};
-use crate::partition::Partition;
-use crate::share::Share;
+use line_merge::Batch;
 use net_machine::LinkEnds;
+use net_partition::Partition;
+use node_group::{Group, GroupFault, Share};
 use ranking::Ranking;
 use sim_time::Time;
 use std::alloc::Global;

@@ -16,15 +16,15 @@ use Rattle.window_core.specs.Batches.{BatchValue}
 use Rattle.window_core.specs.Window.{WindowValue, IsFrom, IsWindow, HasGoneOn, HasTurned, states_of, machine_of, setting_in}
 use Rattle.window_core.specs.Windows.{Setting, WindowState, AreBelow, Turn, all_done, none_fired, in_order, all_lines, all_held, delivered, delivered_to, opened, moved, window_end, setting_of}
 use Rattle.window_core.specs.Calls.{IsInRun}
-use Rattle.window_core.proofs.Due.{IsLate, late_none}
-use Rattle.window_core.proofs.Matches.{Matches}
-use Rattle.window_core.proofs.Brought.{Done, Comes, window}
-use Rattle.window_core.proofs.Tidy.{Tidy, run_tidy}
-use Rattle.window_core.proofs.Turn.{lines_of_all}
-use Rattle.window_core.proofs.Fair.{maker_of, every_run_is_fair}
-use Rattle.window_core.proofs.Calls.{nothing_due, below_end, opening_matches, unfired_stand}
-use Rattle.window_core.proofs.EveryRun.{same_end}
-use Rattle.window_core.proofs.Joined.{joined_is_the_state}
+use Rattle.window_law.proofs.Due.{IsLate, late_none}
+use Rattle.window_law.proofs.Matches.{Matches}
+use Rattle.window_law.proofs.Brought.{Done, Comes, window}
+use Rattle.window_law.proofs.Tidy.{Tidy, run_tidy}
+use Rattle.window_law.proofs.Turn.{lines_of_all}
+use Rattle.window_law.proofs.Fair.{maker_of, every_run_is_fair}
+use Rattle.window_law.proofs.Calls.{nothing_due, below_end, opening_matches, unfired_stand}
+use Rattle.window_law.proofs.EveryRun.{same_end}
+use Rattle.window_law.proofs.Joined.{joined_is_the_state}
 use Rattle.window_core.specs.Lookahead.{lookahead}
 use Rattle.window_engine.specs.Edges.{IsAtEdge, StaysNet, nodes_in, edge_of, reached_in}
 use Rattle.window_engine.specs.Laid.{IsDoneBy}

@@ -1,8 +1,8 @@
 -- Pieces that are refused since there are as many events as there may be.
 use Rattle.std.proofs.Common.{◌≡◌, ℕ, suc, List, ◌∷◌, slice_get, Option, Some, None, Result, Ok, Err, IfErr, refl, ap, sym, subst, ◌∙◌}
 use Rattle.std.specs.Option.{option_or}
-use Rattle.window_core.specs.declared.group.GroupFault.{GroupFault}
-use Rattle.window_core.specs.declared.group.GroupFault.TheVariants as group
+use Rattle.node_group.specs.declared.group.GroupFault.{GroupFault}
+use Rattle.node_group.specs.declared.group.GroupFault.TheVariants as group
 use Rattle.window_core.specs.Group.{AfterFirings}
 use Rattle.work_board.specs.Pieces.{PieceState, IsTold}
 use Rattle.work_board.specs.Seats.{Began, Tells}

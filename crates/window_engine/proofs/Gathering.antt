@@ -3,7 +3,7 @@ use Rattle.std.proofs.Common.{◌≡◌, ℕ, zero, suc, List, [], ◌∷◌, �
 use Rattle.std.proofs.lemmas.Result.{IfOk-weaker}
 use Rattle.std.proofs.lemmas.Option.{slice_get_within}
 use Rattle.std.specs.Option.{option_or}
-use Rattle.window_core.specs.declared.group.GroupFault.{GroupFault}
+use Rattle.node_group.specs.declared.group.GroupFault.{GroupFault}
 use Rattle.work_board.specs.Pieces.{PieceState, IsDone, IsSettled}
 use Rattle.work_board.specs.Seats.{Tells}
 use Rattle.work_board.specs.declared.view.View.{View}

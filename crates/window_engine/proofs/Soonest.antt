@@ -13,8 +13,8 @@ use Rattle.window_core.specs.Groups.{GroupState, group_at}
 use Rattle.window_core.specs.Lookahead.{lesser}
 use Rattle.window_core.specs.Standing.{Stands}
 use Rattle.window_core.specs.Windows.{first_time, soonest}
-use Rattle.window_core.proofs.Due.{at_or_after, key_time, some_not}
-use Rattle.window_core.proofs.Turn.{IsBy, by_first, by_second, there, at_own}
+use Rattle.window_law.proofs.Due.{at_or_after, key_time, some_not}
+use Rattle.window_law.proofs.Turn.{IsBy, by_first, by_second, there, at_own}
 use Rattle.window_engine.specs.Engines.{next_time}
 
 abbrev time_of : Option (Key × Event) → Option ℕ

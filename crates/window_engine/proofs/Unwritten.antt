@@ -5,7 +5,7 @@ use Rattle.table_run.specs.State.{State, run}
 use Rattle.net_machine.specs.Run.{Reached}
 use Rattle.window_core.specs.Full.{HasTooMany}
 use Rattle.window_core.specs.Sheaves.{SheafValue, merged}
-use Rattle.window_core.proofs.Rests.{nothing_in_order}
+use Rattle.line_merge.proofs.Rests.{nothing_in_order}
 use Rattle.window_engine.specs.declared.course.Course.{Course}
 use Rattle.window_engine.specs.Courses.{AtRest, IsBehind, Wrote, WroteTo}
 use Rattle.window_engine.specs.Edges.{edge_of, reached_in}

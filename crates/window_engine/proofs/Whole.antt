@@ -9,7 +9,7 @@ use Rattle.node_core.specs.TraceLine.{TraceLine}
 use Rattle.table_run.specs.State.{State, below, run, step}
 use Rattle.table_run.proofs.Runs.{of_step, of_run}
 use Rattle.window_core.specs.Windows.{AreBelow}
-use Rattle.window_core.proofs.Due.{late_none}
+use Rattle.window_law.proofs.Due.{late_none}
 use Rattle.window_engine.specs.Engines.{AreWhole, NoneBelow}
 
 -- no line is of no window

@@ -1,8 +1,8 @@
 -- What a window answers, by what became of its pieces.
 use Rattle.std.specs.Prelude.{◌≡◌, ◌⊎◌, ◌<◌, ℕ, Bool, true, false, List, [], ◌∷◌, length, slice_get, Option, Some, None, option_map, if◌then◌else◌}
 use Rattle.std.specs.Option.{option_or}
-use Rattle.window_core.specs.declared.group.GroupFault.{GroupFault}
-use Rattle.window_core.specs.declared.group.GroupFault.TheVariants as group
+use Rattle.node_group.specs.declared.group.GroupFault.{GroupFault}
+use Rattle.node_group.specs.declared.group.GroupFault.TheVariants as group
 use Rattle.window_core.specs.Group.{AfterFirings}
 use Rattle.work_board.specs.Pieces.{PieceState, IsDone, IsSettled, IsTold}
 use Rattle.work_board.specs.Seats.{Began}

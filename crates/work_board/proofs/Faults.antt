@@ -4,8 +4,8 @@ use Rattle.std.specs.Result.{result_err}
 use Rattle.table_run.specs.State.{due}
 use Rattle.window_core.specs.Groups.{up_to}
 use Rattle.window_core.specs.Group.{GroupValue, state_of}
-use Rattle.window_core.specs.declared.group.GroupFault.{GroupFault}
-use Rattle.window_core.specs.declared.group.GroupFault.TheVariants.{NoMemory, CountFull}
+use Rattle.node_group.specs.declared.group.GroupFault.{GroupFault}
+use Rattle.node_group.specs.declared.group.GroupFault.TheVariants.{NoMemory, CountFull}
 use Rattle.work_board.specs.Pieces.{PieceState, IsTold}
 
 abbrev ran : ℕ → GroupValue → GroupValue → Option GroupFault → PieceState

@@ -7,8 +7,8 @@ use Rattle.work_board.specs.contracts.board.Board.TheInside as InsideBoard
 use Rattle.work_board.specs.contracts.piece.Piece as Piece
 use Rattle.work_board.specs.contracts.piece.Piece.TheInside as Inside
 use denote.Param.SendFields.{declared_send, declared_sync}
-use Rattle.window_core.specs.contracts.group.Group as Group
-use Rattle.window_core.specs.contracts.group.GroupFault as Fault
+use Rattle.node_group.specs.contracts.group.Group as Group
+use Rattle.node_group.specs.contracts.group.GroupFault as Fault
 use Rattle.std.specs.contracts.snapshot.Snapshot as Snapshot
 use Rattle.std.specs.contracts.option.Option as Option
 use Rattle.std.proofs.Crossing as heap
@@ -19,19 +19,19 @@ use Rattle.atomic_table.specs.contracts.owned.Table as Table
 use Rattle.std.specs.contracts.vec.Vec as Vec
 use Rattle.std.specs.contracts.alloc.Global as Global
 use Rattle.std.specs.contracts.impls.GlobalAllocator.TheImpl.{ghosts as heap_ghosts}
-use Rattle.window_core.specs.contracts.group.Group.TheInside as InsideGroup
-use Rattle.window_core.specs.contracts.share.Share as Share
-use Rattle.window_core.specs.contracts.share.Share.TheInside as InsideShare
-use Rattle.window_core.specs.contracts.partition.Partition as Partition
-use Rattle.window_core.proofs.members.Members.TheSendSync as members
-use Rattle.window_core.proofs.exits.Exits.TheSendSync as exits
+use Rattle.node_group.specs.contracts.group.Group.TheInside as InsideGroup
+use Rattle.node_group.specs.contracts.share.Share as Share
+use Rattle.node_group.specs.contracts.share.Share.TheInside as InsideShare
+use Rattle.net_partition.specs.contracts.partition.Partition as Partition
+use Rattle.node_group.proofs.members.Members.TheSendSync as members
+use Rattle.node_group.proofs.exits.Exits.TheSendSync as exits
 use Rattle.net_machine.proofs.places.LinkEnds.TheSendSync as ends
 use Rattle.node_core.proofs.outbox.Outbox.TheSendSync as outbox
 use Rattle.node_core.proofs.line.Line.TheSendSync as line
 use Rattle.atomic_table.proofs.shared.Seat.TheSendSync as seat
 use Rattle.atomic_table.proofs.owned.Table.TheSendSync as table
 use Rattle.std.proofs.alloc.Global.TheSendSync as global
-use Rattle.window_core.proofs.group.GroupFault.TheSendSync as fault
+use Rattle.node_group.proofs.group.GroupFault.TheSendSync as fault
 
 share_partition : IsSend (Snapshot.the_row Partition.the_row)
 share_partition = search sendable depth 20

@@ -1,10 +1,10 @@
 -- How the values of pieces, boards and seats are stored.
 use Rattle.std.specs.Prelude.{ℕ, Option, refl}
 use Rattle.std.specs.Coded.{Coded, code_by, coded×, coded_ℕ, coded_option}
-use Rattle.window_core.specs.declared.group.GroupFault.{GroupFault}
-use Rattle.window_core.specs.contracts.group.GroupFault as fault
+use Rattle.node_group.specs.declared.group.GroupFault.{GroupFault}
+use Rattle.node_group.specs.contracts.group.GroupFault as fault
 use Rattle.window_core.specs.Group.{GroupValue}
-use Rattle.window_core.specs.GroupCode.{group_code}
+use Rattle.node_group.specs.GroupCode.{group_code}
 use Rattle.work_board.specs.Pieces.{PieceState}
 
 abbrev pub piece_code : Coded PieceState

@@ -3,8 +3,8 @@ use Rattle.std.specs.Prelude.{◌≡◌, ℕ, ◌+◌, ◌<◌, length, Option, 
 use Rattle.table_run.specs.State.{due}
 use Rattle.window_core.specs.Groups.{up_to}
 use Rattle.window_core.specs.Group.{GroupValue, state_of}
-use Rattle.window_core.specs.declared.group.GroupFault.{GroupFault}
-use Rattle.window_core.specs.declared.group.GroupFault.TheVariants.{NoMemory, CountFull}
+use Rattle.node_group.specs.declared.group.GroupFault.{GroupFault}
+use Rattle.node_group.specs.declared.group.GroupFault.TheVariants.{NoMemory, CountFull}
 
 -- where it ends, the group as the piece began, the group now, and why it stopped before the end
 pub record PieceState : Type 0 where

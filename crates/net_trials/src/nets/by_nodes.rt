@@ -9,7 +9,7 @@ ghost use Rattle.node_core.specs.Ready.{IsRunnable};
 use super::two_flows::{opened, run_next};
 use net_machine::net::{MOST_EVENTS, Net};
 use net_machine::nodes::Nodes;
-use node_core::{Act, DropReason, Line, Node, Outbox};
+use node_core::{Act, DropReason, Line, Node, Outbox, TakeDrop};
 use ranking::Ranking;
 use std::alloc::{AllocError, Global};
 use std::process::Abort;
@@ -101,7 +101,7 @@ fn runs_by_both(
 // Whether CoDel dropped a packet in a line's event.
 fn tells_of_codel(line: &Line) -> bool {
     for act in line.acts.as_slice() {
-        if let Act::Dropped(DropReason::Codel, _) = act {
+        if let Act::Dropped(_, DropReason::Take(TakeDrop::Codel), _) = act {
             return true;
         }
     }

@@ -1,104 +1,51 @@
 //! Two flows over one router: every kind of event at every kind of node. With each request for memory
 //! refused in turn (scripts/refuse_tests.sh) it passes as well: what is refused is asked for again.
-use crate::nets::{RENO, link, route};
+use super::scenario;
 use net_machine::net::{Net, StepFault};
 use node_core::{After, Line};
-use scenario_image::{
-    Codel, FlowPart, LinkPart, NodeKind, QueueKind, Records, Scenario, ScenarioParts,
-};
 use sim_time::Key;
 use std::alloc::{AllocError, Global};
 use std::process::Abort;
 use std::test::Fail;
 
-// CoDel with the least of each number, which drops as soon as it may.
-const STRICT: QueueKind = QueueKind::Codel(Codel {
-    target: 1,
-    interval: 1,
-    maxpacket: 1,
-});
+// Two senders and two receivers about a router. Flow 0 has one segment, whose acknowledgement is delayed.
+const NODES: &str = "sim 3000000000
+node s sender
+node t sender
+node q router
+node u receiver
+node v receiver
+link a s q 8000000 1000000 droptail 10
+link b t q 8000000 1000000 droptail 10
+link c q u 8000000 1000000 droptail 10
+";
 
-// Links of the senders (0 and 1, which loses the packet of this number), of the router to the
-// receivers (2, and 3 with this rate and CoDel), of the receivers (4 and 5), and of the router to
-// the senders (6 and 7).
-fn links(alloc: Global, lost: u32, rate: u64) -> Result<Vec<LinkPart>, AllocError> {
-    let mut links = Vec::new(alloc);
-    for (from, to) in [
-        (0, 2),
-        (1, 2),
-        (2, 3),
-        (2, 4),
-        (3, 2),
-        (4, 2),
-        (2, 0),
-        (2, 1),
-    ] {
-        let mut part = link(alloc, from, to);
-        if from == 1 {
-            part.lose = Records::new(vec![in alloc; lost]?);
-        }
-        if to == 4 {
-            part.rate = rate;
-            part.queue = STRICT;
-        }
-        links.push(part)?;
-    }
-    Ok(links)
-}
+const REST: &str = "link e u q 8000000 1000000 droptail 10
+link g v q 8000000 1000000 droptail 10
+link h q s 8000000 1000000 droptail 10
+link i q t 8000000 1000000 droptail 10
+flow x s u 1000 1 0 64000 40000000
+route q s h
+route q t i
+route q u c
+route q v d
+";
 
-// So many segments, which are acknowledged after so many nanoseconds.
-fn flow(sender: u16, receiver: u16, segments: u32, delack: u32) -> FlowPart {
-    FlowPart {
-        sender,
-        receiver,
-        mss: 1_000,
-        segments,
-        start: 0,
-        rwnd: 64_000,
-        delack,
-        variant: RENO,
-    }
-}
-
-// Flow 0 has one segment, whose acknowledgement is delayed; flow 1 has so many, of which the packet
-// of this number is lost and the others go on from the router at this rate.
-fn two_flows(
-    alloc: Global,
-    segments: u32,
-    lost: u32,
-    rate: u64,
-) -> Result<Option<Scenario>, AllocError> {
-    let nodes = [
-        NodeKind::Sender,
-        NodeKind::Sender,
-        NodeKind::Router,
-        NodeKind::Receiver,
-        NodeKind::Receiver,
-    ];
-    let flows = [flow(0, 3, 1, 40_000_000), flow(1, 4, segments, 0)];
-    let routes = [
-        route(2, 0, 6),
-        route(2, 1, 7),
-        route(2, 3, 2),
-        route(2, 4, 3),
-    ];
-    let parts = ScenarioParts {
-        end: 3_000_000_000,
-        nodes: Records::new(Vec::from_slice(alloc, &nodes)?),
-        links: Records::new(links(alloc, lost, rate)?),
-        flows: Records::new(Vec::from_slice(alloc, &flows)?),
-        routes: Records::new(Vec::from_slice(alloc, &routes)?),
-    };
-    Ok(Scenario::of_parts(parts).ok())
+// Flow 1 has so many segments, of which the packet of this number is lost. The others go on from the
+// router at this rate, by CoDel with the least of each number, which drops as soon as it may.
+fn text(alloc: Global, segments: u32, lost: u32, rate: u64) -> Result<String, AllocError> {
+    let slow = format!(in alloc; "link d q v {rate} 1000000 codel 10 1 1 1\n")?;
+    let flow = format!(in alloc; "flow y t v 1000 {segments} 0 64000 0\nlose b {lost}\n")?;
+    format!(in alloc; "{NODES}{slow}{REST}{flow}")
 }
 
 // The net of it. What is refused memory is asked for again.
 pub(super) fn opened(alloc: Global, segments: u32, lost: u32, rate: u64) -> Result<Net, Fail> {
-    let scenario = match two_flows(alloc, segments, lost, rate) {
-        Ok(scenario) => scenario,
-        Err(_) => two_flows(alloc, segments, lost, rate)?,
+    let text = match text(alloc, segments, lost, rate) {
+        Ok(text) => text,
+        Err(_) => text(alloc, segments, lost, rate)?,
     };
-    let scenario = scenario.ok_or("scenario")?;
+    let scenario = scenario(alloc, text.as_str())?;
     match Net::new(alloc, &scenario) {
         Ok(net) => Ok(net),
         Err(_) => Ok(Net::new(alloc, &scenario)?),

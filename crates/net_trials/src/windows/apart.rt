@@ -154,10 +154,10 @@ fn cursors_give_the_lines_of_each_windows_batch(rt: HostRuntime) -> Result<(), F
 #[test]
 fn cursors_begin_amid_the_lines_of_two_groups(rt: HostRuntime) -> Result<(), Fail> {
     let alloc = rt.alloc();
-    let net = two_pairs(&rt, alloc, 12);
+    let net = two_pairs(&rt, alloc);
     let windows = windows_with_lines(&rt, alloc, net, &[0, 0, 1, 1]);
     assert_eq!(rt; windows, 1);
-    let net = two_pairs(&rt, alloc, 12);
+    let net = two_pairs(&rt, alloc);
     let windows = windows_with_lines(&rt, alloc, net, &[0, 1, 1, 0]);
     assert!(rt; windows > 1);
     Ok(())

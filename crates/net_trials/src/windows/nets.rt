@@ -3,155 +3,100 @@ ghost use Rattle.std.specs.Prelude.{◌≡◌, false, true};
 ghost use Rattle.window_core.specs.Window.{states_of};
 ghost use Rattle.window_core.specs.Windows.{none_fired};
 
-use crate::nets::RENO;
 use net_machine::Net;
-use scenario_image::{
-    FlowPart, LinkPart, NodeKind, QueueKind, Records, RoutePart, Scenario, ScenarioParts,
-};
+use scenario_asm::assemble;
+use scenario_image::Scenario;
 use std::alloc::{AllocError, Global};
 use std::process::Abort;
 use window_core::{Partition, Window};
 
-// Links of 8 Mbit/s and a millisecond, each with room for 10 packets. Those of node 0 lose their
-// third.
-fn links(alloc: Global, ends: &[(u16, u16)]) -> Result<Vec<LinkPart>, AllocError> {
-    let mut links = Vec::new(alloc);
-    for (from, to) in ends {
-        let mut lose = Vec::new(alloc);
-        if *from == 0 {
-            lose.push(3)?;
-        }
-        links.push(LinkPart {
-            from: *from,
-            to: *to,
-            rate: 8_000_000,
-            delay: 1_000_000,
-            queue: QueueKind::DropTail,
-            capacity: 10,
-            lose: Records::new(lose),
-        })?;
-    }
-    Ok(links)
-}
-
-// So many segments from time 0 on, each acknowledged at once.
-fn flow(sender: u16, receiver: u16, segments: u32) -> FlowPart {
-    FlowPart {
-        sender,
-        receiver,
-        mss: 1_000,
-        segments,
-        start: 0,
-        rwnd: 64_000,
-        delack: 0,
-        variant: RENO,
+// The scenario of a text. Here and below, what is refused memory is asked for once more.
+fn scenario(rt: &impl Abort, alloc: Global, text: &str) -> Scenario {
+    match assemble(alloc, text.as_bytes()) {
+        Ok(scenario) => scenario,
+        Err(_) => assemble(alloc, text.as_bytes())
+            .ok()
+            .expect(rt, "one request is refused"),
     }
 }
 
-fn route(router: u16, destination: u16, link: u16) -> RoutePart {
-    RoutePart {
-        router,
-        destination,
-        link,
-    }
-}
-
-// What a net is made of.
-#[derive(Clone, Copy)]
-struct Plan<'a> {
-    end: u64,
-    nodes: &'a [NodeKind],
-    links: &'a [(u16, u16)],
-    flows: &'a [FlowPart],
-    routes: &'a [RoutePart],
-}
-
-fn parts(alloc: Global, plan: Plan<'_>) -> Result<ScenarioParts, AllocError> {
-    Ok(ScenarioParts {
-        end: plan.end,
-        nodes: Records::new(Vec::from_slice(alloc, plan.nodes)?),
-        links: Records::new(links(alloc, plan.links)?),
-        flows: Records::new(Vec::from_slice(alloc, plan.flows)?),
-        routes: Records::new(Vec::from_slice(alloc, plan.routes)?),
-    })
-}
-
-fn scenario(rt: &impl Abort, alloc: Global, plan: Plan<'_>) -> Scenario {
-    let parts = match parts(alloc, plan) {
-        Ok(parts) => parts,
-        Err(_) => parts(alloc, plan).expect(rt, "one request is refused"),
-    };
-    Scenario::of_parts(parts).ok().expect(rt, "a scenario")
-}
-
-// The net of it. Here and below, what is refused memory is asked for once more.
-fn net_of(rt: &impl Abort, alloc: Global, plan: Plan<'_>) -> Net {
-    let scenario = scenario(rt, alloc, plan);
+// The net of a text.
+fn net_of(rt: &impl Abort, alloc: Global, text: &str) -> Net {
+    let scenario = scenario(rt, alloc, text);
     match Net::new(alloc, &scenario) {
         Ok(net) => net,
         Err(_) => Net::new(alloc, &scenario).expect(rt, "one request is refused"),
     }
 }
 
-/// A sender gives a receiver one segment, over a link each way.
+// A sender gives a receiver one segment, over a link each way.
+const PAIR: &str = "sim 1000000000
+node s sender
+node r receiver
+link a s r 8000000 1000000 droptail 10
+link b r s 8000000 1000000 droptail 10
+flow f s r 1000 1 0 64000 0
+";
+
+/// The net of one segment.
 pub fn pair(rt: &impl Abort, alloc: Global) -> Net {
-    let plan = Plan {
-        end: 1_000_000_000,
-        nodes: &[NodeKind::Sender, NodeKind::Receiver],
-        links: &[(0, 1), (1, 0)],
-        flows: &[flow(0, 1, 1)],
-        routes: &[],
-    };
-    net_of(rt, alloc, plan)
+    net_of(rt, alloc, PAIR)
 }
 
-/// Twice a sender that gives a receiver so many segments, with no link between the two.
-pub fn two_pairs(rt: &impl Abort, alloc: Global, segments: u32) -> Net {
-    let plan = Plan {
-        end: 3_000_000_000,
-        nodes: &[
-            NodeKind::Sender,
-            NodeKind::Receiver,
-            NodeKind::Sender,
-            NodeKind::Receiver,
-        ],
-        links: &[(0, 1), (1, 0), (2, 3), (3, 2)],
-        flows: &[flow(0, 1, segments), flow(2, 3, segments)],
-        routes: &[],
-    };
-    net_of(rt, alloc, plan)
+// Twice a sender and a receiver, with no link between the two; the third packet of one is lost.
+const TWO_PAIRS: &str = "sim 3000000000
+node s sender
+node r receiver
+node t sender
+node u receiver
+link a s r 8000000 1000000 droptail 10
+link b r s 8000000 1000000 droptail 10
+link c t u 8000000 1000000 droptail 10
+link d u t 8000000 1000000 droptail 10
+flow f s r 1000 12 0 64000 0
+flow g t u 1000 12 0 64000 0
+lose a 3
+";
+
+/// Twice a sender that gives a receiver twelve segments, with no link between the two.
+pub fn two_pairs(rt: &impl Abort, alloc: Global) -> Net {
+    net_of(rt, alloc, TWO_PAIRS)
+}
+
+// Two senders and two receivers about a router; the third packet of the first sender is lost.
+const CROSS: &str = "node s sender
+node t sender
+node q router
+node u receiver
+node v receiver
+link a s q 8000000 1000000 droptail 10
+link b t q 8000000 1000000 droptail 10
+link c q u 8000000 1000000 droptail 10
+link d u q 8000000 1000000 droptail 10
+link e q v 8000000 1000000 droptail 10
+link g v q 8000000 1000000 droptail 10
+link h q s 8000000 1000000 droptail 10
+link i q t 8000000 1000000 droptail 10
+route q s h
+route q t i
+route q u c
+route q v e
+lose a 3
+";
+
+// Each sender gives its receiver so many segments, up to this end.
+fn crossed_text(alloc: Global, end: u64, segments: u32) -> Result<String, AllocError> {
+    let first = format!(in alloc; "flow x s u 1000 {segments} 0 64000 0\n")?;
+    format!(in alloc; "sim {end}\n{CROSS}{first}flow y t v 1000 {segments} 0 64000 0\n")
 }
 
 /// Two flows of so many segments over one router: from node 0 to 3, and from 1 to 4.
 pub fn crossed(rt: &impl Abort, alloc: Global, end: u64, segments: u32) -> Net {
-    let plan = Plan {
-        end,
-        nodes: &[
-            NodeKind::Sender,
-            NodeKind::Sender,
-            NodeKind::Router,
-            NodeKind::Receiver,
-            NodeKind::Receiver,
-        ],
-        links: &[
-            (0, 2),
-            (1, 2),
-            (2, 3),
-            (3, 2),
-            (2, 4),
-            (4, 2),
-            (2, 0),
-            (2, 1),
-        ],
-        flows: &[flow(0, 3, segments), flow(1, 4, segments)],
-        routes: &[
-            route(2, 0, 6),
-            route(2, 1, 7),
-            route(2, 3, 2),
-            route(2, 4, 4),
-        ],
+    let text = match crossed_text(alloc, end, segments) {
+        Ok(text) => text,
+        Err(_) => crossed_text(alloc, end, segments).expect(rt, "one request is refused"),
     };
-    net_of(rt, alloc, plan)
+    net_of(rt, alloc, text.as_str())
 }
 
 /// The first window.

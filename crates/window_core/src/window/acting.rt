@@ -6,8 +6,8 @@ ghost use Rattle.window_core.specs.Window.{IsFrom};
 
 use super::Window;
 use super::turning::TurnFault;
-use crate::batch::Batch;
-use crate::group::GroupFault;
+use line_merge::Batch;
+use node_group::GroupFault;
 
 /// What may be done with a window's groups.
 #[derive(Clone, Copy)]

@@ -1,14 +1,14 @@
 //! What groups held back for each other is handed over.
 ghost use Rattle.std.specs.Prelude.{◌≡◌, [], None, IfSome};
-ghost use Rattle.window_core.specs.Held.{HoldsNothing};
+ghost use Rattle.node_group.specs.Held.{HoldsNothing};
 ghost use Rattle.window_core.specs.Rosters.{nexts_of};
 ghost use Rattle.window_core.specs.Turning.{AreReady, CanHandEach, HasHanded, HasHandedOne};
 ghost use Rattle.window_core.specs.Window.{states_of, value_at};
 
 use super::reading::next_of;
-use crate::partition::Partition;
-use crate::share::Share;
 use net_machine::LinkEnds;
+use net_partition::Partition;
+use node_group::Share;
 use packet_chain::PacketChain;
 use sim_time::Time;
 use std::alloc::Global;

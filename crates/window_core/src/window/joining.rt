@@ -1,16 +1,16 @@
 //! Groups that stand at one moment are put together into a net.
 ghost use Rattle.std.specs.Prelude.{◌≡◌, ◌<◌, IfOk, false, is_some, length, slice_index_or, true, None};
 ghost use Rattle.table_run.specs.State.{State};
-ghost use Rattle.window_core.specs.Group.{member};
+ghost use Rattle.node_group.specs.Group.{member};
 ghost use Rattle.window_core.specs.Together.{AreSeated, AreTogether};
 ghost use Rattle.window_core.specs.Window.{IsFrom, states_of};
-ghost use Rattle.window_core.specs.Windows.{none_fired};
+ghost use Rattle.window_law.specs.Windows.{none_fired};
 
 use super::Window;
-use crate::partition::Partition;
-use crate::share::Share;
 use net_machine::{LinkEnds, Net, NetParts, Spare};
+use net_partition::Partition;
 use node_core::Node;
+use node_group::Share;
 use std::alloc::{AllocError, Global};
 
 // A node of a group, with packets in cells of its own.

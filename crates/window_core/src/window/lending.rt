@@ -1,9 +1,8 @@
 //! Groups go out of a window and come back.
 ghost use Rattle.std.specs.Prelude.{◌≡◌, ◌≤◌, [], All, length, vec_capacity};
-ghost use Rattle.window_core.specs.Group.{IsOnRun};
+ghost use Rattle.node_group.specs.Group.{IsOnRun};
 
-use crate::group::Group;
-use crate::share::Share;
+use node_group::{Group, Share};
 
 /// Makes groups of all shares, in their order. No memory is taken.
 pub fn lend(shares: &mut Vec<Share>, groups: &mut Vec<Group>)

@@ -1,12 +1,12 @@
 //! What groups have come to.
 ghost use Rattle.std.specs.Prelude.{◌≡◌, ◌≤◌, All, length};
-ghost use Rattle.window_core.specs.Group.{IsGroup, state_of};
-ghost use Rattle.window_core.specs.Lookahead.{lesser};
+ghost use Rattle.node_group.specs.Group.{IsGroup, state_of};
+ghost use Rattle.window_law.specs.Lookahead.{lesser};
 ghost use Rattle.window_core.specs.Window.{states_of};
 ghost use Rattle.window_core.specs.Rosters.{next_of};
-ghost use Rattle.window_core.specs.Windows.{all_lines, soonest};
+ghost use Rattle.window_law.specs.Windows.{all_lines, soonest};
 
-use crate::share::Share;
+use node_group::Share;
 use sim_time::Time;
 
 /// When the least event of a group is, in nanoseconds; the last moment that there is where it has

@@ -1,9 +1,9 @@
 //! The memory of a turn's lines is used again.
 ghost use Rattle.std.specs.Prelude.{◌≡◌, [], false};
-ghost use Rattle.window_core.specs.Sheaves.{merged};
+ghost use Rattle.line_merge.specs.Sheaves.{merged};
 
 use super::Window;
-use crate::sheaf::Sheaf;
+use line_merge::Sheaf;
 
 impl Window {
     /// Has the memory of a sheaf's lines back, for groups that have told none; the sheaf is then

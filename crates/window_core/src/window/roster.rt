@@ -1,24 +1,25 @@
 //! The groups of a window, and what is asked of all of them again and again.
 ghost use Rattle.std.specs.Prelude.{◌≡◌, ◌≢◌, ◌+◌, ◌<◌, ◌≤◌, [], All, IfErr, IfOk, List, OnErr, OnOk, None, false, length, map as each, min, slice_set, true, vec_capacity};
 ghost use Rattle.table_run.specs.State.{due};
-ghost use Rattle.window_core.specs.Groups.{up_to};
-ghost use Rattle.window_core.specs.Group.{GroupValue, AfterFirings, Fired, IsGroup, IsOnRun, state_of};
-ghost use Rattle.window_core.specs.Merged.{AreApart, all_of};
+ghost use Rattle.window_law.specs.Groups.{up_to};
+ghost use Rattle.node_group.specs.Group.{GroupValue, AfterFirings, Fired, IsGroup, IsOnRun, state_of};
+ghost use Rattle.line_merge.specs.Merged.{AreApart, all_of};
 ghost use Rattle.window_core.specs.Rosters.{least_of, nexts_of};
-ghost use Rattle.window_core.specs.Sheaves.{merged};
+ghost use Rattle.line_merge.specs.Sheaves.{merged};
 ghost use Rattle.window_core.specs.Turning.{AreReady, HasHanded};
 ghost use Rattle.window_core.specs.Window.{states_of, value_at};
-ghost use Rattle.window_core.specs.Windows.{all_done, all_lines, soonest};
+ghost use Rattle.window_law.specs.Windows.{all_done, all_lines, soonest};
 
 use super::handing::hand_all;
 use super::lending::{lend, regain};
 use super::reading::{next_of, soonest, told, told_by};
 use super::set_until;
-use crate::group::{Group, GroupFault};
-use crate::partition::Partition;
-use crate::share::Share;
-use crate::sheaf::Sheaf;
+use crate::collecting::gather;
+use crate::giving::give_back;
+use line_merge::Sheaf;
 use net_machine::LinkEnds;
+use net_partition::Partition;
+use node_group::{Group, GroupFault, Share};
 use sim_time::Time;
 use std::alloc::{AllocError, Global};
 use std::marker::Model;
@@ -255,7 +256,7 @@ impl Roster {
         ensures groups { OnOk result (self.new ≡ record self.old { groups = each (λ (g : GroupValue). record g { lines = []; position = position + count }) self.old.groups }) }
         ensures err { OnErr result (self.new ≡ self.old) }
     {
-        sheaf.gather(&mut self.shares, position, count)?;
+        gather(sheaf, &mut self.shares, position, count)?;
         self.told = 0;
         Ok(())
     }
@@ -267,7 +268,7 @@ impl Roster {
         ensures same { self.new ≡ self.old }
         ensures empty { (merged sheaf.new).lines ≡ [] }
     {
-        sheaf.give_back(&mut self.shares);
+        give_back(sheaf, &mut self.shares);
     }
 
     /// What each group held back for others comes to them.

@@ -3,16 +3,15 @@ ghost use Rattle.std.specs.Prelude.{◌≡◌, ◌+◌, ◌<◌, ◌↔◌, leng
 ghost use Rattle.table_run.specs.State.{State};
 ghost use Rattle.window_core.specs.Acting.{nothing_after};
 ghost use Rattle.window_core.specs.Full.{HasTooMany, opening_at};
-ghost use Rattle.window_core.specs.Group.{GroupValue};
-ghost use Rattle.window_core.specs.Sheaves.{merged};
+ghost use Rattle.node_group.specs.Group.{GroupValue};
+ghost use Rattle.line_merge.specs.Sheaves.{merged};
 ghost use Rattle.window_core.specs.Turning.{CanTurn};
 ghost use Rattle.window_core.specs.Window.{IsFrom, HasGoneOn, HasTurned, states_of};
-ghost use Rattle.window_core.specs.Windows.{AreBelow, all_done, all_lines, none_fired};
+ghost use Rattle.window_law.specs.Windows.{AreBelow, all_done, all_lines, none_fired};
 
 use super::Window;
 use crate::ahead::window_end;
-use crate::batch::Batch;
-use crate::sheaf::Sheaf;
+use line_merge::{Batch, Sheaf};
 use std::mem::{replace, swap};
 
 /// The most events of a run.

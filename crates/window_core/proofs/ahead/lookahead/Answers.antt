@@ -1,8 +1,8 @@
 use Rattle.std.proofs.Common.{◌≤◌, length, List, sym, ap, ◌∙◌, arith}
 use Rattle.std.proofs.lemmas.List.{drop_all}
 use Rattle.net_machine.specs.declared.places.LinkEnds.{LinkEnds}
-use Rattle.window_core.specs.Partition.{group_in}
-use Rattle.window_core.specs.Lookahead.{lesser}
+use Rattle.net_partition.specs.Partition.{group_in}
+use Rattle.window_law.specs.Lookahead.{lesser}
 use Rattle.window_core.proofs.Aheads.{ahead, ahead_is, lesser_none}
 use Rattle.window_core.proofs.ahead.lookahead.Goals as goal
 

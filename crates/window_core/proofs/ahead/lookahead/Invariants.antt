@@ -1,6 +1,6 @@
 use Rattle.std.proofs.Common.{◌≡◌, drop}
-use Rattle.window_core.specs.Partition.{group_in}
-use Rattle.window_core.specs.Lookahead.{lesser}
+use Rattle.net_partition.specs.Partition.{group_in}
+use Rattle.window_law.specs.Lookahead.{lesser}
 use Rattle.window_core.proofs.Aheads.{ahead}
 use Rattle.window_core.proofs.ahead.lookahead.Given as goal
 

@@ -1,4 +1,4 @@
-use Rattle.window_core.specs.Group.{GroupValue}
+use Rattle.node_group.specs.Group.{GroupValue}
 use Rattle.window_core.specs.Window.{no_value}
 use Rattle.window_core.proofs.Each.{IsChangedTo}
 use Rattle.window_core.proofs.window.set_until.Given as goal

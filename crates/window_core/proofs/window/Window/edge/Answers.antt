@@ -3,7 +3,7 @@ use Rattle.net_machine.specs.declared.places.LinkEnds.{LinkEnds}
 use Rattle.net_machine.specs.NetOf.{AreNetParts}
 use Rattle.net_machine.specs.Nodes.{net_state}
 use Rattle.net_machine.proofs.Joined.{size}
-use Rattle.window_core.specs.Group.{GroupValue, IsGroup}
+use Rattle.node_group.specs.Group.{GroupValue, IsGroup}
 use Rattle.window_core.specs.Together.{AreSeated, AreTogether}
 use Rattle.window_core.specs.Window.{WindowValue, no_value, value_at, IsWindow}
 use Rattle.window_core.proofs.JoinedNet.{are_seated, net_parts, state_is}

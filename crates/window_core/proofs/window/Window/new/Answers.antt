@@ -4,10 +4,10 @@ use Rattle.node_core.specs.Node.{NodeState}
 use Rattle.table_run.specs.Laws.{ComesTo}
 use Rattle.net_machine.specs.Nodes.{net_state}
 use Rattle.net_machine.specs.Run.{Reached}
-use Rattle.window_core.specs.Lookahead.{lookahead}
-use Rattle.window_core.specs.Partition.{group_in}
-use Rattle.window_core.specs.Shares.{AreJoined}
-use Rattle.window_core.proofs.OfRun.{are_joined}
+use Rattle.window_law.specs.Lookahead.{lookahead}
+use Rattle.net_partition.specs.Partition.{group_in}
+use Rattle.node_group.specs.Shares.{AreJoined}
+use Rattle.node_group.proofs.OfRun.{are_joined}
 use Rattle.window_core.proofs.SameLinks.{one_lookahead}
 use Rattle.window_core.proofs.window.Window.new.Goals as goal
 

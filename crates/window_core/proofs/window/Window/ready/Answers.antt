@@ -2,7 +2,7 @@ use Rattle.std.proofs.Common.{◌≡◌, length, true, sym, subst, ◌∙◌, ar
 use Rattle.window_core.specs.Full.{HasTooMany, opening_at}
 use Rattle.window_core.specs.Window.{WindowValue, states_of, IsWindow, IsFrom}
 use Rattle.window_core.specs.WindowOf.{window_of}
-use Rattle.window_core.specs.Windows.{all_done, all_lines}
+use Rattle.window_law.specs.Windows.{all_done, all_lines}
 use Rattle.window_core.proofs.TooMany.{full_turn_has_too_many}
 use Rattle.window_core.proofs.window.Window.ready.Goals as goal
 

@@ -1,5 +1,5 @@
 use Rattle.std.proofs.Common.{◌≡◌, ℕ, List, sym, ap, subst}
-use Rattle.window_core.specs.Group.{GroupValue, AfterFirings, IsOnRun}
+use Rattle.node_group.specs.Group.{GroupValue, AfterFirings, IsOnRun}
 use Rattle.window_core.specs.Window.{WindowValue, value_at, IsWindow, IsFrom}
 use Rattle.window_core.proofs.FiredAt.{from_fired, window_fired}
 use Rattle.window_core.proofs.WindowFields.{groups_are, fired_view}

@@ -1,5 +1,5 @@
 use Rattle.std.proofs.Common.{◌≡◌, All, true, sym, ap, subst, ◌∙◌}
-use Rattle.window_core.specs.Group.{IsOnRun}
+use Rattle.node_group.specs.Group.{IsOnRun}
 use Rattle.window_core.specs.Rosters.{RosterValue}
 use Rattle.window_core.specs.Window.{IsWindow, IsFrom}
 use Rattle.window_core.specs.WindowOf.{window_of}

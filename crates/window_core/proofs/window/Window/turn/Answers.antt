@@ -1,7 +1,7 @@
 use Rattle.std.proofs.Common.{sym, ap, subst, ◌∙◌}
-use Rattle.window_core.specs.Batches.{BatchValue}
+use Rattle.line_merge.specs.Batches.{BatchValue}
 use Rattle.window_core.specs.Window.{WindowValue, HasGoneOn, states_of}
-use Rattle.window_core.specs.Windows.{none_fired}
+use Rattle.window_law.specs.Windows.{none_fired}
 use Rattle.window_core.specs.WindowOf.{window_of}
 use Rattle.window_core.proofs.Taken.{gone_taken, inside_taken, turned_unfired}
 use Rattle.window_core.proofs.window.Window.turn.Goals as goal

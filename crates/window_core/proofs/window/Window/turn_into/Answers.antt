@@ -1,11 +1,11 @@
 use Rattle.std.proofs.Common.{length, sym, ap, subst, ◌∙◌}
 use Rattle.std.proofs.lemmas.List.{length-map}
-use Rattle.window_core.specs.Batches.{BatchValue}
-use Rattle.window_core.specs.Group.{GroupValue}
-use Rattle.window_core.specs.Merged.{all_of}
-use Rattle.window_core.specs.Sheaves.{merged}
+use Rattle.line_merge.specs.Batches.{BatchValue}
+use Rattle.node_group.specs.Group.{GroupValue}
+use Rattle.line_merge.specs.Merged.{all_of}
+use Rattle.line_merge.specs.Sheaves.{merged}
 use Rattle.window_core.specs.Window.{WindowValue, HasGoneOn}
-use Rattle.window_core.specs.Windows.{AreBelow}
+use Rattle.window_law.specs.Windows.{AreBelow}
 use Rattle.window_core.specs.WindowOf.{window_of}
 use Rattle.window_core.proofs.Readings.{lines_of_groups}
 use Rattle.window_core.proofs.Taken.{turned_size}
@@ -31,7 +31,7 @@ of-requires-clause-ranking c =
     ∙ sym (ap length turned.lists ∙ length-map c.args.self.now.groups (λ (g : GroupValue). g.lines))
 
 pub of-requires-clause-order : goal.of-requires-clause-order
-of-requires-clause-order c = c.in-Ok.ensures ∙ c.in_ok-count.ensures.ok.count_is ∙ ap length (lines_of_groups c.args.self.now.groups) ∙ sym (ap (λ ls. length (all_of ls)) c.in_ok-turn_with.ensures.lists)
+of-requires-clause-order c = c.in-Ok.ensures.room ∙ c.in_ok-count.ensures.ok.count_is ∙ ap length (lines_of_groups c.args.self.now.groups) ∙ sym (ap (λ ls. length (all_of ls)) c.in_ok-turn_with.ensures.lists)
 
 pub returns-clause-run : goal.returns-clause-run
 returns-clause-run c edge from =

@@ -2,7 +2,7 @@ use Rattle.std.proofs.Common.{◌≡◌, false, sym, ap, subst, ◌∙◌}
 use Rattle.std.specs.Result.{OnOk}
 use Rattle.table_run.specs.State.{State}
 use Rattle.window_core.specs.declared.window.Window.TheInside.{Inside}
-use Rattle.window_core.specs.Batches.{BatchValue}
+use Rattle.line_merge.specs.Batches.{BatchValue}
 use Rattle.window_core.specs.Window.{WindowValue, IsFrom, HasGoneOn}
 use Rattle.window_core.specs.WindowOf.{window_of, IsWindowInside}
 use Rattle.window_core.proofs.Taken.{gone_taken, inside_taken, on_ok_then, not_ok, turned_inside}

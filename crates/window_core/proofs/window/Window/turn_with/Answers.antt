@@ -1,17 +1,17 @@
 use Rattle.std.proofs.Common.{◌≡◌, ◌<◌, ◌+◌, ℕ, List, length, map, true, false, Option, Result, Ok, Err, sym, ap, subst, ◌∙◌, true≢false}
 use Rattle.std.specs.Result.{OnOk, OnErr, is_err}
 use Rattle.net_machine.specs.declared.places.LinkEnds.{LinkEnds}
-use Rattle.window_core.specs.Batches.{BatchValue}
-use Rattle.window_core.specs.Group.{GroupValue, IsGroup}
-use Rattle.window_core.specs.Merged.{all_of}
+use Rattle.line_merge.specs.Batches.{BatchValue}
+use Rattle.node_group.specs.Group.{GroupValue, IsGroup}
+use Rattle.line_merge.specs.Merged.{all_of}
 use Rattle.window_core.specs.Rosters.{RosterValue}
-use Rattle.window_core.specs.Sheaves.{SheafValue, merged}
+use Rattle.line_merge.specs.Sheaves.{SheafValue, merged}
 use Rattle.window_core.specs.Turning.{CanTurn, AreReady, HasHanded}
 use Rattle.window_core.specs.Window.{WindowValue, no_value, value_at, states_of, setting_in, IsWindow, IsFrom, HasGoneOn, HasTurned}
 use Rattle.window_core.specs.WindowOf.{window_of}
-use Rattle.window_core.specs.Windows.{AreBelow, in_order, soonest, sum_of, at_most, window_end}
+use Rattle.window_law.specs.Windows.{AreBelow, in_order, soonest, sum_of, at_most, window_end}
 use Rattle.window_core.proofs.Readings.{lines_of_groups}
-use Rattle.window_core.proofs.Sheaves.{length_in_order}
+use Rattle.line_merge.proofs.Sheaves.{length_in_order}
 use Rattle.window_core.proofs.TurnReady.{ready, lists_apart, cleared}
 use Rattle.window_core.proofs.Turned.{lines_early, window_next, gone_on, has_turned}
 use Rattle.window_core.proofs.Windowed.{bounded}

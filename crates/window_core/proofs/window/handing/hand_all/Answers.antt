@@ -1,6 +1,6 @@
 use Rattle.std.proofs.Common.{◌≡◌, ◌+◌, ℕ, List, length, true, false, Option, Some, None, refl, sym, subst, ◌∙◌, arith, true≢false}
 use Rattle.std.specs.Option.{IfSome, is_some}
-use Rattle.window_core.specs.Group.{GroupValue}
+use Rattle.node_group.specs.Group.{GroupValue}
 use Rattle.window_core.proofs.HandedEach.{HandedFrom, none_yet, can_each, handed_one, handed_next, handed_all, fewer}
 use Rattle.window_core.proofs.window.handing.hand_all.Goals as goal
 

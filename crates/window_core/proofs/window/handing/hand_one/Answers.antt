@@ -4,11 +4,11 @@ use Rattle.ranking.specs.Keyed.{apply, entering}
 use Rattle.node_core.specs.WireState.{arrivals_on, came_over}
 use Rattle.net_machine.specs.Nodes.{parts_of}
 use Rattle.net_machine.specs.Wiring.{place_at}
-use Rattle.window_core.specs.Group.{GroupValue, group_to, came_in, state_of}
-use Rattle.window_core.specs.Held.{wire_at, is_idle}
-use Rattle.window_core.specs.Partition.{group_in}
+use Rattle.node_group.specs.Group.{GroupValue, group_to, came_in, state_of}
+use Rattle.node_group.specs.Held.{wire_at, is_idle}
+use Rattle.net_partition.specs.Partition.{group_in}
 use Rattle.window_core.specs.Rosters.{next_of}
-use Rattle.window_core.specs.Seats.{seated, taken}
+use Rattle.node_group.specs.Seats.{seated, taken}
 use Rattle.window_core.specs.Turning.{to_group, pending_in, held_over, handed, CanHand, WasHanded}
 use Rattle.window_core.specs.Window.{no_value, value_at}
 use Rattle.window_core.proofs.HandedOver.{parts_stay, pending_over, came_each}

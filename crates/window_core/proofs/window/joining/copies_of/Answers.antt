@@ -1,6 +1,6 @@
 use Rattle.std.proofs.Common.{◌≡◌, ◌<◌, ◌+◌, length, sym, ap, subst, ◌∙◌}
 use Rattle.std.proofs.lemmas.List.{get_or_read}
-use Rattle.window_core.specs.Group.{GroupValue, member}
+use Rattle.node_group.specs.Group.{GroupValue, member}
 use Rattle.window_core.specs.Together.{group_with, AreTogether}
 use Rattle.window_core.specs.Window.{no_value}
 use Rattle.window_core.proofs.Gathering.{one_more}

@@ -1,7 +1,7 @@
 use Rattle.std.proofs.Common.{◌≡◌, IfOk, get_or, sym, ap, subst, ◌∙◌, Some, None}
 use Rattle.std.specs.Option.{option_copied}
 use Rattle.node_core.specs.Node.{NodeState}
-use Rattle.window_core.proofs.AtSeats.{seat_is}
+use Rattle.node_group.proofs.AtSeats.{seat_is}
 use Rattle.window_core.proofs.window.joining.copy_of.Goals as goal
 
 pub returns : goal.returns

@@ -1,7 +1,7 @@
 use Rattle.std.proofs.Common.{◌≡◌, ◌++◌, [], ◌∷◌, List, length, length-append, append_assoc, get_or, reverse, refl, sym, ap, subst, ◌∙◌, arith}
 use Rattle.std.proofs.lemmas.List.{get_or_append_left, get_or_push, reverse-append}
 use Rattle.std.specs.Option.{option_to_list}
-use Rattle.window_core.specs.Group.{GroupValue, IsOnRun}
+use Rattle.node_group.specs.Group.{GroupValue, IsOnRun}
 use Rattle.window_core.proofs.window.lending.lend.Goals as goal
 
 behind : (a : List GroupValue) (g : GroupValue) (c : List GroupValue) → (a ++ g ∷ []) ++ c ≡ a ++ g ∷ c

@@ -1,5 +1,5 @@
 use Rattle.std.proofs.Common.{◌≡◌, ◌≤◌, ◌+◌, ◌++◌, All, length, reverse, vec_capacity}
-use Rattle.window_core.specs.Group.{IsOnRun}
+use Rattle.node_group.specs.Group.{IsOnRun}
 use Rattle.window_core.proofs.window.lending.lend.Given as goal
 
 -- what is left, and what went backwards

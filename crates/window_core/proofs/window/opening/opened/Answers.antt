@@ -7,16 +7,16 @@ use Rattle.net_machine.specs.declared.places.LinkEnds.{LinkEnds}
 use Rattle.net_machine.specs.NetOf.{AreNetParts}
 use Rattle.net_machine.specs.Nodes.{net_state}
 use Rattle.net_machine.specs.Wiring.{AreEnds, no_ends, ends_at, place_at}
-use Rattle.window_core.specs.Group.{GroupValue}
-use Rattle.window_core.specs.Lookahead.{lookahead}
+use Rattle.node_group.specs.Group.{GroupValue}
+use Rattle.window_law.specs.Lookahead.{lookahead}
 use Rattle.window_core.specs.Opening.{IsFirstWindow}
-use Rattle.window_core.specs.Partition.{group_in, groups_of}
+use Rattle.net_partition.specs.Partition.{group_in, groups_of}
 use Rattle.window_core.specs.Rosters.{RosterValue}
-use Rattle.window_core.specs.Shares.{AreSharesOf, IsShareOf}
+use Rattle.node_group.specs.Shares.{AreSharesOf, IsShareOf}
 use Rattle.window_core.specs.Window.{WindowValue, no_value, value_at, states_of, setting_in, IsSplit, IsFrom, IsWindow}
-use Rattle.window_core.specs.Windows.{soonest, sum_of, at_most, window_end}
-use Rattle.window_core.proofs.OfNet.{ends_are, wire}
-use Rattle.window_core.proofs.OfRun.{are_joined}
+use Rattle.window_law.specs.Windows.{soonest, sum_of, at_most, window_end}
+use Rattle.node_group.proofs.OfNet.{ends_are, wire}
+use Rattle.node_group.proofs.OfRun.{are_joined}
 use Rattle.window_core.proofs.OpenedWindow.{split_opened, from_opened, first_opened}
 use Rattle.window_core.proofs.Windowed.{bounded, same_states, value_map}
 use Rattle.window_core.proofs.window.opening.opened.Goals as goal

@@ -1,7 +1,7 @@
 use Rattle.std.proofs.Common.{◌≡◌, drop}
-use Rattle.window_core.specs.Lookahead.{lesser}
+use Rattle.window_law.specs.Lookahead.{lesser}
 use Rattle.window_core.specs.Window.{states_of}
-use Rattle.window_core.specs.Windows.{soonest}
+use Rattle.window_law.specs.Windows.{soonest}
 use Rattle.window_core.proofs.window.reading.soonest.Given as goal
 
 -- the least so far and that of the rest are together that of all

@@ -1,8 +1,8 @@
 use Rattle.std.proofs.Common.{◌≡◌, ◌<◌, ◌+◌, List, length, drop, get_or, ap, subst, ◌∙◌, arith, below_more}
 use Rattle.std.proofs.lemmas.List.{get_or_read, get_or_default, at_drop_more}
-use Rattle.window_core.specs.Group.{GroupValue, IsGroup}
+use Rattle.node_group.specs.Group.{GroupValue, IsGroup}
 use Rattle.window_core.specs.Window.{no_value, value_at, states_of}
-use Rattle.window_core.specs.Windows.{all_lines}
+use Rattle.window_law.specs.Windows.{all_lines}
 use Rattle.window_core.proofs.Readings.{told_more}
 use Rattle.window_core.proofs.window.reading.told.Goals as goal
 

@@ -1,7 +1,7 @@
 use Rattle.std.proofs.Common.{◌≡◌, ◌≤◌, ◌<◌, ◌+◌, ◌*◌, ℕ, length, drop, get_or}
-use Rattle.window_core.specs.Group.{GroupValue, IsGroup}
+use Rattle.node_group.specs.Group.{GroupValue, IsGroup}
 use Rattle.window_core.specs.Window.{states_of}
-use Rattle.window_core.specs.Windows.{all_lines}
+use Rattle.window_law.specs.Windows.{all_lines}
 use Rattle.window_core.proofs.window.reading.told.Given as goal
 
 -- the lines so far and those of the rest are together all

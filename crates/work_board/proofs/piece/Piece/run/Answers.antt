@@ -1,4 +1,4 @@
-use Rattle.window_core.proofs.AfterBoth.{after_both}
+use Rattle.node_group.proofs.AfterBoth.{after_both}
 use Rattle.work_board.proofs.Faults.{told}
 use Rattle.work_board.proofs.piece.Piece.run.Goals as goal
 

@@ -1,8 +1,8 @@
 use Rattle.std.proofs.Common.{◌≡◌, List, false, cond, leb, sym, ap, ◌∙◌, arith}
-use Rattle.window_core.specs.Group.{GroupValue}
+use Rattle.node_group.specs.Group.{GroupValue}
 use Rattle.window_core.specs.Rosters.{RosterValue, least_of, nexts_of}
 use Rattle.window_core.specs.Window.{states_of}
-use Rattle.window_core.specs.Windows.{all_done}
+use Rattle.window_law.specs.Windows.{all_done}
 use Rattle.window_core.proofs.Rosters.{done_is}
 use Rattle.window_core.proofs.window.roster.Roster.all_done.Goals as goal
 

@@ -1,10 +1,10 @@
 use Rattle.std.proofs.Common.{None, ◌≡◌, List, false, length, sym, ap, ◌∙◌}
 use Rattle.std.proofs.lemmas.List.{with_items_is}
 use Rattle.std.specs.Vec.{with_items}
-use Rattle.window_core.specs.Group.{GroupValue}
+use Rattle.node_group.specs.Group.{GroupValue}
 use Rattle.window_core.specs.Rosters.{RosterValue, nexts_of}
 use Rattle.window_core.specs.Window.{states_of}
-use Rattle.window_core.specs.Windows.{all_lines}
+use Rattle.window_law.specs.Windows.{all_lines}
 use Rattle.window_core.proofs.Rosters.{with_groups, same_told}
 use Rattle.window_core.proofs.window.roster.Roster.hand_all.Goals as goal
 

@@ -1,5 +1,5 @@
 use Rattle.std.proofs.Common.{◌≡◌, ◌≤◌, ◌<◌, List, false, length, cond, sym, ap, subst, ◌∙◌, arith}
-use Rattle.window_core.specs.Group.{GroupValue, state_of}
+use Rattle.node_group.specs.Group.{GroupValue, state_of}
 use Rattle.window_core.specs.Rosters.{RosterValue, next_of}
 use Rattle.window_core.specs.Window.{value_at}
 use Rattle.window_core.proofs.Rosters.{next_at, none_due}

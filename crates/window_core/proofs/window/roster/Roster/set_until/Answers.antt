@@ -1,10 +1,10 @@
 use Rattle.std.proofs.Common.{◌≡◌, List, false, length, map, sym, ap, ◌∙◌}
 use Rattle.std.proofs.lemmas.List.{length-map, with_items_is}
 use Rattle.std.specs.Vec.{with_items}
-use Rattle.window_core.specs.Groups.{GroupState}
+use Rattle.window_law.specs.Groups.{GroupState}
 use Rattle.window_core.specs.Rosters.{RosterValue, nexts_of}
 use Rattle.window_core.specs.Window.{states_of}
-use Rattle.window_core.specs.Windows.{all_lines}
+use Rattle.window_law.specs.Windows.{all_lines}
 use Rattle.window_core.proofs.Rosters.{with_groups}
 use Rattle.window_core.proofs.Windowed.{bounded, same_states}
 use Rattle.window_core.proofs.window.roster.Roster.set_until.Goals as goal

@@ -1,8 +1,8 @@
 use Rattle.std.proofs.Common.{◌≡◌, ℕ, List, false, cond, IfSome, Option, sym, ap, subst, ◌∙◌}
-use Rattle.window_core.specs.Group.{GroupValue}
+use Rattle.node_group.specs.Group.{GroupValue}
 use Rattle.window_core.specs.Rosters.{RosterValue, least_of, nexts_of}
 use Rattle.window_core.specs.Window.{states_of}
-use Rattle.window_core.specs.Windows.{soonest}
+use Rattle.window_law.specs.Windows.{soonest}
 use Rattle.window_core.proofs.Rosters.{soonest_is}
 use Rattle.window_core.proofs.window.roster.Roster.soonest.Goals as goal
 use Rattle.window_core.proofs.window.roster.Roster.soonest.Goals.{in-Some, in-None}

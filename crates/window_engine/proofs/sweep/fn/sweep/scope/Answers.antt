@@ -4,8 +4,8 @@ use denote.Param.Send.{IsSend, IsSync, sendable}
 use denote.Param.SendFields.{declared_send, declared_sync}
 use Rattle.std.specs.declared.thread.PromisedHandle.{PromisedHandle}
 use Rattle.work_board.proofs.Sent.{seat_send, board_sync}
-use Rattle.window_core.proofs.sheaf.Sheaf.TheSendSync as sheaf
-use Rattle.window_core.specs.contracts.sheaf.Sheaf as Sheaf
+use Rattle.line_merge.proofs.sheaf.Sheaf.TheSendSync as sheaf
+use Rattle.line_merge.specs.contracts.sheaf.Sheaf as Sheaf
 use Rattle.window_engine.specs.contracts.sweep.Shift as Shift
 use Rattle.window_engine.specs.contracts.sweep.Tasks as Tasks
 use Rattle.window_engine.specs.declared.sweep.Shift.{Shift as ShiftValue}

@@ -1,0 +1,3 @@
+pub mod Sheaves
+pub mod Cuts
+pub mod Rests

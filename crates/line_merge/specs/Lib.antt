@@ -1,0 +1,7 @@
+pub mod Merged
+pub mod Batches
+pub mod Sheaves
+pub mod SheafCode
+pub mod SheafOf
+pub mod BatchCode
+pub mod BatchOf

@@ -1,0 +1,76 @@
+//! Lines of several lists in the order of their keys, by a tournament over the lists: no line is
+//! moved.
+ghost use Rattle.std.specs.Prelude.{◌≡◌, ◌+◌, ◌<◌, ◌∷◌, length, map as each, replicate, All};
+ghost use Rattle.line_merge.specs.Merged.{AreApart, AreNext, IsSpot, all_of, first_key, line_at, lines_at, rests};
+ghost use Rattle.window_law.specs.Windows.{in_order};
+
+pub mod spot;
+
+use self::spot::Spot;
+use crate::sheaf::lines::Lines;
+use ranking::Ranking;
+
+/// Has the keys of the next lines.
+pub(crate) fn rank_nexts(lists: &[Lines], nexts: &[usize], ranking: &mut Ranking)
+    requires nexts { length nexts.now ≡ length lists.now }
+    requires ranking { length ranking.old ≡ length lists.now }
+    ensures { AreNext lists.now nexts.now ranking.new }
+{
+    // Where no place has a key, a list with no line left needs no call.
+    let vacant = ranking.first().is_none();
+    for (number, lines) in lists.iter().enumerate() {
+        let key = lines.key(nexts[number]);
+        if !vacant || key.is_some() {
+            ranking.set(number, key);
+        }
+    }
+}
+
+// The first line of each list is its next.
+fn begin(lists: &[Lines], nexts: &mut [usize], ranking: &mut Ranking)
+    requires nexts { length nexts.old ≡ length lists.now }
+    requires ranking { length ranking.old ≡ length lists.now }
+    ensures nexts { nexts.new ≡ replicate (length lists.now) 0 }
+    ensures next { AreNext lists.now nexts.new ranking.new }
+{
+    nexts.fill(0);
+    rank_nexts(lists, nexts, ranking);
+}
+
+// The spot of the line of the least key among those that are left; that line is then gone.
+pub(crate) fn next_spot(lists: &[Lines], nexts: &mut [usize], ranking: &mut Ranking) -> Spot
+    requires next { AreNext lists.now nexts.old ranking.old }
+    requires apart { AreApart lists.now }
+    requires some { 0 < length (all_of (rests lists.now nexts.old)) }
+    ensures spot { IsSpot lists.now result }
+    ensures order { in_order (all_of (rests lists.now nexts.old)) ≡ line_at lists.now result ∷ in_order (all_of (rests lists.now nexts.new)) }
+    ensures fewer { length (all_of (rests lists.now nexts.old)) ≡ length (all_of (rests lists.now nexts.new)) + 1 }
+    ensures next { AreNext lists.now nexts.new ranking.new }
+{
+    let Some((list, _)) = ranking.first() else {
+        unreachable!()
+    };
+    let index = nexts[list];
+    let lines = &lists[list];
+    let next = lines.after(index);
+    nexts[list] = next;
+    ranking.set(list, lines.key(next));
+    Spot { list, index }
+}
+
+/// Writes the spots of all lines, by the keys of the lines.
+pub(crate) fn merge(lists: &[Lines], nexts: &mut [usize], ranking: &mut Ranking, order: &mut [Spot])
+    requires nexts { length nexts.old ≡ length lists.now }
+    requires ranking { length ranking.old ≡ length lists.now }
+    requires order { length order.old ≡ length (all_of lists.now) }
+    requires apart { AreApart lists.now }
+    ensures merged { lines_at lists.now order.new ≡ in_order (all_of lists.now) }
+    ensures spots { All (IsSpot lists.now) order.new }
+    ensures count { length (in_order (all_of lists.now)) ≡ length (all_of lists.now) }
+    ensures sizes { length ranking.new ≡ length lists.now }
+{
+    begin(lists, nexts, ranking);
+    for spot in order.iter_mut() {
+        *spot = next_spot(lists, nexts, ranking);
+    }
+}

@@ -1,0 +1,64 @@
+//! Where a merge of a sheaf's lines stands.
+ghost use Rattle.std.specs.Prelude.{◌≡◌, ◌≤◌, ◌^◌, [], length, IfOk, OnOk, OnErr};
+
+use ranking::Ranking;
+use std::alloc::{AllocError, Global};
+use std::marker::Model;
+
+/// Where a merge stands in a sheaf. Its memory is used again.
+#[derive(Drop)]
+pub struct Cursor {
+    /// How many lines are before it.
+    pub(super) at: usize,
+    /// The index of the next line of each group.
+    pub(super) nexts: Vec<usize>,
+    /// The keys of those lines.
+    pub(super) ranking: Ranking,
+}
+
+impl Model for Cursor {
+    ghost use Rattle.line_merge.specs.Sheaves.{CursorValue};
+    ghost use Rattle.line_merge.specs.SheafCode.{cursor_code};
+
+    ghost Value = { CursorValue };
+
+    ghost coded = { cursor_code };
+
+    ghost view = { λ c. record { at = c.at; nexts = c.nexts.items; ranks = c.ranking } };
+}
+
+impl Cursor {
+    /// A cursor that stands in no sheaf of any group yet.
+    pub fn new(alloc: Global) -> Result<Cursor, AllocError>
+        ensures { IfOk result (λ cursor. cursor ≡ record { at = 0; nexts = []; ranks = [] }) }
+    {
+        Ok(Cursor {
+            at: 0,
+            nexts: Vec::new(alloc),
+            ranking: Ranking::new(alloc, 0)?,
+        })
+    }
+
+    /// Has room for so many groups. Where memory is refused it stays.
+    pub(super) fn fit(&mut self, alloc: Global, places: usize) -> Result<(), AllocError>
+        requires { places ≤ 2 ^ 31 }
+        ensures nexts { OnOk result (length self.new.nexts ≡ places) }
+        ensures ranks { OnOk result (length self.new.ranks ≡ places) }
+        ensures err { OnErr result (self.new ≡ self.old) }
+    {
+        if self.nexts.len() == places && self.ranking.places() == places {
+            return Ok(());
+        }
+        let nexts = vec![in alloc; 0usize; places]?;
+        self.ranking = Ranking::new(alloc, places)?;
+        self.nexts = nexts;
+        Ok(())
+    }
+
+    /// How many lines are before it.
+    pub fn at(&self) -> usize
+        ensures { result ≡ self.now.at }
+    {
+        self.at
+    }
+}

@@ -1,0 +1,25 @@
+use Rattle.std.proofs.Common.{sym, ap, subst, ◌∙◌}
+use Rattle.std.specs.Option.{option_map}
+use Rattle.sim_time.specs.declared.key.Key.{Key}
+use Rattle.ranking.specs.Keyed.{least, next_key}
+use Rattle.node_core.specs.declared.event.Event.{Event}
+use Rattle.net_machine.specs.Nodes.{net_pending, IsFirst}
+use Rattle.net_machine.proofs.AtNodes.{first_node, first_key, net_none}
+use Rattle.node_group.specs.Seats.{Seats, seated}
+use Rattle.node_group.proofs.members.Members.first.Goals as goal
+
+pub returns-in-Some-clause-first : goal.returns-in-Some-clause-first
+returns-in-Some-clause-first c =
+    subst (λ (s : Seats). IsFirst (seated s) c.in-Some.place) c.self.view_is (first_node (seated c.self.inside.seats.items) c.self.inside.ranking c.self.invariant c.in-Some.place c.in-Some.key c.in-Some.ensures)
+
+pub returns-in-Some-clause-key : goal.returns-in-Some-clause-key
+returns-in-Some-clause-key c =
+    first_key (seated c.self.inside.seats.items) c.self.inside.ranking c.self.invariant c.in-Some.place c.in-Some.key c.in-Some.ensures ∙ ap (λ (s : Seats). next_key (net_pending (seated s))) c.self.view_is
+
+pub returns-in-None-clause-first : goal.returns-in-None-clause-first
+returns-in-None-clause-first c =
+    ap (λ (s : Seats). least (net_pending (seated s))) (sym c.self.view_is) ∙ net_none (seated c.self.inside.seats.items) c.self.inside.ranking c.self.invariant c.in-None.ensures
+
+pub returns-in-None-clause-key : goal.returns-in-None-clause-key
+returns-in-None-clause-key c =
+    sym (ap (option_map (λ (entry : Key × Event). entry.0)) (ap (λ (s : Seats). least (net_pending (seated s))) (sym c.self.view_is) ∙ net_none (seated c.self.inside.seats.items) c.self.inside.ranking c.self.invariant c.in-None.ensures))

@@ -1,0 +1,7 @@
+pub mod Seats
+pub mod Held
+pub mod Group
+pub mod GroupCode
+pub mod ShareOf
+pub mod Passing
+pub mod Shares

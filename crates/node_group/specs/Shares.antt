@@ -1,0 +1,77 @@
+-- The shares of a net that is split into groups.
+use Rattle.std.specs.Prelude.{◌≡◌, ◌<◌, ◌≤◌, ◌==◌, ◌^◌, ℕ, if◌then◌else◌, List, [], length, count_by, take, replicate, slice_index_or, Some, None}
+use Rattle.node_core.specs.Node.{NodeState}
+use Rattle.node_core.specs.AgendaState.{incoming_at}
+use Rattle.node_core.specs.Part.{link_at}
+use Rattle.node_core.specs.WireState.{WireState}
+use Rattle.net_machine.specs.declared.places.LinkEnds.{LinkEnds}
+use Rattle.net_machine.specs.Nodes.{node_at}
+use Rattle.net_machine.specs.Wiring.{ends_at, place_at}
+use Rattle.node_group.specs.declared.share.ShareParts.{ShareParts}
+use Rattle.net_partition.specs.Partition.{group_in}
+use Rattle.node_group.specs.Seats.{Seats}
+use Rattle.node_group.specs.Held.{wire_at}
+use Rattle.node_group.specs.Group.{GroupValue}
+
+-- a group's nodes, each in its seat
+pub record AreSeatsOf (entries : List ℕ) (number : ℕ) (nodes : List NodeState) (seats : Seats) : Type 0 where
+  pub count : length seats ≡ length entries
+  pub each_seat : (i : ℕ) → i < length entries → slice_index_or seats i None ≡ (if group_in entries i == number then Some (node_at nodes i) else None)
+
+-- of each link all that came to its end, and nothing under way
+abbrev pub idle_wire : List LinkEnds → List NodeState → ℕ → WireState
+idle_wire links nodes link = record { node = (place_at links link).node; link = link; taken = (incoming_at (node_at nodes (place_at links link).node).incoming (place_at links link).index).came; under_way = [] }
+
+pub record AreIdle (links : List LinkEnds) (nodes : List NodeState) (held : List WireState) : Type 0 where
+  pub count : length held ≡ length links
+  pub each_wire : (link : ℕ) → link < length links → wire_at held link ≡ idle_wire links nodes link
+
+-- which of the outgoing links of its node a link is
+abbrev pub exit_in : List LinkEnds → ℕ → ℕ
+exit_in links link = count_by (λ (ends : LinkEnds). ends.from == (ends_at links link).from) (take link links)
+
+-- how many packets a link has sent
+abbrev pub sent_over : List LinkEnds → List NodeState → ℕ → ℕ
+sent_over links nodes link = (link_at (node_at nodes (ends_at links link).from).part.links (exit_in links link)).port.sent
+
+-- nodes that links join, all of which has come: a link leaves one of them, and what it sent is what came over it
+pub record AreJoined (links : List LinkEnds) (nodes : List NodeState) : Type 0 where
+  pub few : length links < 65535
+  pub from : (link : ℕ) → link < length links → (ends_at links link).from < length nodes
+  pub came : (link : ℕ) → link < length links → (idle_wire links nodes link).taken ≡ sent_over links nodes link
+  pub most : (link : ℕ) → link < length links → sent_over links nodes link ≤ 2 ^ 50
+
+-- room for a share: no node is seated, and nothing is on its way
+pub record IsRoom (links : List LinkEnds) (nodes : List NodeState) (room : ShareParts) : Type 0 where
+  pub links_are : room.links.items ≡ links
+  pub empty : room.members ≡ replicate (length nodes) None
+  pub idle : AreIdle links nodes room.exits
+  pub out_empty : room.out ≡ replicate 16 []
+
+-- a room in which the nodes from a number on have taken their seats
+pub record IsSeatedFrom (first : ℕ) (entries : List ℕ) (links : List LinkEnds) (nodes : List NodeState) (number : ℕ) (room : ShareParts) : Type 0 where
+  pub links_are : room.links.items ≡ links
+  pub count : length room.members ≡ length entries
+  pub before : (i : ℕ) → i < length entries → i < first → slice_index_or room.members i None ≡ None
+  pub behind : (i : ℕ) → i < length entries → first ≤ i → slice_index_or room.members i None ≡ (if group_in entries i == number then Some (node_at nodes i) else None)
+  pub idle : AreIdle links nodes room.exits
+  pub out_empty : room.out ≡ replicate 16 []
+
+-- so for the room of each group
+abbrev pub AreSeatedFrom : ℕ → List ℕ → List LinkEnds → List NodeState → List ShareParts → Type 0
+AreSeatedFrom first entries links nodes rooms = (number : ℕ) (d : ShareParts) → number < length rooms → IsSeatedFrom first entries links nodes number (slice_index_or rooms number d)
+
+-- the share of a group, with nothing held back and no line
+pub record IsShareOf (entries : List ℕ) (links : List LinkEnds) (nodes : List NodeState) (until position number : ℕ) (g : GroupValue) : Type 0 where
+  pub number_is : g.number ≡ number
+  pub entries_are : g.entries ≡ entries
+  pub links_are : g.links ≡ links
+  pub seats : AreSeatsOf entries number nodes g.seats
+  pub wires : AreIdle links nodes g.held
+  pub no_lines : g.lines ≡ []
+  pub until_is : g.until ≡ until
+  pub position_is : g.position ≡ position
+
+-- so for each group
+abbrev pub AreSharesOf : List ℕ → List LinkEnds → List NodeState → ℕ → ℕ → List GroupValue → Type 0
+AreSharesOf entries links nodes until position shares = (number : ℕ) (d : GroupValue) → number < length shares → IsShareOf entries links nodes until position number (slice_index_or shares number d)

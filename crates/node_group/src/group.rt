@@ -1,0 +1,77 @@
+//! A group of nodes on its way through a window.
+ghost use Rattle.std.specs.Prelude.{◌≡◌, ◌≢◌, ◌+◌, ◌<◌, ◌≤◌, length, None, OnOk, IfErr};
+ghost use Rattle.table_run.specs.State.{due};
+ghost use Rattle.window_law.specs.Groups.{up_to};
+ghost use Rattle.window_law.specs.Windows.{first_time};
+ghost use Rattle.node_group.specs.Group.{state_of, AfterFirings, IsOnRun};
+
+use crate::share::Share;
+use sim_time::Time;
+use std::marker::Model;
+
+/// Why a group stopped before its end.
+#[derive(Clone, Copy, Debug, PartialEq, Eq)]
+pub enum GroupFault {
+    /// There was no memory.
+    NoMemory,
+    /// As many events were run as there may be, and one more is due.
+    CountFull,
+}
+
+/// The nodes of a group, on their way through a window of a scenario's run.
+#[derive(Drop)]
+pub struct Group {
+    share: Share,
+}
+
+impl Model for Group {
+    ghost use Rattle.node_group.specs.Group.{GroupValue};
+    ghost use Rattle.node_group.specs.GroupCode.{group_code};
+
+    ghost Value = { GroupValue };
+
+    ghost coded = { group_code };
+
+    ghost use Rattle.node_group.specs.Group.{IsOnRun};
+
+    ghost view = { λ g. g.share };
+
+    ghost invariant = { λ g. IsOnRun g.share };
+}
+
+impl Group {
+    /// A share of a net that is on a scenario's run.
+    pub fn new(share: Share) -> Group
+        requires { IsOnRun share }
+        ensures { result ≡ share }
+    {
+        Group { share }
+    }
+
+    /// When its least event is, in nanoseconds.
+    pub fn next(&self) -> Option<Time>
+        ensures { result ≡ first_time (state_of self.now) }
+    {
+        self.share.next()
+    }
+
+    /// The group's share of the net.
+    pub fn into_share(self) -> Share
+        ensures share { result ≡ self }
+        ensures on_run { IsOnRun self }
+    {
+        self.share
+    }
+}
+
+/// Runs a group's events below a moment, in nanoseconds, one after another in the order of their
+/// keys. Where it stops before, the group stands after some whole events.
+pub fn run_group(group: &mut Group, end: Time) -> Result<(), GroupFault>
+    requires { end ≤ group.old.until }
+    ensures after { AfterFirings end group.old group.new }
+    ensures done { OnOk result (due (up_to end (state_of group.new)) ≡ None) }
+    ensures full { IfErr result (λ fault. fault ≡ GroupFault.CountFull → (due (up_to end (state_of group.new)) ≢ None) × (group.new.position + length group.new.lines ≡ 1000000000000000)) }
+    ensures memory { IfErr result (λ fault. fault ≡ GroupFault.NoMemory → (due (up_to end (state_of group.new)) ≢ None) × (group.new.position + length group.new.lines < 1000000000000000)) }
+{
+    group.share.run(end)
+}

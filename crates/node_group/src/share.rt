@@ -1,0 +1,297 @@
+//! What is a group's of a net.
+ghost use Rattle.std.specs.Prelude.{◌≡◌, ◌≢◌, ◌+◌, ◌<◌, ◌≤◌, ◌^◌, [], All, IfOk, IfErr, OnOk, OnErr, IfSome, length, map as each, take, replicate, slice_index_or, slice_set, None, true};
+ghost use Rattle.std.specs.List.Sorted.{IsStrictlyIncreasing};
+ghost use Rattle.std.specs.Option.{option_copied};
+ghost use Rattle.sim_time.specs.declared.key.Key.{Key};
+ghost use Rattle.ranking.specs.Keyed.{EachKey};
+ghost use Rattle.node_core.specs.Node.{delivered};
+ghost use Rattle.node_core.specs.TraceLine.{shown};
+ghost use Rattle.node_core.specs.WireState.{came_over, stamps_of};
+ghost use Rattle.table_run.specs.State.{due};
+ghost use Rattle.net_machine.specs.Nodes.{net_pending};
+ghost use Rattle.net_machine.specs.Wiring.{place_at};
+ghost use Rattle.window_law.specs.Groups.{up_to};
+ghost use Rattle.window_law.specs.Windows.{first_time};
+ghost use Rattle.node_group.specs.Held.{HoldsNothing, IsReleased};
+ghost use Rattle.node_group.specs.Seats.{seated, taken};
+ghost use Rattle.node_group.specs.Group.{GroupValue, state_of, group_from, group_to, member, came_in, IsGroup, IsOnRun, AfterFirings, Fired};
+
+use crate::exits::Exits;
+use crate::group::GroupFault;
+use crate::members::Members;
+use crate::passing::pass_on;
+use net_machine::LinkEnds;
+use net_partition::Partition;
+use node_core::{Line, Node, Outbox};
+use packet_chain::PacketChain;
+use sim_time::Time;
+use std::alloc::{AllocError, Global};
+use std::marker::Model;
+use std::snapshot::Snapshot;
+
+/// The most events of a run.
+const MOST_EVENTS: u64 = 1_000_000_000_000_000;
+
+/// A group's nodes, what it holds back for others, and its lines.
+#[derive(Drop)]
+pub struct Share {
+    /// Which group it is.
+    number: usize,
+    /// The group of each node of the net.
+    partition: Snapshot<Partition>,
+    /// Where each link of the net leaves and ends, by its number.
+    links: Vec<LinkEnds>,
+    /// The nodes.
+    members: Members,
+    /// What left over each link for other groups since the last turn.
+    exits: Exits,
+    /// A chain for each outgoing link that a node can have, empty between events.
+    out: Outbox,
+    /// Lines, of which the first `count` were told since the last turn; the others are memory for
+    /// the next.
+    lines: Vec<Line>,
+    count: usize,
+    /// Events before this moment may be run, in nanoseconds. Only clauses read it.
+    until: Snapshot<Time>,
+    /// How many events the run had at the last turn.
+    position: u64,
+    /// Where memory is taken.
+    alloc: Global,
+}
+
+// Sees that there is a line to be filled behind the first ones.
+fn make_room(lines: &mut Vec<Line>, count: usize, alloc: Global) -> Result<(), AllocError>
+    requires { count ≤ length lines.old.items }
+    ensures room { OnOk result (count < length lines.new.items) }
+    ensures within { count ≤ length lines.new.items }
+    ensures kept { take count lines.new.items ≡ take count lines.old.items }
+{
+    if count == lines.len() {
+        lines.push(Line::new(alloc))?;
+    }
+    Ok(())
+}
+
+impl Model for Share {
+    ghost use Rattle.node_group.specs.Group.{GroupValue};
+    ghost use Rattle.node_group.specs.GroupCode.{group_code};
+
+    ghost Value = { GroupValue };
+
+    ghost coded = { group_code };
+
+    ghost use Rattle.node_group.specs.ShareOf.{group_of, IsShare};
+
+    ghost view = { group_of };
+
+    ghost invariant = { IsShare };
+}
+
+/// What a share is made of, beside its number, its partition and where it stands.
+#[derive(Drop)]
+pub struct ShareParts {
+    /// Where each link of the net leaves and ends, by its number.
+    pub links: Vec<LinkEnds>,
+    /// The group's nodes.
+    pub members: Members,
+    /// A wire for each link of the net.
+    pub exits: Exits,
+    /// A chain for each outgoing link that a node can have, empty.
+    pub out: Outbox,
+}
+
+impl Share {
+    /// The share of a group of these parts, with no line yet. No memory is taken.
+    pub(crate) fn new(
+        alloc: Global,
+        number: usize,
+        partition: &Partition,
+        parts: ShareParts,
+        until: Time,
+        position: u64,
+    ) -> Share
+        requires group { IsGroup (record { number = number; entries = partition.now; links = parts.links.items; seats = parts.members; held = parts.exits; lines = []; until = until; position = position }) }
+        requires empty { parts.out ≡ replicate 16 [] }
+        ensures { result ≡ record { number = number; entries = partition.now; links = parts.links.items; seats = parts.members; held = parts.exits; lines = []; until = until; position = position } }
+    {
+        Share {
+            number,
+            partition: Snapshot::of(partition),
+            links: parts.links,
+            members: parts.members,
+            exits: parts.exits,
+            out: parts.out,
+            lines: Vec::new(alloc),
+            count: 0,
+            until: Snapshot::of(&until),
+            position,
+            alloc,
+        }
+    }
+
+    /// Which group it is.
+    pub fn number(&self) -> usize
+        ensures number { result ≡ self.now.number }
+        ensures is_group { IsGroup self.now }
+    {
+        self.number
+    }
+
+    /// How many lines were told since the last turn.
+    pub fn told(&self) -> usize
+        ensures count { result ≡ length self.now.lines }
+    {
+        self.count
+    }
+
+    /// When its least event is, in nanoseconds.
+    pub fn next(&self) -> Option<Time>
+        ensures { result ≡ first_time (state_of self.now) }
+    {
+        match self.members.first() {
+            Some((_, key)) => Some(key.time),
+            None => None,
+        }
+    }
+
+    /// A node of the net, where it is the group's.
+    pub fn node(&self, place: usize) -> Option<&Node>
+        requires { place < length self.now.seats }
+        ensures { option_copied result ≡ slice_index_or self.now.seats place None }
+    {
+        self.members.node(place)
+    }
+
+    /// Names the moment before which events may be run.
+    #[inline(always)]
+    pub fn set_until(&mut self, until: Time)
+        ensures { self.new ≡ record self.old { until = until } }
+    {
+        self.until = Snapshot::of(&until);
+    }
+
+    /// Gives the lines that were told in exchange for memory for others, and names how many events
+    /// the run has then. The answer is how many were told.
+    pub fn take_lines(&mut self, lines: &mut Vec<Line>, position: u64) -> usize
+        requires { position ≤ 1000000000000000 }
+        ensures lines { each shown (take result lines.new.items) ≡ self.old.lines }
+        ensures count { result ≡ length self.old.lines }
+        ensures within { result ≤ length lines.new.items }
+        ensures state { self.new ≡ record self.old { lines = []; position = position } }
+    {
+        let count = self.count;
+        if count > 0 {
+            std::mem::swap(&mut self.lines, lines);
+            self.count = 0;
+        }
+        self.position = position;
+        count
+    }
+
+    /// Whether it is known that nothing is held back.
+    #[inline(always)]
+    pub fn holds_nothing(&self) -> bool
+        ensures { result ≡ true → HoldsNothing self.now.held }
+    {
+        self.exits.holds_nothing()
+    }
+
+    /// Has memory for lines in exchange for its own, where it has told none.
+    pub fn take_memory(&mut self, lines: &mut Vec<Line>)
+        ensures { self.new ≡ self.old }
+    {
+        if self.count == 0 {
+            std::mem::swap(&mut self.lines, lines);
+        }
+    }
+
+    /// Gives what is held back of a link to an empty chain. The answer is the link, or none where
+    /// nothing is held back.
+    pub fn release_next(&mut self, packets: &mut PacketChain) -> Option<usize>
+        requires { packets.old ≡ [] }
+        ensures rest { self.new ≡ record self.old { held = self.new.held } }
+        ensures some { IfSome result (λ link. IsReleased self.old.held self.new.held link packets.new) }
+        ensures none { result ≡ None → HoldsNothing self.old.held × (self.new ≡ self.old) × (packets.new ≡ []) }
+    {
+        self.exits.release_next(packets)
+    }
+
+    /// Packets come from another group over a link that ends at a node of this one, after all that
+    /// came over it before; the chain is then empty. It takes no memory.
+    pub fn deliver(&mut self, link: usize, packets: &mut PacketChain)
+        requires within { link < length self.old.links }
+        requires from_another { group_from self.old link ≢ self.old.number }
+        requires to_this { group_to self.old link ≡ self.old.number }
+        requires rising { IsStrictlyIncreasing (stamps_of packets.old) }
+        requires later { All (λ stamp. EachKey (λ k. k.source ≡ link + 1 → k.time < stamp) (net_pending (seated self.old.seats))) (stamps_of packets.old) }
+        requires few { came_in self.old link + length packets.old ≤ 2 ^ 50 }
+        ensures rest { self.new ≡ record self.old { seats = self.new.seats } }
+        ensures nodes { let end = place_at self.old.links link in seated self.new.seats ≡ slice_set (seated self.old.seats) end.node (delivered (member self.old end.node) end.index packets.old) }
+        ensures seats_stay { taken self.new.seats ≡ taken self.old.seats }
+        ensures emptied { packets.new ≡ [] }
+    {
+        let end = self.links[link].to;
+        self.members
+            .deliver(usize::from(end.node), usize::from(end.index), packets);
+    }
+
+    /// Runs the least event below a moment, where there is one. The answer is whether there was.
+    pub fn fire_below(&mut self, end: Time) -> Result<bool, GroupFault>
+        requires within { end ≤ self.old.until }
+        requires on_run { IsOnRun self.old }
+        ensures ok { IfOk result (λ fired. Fired end self.old fired self.new) }
+        ensures after { AfterFirings end self.old self.new }
+        ensures on_run { IsOnRun self.new }
+        ensures fits { self.new.position + length self.new.lines ≤ 1000000000000000 }
+        ensures full { IfErr result (λ fault. fault ≡ GroupFault.CountFull → (due (up_to end (state_of self.old)) ≢ None) × (self.old.position + length self.old.lines ≡ 1000000000000000)) }
+        ensures memory { IfErr result (λ fault. fault ≡ GroupFault.NoMemory → (due (up_to end (state_of self.old)) ≢ None) × (self.old.position + length self.old.lines < 1000000000000000)) }
+        ensures err { OnErr result (self.new ≡ self.old) }
+    {
+        let Some((place, key)) = self.members.first() else {
+            return Ok(false);
+        };
+        if key.time >= end {
+            return Ok(false);
+        }
+        if self.position + self.count as u64 == MOST_EVENTS {
+            return Err(GroupFault::CountFull);
+        }
+        if make_room(&mut self.lines, self.count, self.alloc).is_err() {
+            return Err(GroupFault::NoMemory);
+        }
+        let line = &mut self.lines[self.count];
+        match self.members.fire_into(place, &mut self.out, line) {
+            Ok(Some(index)) => {
+                self.count += 1;
+                pass_on(
+                    &mut self.members,
+                    &mut self.exits,
+                    &mut self.out,
+                    &self.links,
+                    place,
+                    usize::from(index),
+                );
+                Ok(true)
+            }
+            Ok(None) => {
+                self.count += 1;
+                Ok(true)
+            }
+            Err(_) => Err(GroupFault::NoMemory),
+        }
+    }
+
+    /// Runs the events below a moment, one after another.
+    pub fn run(&mut self, end: Time) -> Result<(), GroupFault>
+        requires within { end ≤ self.old.until }
+        requires on_run { IsOnRun self.old }
+        ensures after { AfterFirings end self.old self.new }
+        ensures on_run { IsOnRun self.new }
+        ensures done { OnOk result (due (up_to end (state_of self.new)) ≡ None) }
+        ensures full { IfErr result (λ fault. fault ≡ GroupFault.CountFull → (due (up_to end (state_of self.new)) ≢ None) × (self.new.position + length self.new.lines ≡ 1000000000000000)) }
+        ensures memory { IfErr result (λ fault. fault ≡ GroupFault.NoMemory → (due (up_to end (state_of self.new)) ≢ None) × (self.new.position + length self.new.lines < 1000000000000000)) }
+    {
+        while self.fire_below(end)? {}
+        Ok(())
+    }
+}

@@ -1,5 +1,0 @@
-use Rattle.window_core.proofs.Sheaves.{counted}
-use Rattle.window_core.proofs.sheaf.Sheaf.len.Goals as goal
-
-pub returns : goal.returns
-returns c = counted c.self.inside c.self.invariant c.args.self.now c.self.view_is

@@ -1,0 +1,72 @@
+//! The lines of all groups come into a sheaf.
+ghost use Rattle.std.specs.Prelude.{◌≡◌, ◌+◌, ◌≤◌, [], length, map as each, OnOk, OnErr};
+ghost use Rattle.node_core.specs.TraceLine.{TraceLine};
+ghost use Rattle.line_merge.specs.Merged.{AreApart, all_of};
+ghost use Rattle.node_group.specs.Group.{GroupValue};
+
+use line_merge::{Lines, Sheaf};
+use node_group::Share;
+use std::alloc::AllocError;
+
+/// For how many lines memory is kept from window to window, over all groups. A burst takes more.
+const KEPT: usize = 32_768;
+
+// As many lists as that; what they hold has no meaning.
+fn fit(lists: &mut Vec<Lines>, count: usize) -> Result<(), AllocError>
+    ensures { OnOk result (length lists.new.items ≡ count) }
+{
+    lists.truncate(count);
+    for _number in lists.len()..count {
+        let lines = Lines::new(*lists.allocator());
+        lists.push(lines)?;
+    }
+    Ok(())
+}
+
+// Has the lines that a group has told, and gives the group its memory for others, of so many lines
+// at most.
+fn take_from(lines: &mut Lines, share: &mut Share, position: u64, most: usize)
+    requires { position ≤ 1000000000000000 }
+    ensures lines { lines.new ≡ share.old.lines }
+    ensures share { share.new ≡ record share.old { lines = []; position = position } }
+{
+    let mut items = lines.take_memory(most);
+    let count = share.take_lines(&mut items, position);
+    *lines = Lines::of(items, count);
+}
+
+// The lines of each group go into the list of its number.
+fn take_lines(lists: &mut [Lines], shares: &mut [Share], position: u64)
+    requires size { length lists.old ≡ length shares.old }
+    requires position { position ≤ 1000000000000000 }
+    ensures lists { lists.new ≡ each (λ (g : GroupValue). g.lines) shares.old }
+    ensures shares { shares.new ≡ each (λ (g : GroupValue). record g { lines = []; position = position }) shares.old }
+{
+    let most = KEPT / shares.len().max(1);
+    for at in 0..shares.len() {
+        take_from(&mut lists[at], &mut shares[at], position, most);
+    }
+}
+
+/// The sheaf has the lines that the groups have told, so many in all, after so many events: then the
+/// groups have told none, and stand after those too. Where memory is refused the sheaf is empty.
+pub(crate) fn gather(
+    sheaf: &mut Sheaf,
+    shares: &mut [Share],
+    position: u64,
+    count: usize,
+) -> Result<(), AllocError>
+    requires few { length shares.old ≤ 64 }
+    requires apart { AreApart (each (λ (g : GroupValue). g.lines) shares.old) }
+    requires count { count ≡ length (all_of (each (λ (g : GroupValue). g.lines) shares.old)) }
+    requires fits { position + count ≤ 1000000000000000 }
+    ensures sheaf { OnOk result (sheaf.new ≡ record { first = position + 1; lists = each (λ (g : GroupValue). g.lines) shares.old }) }
+    ensures shares { OnOk result (shares.new ≡ each (λ (g : GroupValue). record g { lines = []; position = position + count }) shares.old) }
+    ensures err { OnErr result (shares.new ≡ shares.old) }
+{
+    let mut lists = sheaf.take_lists();
+    fit(&mut lists, shares.len())?;
+    take_lines(&mut lists, shares, position + count as u64);
+    *sheaf = Sheaf::of_lists(lists, count, position + 1);
+    Ok(())
+}
