@@ -1,6 +1,7 @@
 pub mod Words
 pub mod Times
 pub mod Followed
+pub mod Gathering
 pub mod Listed
 pub mod Deleting
 pub mod Parted

@@ -4,7 +4,9 @@ use Rattle.std.specs.Str.{bytes_eq}
 use Rattle.scenario_asm.specs.Numbers.{is_numeral, number}
 use Rattle.debugger.specs.declared.breaks.EventKind.{EventKind}
 use Rattle.debugger.specs.declared.breaks.EventKind.TheVariants.{Start, Rto, DelAck, Free, Data, Ack}
-use Rattle.debugger.specs.declared.breaks.Break.TheVariants.{Node, Flow, Kind, Drop}
+use Rattle.debugger.specs.declared.breaks.Condition.{Condition}
+use Rattle.debugger.specs.declared.breaks.Condition.TheVariants.{Node, Flow, Kind, Drop}
+use Rattle.debugger.specs.Breaks.{asking, asks_nothing}
 use Rattle.debug_session.specs.declared.command.Command.{Command}
 use Rattle.debug_session.specs.declared.command.Command.TheVariants.{Step, Back, Until, Run, State, SetBreak, Clear}
 use Rattle.debug_session.specs.declared.command.Limits.{Limits}
@@ -54,8 +56,12 @@ kind_named word =
     else (if bytes_eq word (codes "ack") then Some Ack
     else None)))))
 
+-- a breakpoint of one condition
+abbrev pub sets : Condition → Command
+sets condition = SetBreak (asking asks_nothing condition)
+
 abbrev pub with_kind : Option EventKind → Reading
-with_kind (Some kind) = Ok (SetBreak (Kind kind))
+with_kind (Some kind) = Ok (sets (Kind kind))
 with_kind None = Err B3
 
 -- one word that is a kind
@@ -64,14 +70,14 @@ one_kind [] = Err B2
 one_kind (word ∷ []) = with_kind (kind_named word)
 one_kind (first ∷ second ∷ more) = Err B2
 
--- the words behind `break`: a sort, and what it takes
+-- the words behind `break`: one sort, and what it takes
 abbrev pub breakpoint : Limits → List Word → Reading
 breakpoint limits [] = Err B2
 breakpoint limits (sort ∷ words) =
-    if bytes_eq sort (codes "node") then with_number (λ n. SetBreak (Node n)) (one_number limits.nodes words)
-    else (if bytes_eq sort (codes "flow") then with_number (λ n. SetBreak (Flow n)) (one_number limits.flows words)
+    if bytes_eq sort (codes "node") then with_number (λ n. sets (Node n)) (one_number limits.nodes words)
+    else (if bytes_eq sort (codes "flow") then with_number (λ n. sets (Flow n)) (one_number limits.flows words)
     else (if bytes_eq sort (codes "kind") then one_kind words
-    else (if bytes_eq sort (codes "drop") then alone (SetBreak Drop) words
+    else (if bytes_eq sort (codes "drop") then alone (sets Drop) words
     else Err B1)))
 
 -- a command by its name and the words behind it

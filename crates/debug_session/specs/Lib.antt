@@ -1,5 +1,6 @@
 pub mod Input
 pub mod Grammar
+pub mod Conditions
 pub mod Answers
 pub mod Sessions
 pub mod Taking

@@ -1,28 +1,49 @@
 -- Breakpoints by their numbers, and how they are told at a prompt.
-use Rattle.std.specs.Prelude.{◌≡◌, ◌<◌, ◌≤◌, ◌+◌, ℕ, List, [], ◌∷◌, ◌++◌, length, Contains, codes, decimal}
+use Rattle.std.specs.Prelude.{◌≡◌, ◌<◌, ◌≤◌, ◌+◌, ℕ, Bool, if◌then◌else◌, List, [], ◌∷◌, ◌++◌, length, Contains, codes, decimal, Option, None, Some}
 use Rattle.debugger.specs.declared.breaks.EventKind.{EventKind}
 use Rattle.debugger.specs.declared.breaks.EventKind.TheVariants.{Start, Rto, DelAck, Free, Data, Ack}
 use Rattle.debugger.specs.declared.breaks.Break.{Break}
-use Rattle.debugger.specs.declared.breaks.Break.TheVariants.{Node, Flow, Kind, Drop}
+use Rattle.debugger.specs.declared.breaks.StallOf.{StallOf}
+use Rattle.debugger.specs.declared.breaks.StallOf.TheVariants.{Any, Flow}
 
-abbrev pub kind_text : EventKind → List ℕ
-kind_text Start = codes "kind start"
-kind_text Rto = codes "kind rto"
-kind_text DelAck = codes "kind delack"
-kind_text Free = codes "kind free"
-kind_text Data = codes "kind data"
-kind_text Ack = codes "kind ack"
+abbrev pub kind_text : Option EventKind → List ℕ
+kind_text None = []
+kind_text (Some Start) = codes " kind start"
+kind_text (Some Rto) = codes " kind rto"
+kind_text (Some DelAck) = codes " kind delack"
+kind_text (Some Free) = codes " kind free"
+kind_text (Some Data) = codes " kind data"
+kind_text (Some Ack) = codes " kind ack"
 
--- a breakpoint, as it is typed behind `break`
+-- a number behind its sort, where one is asked for
+abbrev pub number_text : List ℕ → Option ℕ → List ℕ
+number_text sort None = []
+number_text sort (Some n) = sort ++ decimal n
+
+abbrev pub drop_text : Bool → List ℕ
+drop_text drops = if drops then codes " drop" else []
+
+-- what the event has to be
+abbrev pub event_text : Break → List ℕ
+event_text b = number_text (codes " node ") b.node ++ (number_text (codes " flow ") b.flow ++ kind_text b.kind)
+
+-- what has to become of packets, and which has to arrive
+abbrev pub packet_text : Break → List ℕ
+packet_text b = drop_text b.drops ++ (number_text (codes " link ") b.link ++ number_text (codes " byte ") b.byte)
+
+-- which flow has to become stalled
+abbrev pub stall_text : Option StallOf → List ℕ
+stall_text None = []
+stall_text (Some Any) = codes " stall"
+stall_text (Some (Flow n)) = codes " stall " ++ decimal n
+
+-- a breakpoint, as it is typed behind `break`: what it asks for in this order, a space before each
 abbrev pub break_text : Break → List ℕ
-break_text (Node n) = codes "node " ++ decimal n
-break_text (Flow n) = codes "flow " ++ decimal n
-break_text (Kind kind) = kind_text kind
-break_text Drop = codes "drop"
+break_text b = event_text b ++ (packet_text b ++ stall_text b.stall)
 
 -- a word, a breakpoint's number, and the breakpoint
 abbrev pub numbered_line : List ℕ → ℕ → Break → List ℕ
-numbered_line word i b = word ++ decimal i ++ codes ": " ++ break_text b ++ codes "\n"
+numbered_line word i b = word ++ decimal i ++ codes ":" ++ break_text b ++ codes "\n"
 
 abbrev pub set_line : ℕ → Break → List ℕ
 set_line i b = numbered_line (codes "break ") i b

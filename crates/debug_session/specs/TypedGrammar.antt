@@ -12,7 +12,8 @@ use Rattle.debug_session.specs.declared.name.Name.{Name}
 use Rattle.debug_session.specs.declared.name.Name.TheVariants as name
 use Rattle.debug_session.specs.declared.refusal.Refusal.{Refusal}
 use Rattle.debug_session.specs.declared.refusal.Refusal.TheVariants.{B1, B2, B3, B5}
-use Rattle.debug_session.specs.Grammar.{Word, Reading, number_below, one_number, with_number, alone, breakpoint}
+use Rattle.debug_session.specs.Conditions.{break_asked}
+use Rattle.debug_session.specs.Grammar.{Word, Reading, number_below, one_number, with_number, alone}
 use Rattle.debug_session.specs.Input.{words_in}
 use Rattle.debug_session.specs.Names.{name_of}
 use Rattle.debug_session.specs.Times.{moment_in}
@@ -100,7 +101,7 @@ abbrev pub command_typed : Limits → Option Name → List Word → TypedReading
 command_typed limits None words = Err B1
 command_typed limits (Some name.Step) words = plain (with_number Step (number_or 1 1000000000000001 words))
 command_typed limits (Some name.Back) words = plain (with_number Back (number_or 1 1000000000000001 words))
-command_typed limits (Some name.Break) words = plain (breakpoint limits words)
+command_typed limits (Some name.Break) words = plain (break_asked limits words)
 command_typed limits (Some name.Breaks) words = typed_alone Breaks words
 command_typed limits (Some name.Run) words = plain (alone Run words)
 command_typed limits (Some name.Reverse) words = typed_alone Reverse words

@@ -48,12 +48,12 @@ abbrev pub hit_line : Option Hit → List ℕ
 hit_line None = []
 hit_line (Some hit) = set_line hit.number hit.breakpoint
 
--- the first breakpoint that matches the last line
+-- the first breakpoint that matches the last line, with the states before and after it
 pub record TellsHit (start : NetState) (breaks : List Break) (p : ℕ) (told : List ℕ) : Type 0 where
   pub line : TraceLine
   pub given : GivesAt start line p
   pub hit : Option Hit
-  pub first : IsFirstHit breaks line hit
+  pub first : IsFirstHit breaks given.before.state line given.after hit
   pub told_is : told ≡ hit_line hit
 
 -- it is told at a position past a bound, and at no other

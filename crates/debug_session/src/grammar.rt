@@ -5,12 +5,12 @@ ghost use Rattle.std.specs.Str.{bytes_eq};
 ghost use Rattle.std.specs.Str.Parse.{digits_value};
 ghost use Rattle.scenario_asm.specs.Numbers.{is_numeral, is_digit};
 ghost use Rattle.debug_session.specs.Input.{words_in};
-ghost use Rattle.debug_session.specs.Grammar.{number_below, one_number, alone, kind_named, one_kind, breakpoint, command_named, reading};
+ghost use Rattle.debug_session.specs.Grammar.{number_below, one_number, alone, kind_named, sets, one_kind, breakpoint, command_named, reading};
 
 use crate::command::{Command, Limits};
 use crate::cut::next_word;
 use crate::refusal::Refusal;
-use debugger::{Break, EventKind};
+use debugger::{Break, Condition, EventKind};
 
 /// One more than the greatest number of events or nanoseconds that can be asked for.
 pub(crate) const AMOUNTS: u64 = 1_000_000_000_000_001;
@@ -98,7 +98,7 @@ pub(crate) fn one_number(line: &[u8], bound: u64) -> Result<u64, Refusal>
 }
 
 /// The kind of events that a word names.
-fn kind_named(word: &[u8]) -> Option<EventKind>
+pub(crate) fn kind_named(word: &[u8]) -> Option<EventKind>
     ensures { result ≡ kind_named word.now }
 {
     if is(word, b"start") {
@@ -118,6 +118,13 @@ fn kind_named(word: &[u8]) -> Option<EventKind>
     }
 }
 
+/// The command that sets a breakpoint of one condition.
+pub(crate) fn sets(condition: Condition) -> Command
+    ensures { result ≡ sets condition }
+{
+    Command::SetBreak(Break::of(condition))
+}
+
 /// A breakpoint on the kind that is the only word of a line.
 fn one_kind(line: &[u8]) -> Result<Command, Refusal>
     ensures { result ≡ one_kind (words_in line.now) }
@@ -125,7 +132,7 @@ fn one_kind(line: &[u8]) -> Result<Command, Refusal>
     match one_word(line) {
         None => Err(Refusal::B2),
         Some(word) => match kind_named(word) {
-            Some(kind) => Ok(Command::SetBreak(Break::Kind(kind))),
+            Some(kind) => Ok(sets(Condition::Kind(kind))),
             None => Err(Refusal::B3),
         },
     }
@@ -141,7 +148,7 @@ pub(crate) fn alone(command: Command, line: &[u8]) -> Result<Command, Refusal>
     }
 }
 
-/// The breakpoint that the words behind `break` name.
+/// The breakpoint of one condition that the words behind `break` name.
 pub(crate) fn breakpoint(limits: Limits, line: &[u8]) -> Result<Command, Refusal>
     ensures { result ≡ breakpoint limits (words_in line.now) }
 {
@@ -150,14 +157,14 @@ pub(crate) fn breakpoint(limits: Limits, line: &[u8]) -> Result<Command, Refusal
     };
     if is(sort, b"node") {
         let node = one_number(rest, u64::from(limits.nodes))?;
-        Ok(Command::SetBreak(Break::Node(node as u16)))
+        Ok(sets(Condition::Node(node as u16)))
     } else if is(sort, b"flow") {
         let flow = one_number(rest, u64::from(limits.flows))?;
-        Ok(Command::SetBreak(Break::Flow(flow as u16)))
+        Ok(sets(Condition::Flow(flow as u16)))
     } else if is(sort, b"kind") {
         one_kind(rest)
     } else if is(sort, b"drop") {
-        alone(Command::SetBreak(Break::Drop), rest)
+        alone(sets(Condition::Drop), rest)
     } else {
         Err(Refusal::B1)
     }

@@ -37,7 +37,8 @@ fn usage(name: Name) -> &'static [u8]
             b"until T      run all events before the moment T, as 1.5s, 20ms or 10000ns\n"
         }
         Name::State => b"state [PART] show all of the state, or of it: node N, link L or flow F\n",
-        Name::Break => b"break COND   stop where COND matches: node N, flow F, kind K, drop\n",
+        Name::Break =>
+            b"break COND.. stop where all match: node N, flow F, kind K, drop, link L, byte B; or stall [F]\n",
         Name::Breaks => b"breaks       list the breakpoints\n",
         Name::Delete => b"delete I     take breakpoint I away\n",
         Name::Clear => b"clear        take all breakpoints away\n",
@@ -59,7 +60,7 @@ fn example(name: Name) -> &'static [u8]
         Name::Reverse => b"reverse\n",
         Name::Until => b"until 20ms\n",
         Name::State => b"state flow 0\n",
-        Name::Break => b"break kind rto\n",
+        Name::Break => b"break flow 0 kind rto\n",
         Name::Breaks => b"breaks\n",
         Name::Delete => b"delete 1\n",
         Name::Clear => b"clear\n",

@@ -2,6 +2,7 @@
 #![tactic(auto)]
 
 pub mod command;
+pub mod conditions;
 mod cut;
 pub mod dialogue;
 mod grammar;

@@ -1,14 +1,12 @@
 //! From a line that is typed to a command.
 ghost use Rattle.std.specs.Prelude.{◌≡◌, ◌<◌, ◌≤◌, ◌^◌, ◌-◌, IfOk};
-ghost use Rattle.debug_session.specs.Grammar.{breakpoint};
 ghost use Rattle.debug_session.specs.Input.{words_in};
 ghost use Rattle.debug_session.specs.TypedGrammar.{number_or, one_moment, break_number, one_break_number, plain, tells_part, part_asked, state_asked, why_asked, typed_alone, help_asked, command_typed, typed_reading};
 
 use crate::command::{Command, Limits, Typed};
+use crate::conditions::break_asked;
 use crate::cut::next_word;
-use crate::grammar::{
-    AMOUNTS, alone, breakpoint, is, is_numeral, number_below, one_number, one_word,
-};
+use crate::grammar::{AMOUNTS, alone, is, is_numeral, number_below, one_number, one_word};
 use crate::moment::moment_in;
 use crate::name::{Name, name_of};
 use crate::refusal::Refusal;
@@ -156,7 +154,7 @@ fn command_typed(limits: Limits, name: Option<Name>, rest: &[u8]) -> Result<Type
         None => Err(Refusal::B1),
         Some(Name::Step) => Ok(Typed::Plain(Command::Step(count_typed(rest)?))),
         Some(Name::Back) => Ok(Typed::Plain(Command::Back(count_typed(rest)?))),
-        Some(Name::Break) => plain(breakpoint(limits, rest)),
+        Some(Name::Break) => plain(break_asked(limits, rest)),
         Some(Name::Breaks) => typed_alone(Typed::Breaks, rest),
         Some(Name::Run) => plain(alone(Command::Run, rest)),
         Some(Name::Reverse) => typed_alone(Typed::Reverse, rest),

@@ -21,7 +21,7 @@ use std::marker::Model;
 use trace_text::DumpPart;
 
 /// The room for a short answer, in bytes.
-pub(crate) const ROOM: usize = 64;
+pub(crate) const ROOM: usize = 192;
 
 /// The answer to a command, seen as its bytes. Short answers take no memory.
 #[derive(Drop)]
@@ -43,7 +43,7 @@ impl Model for Said {
 
     ghost view = { λ s. if s.is_short then drop s.start s.short else s.dump.items };
 
-    ghost invariant = { λ s. (s.start ≤ 64) × (length s.short ≡ 64) };
+    ghost invariant = { λ s. (s.start ≤ 192) × (length s.short ≡ 192) };
 }
 
 // Writes a text so that it ends at `end`, and answers where it starts.
@@ -102,7 +102,7 @@ impl Said {
 
     /// Answers a short text.
     fn say<const N: usize>(&mut self, text: &[u8; N])
-        requires { N ≤ 64 }
+        requires { N ≤ 192 }
         ensures { self.new ≡ text.now }
     {
         let mut line = [0; ROOM];

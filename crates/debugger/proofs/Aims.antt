@@ -1,29 +1,34 @@
 -- A move by windows, whatever it looks for.
-use Rattle.std.proofs.Common.{◌≡◌, ℕ, ◌≤◌, None, Some, arith}
+use Rattle.std.proofs.Common.{◌≡◌, ℕ, ◌<◌, ◌≤◌, ⊎_elim, inl, inr, refl, List, Option, None, Some, arith}
+use Rattle.std.specs.Prelude.{IsSome, IfSome}
 use Rattle.table_run.specs.State.{State, step}
 use Rattle.net_machine.specs.Run.{Reached}
 use Rattle.window_core.specs.Batches.{BatchValue}
 use Rattle.window_engine.specs.Engines.{GoesOn}
 use Rattle.debugger.specs.declared.aim.Aim.{Aim}
 use Rattle.debugger.specs.declared.aim.Aim.TheVariants.{Hit, Moment}
-use Rattle.debugger.specs.Moves.{Passes, HasPosition}
+use Rattle.debugger.specs.Moves.{Passes, HasPosition, EndsAt, StopsBy, StopsAt, RunsTo, RunGoesTo}
+use Rattle.node_core.specs.TraceLine.{TraceLine}
+use Rattle.debugger.specs.declared.breaks.Break.{Break}
+use Rattle.debugger.specs.declared.breaks.StallOf.{StallOf}
+use Rattle.debugger.specs.Breaks.{Stalls, IsHit, AsksStall}
 use Rattle.debugger.specs.Courses.{HasNone}
-use Rattle.debugger.specs.Aims.{IsMet, EndsIn, GoesTo}
-use Rattle.debugger.proofs.Walks.{NoneHit, none_hit_yet, run_ended, SomeBefore, some_before_yet, until_ended}
+use Rattle.debugger.specs.Aims.{IsMet, LineHit, EndsIn, GoesTo}
+use Rattle.debugger.proofs.Walks.{NoneBy, none_by_yet, run_ended, SomeBefore, some_before_yet, until_ended}
 use Rattle.debugger.proofs.Batches.{none_hit_on, run_ends_in, some_before_on, until_ends_in}
 
 -- a move from m has not come to its end at a position
 abbrev pub NotYet : State → Aim → ℕ → ℕ → Type 0
-NotYet start (Hit breaks) m = NoneHit start breaks.now m
+NotYet start (Hit breaks) m = NoneBy (LineHit breaks.now) start m
 NotYet start (Moment time) m = SomeBefore start time m
 
 pub not_yet_at : (start : State) (aim : Aim) (m : ℕ) → NotYet start aim m m
-not_yet_at start (Hit breaks) m = none_hit_yet start breaks.now m
+not_yet_at start (Hit breaks) m = none_by_yet (LineHit breaks.now) start m
 not_yet_at start (Moment time) m = some_before_yet start time m
 
 -- it ends with the run
 pub ended : (start : State) (aim : Aim) (m : ℕ) (at : Reached) → NotYet start aim m at.position → m ≤ at.position → Passes start at → step at.state ≡ None → GoesTo start aim m at.position
-ended start (Hit breaks) m at yet from here no_more = run_ended start breaks.now m at yet here no_more
+ended start (Hit breaks) m at yet from here no_more = run_ended (LineHit breaks.now) start m at yet here no_more
 ended start (Moment time) m at yet from here no_more = until_ended start time m at yet from here no_more
 
 module _ (start : State) (m : ℕ) (old : Reached) (batch : BatchValue) (new : Reached) (here : Passes start old) (from : m ≤ old.position) (gone : GoesOn old batch new) where
@@ -41,3 +46,29 @@ module _ (start : State) (m : ℕ) (old : Reached) (batch : BatchValue) (new : R
   pub not_before : (aim : Aim) (p : ℕ) → EndsIn aim batch (Some p) → old.position ≤ p
   not_before (Hit breaks) p (index, is, at) = let first = gone.first in omega (arith, at, first)
   not_before (Moment time) p (index, is, at) = let first = gone.first in omega (arith, at, first)
+
+-- where no stall is asked for, a breakpoint matches where its conditions on lines are met
+unasked : (b : Break) (before after : State) → (IsSome b.stall → ⊥) → IfSome b.stall (λ asked. Stalls asked before after)
+unasked b before after none = by b.stall none
+  where
+    by : (o : Option StallOf) → (IsSome o → ⊥) → IfSome o (λ asked. Stalls asked before after)
+    by None none = tt
+    by (Some asked) none = absurd (none refl)
+
+module _ (breaks : List Break) (none : AsksStall breaks → ⊥) (start : State) where
+  to_line : (before : State) (line : TraceLine) (after : State) → IsHit breaks before line after → LineHit breaks before line after
+  to_line before line after h = (h.0, h.1, h.2, h.3, h.4.meets)
+
+  of_line : (before : State) (line : TraceLine) (after : State) → LineHit breaks before line after → IsHit breaks before line after
+  of_line before line after h = (h.0, h.1, h.2, h.3, record { meets = h.4; stalls = unasked h.1 before after (λ some. none (h.0, h.1, h.2, h.3, some)) })
+
+  -- and so `run` goes where windows go
+  pub by_lines : (m p : ℕ) → RunsTo (LineHit breaks) start m p → RunGoesTo start breaks m p
+  by_lines m p goes = record {
+    holds = ⊎_elim
+        (λ (stops : (m < p) × StopsBy (LineHit breaks) start p). inl (stops.0, record { line = stops.1.line; given = stops.1.given; hit = of_line stops.1.given.before.state stops.1.line stops.1.given.after stops.1.hit }))
+        (λ (ends : EndsAt start p). inr ends) goes.holds;
+    least = λ q. ⊎_elim
+        (λ (stops : (m < q) × StopsAt start breaks q). goes.least q (inl (stops.0, record { line = stops.1.line; given = stops.1.given; hit = to_line stops.1.given.before.state stops.1.line stops.1.given.after stops.1.hit })))
+        (λ (ends : EndsAt start q). goes.least q (inr ends));
+  }

@@ -2,7 +2,7 @@
 use Rattle.std.proofs.Common.{◌≡◌, ◌<◌, ◌≤◌, ◌+◌, ◌-◌, ◌^◌, min, ℕ, length, Option, Some, IfSome, subst, arith}
 use Rattle.net_machine.specs.Run.{Reached, IsRun}
 use Rattle.window_core.specs.Batches.{BatchValue}
-use Rattle.window_core.proofs.EveryRun.{same_end}
+use Rattle.window_law.proofs.EveryRun.{same_end}
 use Rattle.window_engine.specs.Engines.{GoesOn, IsNext, next_time}
 
 -- a run ends below 2^64 ns

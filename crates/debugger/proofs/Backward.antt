@@ -1,5 +1,5 @@
 -- The last line of a stretch of the run that a breakpoint matches.
-use Rattle.std.proofs.Common.{◌≡◌, ◌<◌, ◌≤◌, ◌+◌, ◌-◌, ◌⊎◌, ℕ, List, Option, Some, None, inl, inr, ⊎_elim, refl, subst, arith}
+use Rattle.std.proofs.Common.{◌≡◌, ◌<◌, ◌≤◌, ◌+◌, ◌-◌, ℕ, List, Option, Some, None, inl, inr, ⊎_elim, refl, subst, arith}
 use Rattle.std.proofs.lemmas.Bool.{cases_lt}
 use Rattle.node_core.specs.TraceLine.{TraceLine}
 use Rattle.table_run.specs.State.{State}
@@ -8,28 +8,28 @@ use Rattle.debugger.specs.declared.breaks.Break.{Break}
 use Rattle.debugger.specs.Backwards.{NoneStops, IsLastStop, FindsLast}
 use Rattle.debugger.specs.Breaks.{IsHit}
 use Rattle.debugger.specs.Moves.{Passes, StopsAt, ReverseGoesTo}
-use Rattle.debugger.proofs.Walks.{gives_next, none_hit_yet, none_hit_next}
+use Rattle.debugger.proofs.Walks.{gives_next, none_by_yet, none_by_next}
 
 module _ (start : State) (breaks : List Break) where
   pub nothing_yet : (from : ℕ) → FindsLast start breaks from from None
-  nothing_yet from = none_hit_yet start breaks from
+  nothing_yet from = none_by_yet (IsHit breaks) start from
 
   module _ (from : ℕ) (old new : Reached) (line : TraceLine) (at : Passes start old) (next : Stepped old (Some line) new) where
-    pub found_here : from ≤ old.position → IsHit breaks line → FindsLast start breaks from new.position (Some new.position)
+    pub found_here : from ≤ old.position → IsHit breaks old.state line new.state → FindsLast start breaks from new.position (Some new.position)
     found_here upto hit = record {
       past = omega (arith, upto, next.1);
       within = omega arith;
       stops = record { line = line; given = gives_next start old new line at next; hit = hit };
-      none_behind = none_hit_yet start breaks new.position;
+      none_behind = none_by_yet (IsHit breaks) start new.position;
     }
 
-    pub found_before : (found : Option ℕ) → FindsLast start breaks from old.position found → (IsHit breaks line → ⊥) → FindsLast start breaks from new.position found
-    found_before None none missed = none_hit_next start breaks from old new line none at next missed
+    pub found_before : (found : Option ℕ) → FindsLast start breaks from old.position found → (IsHit breaks old.state line new.state → ⊥) → FindsLast start breaks from new.position found
+    found_before None none missed = none_by_next (IsHit breaks) start from old new line none at next missed
     found_before (Some p) last missed = record {
       past = last.past;
       within = let within = last.within in omega (arith, within, next.1);
       stops = last.stops;
-      none_behind = none_hit_next start breaks p old new line last.none_behind at next missed;
+      none_behind = none_by_next (IsHit breaks) start p old new line last.none_behind at next missed;
     }
 
   -- from one stretch to that before it

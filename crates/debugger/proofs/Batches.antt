@@ -13,11 +13,12 @@ use Rattle.window_core.specs.Full.{HasTooMany}
 use Rattle.window_core.specs.Merged.{line_in}
 use Rattle.window_engine.specs.Engines.{GoesOn}
 use Rattle.debugger.specs.declared.breaks.Break.{Break}
-use Rattle.debugger.specs.Breaks.{IsHit}
-use Rattle.debugger.specs.Moves.{Passes, HasPosition, RunGoesTo, UntilGoesTo, IsTooLong}
+use Rattle.debugger.specs.Breaks.{IsLineHit}
+use Rattle.debugger.specs.Moves.{Passes, HasPosition, RunsTo, UntilGoesTo, IsTooLong}
+use Rattle.debugger.specs.Aims.{LineHit}
 use Rattle.debugger.specs.declared.course.Course.{Course}
 use Rattle.debugger.specs.Courses.{IsOnWay, WentOn, IsFirst, HasNone}
-use Rattle.debugger.proofs.Walks.{passes_next, NoneHit, none_hit_next, run_stopped, SomeBefore, some_before_next, until_stopped}
+use Rattle.debugger.proofs.Walks.{passes_next, NoneBy, none_by_next, run_stopped, SomeBefore, some_before_next, until_stopped}
 
 -- no step where nothing is due
 pub no_more : (s : State) → due s ≡ None → step s ≡ None
@@ -107,25 +108,25 @@ module _ (start : State) (m : ℕ) (old : Reached) (batch : BatchValue) (new : R
   stepped : (i : ℕ) (g : GivesLine start old batch.lines i) → Stepped (at_line i g) (Some (line_in batch.lines i)) (past_line i g)
   stepped i g = (g.gives, omega arith)
 
-  -- lines that no breakpoint matches
-  hits_none : (breaks : List Break) (k : ℕ) → k ≤ length batch.lines → ((j : ℕ) → j < k → IsHit breaks (line_in batch.lines j) → ⊥) → NoneHit start breaks m old.position → NoneHit start breaks m (old.position + k)
-  hits_none breaks zero upto missed none = subst (NoneHit start breaks m) {x = old.position} {y = old.position + zero} (omega arith) none
+  -- lines that meet the conditions of no breakpoint
+  hits_none : (breaks : List Break) (k : ℕ) → k ≤ length batch.lines → ((j : ℕ) → j < k → IsLineHit breaks (line_in batch.lines j) → ⊥) → NoneBy (LineHit breaks) start m old.position → NoneBy (LineHit breaks) start m (old.position + k)
+  hits_none breaks zero upto missed none = subst (NoneBy (LineHit breaks) start m) {x = old.position} {y = old.position + zero} (omega arith) none
   hits_none breaks (suc k) upto missed none =
       let g = gives_line start old batch new k here gone upto in
-      none_hit_next start breaks m (at_line k g) (past_line k g) (line_in batch.lines k) (hits_none breaks k (omega (arith, upto)) (λ j under. missed j (omega (arith, under))) none) g.passes (stepped k g) (missed k (omega arith))
+      none_by_next (LineHit breaks) start m (at_line k g) (past_line k g) (line_in batch.lines k) (hits_none breaks k (omega (arith, upto)) (λ j under. missed j (omega (arith, under))) none) g.passes (stepped k g) (missed k (omega arith))
 
-  pub none_hit_on : (breaks : List Break) → NoneHit start breaks m old.position → HasNone (IsHit breaks) batch → NoneHit start breaks m new.position
-  none_hit_on breaks none has = subst (NoneHit start breaks m) (sym gone.position) (hits_none breaks (length batch.lines) (omega arith) has none)
+  pub none_hit_on : (breaks : List Break) → NoneBy (LineHit breaks) start m old.position → HasNone (IsLineHit breaks) batch → NoneBy (LineHit breaks) start m new.position
+  none_hit_on breaks none has = subst (NoneBy (LineHit breaks) start m) (sym gone.position) (hits_none breaks (length batch.lines) (omega arith) has none)
 
   -- `run` ends after the first line that a breakpoint matches
-  pub run_ends_in : (breaks : List Break) (index p : ℕ) → NoneHit start breaks m old.position → IsFirst (IsHit breaks) batch index → p ≡ batch.first + index → RunGoesTo start breaks m p × HasPosition start p
+  pub run_ends_in : (breaks : List Break) (index p : ℕ) → NoneBy (LineHit breaks) start m old.position → IsFirst (IsLineHit breaks) batch index → p ≡ batch.first + index → RunsTo (LineHit breaks) start m p × HasPosition start p
   run_ends_in breaks index p none is e =
       let g = gives_line start old batch new index here gone is.within in
       let place : old.position + suc index ≡ p = omega (arith, e, gone.first) in
       let before = hits_none breaks index (omega (arith, is.within)) is.before none in
-      let goes = run_stopped start breaks m (at_line index g) (past_line index g) (line_in batch.lines index) before (omega (arith, from)) g.passes (stepped index g) is.holds in
+      let goes = run_stopped (LineHit breaks) start m (at_line index g) (past_line index g) (line_in batch.lines index) before (omega (arith, from)) g.passes (stepped index g) is.holds in
       let passed = passes_next start (at_line index g) (past_line index g) (line_in batch.lines index) g.passes (stepped index g) in
-      (subst (RunGoesTo start breaks m) place goes, subst (HasPosition start) place (g.after, passed))
+      (subst (RunsTo (LineHit breaks) start m) place goes, subst (HasPosition start) place (g.after, passed))
 
   -- lines before a time
   before_all : (time k : ℕ) → k ≤ length batch.lines → ((j : ℕ) → j < k → time ≤ (line_in batch.lines j).key.time → ⊥) → SomeBefore start time m old.position → SomeBefore start time m (old.position + k)

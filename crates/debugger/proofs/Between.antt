@@ -1,11 +1,11 @@
 -- Lines between two positions of a run, as they are told one after another.
-use Rattle.std.proofs.Common.{◌≡◌, ◌≤◌, ◌<◌, ◌+◌, ◌-◌, ◌∙◌, ℕ, suc, List, [], ◌∷◌, ◌++◌, Bool, true, false, cond, length, take, drop, reverse, refl, sym, ap, subst, arith, append_assoc, append-nil, length-append, length-drop, Option, Some, None, Result, Ok, Err, OnOk}
+use Rattle.std.proofs.Common.{◌≡◌, ◌≤◌, ◌+◌, ◌-◌, ◌∙◌, ℕ, suc, List, [], ◌∷◌, ◌++◌, Bool, true, false, cond, length, take, drop, reverse, refl, sym, ap, subst, arith, append_assoc, append-nil, length-append, length-drop, Some, None, Result, Ok, Err, OnOk}
 use Rattle.std.proofs.lemmas.List.{drop_all, drop-append-le, take-append-drop, reverse-append}
 use Rattle.std.specs.List.{concat}
 use Rattle.std.specs.Option.{option_map, option_and_then}
 use lib.Seq.{take_at, drop_at, take-append_seam, drop-append_seam, take-append-le}
 use Rattle.node_core.specs.TraceLine.{TraceLine}
-use Rattle.table_run.specs.State.{State, step, one_more, run}
+use Rattle.table_run.specs.State.{State, one_more, run}
 use Rattle.table_run.proofs.Runs.{run_parts, run_length}
 use Rattle.net_machine.specs.Run.{Reached, Stepped}
 use Rattle.trace_text.specs.Line.{line_bytes}

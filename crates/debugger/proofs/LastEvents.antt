@@ -1,6 +1,7 @@
 -- The first breakpoint that matches a line, and whether a run is at its end.
-use Rattle.std.proofs.Common.{◌≡◌, ◌<◌, ◌≤◌, ◌+◌, ◌∙◌, ℕ, suc, List, ◌∷◌, ◌++◌, Bool, true, false, not, cond, length, take, drop, get_or, refl, sym, ap, subst, arith, Option, Some, None, is_none}
-use Rattle.std.specs.Prelude.{nat_lt}
+use Rattle.std.proofs.Common.{◌≡◌, ◌<◌, ◌≤◌, ◌+◌, ◌∙◌, ℕ, List, ◌∷◌, ◌++◌, Bool, true, false, not, cond, length, take, drop, get_or, refl, sym, ap, subst, arith, Option, Some, None, is_none, length-append, true≢false, Result, Ok, Err, IfOk}
+use Rattle.std.specs.Prelude.{◌↔◌, IsTrue, nat_lt, is_some}
+use Rattle.std.proofs.Math.Seq.{get_or-append_seam}
 use Rattle.std.specs.Option.{option_map}
 use Rattle.std.proofs.lemmas.List.{drop_more, length-take-le, take-append-drop, get_or-take}
 use Rattle.sim_time.specs.declared.key.Key.{Key}
@@ -11,29 +12,49 @@ use Rattle.node_core.specs.TraceLine.{TraceLine}
 use Rattle.table_run.specs.State.{State, below, due}
 use Rattle.debugger.specs.declared.breaks.Break.{Break}
 use Rattle.debugger.specs.declared.breaks.Hit.{Hit}
-use Rattle.debugger.specs.Breaks.{Matches, IsHit, HitsFirst}
+use Rattle.debugger.specs.Breaks.{Matches, IsHit, HitsFirst, IsFirstHit}
+use Rattle.net_machine.specs.Run.{Reached, Stepped}
+use Rattle.debugger.specs.declared.fault.MoveFault.{MoveFault}
+use Rattle.debugger.specs.declared.passed.LastEvent.{LastEvent}
+use Rattle.debugger.specs.LastEvents.{IsLastEvent}
+use Rattle.debugger.specs.Moves.{Passes}
 
--- none of the first so many matches
-abbrev pub NoneOfFirst : List Break → TraceLine → ℕ → Type 0
-NoneOfFirst breaks line n = (k : ℕ) (d : Break) → k < n → Matches (get_or breaks k d) line → ⊥
+module _ (breaks : List Break) (old : State) (line : TraceLine) (new : State) where
+  -- none of the first so many matches
+  abbrev pub NoneOfFirst : ℕ → Type 0
+  NoneOfFirst n = (k : ℕ) (d : Break) → k < n → Matches (get_or breaks k d) old line new → ⊥
 
-pub hits_first : (breaks : List Break) (line : TraceLine) (i : ℕ) (b : Break) → i < length breaks → b ≡ get_or breaks i b → NoneOfFirst breaks line i → Matches b line → HitsFirst breaks line (record { number = i + 1; breakpoint = b })
-hits_first breaks line i b within value none hit =
-    let here : drop i breaks ≡ b ∷ drop (i + 1) breaks = drop_more breaks i b within ∙ ap (λ x. x ∷ drop (i + 1) breaks) (sym value) in
-    let size : length (take i breaks) ≡ i = length-take-le i breaks (omega (arith, within)) in
-    record {
-      before = take i breaks;
-      after = drop (i + 1) breaks;
-      parted = sym (take-append-drop i breaks) ∙ ap (λ l. take i breaks ++ l) here;
-      at = omega (arith, size);
-      missed = λ has.
-          let under : has.0 < i = omega (arith, has.2, size) in
-          none has.0 has.1 under (subst (λ (c : Break). Matches c line) (sym (sym (get_or-take i breaks has.0 has.1 under) ∙ has.3)) has.4);
-      matches = hit;
-    }
+  pub hits_first : (i : ℕ) (b : Break) → i < length breaks → b ≡ get_or breaks i b → NoneOfFirst i → Matches b old line new → HitsFirst breaks old line new (record { number = i + 1; breakpoint = b })
+  hits_first i b within value none hit =
+      let here : drop i breaks ≡ b ∷ drop (i + 1) breaks = drop_more breaks i b within ∙ ap (λ x. x ∷ drop (i + 1) breaks) (sym value) in
+      let size : length (take i breaks) ≡ i = length-take-le i breaks (omega (arith, within)) in
+      record {
+        before = take i breaks;
+        after = drop (i + 1) breaks;
+        parted = sym (take-append-drop i breaks) ∙ ap (λ l. take i breaks ++ l) here;
+        at = omega (arith, size);
+        missed = λ has.
+            let under : has.0 < i = omega (arith, has.2, size) in
+            none has.0 has.1 under (subst (λ (c : Break). Matches c old line new) (sym (sym (get_or-take i breaks has.0 has.1 under) ∙ has.3)) has.4);
+        matches = hit;
+      }
 
-pub hits_none : (breaks : List Break) (line : TraceLine) (n : ℕ) → length breaks ≤ n → NoneOfFirst breaks line n → ¬ IsHit breaks line
-hits_none breaks line n all none = λ has. none has.0 has.1 (omega (arith, has.2, all)) (subst (λ (c : Break). Matches c line) (sym has.3) has.4)
+  pub hits_none : (n : ℕ) → length breaks ≤ n → NoneOfFirst n → ¬ IsHit breaks old line new
+  hits_none n all none = λ has. none has.0 has.1 (omega (arith, has.2, all)) (subst (λ (c : Break). Matches c old line new) (sym has.3) has.4)
+
+  -- one of them matches where there is a first
+  pub hit_first : (hit : Hit) → HitsFirst breaks old line new hit → IsHit breaks old line new
+  hit_first hit first = (length first.before, hit.breakpoint, within, there, first.matches)
+    where
+      within : length first.before < length breaks
+      within = let size = ap length first.parted in let both = length-append first.before (hit.breakpoint ∷ first.after) in omega (arith, size, both)
+
+      there : get_or breaks (length first.before) hit.breakpoint ≡ hit.breakpoint
+      there = ap (λ l. get_or l (length first.before) hit.breakpoint) first.parted ∙ get_or-append_seam first.before hit.breakpoint first.after hit.breakpoint
+
+  pub found_any : (o : Option Hit) → IsFirstHit breaks old line new o → IsTrue (is_some o) ↔ IsHit breaks old line new
+  found_any None none = (λ e. absurd (true≢false (sym e)), λ hit. absurd (none hit))
+  found_any (Some hit) first = (λ _. hit_first hit first, λ _. refl)
 
 -- whether something is due, by the key that is next
 pub none_is_due : (s : State) → next_key s.pending ≡ None → is_none (due s) ≡ true
@@ -55,3 +76,14 @@ is_due_below s k e = go (least s.pending) refl
     go (Some entry) is =
         let same : entry.0 ≡ k = same_some entry.0 k (sym (ap (option_map (λ (x : Key × Event). x.0)) is) ∙ e) in
         test entry (nat_lt entry.0.time s.end) ∙ ap (λ (q : Key). not (nat_lt q.time s.end)) same
+
+-- what is told of the line to a position
+pub last_event : (start : State) (breaks : List Break) (old new : Reached) (line : TraceLine) (p : ℕ) (r : Result LastEvent MoveFault) → Passes start old → Stepped old (Some line) new → p ≡ new.position
+    → IfOk r (λ event. event.time ≡ line.key.time) → IfOk r (λ event. IsFirstHit breaks old.state line new.state event.hit) → IfOk r (IsLastEvent start breaks p)
+last_event start breaks old new line p (Ok event) at next here time first = record {
+  line = line;
+  given = record { before = old; after = new.state; passes = at; gives = next.0; is_next = here ∙ next.1 };
+  time = time;
+  first = first;
+}
+last_event start breaks old new line p (Err fault) at next here time first = tt

@@ -9,3 +9,5 @@ pub mod TakenOut
 pub mod Between
 pub mod LastEvents
 mod Backward
+mod Judged
+mod Sent

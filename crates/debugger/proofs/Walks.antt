@@ -14,9 +14,7 @@ use Rattle.table_run.specs.Sound.{EachEvent}
 use Rattle.table_run.proofs.Runs.{of_step, of_run, run_parts}
 use Rattle.table_run.proofs.Due.{least_time, is_due}
 use Rattle.net_machine.specs.Run.{Reached, Stepped}
-use Rattle.debugger.specs.declared.breaks.Break.{Break}
-use Rattle.debugger.specs.Breaks.{IsHit}
-use Rattle.debugger.specs.Moves.{Passes, HasPosition, EndsAt, GivesAt, StopsAt, NoneBefore, StepGoesTo, RunGoesTo, UntilGoesTo, IsTooLong}
+use Rattle.debugger.specs.Moves.{Passes, HasPosition, EndsAt, GivesAt, StopsBy, NoneBefore, StepGoesTo, RunsTo, UntilGoesTo, IsTooLong}
 
 -- a run begins at its first state
 pub passes_start : (start : State) → Passes start (record { state = start; position = 0 })
@@ -95,45 +93,49 @@ same_line start a b p x y =
     let same = same_state start x.before y.before x.passes y.passes (omega (arith, x.is_next, y.is_next)) in
     ap (λ (q : TraceLine × State). q.0) (same_some (a, x.after) (b, y.after) (sym x.gives ∙ ap step same ∙ y.gives))
 
-pub gives_next : (start : State) (old new : Reached) (line : TraceLine) → Passes start old → Stepped old (Some line) new → GivesAt start line new.position
+abbrev pub gives_next : (start : State) (old new : Reached) (line : TraceLine) → Passes start old → Stepped old (Some line) new → GivesAt start line new.position
 gives_next start old new line at next = record { before = old; after = new.state; passes = at; gives = next.0; is_next = next.1 }
 
--- no line from past one position up to another matches a breakpoint
-abbrev pub NoneHit : State → List Break → ℕ → ℕ → Type 0
-NoneHit start breaks m p = (q : ℕ) → m < q → q ≤ p → StopsAt start breaks q → ⊥
+module _ (P : State → TraceLine → State → Type 0) where
+  -- P holds of no line from past one position up to another
+  abbrev pub NoneBy : State → ℕ → ℕ → Type 0
+  NoneBy start m p = (q : ℕ) → m < q → q ≤ p → StopsBy P start q → ⊥
 
-pub none_hit_yet : (start : State) (breaks : List Break) (m : ℕ) → NoneHit start breaks m m
-none_hit_yet start breaks m q above upto stops = absurd (omega (arith, above, upto))
+  pub none_by_yet : (start : State) (m : ℕ) → NoneBy start m m
+  none_by_yet start m q above upto stops = absurd (omega (arith, above, upto))
 
-pub none_hit_next : (start : State) (breaks : List Break) (m : ℕ) (old new : Reached) (line : TraceLine) → NoneHit start breaks m old.position → Passes start old → Stepped old (Some line) new → (IsHit breaks line → ⊥)
-    → NoneHit start breaks m new.position
-none_hit_next start breaks m old new line none at next missed q above upto stops =
-    ⊎_elim
-    (λ (before : q < new.position). none q above (omega (arith, before, next.1)) stops)
-    (λ (from : new.position ≤ q).
-    let here : q ≡ new.position = omega (arith, from, upto) in
-    let same = same_line start stops.line line new.position (subst (GivesAt start stops.line) here stops.given) (gives_next start old new line at next) in
-    missed (subst (IsHit breaks) same stops.hit))
-    (cases_lt q new.position)
+  -- the step to a position is one
+  same_stop : (start : State) (old new : Reached) (line : TraceLine) (p : ℕ) → p ≡ new.position → Passes start old → Stepped old (Some line) new → StopsBy P start p → P old.state line new.state
+  same_stop start old new line p here at next stops =
+      let given = stops.given in
+      let before = same_state start given.before old given.passes at (let is = given.is_next in omega (arith, is, here, next.1)) in
+      let both : (stops.line, given.after) ≡ (line, new.state) = same_some (stops.line, given.after) (line, new.state) (sym given.gives ∙ ap step before ∙ next.0) in
+      subst (λ (x : State × TraceLine × State). P x.0 x.1 x.2) (λ i. (before i, (both i).0, (both i).1)) stops.hit
 
--- `run` stops at the first line that matches
-pub run_stopped : (start : State) (breaks : List Break) (m : ℕ) (old new : Reached) (line : TraceLine) → NoneHit start breaks m old.position → m ≤ old.position → Passes start old → Stepped old (Some line) new → IsHit breaks line
-    → RunGoesTo start breaks m new.position
-run_stopped start breaks m old new line none from at next hit = record {
-  holds = inl ((omega (arith, from, next.1)), record { line = line; given = gives_next start old new line at next; hit = hit });
-  least = λ q. ⊎_elim
-      (λ (stops : (m < q) × StopsAt start breaks q). ⊎_elim (λ (before : q < new.position). absurd (none q stops.0 (omega (arith, before, next.1)) stops.1)) (λ (h : new.position ≤ q). h) (cases_lt q new.position))
-      (λ (ends : EndsAt start q). end_last start q new ends (passes_next start old new line at next));
-}
+  pub none_by_next : (start : State) (m : ℕ) (old new : Reached) (line : TraceLine) → NoneBy start m old.position → Passes start old → Stepped old (Some line) new → (P old.state line new.state → ⊥) → NoneBy start m new.position
+  none_by_next start m old new line none at next missed q above upto stops =
+      ⊎_elim
+      (λ (before : q < new.position). none q above (omega (arith, before, next.1)) stops)
+      (λ (from : new.position ≤ q). missed (same_stop start old new line q (omega (arith, from, upto)) at next stops))
+      (cases_lt q new.position)
 
--- or at the run's end
-pub run_ended : (start : State) (breaks : List Break) (m : ℕ) (at : Reached) → NoneHit start breaks m at.position → Passes start at → step at.state ≡ None → RunGoesTo start breaks m at.position
-run_ended start breaks m at none here no_more = record {
-  holds = inr (end_here start at here no_more);
-  least = λ q. ⊎_elim
-      (λ (stops : (m < q) × StopsAt start breaks q). ⊎_elim (λ (before : q < at.position). absurd (none q stops.0 (omega (arith, before)) stops.1)) (λ (h : at.position ≤ q). h) (cases_lt q at.position))
-      (λ (ends : EndsAt start q). end_last start q at ends here);
-}
+  -- a run stops at the first line of which P holds
+  pub run_stopped : (start : State) (m : ℕ) (old new : Reached) (line : TraceLine) → NoneBy start m old.position → m ≤ old.position → Passes start old → Stepped old (Some line) new → P old.state line new.state → RunsTo P start m new.position
+  run_stopped start m old new line none from at next hit = record {
+    holds = inl ((omega (arith, from, next.1)), record { line = line; given = gives_next start old new line at next; hit = hit });
+    least = λ q. ⊎_elim
+        (λ (stops : (m < q) × StopsBy P start q). ⊎_elim (λ (before : q < new.position). absurd (none q stops.0 (omega (arith, before, next.1)) stops.1)) (λ (h : new.position ≤ q). h) (cases_lt q new.position))
+        (λ (ends : EndsAt start q). end_last start q new ends (passes_next start old new line at next));
+  }
+
+  -- or at the run's end
+  pub run_ended : (start : State) (m : ℕ) (at : Reached) → NoneBy start m at.position → Passes start at → step at.state ≡ None → RunsTo P start m at.position
+  run_ended start m at none here no_more = record {
+    holds = inr (end_here start at here no_more);
+    least = λ q. ⊎_elim
+        (λ (stops : (m < q) × StopsBy P start q). ⊎_elim (λ (before : q < at.position). absurd (none q stops.0 (omega (arith, before)) stops.1)) (λ (h : at.position ≤ q). h) (cases_lt q at.position))
+        (λ (ends : EndsAt start q). end_last start q at ends here);
+  }
 
 -- nothing before a time is pending below the end
 abbrev NothingBefore : ℕ → State → Type 0

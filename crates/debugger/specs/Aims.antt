@@ -1,18 +1,19 @@
 -- What a move by windows looks for, and where it goes.
-use Rattle.std.specs.Prelude.{◌≡◌, ◌≤◌, ◌+◌, ◌-◌, ℕ, false, Option, None, Some}
+use Rattle.std.specs.Prelude.{◌≡◌, ◌≤◌, ◌+◌, ◌-◌, ℕ, false, List, Option, None, Some}
 use Rattle.node_core.specs.TraceLine.{TraceLine}
 use Rattle.table_run.specs.State.{State}
 use Rattle.window_core.specs.Batches.{BatchValue}
 use Rattle.debugger.specs.declared.aim.Aim.{Aim}
 use Rattle.debugger.specs.declared.aim.Aim.TheVariants.{Hit, Moment}
-use Rattle.debugger.specs.Breaks.{IsHit}
+use Rattle.debugger.specs.declared.breaks.Break.{Break}
+use Rattle.debugger.specs.Breaks.{IsLineHit}
 use Rattle.debugger.specs.declared.course.Course.{Course}
 use Rattle.debugger.specs.Courses.{IsOnWay, IsFirst, HasNone}
-use Rattle.debugger.specs.Moves.{Passes, HasPosition, RunGoesTo, UntilGoesTo}
+use Rattle.debugger.specs.Moves.{Passes, HasPosition, RunsTo, UntilGoesTo}
 
--- a breakpoint matches the line; or it is at a moment, or past it
+-- the line meets the conditions of a breakpoint; or it is at a moment, or past it
 abbrev pub IsMet : Aim → TraceLine → Type 0
-IsMet (Hit breaks) line = IsHit breaks.now line
+IsMet (Hit breaks) line = IsLineHit breaks.now line
 IsMet (Moment time) line = time ≤ line.key.time
 
 -- the position behind the line of an index, or before it
@@ -25,9 +26,13 @@ abbrev pub EndsIn : Aim → BatchValue → Option ℕ → Type 0
 EndsIn aim batch None = HasNone (IsMet aim) batch
 EndsIn aim batch (Some p) = (index : ℕ) × IsFirst (IsMet aim) batch index × (p ≡ end_at aim batch index)
 
--- where a move from m goes: `run`, or `until`
+-- the same, with the states before and after the line, which do not matter
+abbrev pub LineHit : List Break → State → TraceLine → State → Type 0
+LineHit breaks before line after = IsLineHit breaks line
+
+-- where a move from m goes: `run` with conditions on lines alone, or `until`
 abbrev pub GoesTo : State → Aim → ℕ → ℕ → Type 0
-GoesTo start (Hit breaks) m = RunGoesTo start breaks.now m
+GoesTo start (Hit breaks) m = RunsTo (LineHit breaks.now) start m
 GoesTo start (Moment time) m = UntilGoesTo start time m
 
 -- a move from m ends in the last window of a course, at a position that its net behind is not past; or with the run, where the course stands

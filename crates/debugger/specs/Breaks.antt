@@ -1,5 +1,5 @@
--- Which lines of the trace a breakpoint matches.
-use Rattle.std.specs.Prelude.{◌≡◌, ◌+◌, ℕ, Bool, true, false, IsTrue, List, ◌∷◌, ◌++◌, length, Any, Option, None, Some}
+-- Which lines of the trace a breakpoint matches, with the states before and after them.
+use Rattle.std.specs.Prelude.{◌≡◌, ◌==◌, ◌+◌, ℕ, Bool, true, false, IsTrue, IsSome, List, ◌∷◌, ◌++◌, length, Any, Option, None, Some, IfSome}
 use Rattle.std.specs.List.{list_any}
 use Rattle.packet_chain.specs.declared.packet.Kind.{Kind}
 use Rattle.packet_chain.specs.declared.packet.Kind.TheVariants.{Data, Ack}
@@ -8,10 +8,15 @@ use Rattle.port.specs.declared.acts.Act.TheVariants.{Tx, Dropped}
 use Rattle.node_core.specs.declared.event.Event.{Event}
 use Rattle.node_core.specs.declared.event.Event.TheVariants.{Start, Rto, DelAck, Free, Arrive}
 use Rattle.node_core.specs.TraceLine.{TraceLine}
+use Rattle.table_run.specs.State.{State}
+use Rattle.flow_waits.specs.Stalled.{becomes_stalled}
 use Rattle.debugger.specs.declared.breaks.EventKind.{EventKind}
 use Rattle.debugger.specs.declared.breaks.EventKind.TheVariants.{Start as StartWord, Rto as RtoWord, DelAck as DelAckWord, Free as FreeWord, Data as DataWord, Ack as AckWord}
 use Rattle.debugger.specs.declared.breaks.Break.{Break}
-use Rattle.debugger.specs.declared.breaks.Break.TheVariants.{Node, Flow, Kind as OfKind, Drop}
+use Rattle.debugger.specs.declared.breaks.Condition.{Condition}
+use Rattle.debugger.specs.declared.breaks.Condition.TheVariants.{Node, Flow, Kind as OfKind, Drop, Link, Byte, Stall}
+use Rattle.debugger.specs.declared.breaks.StallOf.{StallOf}
+use Rattle.debugger.specs.declared.breaks.StallOf.TheVariants.{Any as AnyFlow, Flow as OneFlow}
 use Rattle.debugger.specs.declared.breaks.Hit.{Hit}
 
 -- the flow that an event names: none where a link becomes free
@@ -36,32 +41,95 @@ kind_of (Arrive packet) = arrival_kind packet.kind
 
 abbrev pub is_drop : Act → Bool
 is_drop (Tx link packet) = false
-is_drop (Dropped reason packet) = true
+is_drop (Dropped link reason packet) = true
 
--- which lines a breakpoint matches: by the node of the key, the flow or the kind of the event, or that a packet was dropped
-abbrev pub Matches : Break → TraceLine → Type 0
-Matches (Node node) line = line.key.node ≡ node
-Matches (Flow flow) line = flow_of line.event ≡ Some flow
-Matches (OfKind kind) line = kind_of line.event ≡ kind
-Matches Drop line = IsTrue (list_any is_drop line.acts)
+-- the link of an act: that which sends the packet, or drops it
+abbrev pub link_of : Act → ℕ
+link_of (Tx link packet) = link
+link_of (Dropped link reason packet) = link
 
--- one of the breakpoints matches a line
-abbrev pub IsHit : List Break → TraceLine → Type 0
-IsHit breaks line = Any (λ b. Matches b line) breaks
+abbrev pub is_at_link : ℕ → Act → Bool
+is_at_link link act = link_of act == link
 
--- a breakpoint is the first that matches a line
-pub record HitsFirst (breaks : List Break) (line : TraceLine) (hit : Hit) : Type 0 where
+-- a packet of a flow begins to be sent
+abbrev pub is_sent_of : ℕ → Act → Bool
+is_sent_of flow (Tx link packet) = packet.flow == flow
+is_sent_of flow (Dropped link reason packet) = false
+
+-- the flow that starts, or of which a packet arrives, begins to send a packet by the event
+abbrev pub sends_own : Event → List Act → Bool
+sends_own (Start flow) acts = list_any (is_sent_of flow) acts
+sends_own (Rto flow) acts = false
+sends_own (DelAck flow) acts = false
+sends_own (Free link) acts = false
+sends_own (Arrive packet) acts = list_any (is_sent_of packet.flow) acts
+
+-- what an arriving packet carries: the first byte of a segment, or the number of an acknowledgement
+abbrev pub byte_of : Event → Option ℕ
+byte_of (Start flow) = None
+byte_of (Rto flow) = None
+byte_of (DelAck flow) = None
+byte_of (Free link) = None
+byte_of (Arrive packet) = Some packet.number
+
+-- the breakpoint that every line matches
+abbrev pub asks_nothing : Break
+asks_nothing = record { node = None; flow = None; kind = None; drops = false; link = None; byte = None; stall = None }
+
+-- one condition more, in the place of another of its sort
+abbrev pub asking : Break → Condition → Break
+asking b (Node node) = record b { node = Some node }
+asking b (Flow flow) = record b { flow = Some flow }
+asking b (OfKind kind) = record b { kind = Some kind }
+asking b Drop = record b { drops = true }
+asking b (Link link) = record b { link = Some link }
+asking b (Byte byte) = record b { byte = Some byte }
+asking b (Stall asked) = record b { stall = Some asked }
+
+-- a line meets each condition that a breakpoint asks for, of those on lines
+pub record MeetsLine (b : Break) (line : TraceLine) : Type 0 where
+  pub node : IfSome b.node (λ node. line.key.node ≡ node)
+  pub flow : IfSome b.flow (λ flow. flow_of line.event ≡ Some flow)
+  pub kind : IfSome b.kind (λ kind. kind_of line.event ≡ kind)
+  pub drops : IsTrue b.drops → IsTrue (list_any is_drop line.acts)
+  pub link : IfSome b.link (λ link. IsTrue (list_any (is_at_link link) line.acts))
+  pub byte : IfSome b.byte (λ byte. byte_of line.event ≡ Some byte)
+
+-- the flow that is asked for, or some flow, is stalled in a state, and was not in the one before
+abbrev pub Stalls : StallOf → State → State → Type 0
+Stalls AnyFlow before after = (flow : ℕ) × (becomes_stalled flow before after ≡ true)
+Stalls (OneFlow flow) before after = becomes_stalled flow before after ≡ true
+
+-- a breakpoint matches a line of a run, from the state before it to that after it: the line meets each condition, and by it a flow becomes stalled, where that is asked for
+pub record Matches (b : Break) (before : State) (line : TraceLine) (after : State) : Type 0 where
+  pub meets : MeetsLine b line
+  pub stalls : IfSome b.stall (λ asked. Stalls asked before after)
+
+-- one of the breakpoints matches
+abbrev pub IsHit : List Break → State → TraceLine → State → Type 0
+IsHit breaks before line after = Any (λ b. Matches b before line after) breaks
+
+-- a breakpoint is the first that matches
+pub record HitsFirst (breaks : List Break) (old : State) (line : TraceLine) (new : State) (hit : Hit) : Type 0 where
   pub before : List Break
   pub after : List Break
   pub parted : breaks ≡ before ++ hit.breakpoint ∷ after
   pub at : hit.number ≡ length before + 1
-  pub missed : ¬ IsHit before line
-  pub matches : Matches hit.breakpoint line
+  pub missed : ¬ IsHit before old line new
+  pub matches : Matches hit.breakpoint old line new
 
 -- the first that matches, or none does
-abbrev pub IsFirstHit : List Break → TraceLine → Option Hit → Type 0
-IsFirstHit breaks line None = ¬ IsHit breaks line
-IsFirstHit breaks line (Some hit) = HitsFirst breaks line hit
+abbrev pub IsFirstHit : List Break → State → TraceLine → State → Option Hit → Type 0
+IsFirstHit breaks old line new None = ¬ IsHit breaks old line new
+IsFirstHit breaks old line new (Some hit) = HitsFirst breaks old line new hit
+
+-- a breakpoint asks for a stall
+abbrev pub AsksStall : List Break → Type 0
+AsksStall breaks = Any (λ b. IsSome b.stall) breaks
+
+-- a line meets the conditions of one of the breakpoints: where none asks for a stall, that one matches
+abbrev pub IsLineHit : List Break → TraceLine → Type 0
+IsLineHit breaks line = Any (λ b. MeetsLine b line) breaks
 
 -- the breakpoint at an index was taken out, and the others stay in their order
 pub record IsTakenOut (old new : List Break) (index : ℕ) (b : Break) : Type 0 where

@@ -12,4 +12,4 @@ pub record IsLastEvent (start : State) (breaks : List Break) (p : ℕ) (event : 
   pub line : TraceLine
   pub given : GivesAt start line p
   pub time : event.time ≡ line.key.time
-  pub first : IsFirstHit breaks line event.hit
+  pub first : IsFirstHit breaks given.before.state line given.after event.hit

@@ -32,11 +32,15 @@ pub record GivesAt (start : State) (line : TraceLine) (p : ℕ) : Type 0 where
   pub gives : step before.state ≡ Some (line, after)
   pub is_next : p ≡ before.position + 1
 
--- a breakpoint matches the last line of the run to a position
-pub record StopsAt (start : State) (breaks : List Break) (p : ℕ) : Type 0 where
+-- P holds of the last line of the run to a position, with the states before and after it
+pub record StopsBy (P : State → TraceLine → State → Type 0) (start : State) (p : ℕ) : Type 0 where
   pub line : TraceLine
   pub given : GivesAt start line p
-  pub hit : IsHit breaks line
+  pub hit : P given.before.state line given.after
+
+-- a breakpoint matches the last line of the run to a position
+abbrev pub StopsAt : State → List Break → ℕ → Type 0
+StopsAt start breaks = StopsBy (IsHit breaks) start
 
 -- at a position no event is pending below a time and below the end
 pub record NoneBefore (start : State) (time : ℕ) (p : ℕ) : Type 0 where
@@ -53,9 +57,13 @@ pub record IsLeast (P : ℕ → Type 0) (p : ℕ) : Type 0 where
 abbrev pub StepGoesTo : State → ℕ → ℕ → ℕ → Type 0
 StepGoesTo start m k = IsLeast (λ p. (p ≡ m + k) ⊎ EndsAt start p)
 
+-- from m to the least position past m of whose line P holds, or to the run's end where there is none
+abbrev pub RunsTo : (State → TraceLine → State → Type 0) → State → ℕ → ℕ → Type 0
+RunsTo P start m = IsLeast (λ p. ((m < p) × StopsBy P start p) ⊎ EndsAt start p)
+
 -- `run` from m: to the least position past m whose line matches, or to the run's end where there is none
 abbrev pub RunGoesTo : State → List Break → ℕ → ℕ → Type 0
-RunGoesTo start breaks m = IsLeast (λ p. ((m < p) × StopsAt start breaks p) ⊎ EndsAt start p)
+RunGoesTo start breaks = RunsTo (IsHit breaks) start
 
 -- `until` a time from m: to the least position from m on at which no event before it is pending below the end
 abbrev pub UntilGoesTo : State → ℕ → ℕ → ℕ → Type 0

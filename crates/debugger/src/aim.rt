@@ -12,7 +12,7 @@ use window_core::Batch;
 /// What a move by windows looks for.
 #[derive(Clone, Copy)]
 pub(crate) enum Aim<'a> {
-    /// The position behind the next line that a breakpoint matches.
+    /// The position behind the next line that meets the conditions of a breakpoint, a stall aside.
     Hit(&'a Breaks),
     /// The position before the next line at a moment, in nanoseconds, or past it.
     Moment(Time),
@@ -24,7 +24,7 @@ impl Aim<'_> {
         ensures { IsTrue result ↔ IsMet self.now (shown line.now) }
     {
         match self {
-            Aim::Hit(breaks) => breaks.hits(line),
+            Aim::Hit(breaks) => breaks.hits_line(line),
             Aim::Moment(time) => line.key.time >= *time,
         }
     }

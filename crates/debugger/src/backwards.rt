@@ -1,6 +1,8 @@
 //! Back to the last line before a position that a breakpoint matches.
-ghost use Rattle.std.specs.Prelude.{◌≡◌, ◌≢◌, ◌+◌, ◌<◌, ◌≤◌, IfOk, IfErr};
-ghost use Rattle.debugger.specs.Backwards.{FindsLast, IsSearched};
+ghost use Rattle.std.specs.Prelude.{◌≡◌, ◌≢◌, ◌+◌, ◌<◌, ◌≤◌, Some, IfOk, IfErr};
+ghost use Rattle.node_core.specs.TraceLine.{shown};
+ghost use Rattle.net_machine.specs.Run.{Reached, IsRun, Stepped};
+ghost use Rattle.debugger.specs.Backwards.{FindsLast, IsLaterStop, IsSearched};
 ghost use Rattle.debugger.specs.Moves.{Passes, HasPosition, ReverseGoesTo, IsTooLong};
 
 use crate::breaks::Breaks;
@@ -10,6 +12,7 @@ use crate::reached::net_at;
 use crate::saved::Saved;
 use net_machine::Net;
 use node_core::Line;
+use std::alloc::AllocError;
 
 /// What was found in a stretch of the run that was run again.
 #[derive(Drop)]
@@ -18,6 +21,23 @@ struct Searched {
     from: u64,
     /// The last position in it whose line a breakpoint matches.
     found: Option<u64>,
+}
+
+/// The position of a net, where a breakpoint matches the line that led to it; and else what was found before.
+#[tactic(none)]
+fn later_stop(
+    found: Option<u64>,
+    net: &Net,
+    line: &Line,
+    breaks: &Breaks,
+) -> Result<Option<u64>, AllocError>
+    ensures { (before : Reached) → IsRun before → Stepped before (Some (shown line.now)) net.now → IfOk result (IsLaterStop breaks.now before (shown line.now) net.now found) }
+{
+    match breaks.hits(net, line) {
+        Ok(true) => Ok(Some(net.position())),
+        Ok(false) => Ok(found),
+        Err(fault) => Err(fault),
+    }
 }
 
 /// Runs events up to a position, and answers the last position on the way whose line a breakpoint
@@ -41,12 +61,14 @@ fn last_stop(
     let mut found = None;
     let count = upto - net.position();
     for passed in 0..count {
+        let _before = net.position();
         match run_next(net, saved, line) {
             Ok(()) => {}
             Err(fault) => return Err(fault),
         }
-        if breaks.hits(line) {
-            found = Some(net.position());
+        match later_stop(found, net, line, breaks) {
+            Ok(stop) => found = stop,
+            Err(_) => return Err(MoveFault::NoMemory),
         }
     }
     Ok(found)

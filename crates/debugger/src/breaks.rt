@@ -1,13 +1,17 @@
-//! Breakpoints: which lines of the trace a run stops at.
-ghost use Rattle.std.specs.Prelude.{◌≡◌, ◌↔◌, ◌<◌, ◌≤◌, [], ◌∷◌, ◌++◌, Contains, IsTrue, MatchBool, IfOk, IfErr, OnErr, length, slice_index_or};
+//! Breakpoints: which events of a run it stops at.
+ghost use Rattle.std.specs.Prelude.{◌≡◌, ◌↔◌, ◌<◌, ◌≤◌, [], ◌∷◌, ◌++◌, Contains, IsTrue, IsSome, MatchBool, Some, IfSome, IfOk, IfErr, OnErr, length, slice_index_or};
 ghost use Rattle.std.specs.List.{list_any};
 ghost use Rattle.node_core.specs.TraceLine.{shown};
-ghost use Rattle.debugger.specs.Breaks.{flow_of, kind_of, is_drop, Matches, IsHit, IsFirstHit, IsTakenOut};
+ghost use Rattle.net_machine.specs.Run.{Reached, IsRun, Stepped};
+ghost use Rattle.flow_waits.specs.Stalled.{becomes_stalled as becomes_stalled_by};
+ghost use Rattle.debugger.specs.Breaks.{flow_of, kind_of, byte_of, is_drop, link_of, is_at_link, is_sent_of, sends_own, asking, asks_nothing, MeetsLine, Stalls, Matches, IsHit, IsFirstHit, AsksStall, IsLineHit, IsTakenOut};
 
+use flow_waits::{becomes_stalled, some_becomes_stalled};
+use net_machine::Net;
 use node_core::{Event, Line};
 use packet_chain::Kind;
 use port::Act;
-use std::alloc::Global;
+use std::alloc::{AllocError, Global};
 use std::marker::Model;
 
 /// The most breakpoints that are set at one time.
@@ -30,17 +34,51 @@ pub enum EventKind {
     Ack,
 }
 
-/// What a run stops at.
+/// Which flow is asked to become stalled.
 #[derive(Clone, Copy, Debug, PartialEq, Eq)]
-pub enum Break {
-    /// An event at the node of this number.
-    Node(u16),
-    /// An event that names the flow of this number, at whatever node.
+pub enum StallOf {
+    /// Any.
+    Any,
+    /// That of this number.
     Flow(u16),
-    /// An event of a kind.
+}
+
+/// What an event can be asked to meet.
+#[derive(Clone, Copy, Debug, PartialEq, Eq)]
+pub enum Condition {
+    /// The event is at the node of this number.
+    Node(u16),
+    /// The event names the flow of this number, at whatever node.
+    Flow(u16),
+    /// The event is of a kind.
     Kind(EventKind),
-    /// An event that drops a packet.
+    /// The event drops a packet.
     Drop,
+    /// The link of this number begins to send a packet, or drops one.
+    Link(u16),
+    /// A segment arrives that begins with this byte, or an acknowledgement of this number.
+    Byte(u64),
+    /// A flow is stalled after the event, and was not before it.
+    Stall(StallOf),
+}
+
+/// What a run stops at: an event that meets each condition that is asked for.
+#[derive(Clone, Copy, Debug, PartialEq, Eq)]
+pub struct Break {
+    /// The node of the event.
+    pub node: Option<u16>,
+    /// The flow that the event names.
+    pub flow: Option<u16>,
+    /// The kind of the event.
+    pub kind: Option<EventKind>,
+    /// Whether a packet has to be dropped.
+    pub drops: bool,
+    /// The link that begins to send a packet, or drops one.
+    pub link: Option<u16>,
+    /// The first byte of the segment that arrives, or the number of the acknowledgement.
+    pub byte: Option<u64>,
+    /// The flow that is stalled after the event, and was not before it.
+    pub stall: Option<StallOf>,
 }
 
 /// A breakpoint that matches, among those that are set.
@@ -90,24 +128,258 @@ fn kind_of(event: &Event) -> EventKind
     }
 }
 
+/// The number of the packet that arrives: the first byte of a segment, or of an acknowledgement the
+/// byte that is awaited.
+fn byte_of(event: &Event) -> Option<u64>
+    ensures { result ≡ byte_of event.now }
+{
+    match event {
+        Event::Arrive(packet) => Some(packet.number),
+        _ => None,
+    }
+}
+
 /// Whether a packet was dropped.
 fn has_drop(acts: &[Act]) -> bool
     ensures { result ≡ list_any is_drop acts.now }
 {
-    acts.iter().any(|act| matches!(act, Act::Dropped(_, _)))
+    acts.iter().any(|act| matches!(act, Act::Dropped(_, _, _)))
+}
+
+/// The link of an act: that which sends the packet, or drops it.
+fn link_of(act: &Act) -> u16
+    ensures { result ≡ link_of act.now }
+{
+    match act {
+        Act::Tx(link, _) => *link,
+        Act::Dropped(link, _, _) => *link,
+    }
+}
+
+/// Whether one of these acts is a link's.
+fn has_act_at(link: u16, acts: &[Act]) -> bool
+    ensures { result ≡ list_any (is_at_link link) acts.now }
+{
+    acts.iter().any(|act| link_of(act) == link)
+}
+
+/// Whether a packet of a flow begins to be sent.
+fn has_sent_of(flow: u16, acts: &[Act]) -> bool
+    ensures { result ≡ list_any (is_sent_of flow) acts.now }
+{
+    for act in acts {
+        if is_sent_of(flow, act) {
+            return true;
+        }
+    }
+    false
+}
+
+/// Whether an act begins to send a packet of a flow.
+fn is_sent_of(flow: u16, act: &Act) -> bool
+    ensures { result ≡ is_sent_of flow act.now }
+{
+    match act {
+        Act::Tx(_, packet) => packet.flow == flow,
+        Act::Dropped(_, _, _) => false,
+    }
+}
+
+/// Whether the flow that starts, or of which a packet arrives, begins to send one.
+fn sends_own(event: &Event, acts: &[Act]) -> bool
+    ensures { result ≡ sends_own event.now acts.now }
+{
+    match event {
+        Event::Start(flow) => has_sent_of(*flow, acts),
+        Event::Rto(_) | Event::DelAck(_) | Event::Free(_) => false,
+        Event::Arrive(packet) => has_sent_of(packet.flow, acts),
+    }
+}
+
+/// Whether an event is at the node that is asked for.
+fn is_at(asked: Option<u16>, line: &Line) -> bool
+    ensures { IsTrue result ↔ IfSome asked (λ node. line.now.key.node ≡ node) }
+{
+    match asked {
+        Some(node) => line.key.node == node,
+        None => true,
+    }
+}
+
+/// Whether an event names the flow that is asked for.
+fn names_flow(asked: Option<u16>, event: &Event) -> bool
+    ensures { IsTrue result ↔ IfSome asked (λ flow. flow_of event.now ≡ Some flow) }
+{
+    match asked {
+        Some(flow) => flow_of(event) == Some(flow),
+        None => true,
+    }
+}
+
+/// Whether an event is of the kind that is asked for.
+fn is_of_kind(asked: Option<EventKind>, event: &Event) -> bool
+    ensures { IsTrue result ↔ IfSome asked (λ kind. kind_of event.now ≡ kind) }
+{
+    match asked {
+        Some(kind) => kind_of(event) == kind,
+        None => true,
+    }
+}
+
+/// Whether the packet that arrives has the byte that is asked for.
+fn has_byte(asked: Option<u64>, event: &Event) -> bool
+    ensures { IsTrue result ↔ IfSome asked (λ byte. byte_of event.now ≡ Some byte) }
+{
+    match asked {
+        Some(byte) => byte_of(event) == Some(byte),
+        None => true,
+    }
+}
+
+/// Whether a packet was dropped, where that is asked for.
+fn drops_as_asked(asked: bool, acts: &[Act]) -> bool
+    ensures { IsTrue result ↔ (IsTrue asked → IsTrue (list_any is_drop acts.now)) }
+{
+    !asked || has_drop(acts)
+}
+
+/// Whether a link sends or drops, where one is asked for.
+fn goes_by_link(asked: Option<u16>, acts: &[Act]) -> bool
+    ensures { IsTrue result ↔ IfSome asked (λ link. IsTrue (list_any (is_at_link link) acts.now)) }
+{
+    match asked {
+        Some(link) => has_act_at(link, acts),
+        None => true,
+    }
 }
 
 impl Break {
-    /// Whether this breakpoint matches a line.
-    pub fn matches(&self, line: &Line) -> bool
-        ensures { IsTrue result ↔ Matches self.now (shown line.now) }
+    /// The one that asks for a condition alone.
+    pub fn of(condition: Condition) -> Break
+        ensures { result ≡ asking asks_nothing condition }
     {
-        match self {
-            Break::Node(node) => line.key.node == *node,
-            Break::Flow(flow) => flow_of(&line.event) == Some(*flow),
-            Break::Kind(kind) => kind_of(&line.event) == *kind,
-            Break::Drop => has_drop(line.acts.as_slice()),
+        let none = Break {
+            node: None,
+            flow: None,
+            kind: None,
+            drops: false,
+            link: None,
+            byte: None,
+            stall: None,
+        };
+        none.and(condition)
+    }
+
+    /// One that asks for a condition too, in the place of another of its sort.
+    pub fn and(self, condition: Condition) -> Break
+        ensures { result ≡ asking self condition }
+    {
+        let mut b = self;
+        match condition {
+            Condition::Node(node) => b.node = Some(node),
+            Condition::Flow(flow) => b.flow = Some(flow),
+            Condition::Kind(kind) => b.kind = Some(kind),
+            Condition::Drop => b.drops = true,
+            Condition::Link(link) => b.link = Some(link),
+            Condition::Byte(byte) => b.byte = Some(byte),
+            Condition::Stall(asked) => b.stall = Some(asked),
         }
+        b
+    }
+
+    /// Whether a line meets each condition that this breakpoint asks for, a stall aside.
+    pub fn meets_line(&self, line: &Line) -> bool
+        ensures { IsTrue result ↔ MeetsLine self.now (shown line.now) }
+    {
+        is_at(self.node, line)
+            && names_flow(self.flow, &line.event)
+            && is_of_kind(self.kind, &line.event)
+            && drops_as_asked(self.drops, line.acts.as_slice())
+            && goes_by_link(self.link, line.acts.as_slice())
+            && has_byte(self.byte, &line.event)
+    }
+
+    /// Whether this breakpoint matches a line, after which a net stands.
+    pub fn matches(&self, alloc: Global, net: &Net, line: &Line) -> Result<bool, AllocError>
+        ensures { (before : Reached) → IsRun before → Stepped before (Some (shown line.now)) net.now → IfOk result (λ found. IsTrue found ↔ Matches self.now before.state (shown line.now) net.now.state) }
+    {
+        if self.meets_line(line) {
+            stalls_as_asked(self.stall, alloc, net, line)
+        } else {
+            Ok(false)
+        }
+    }
+}
+
+/// Whether a flow becomes stalled by a line, after which a net stands, where that is asked for.
+fn stalls_as_asked(
+    asked: Option<StallOf>,
+    alloc: Global,
+    net: &Net,
+    line: &Line,
+) -> Result<bool, AllocError>
+    ensures { (before : Reached) → IsRun before → Stepped before (Some (shown line.now)) net.now → IfOk result (λ found. IsTrue found ↔ IfSome asked (λ flow. Stalls flow before.state net.now.state)) }
+{
+    match asked {
+        Some(flow) => stalls(flow, alloc, net, line),
+        None => Ok(true),
+    }
+}
+
+/// Whether a flow that is asked for becomes stalled by a line, after which a net stands.
+fn stalls(flow: StallOf, alloc: Global, net: &Net, line: &Line) -> Result<bool, AllocError>
+    ensures { (before : Reached) → IsRun before → Stepped before (Some (shown line.now)) net.now → IfOk result (λ found. IsTrue found ↔ Stalls flow before.state net.now.state) }
+{
+    match flow {
+        StallOf::Any => some_stalls(alloc, net, line),
+        StallOf::Flow(number) => one_stalls(number, alloc, net, line),
+    }
+}
+
+/// Whether some flow becomes stalled by a line. One that begins to send does not, and nothing is looked for.
+fn some_stalls(alloc: Global, net: &Net, line: &Line) -> Result<bool, AllocError>
+    ensures { (before : Reached) → IsRun before → Stepped before (Some (shown line.now)) net.now → IfOk result (λ found. IsTrue found ↔ Stalls StallOf.Any before.state net.now.state) }
+{
+    if sends_own(&line.event, line.acts.as_slice()) {
+        Ok(false)
+    } else {
+        some_becomes_stalled(alloc, net, line)
+    }
+}
+
+/// The same of the flow of a number.
+fn one_stalls(number: u16, alloc: Global, net: &Net, line: &Line) -> Result<bool, AllocError>
+    ensures { (before : Reached) → IsRun before → Stepped before (Some (shown line.now)) net.now → IfOk result (λ found. found ≡ becomes_stalled_by number before.state net.now.state) }
+{
+    if has_sent_of(number, line.acts.as_slice()) {
+        Ok(false)
+    } else {
+        becomes_stalled(alloc, net, line, number)
+    }
+}
+
+/// Whether two breakpoints ask for the same node, flow and link.
+fn is_same_place(a: &Break, b: &Break) -> bool
+    ensures { IsTrue result ↔ ((a.now.node ≡ b.now.node) × (a.now.flow ≡ b.now.flow) × (a.now.link ≡ b.now.link)) }
+{
+    a.node == b.node && a.flow == b.flow && a.link == b.link
+}
+
+/// Whether two breakpoints ask for the same kind of event, drop, byte and stall.
+fn is_same_event(a: &Break, b: &Break) -> bool
+    ensures { IsTrue result ↔ ((a.now.kind ≡ b.now.kind) × (a.now.drops ≡ b.now.drops) × (a.now.byte ≡ b.now.byte) × (a.now.stall ≡ b.now.stall)) }
+{
+    a.kind == b.kind && a.drops == b.drops && a.byte == b.byte && a.stall == b.stall
+}
+
+/// Whether two breakpoints ask for the same.
+fn is_same(a: &Break, b: &Break) -> bool
+    ensures { IsTrue result ↔ (a.now ≡ b.now) }
+{
+    if is_same_place(a, b) {
+        is_same_event(a, b)
+    } else {
+        false
     }
 }
 
@@ -119,20 +391,42 @@ fn break_at(breaks: &[Break], index: usize) -> Break
     breaks[index]
 }
 
-/// The first of these breakpoints that matches a line.
-fn first_of(breaks: &[Break], line: &Line) -> Option<Hit>
-    ensures { IsFirstHit breaks.now (shown line.now) result }
+/// Whether a breakpoint is among these.
+pub fn is_among(breaks: &[Break], b: Break) -> bool
+    ensures { MatchBool result (Contains breaks.now b) (¬ Contains breaks.now b) }
+{
+    for index in 0..breaks.len() {
+        let other = break_at(breaks, index);
+        if is_same(&other, &b) {
+            return true;
+        }
+    }
+    false
+}
+
+/// The first of these breakpoints that matches a line, after which a net stands.
+fn first_of(
+    breaks: &[Break],
+    alloc: Global,
+    net: &Net,
+    line: &Line,
+) -> Result<Option<Hit>, AllocError>
+    ensures { (before : Reached) → IsRun before → Stepped before (Some (shown line.now)) net.now → IfOk result (IsFirstHit breaks.now before.state (shown line.now) net.now.state) }
 {
     for index in 0..breaks.len() {
         let breakpoint = break_at(breaks, index);
-        if breakpoint.matches(line) {
-            return Some(Hit {
-                number: index as u64 + 1,
-                breakpoint,
-            });
+        match breakpoint.matches(alloc, net, line) {
+            Ok(true) => {
+                return Ok(Some(Hit {
+                    number: index as u64 + 1,
+                    breakpoint,
+                }));
+            }
+            Ok(false) => {}
+            Err(fault) => return Err(fault),
         }
     }
-    None
+    Ok(None)
 }
 
 /// The breakpoints that are set, in the order in which they were.
@@ -182,7 +476,7 @@ impl Breaks {
         ensures value { MatchBool result (Contains self.now b) (¬ Contains self.now b) }
         ensures few { length self.now ≤ 64 }
     {
-        self.items.contains(&b)
+        is_among(self.items.as_slice(), b)
     }
 
     /// Sets one more, and answers how many are set then. One that is set already stays.
@@ -194,7 +488,7 @@ impl Breaks {
         ensures room { length self.old < 64 → IfErr result (λ fault. fault ≡ BreakFault.NoMemory) }
         ensures err { OnErr result (self.new ≡ self.old) }
     {
-        if self.items.contains(&b) {
+        if self.contains(b) {
             return Ok(self.items.len());
         }
         if self.items.len() == MOST_BREAKS {
@@ -229,19 +523,42 @@ impl Breaks {
         self.items.clear();
     }
 
-    /// The first of them that matches a line.
-    pub fn first_hit(&self, line: &Line) -> Option<Hit>
-        ensures { IsFirstHit self.now (shown line.now) result }
+    /// The first of them that matches a line, after which a net stands.
+    pub fn first_hit(&self, net: &Net, line: &Line) -> Result<Option<Hit>, AllocError>
+        ensures { (before : Reached) → IsRun before → Stepped before (Some (shown line.now)) net.now → IfOk result (IsFirstHit self.now before.state (shown line.now) net.now.state) }
     {
-        first_of(self.items.as_slice(), line)
+        first_of(self.items.as_slice(), *self.items.allocator(), net, line)
     }
 
-    /// Whether one of them matches a line.
-    pub fn hits(&self, line: &Line) -> bool
-        ensures { IsTrue result ↔ IsHit self.now (shown line.now) }
+    /// Whether one of them matches a line, after which a net stands.
+    #[tactic(none)]
+    pub fn hits(&self, net: &Net, line: &Line) -> Result<bool, AllocError>
+        ensures { (before : Reached) → IsRun before → Stepped before (Some (shown line.now)) net.now → IfOk result (λ found. IsTrue found ↔ IsHit self.now before.state (shown line.now) net.now.state) }
+    {
+        match self.first_hit(net, line) {
+            Ok(hit) => Ok(hit.is_some()),
+            Err(fault) => Err(fault),
+        }
+    }
+
+    /// Whether a line meets the conditions of one of them, a stall aside.
+    pub fn hits_line(&self, line: &Line) -> bool
+        ensures { IsTrue result ↔ IsLineHit self.now (shown line.now) }
     {
         for b in &self.items {
-            if b.matches(line) {
+            if b.meets_line(line) {
+                return true;
+            }
+        }
+        false
+    }
+
+    /// Whether one of them asks for a stall.
+    pub fn asks_stall(&self) -> bool
+        ensures { IsTrue result ↔ AsksStall self.now }
+    {
+        for b in &self.items {
+            if b.stall.is_some() {
                 return true;
             }
         }

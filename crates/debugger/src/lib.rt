@@ -11,9 +11,10 @@ pub mod moves;
 mod passed;
 pub mod reached;
 pub mod saved;
+mod to_stop;
 pub mod walk;
 
-pub use breaks::{Break, BreakFault, Breaks, EventKind, Hit};
+pub use breaks::{Break, BreakFault, Breaks, Condition, EventKind, Hit, StallOf, is_among};
 pub use fault::MoveFault;
 pub use moves::Debugger;
 pub use passed::{LastEvent, Order, Stretch};

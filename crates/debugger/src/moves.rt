@@ -20,6 +20,7 @@ use crate::fault::MoveFault;
 use crate::passed::{LastEvent, Stretch, append_stretch, event_at, nearer};
 use crate::reached::{net_after, net_at};
 use crate::saved::Saved;
+use crate::to_stop::net_at_stop;
 use crate::walk::is_ended;
 use flow_waits::waits_text;
 use net_machine::Net;
@@ -164,7 +165,8 @@ impl Debugger {
         self.show(found)
     }
 
-    /// At the next position whose line a breakpoint matches, or at the run's end.
+    /// At the next position whose line a breakpoint matches, or at the run's end. Where one of them asks for a
+    /// stall, the calling thread runs one event after another, and no windows are made.
     pub fn run<G: Gate, R: Threads + Wait + Sync>(
         &mut self,
         rt: &R,
@@ -175,6 +177,9 @@ impl Debugger {
         ensures full { IfErr result (λ fault. fault ≡ MoveFault.CountFull → IsTooLong self.old.start) }
         ensures err { OnErr result (self.new ≡ self.old) }
     {
+        if self.breaks.asks_stall() {
+            return self.run_singly();
+        }
         if self.crew.workers == 1 {
             return self.run_alone(gate);
         }
@@ -193,10 +198,24 @@ impl Debugger {
         ensures full { IfErr result (λ fault. fault ≡ MoveFault.CountFull → IsTooLong self.old.start) }
         ensures err { OnErr result (self.new ≡ self.old) }
     {
+        if self.breaks.asks_stall() {
+            return self.run_singly();
+        }
         let aim = &Aim::Hit(&self.breaks);
         let found = self
             .crew
             .find_alone(gate, &self.net, aim, &mut self.saved, &mut self.line);
+        self.show(found)
+    }
+
+    // What `run` does where a stall is asked for: one event after another, without windows.
+    fn run_singly(&mut self) -> Result<u64, MoveFault>
+        ensures moved { IfOk result (HasMoved self.old self.new) }
+        ensures goes { IfOk result (RunGoesTo self.old.start self.old.breaks self.old.shown.position) }
+        ensures full { IfErr result (λ fault. fault ≡ MoveFault.CountFull → IsTooLong self.old.start) }
+        ensures err { OnErr result (self.new ≡ self.old) }
+    {
+        let found = net_at_stop(&self.net, &self.breaks, &mut self.saved, &mut self.line);
         self.show(found)
     }
 

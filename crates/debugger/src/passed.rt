@@ -2,10 +2,11 @@
 ghost use Rattle.std.specs.Prelude.{◌≡◌, ◌≢◌, ◌+◌, ◌-◌, ◌<◌, ◌≤◌, ◌⊎◌, ◌++◌, take, drop, length, vec_len, Some, IfOk, IfErr, OnOk, OnErr};
 ghost use Rattle.std.specs.List.{concat};
 ghost use Rattle.node_core.specs.TraceLine.{shown};
-ghost use Rattle.net_machine.specs.Run.{Stepped};
+ghost use Rattle.net_machine.specs.Run.{Reached, IsRun, Stepped};
 ghost use Rattle.trace_text.specs.Line.{line_bytes};
+ghost use Rattle.debugger.specs.Breaks.{IsFirstHit};
 ghost use Rattle.debugger.specs.LastEvents.{IsLastEvent};
-ghost use Rattle.debugger.specs.Moves.{Passes, HasPosition, GivesAt, IsTooLong};
+ghost use Rattle.debugger.specs.Moves.{Passes, HasPosition, IsTooLong};
 ghost use Rattle.debugger.specs.Passed.{beside, stretch_texts};
 
 use crate::breaks::{Breaks, Hit};
@@ -165,26 +166,19 @@ pub(crate) fn append_stretch(
     }
 }
 
-/// Runs the event before a position again, and tells of it in `line`.
+/// What an event was, of which `line` tells and after which a net stands, and which of the breakpoints
+/// stops at it.
 #[tactic(none)]
-fn line_at(
-    present: &Net,
-    position: u64,
-    saved: &mut Saved,
-    line: &mut Line,
-) -> Result<(), MoveFault>
-    requires on_run { Passes saved.old present.now }
-    requires some { 0 < position }
-    requires position { HasPosition saved.old position }
-    ensures given { OnOk result (GivesAt saved.old (shown line.new) position) }
-    ensures same { saved.new ≡ saved.old }
+fn event_told(net: &Net, line: &Line, breaks: &Breaks) -> Result<LastEvent, MoveFault>
+    ensures time { IfOk result (λ event. event.time ≡ line.now.key.time) }
+    ensures first { (before : Reached) → IsRun before → Stepped before (Some (shown line.now)) net.now → IfOk result (λ event. IsFirstHit breaks.now before.state (shown line.now) net.now.state event.hit) }
 {
-    match net_at(present, position - 1, saved, line) {
-        Ok(net) => {
-            let mut net = net;
-            run_next(&mut net, saved, line)
-        }
-        Err(fault) => Err(fault),
+    match breaks.first_hit(net, line) {
+        Ok(hit) => Ok(LastEvent {
+            time: line.key.time,
+            hit,
+        }),
+        Err(_) => Err(MoveFault::NoMemory),
     }
 }
 
@@ -203,11 +197,15 @@ pub(crate) fn event_at(
     ensures ok { IfOk result (IsLastEvent saved.old breaks.now position) }
     ensures same { saved.new ≡ saved.old }
 {
-    match line_at(present, position, saved, line) {
-        Ok(()) => Ok(LastEvent {
-            time: line.key.time,
-            hit: breaks.first_hit(line),
-        }),
+    match net_at(present, position - 1, saved, line) {
+        Ok(net) => {
+            let mut net = net;
+            let _before = net.position();
+            match run_next(&mut net, saved, line) {
+                Ok(()) => event_told(&net, line, breaks),
+                Err(fault) => Err(fault),
+            }
+        }
         Err(fault) => Err(fault),
     }
 }

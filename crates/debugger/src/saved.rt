@@ -1,19 +1,29 @@
 //! States on the way of a run, saved so that going back need not begin at the opening.
-ghost use Rattle.std.specs.Prelude.{◌≡◌, ◌≤◌, All, Contains, IfOk};
+ghost use Rattle.std.specs.Prelude.{◌≡◌, ◌≤◌, ◌++◌, [], ◌∷◌, if◌then◌else◌, Bool, All, Contains, IfOk};
 ghost use Rattle.debugger.specs.Moves.{Passes};
 
 use net_machine::Net;
+use node_core::Node;
 use std::alloc::{AllocError, Global};
 use std::marker::Model;
 
 /// The most states that are saved beside the opening one.
 const MOST_LATER: usize = 31;
 
+/// The most bytes that they may hold: 64 MB.
+const MOST_BYTES: u64 = 67_108_864;
+
+/// About how many bytes a copy of a node holds, and of each of its outgoing links, packets aside.
+const NODE_BYTES: u64 = 1_024;
+
+/// About how many bytes a packet holds that waits or is under way, and an alarm that is set.
+const PACKET_BYTES: u64 = 80;
+
 /// At first a state is saved each time that so many events were passed.
 const FIRST_GAP: u64 = 1024;
 
-/// States of one run: the opening one, and up to 31 later ones. Contracts see the opening one:
-/// which others are saved is nothing that a caller may rest on.
+/// States of one run: the opening one, and up to 31 later ones, fewer where one holds more than a 31st of 64 MB.
+/// Contracts see the opening one: which others are saved is nothing that a caller may rest on.
 #[derive(Drop)]
 pub struct Saved {
     /// The opening state.
@@ -24,6 +34,8 @@ pub struct Saved {
     gap: u64,
     /// The position at which the next state is saved.
     next: u64,
+    /// How many states as large as the largest so far may be saved.
+    most: usize,
 }
 
 impl Model for Saved {
@@ -52,6 +64,48 @@ fn thin(nets: &mut Vec<Net>)
     }
 }
 
+// About how many bytes a copy of a node holds.
+fn node_weight(node: &Node) -> Result<u64, AllocError> {
+    let mut bytes = NODE_BYTES;
+    for link in node.ports() {
+        let waiting = link.port().queue().len() as u64;
+        bytes = bytes
+            .saturating_add(NODE_BYTES)
+            .saturating_add(waiting.saturating_mul(PACKET_BYTES));
+    }
+    let pending = node.pending()?;
+    Ok(bytes.saturating_add((pending.len() as u64).saturating_mul(PACKET_BYTES)))
+}
+
+// About how many bytes a copy of a net holds.
+fn weight(net: &Net) -> Result<u64, AllocError> {
+    let mut bytes: u64 = 1;
+    for node in net.nodes() {
+        bytes = bytes.saturating_add(node_weight(node)?);
+    }
+    Ok(bytes)
+}
+
+// How many copies as large as a net may be saved, and no more than so many.
+fn most_copies(net: &Net, most: usize) -> usize {
+    match weight(net) {
+        Ok(bytes) => most.min((MOST_BYTES / bytes.max(1)) as usize),
+        Err(_) => most,
+    }
+}
+
+// Puts a copy of a net behind these, where there may be one more. Where memory is refused, none is.
+fn put_copy(nets: &mut Vec<Net>, most: usize, net: &Net)
+    ensures { (put : Bool) × (nets.new.items ≡ (if put then nets.old.items ++ net.now ∷ [] else nets.old.items)) }
+{
+    if nets.len() >= most {
+        return;
+    }
+    if let Ok(copy) = net.copy() {
+        let _ = nets.push(copy);
+    }
+}
+
 impl Saved {
     /// Only the opening state.
     pub fn new(alloc: Global, opening: Net) -> Saved
@@ -63,6 +117,7 @@ impl Saved {
             later: Vec::new(alloc),
             gap: FIRST_GAP,
             next: FIRST_GAP,
+            most: MOST_LATER,
         }
     }
 
@@ -77,14 +132,13 @@ impl Saved {
         if position < self.next {
             return;
         }
-        if self.later.len() >= MOST_LATER {
+        self.most = most_copies(net, self.most);
+        if self.later.len() >= self.most {
             thin(&mut self.later);
             self.gap = self.gap.saturating_mul(2);
         }
         self.next = position.saturating_add(self.gap);
-        if let Ok(copy) = net.copy() {
-            let _ = self.later.push(copy);
-        }
+        put_copy(&mut self.later, self.most, net);
     }
 
     /// A copy of the saved state, or of the one that is present, that has the greatest position up

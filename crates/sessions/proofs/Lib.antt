@@ -1,5 +1,6 @@
 pub mod Options
 pub mod Lines
+pub mod BestNames
 pub mod Ends
 pub mod Reading
 pub mod DebugEnds

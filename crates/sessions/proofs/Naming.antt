@@ -5,11 +5,12 @@ use Rattle.std.specs.List.{list_any}
 use Rattle.std.specs.Option.{option_map, option_map_or, option_and_then}
 use Rattle.clap.specs.Facts.{explicit_source}
 use Rattle.clap.specs.Faults.{fault_of, is_simple_and_free, level_fault, walk_fault, settle_fault, defaults_fault, check_fault, entered_fault}
-use Rattle.clap.specs.Kinds.{Kinds, or_else, check_kinds}
+use Rattle.clap.specs.Kinds.{Kinds, HasKind, or_else, check_kinds}
 use Rattle.clap.specs.Matches.{subcommand_name_of}
 use Rattle.clap.specs.Simple.{App, HasMatchesOf, Shape, argument_words, built, built_leaf, entered, inherited, marked_built, names_of, on_top, rows_at, subcommand_of, subcommand_rows_of, with_leaf_noted}
 use Rattle.clap.specs.Takes.{is_given}
 use Rattle.clap.specs.Walk.{Held, Names, Row, Text, finished, first_of, nothing_held, settled, stop_after, walk, walk_from}
+use Rattle.clap.specs.declared.error.Error.{Error}
 use Rattle.clap.specs.declared.parser.matches.ArgMatches.{ArgMatches}
 use Rattle.clap.specs.declared.parser.matches.ArgMatches.TheViews.{out-ArgMatches}
 use Rattle.sessions.specs.declared.subcommand.Asked.{Asked}
@@ -247,6 +248,9 @@ met_named matches word rows found is name their =
 module _ (app : App) (words : List (List ℕ)) (is : app ≡ program) where
   pub parsed_faultless : (is_simple_and_free app ≡ true → fault_of app words ≡ []) → word_faults words ≡ []
   parsed_faultless none = let P : App → Type 0 = λ a. is_simple_and_free a ≡ true → fault_of a words ≡ [] in subst P is none refl
+
+  pub parsed_faulty : (error : Error) → (is_simple_and_free app ≡ true → HasKind (fault_of app words) error) → HasKind (word_faults words) error
+  parsed_faulty error fails = let P : App → Type 0 = λ a. is_simple_and_free a ≡ true → HasKind (fault_of a words) error in subst P is fails refl
 
   pub parsed_rows : (matches : ArgMatches) → HasMatchesOf app words matches → subcommand_rows_of matches ≡ subcommand_of program words
   parsed_rows matches has = let P : App → Type 0 = λ a. HasMatchesOf a words matches in (subst P is has refl).1

@@ -37,9 +37,9 @@ progress = filled progress_rule
 abbrev pub explain : Rule
 explain = filled explain_rule
 
--- the rules of a subcommand that takes the options and a file, and of one that takes two flags too
+-- the rules of a subcommand that takes the options, a file and a flag, and of one that takes two flags
 abbrev pub shared_rules : List Rule
-shared_rules = workers ∷ groups ∷ file ∷ help ∷ []
+shared_rules = workers ∷ groups ∷ file ∷ explain ∷ help ∷ []
 
 abbrev pub run_rules : List Rule
 run_rules = workers ∷ groups ∷ file ∷ progress ∷ explain ∷ help ∷ []
@@ -170,14 +170,15 @@ abbrev pub AreUsable : List Rule → Type 0
 AreUsable rules = (test : Rule → Bool) → IfSome (find test rules) Usable
 
 pub shared_usable : AreUsable shared_rules
-shared_usable test = go (test workers) (test groups) (test file) (test help)
+shared_usable test = go (test workers) (test groups) (test file) (test explain) (test help)
   where
-    go : (a b c d : Bool) → IfSome (cond a (Some workers) (cond b (Some groups) (cond c (Some file) (cond d (Some help) None)))) Usable
-    go true b c d = workers_usable
-    go false true c d = groups_usable
-    go false false true d = file_usable
-    go false false false true = help_usable
-    go false false false false = tt
+    go : (a b c d e : Bool) → IfSome (cond a (Some workers) (cond b (Some groups) (cond c (Some file) (cond d (Some explain) (cond e (Some help) None))))) Usable
+    go true b c d e = workers_usable
+    go false true c d e = groups_usable
+    go false false true d e = file_usable
+    go false false false true e = explain_usable
+    go false false false false true = help_usable
+    go false false false false false = tt
 
 pub run_usable : AreUsable run_rules
 run_usable test = go (test workers) (test groups) (test file) (test progress) (test explain) (test help)
@@ -258,11 +259,6 @@ both_first rows fine = let first = default_workers rows fine in default_groups (
 abbrev Both : List Row → Type 0
 Both rows = Has workers rows × Has groups rows
 
-pub shared_there : AreThere shared_rules
-shared_there rows fine =
-    let two : List Row = with_default (with_default rows workers) groups in
-    subst Both (sym (default_help (with_default two file))) (subst Both (sym (default_file two)) (both_first rows fine))
-
 -- a flag that was not used has a row of its default
 flag_default : (a : Rule) (rows : List Row) → Both rows → Both (if has_row a.id rows then rows else with_values a.id (reading_by a) DefaultValue (codes "false" ∷ []) rows)
 flag_default a rows both = go (has_row a.id rows) refl
@@ -273,6 +269,12 @@ flag_default a rows both = go (has_row a.id rows) refl
     go : (b : Bool) → has_row a.id rows ≡ b → Both (if b then rows else with_values a.id (reading_by a) DefaultValue (codes "false" ∷ []) rows)
     go true is = both
     go false is = subst Both (sym (row_missing a.id (more_values DefaultValue (codes "false" ∷ [])) (new ∷ []) rows is)) (has_more workers rows new both.0, has_more groups rows new both.1)
+
+pub shared_there : AreThere shared_rules
+shared_there rows fine =
+    let two : List Row = with_default (with_default rows workers) groups in
+    let three : List Row = with_default two file in
+    subst Both (sym (default_help (with_default three explain))) (flag_default explain three (subst Both (sym (default_file two)) (both_first rows fine)))
 
 pub run_there : AreThere run_rules
 run_there rows fine =

@@ -65,9 +65,9 @@ told_shape name = record (new_shape name) { rules = file_rule ∷ progress_rule 
 abbrev pub sharing_shape : List ℕ → Shape
 sharing_shape name = record (new_shape name) { rules = workers_rule ∷ groups_rule ∷ [] }
 
--- a subcommand that takes both options and a file
+-- a subcommand that takes both options, a file and the flag of why
 abbrev pub debug_shape : List ℕ → Shape
-debug_shape name = record (new_shape name) { rules = workers_rule ∷ groups_rule ∷ file_rule ∷ [] }
+debug_shape name = record (new_shape name) { rules = workers_rule ∷ groups_rule ∷ file_rule ∷ explain_rule ∷ [] }
 
 -- a subcommand that takes both options, a file and both flags
 abbrev pub run_shape : List ℕ → Shape
@@ -164,6 +164,7 @@ pub record WordsOfSubcommands : Type 0 where
   pub debug_shared : AskFor (codes "tcpsim" ∷ codes "debug" ∷ codes "--groups" ∷ codes "0,1" ∷ codes "--workers=+3" ∷ []) (of_input (Debug shared))
   pub debug_file : AskFor (codes "tcpsim" ∷ codes "debug" ∷ codes "a.txt" ∷ codes "--workers=3" ∷ codes "--groups=0,1" ∷ []) (Session (Debug shared) (Some (codes "a.txt")) no_wishes)
   pub debug_dash : AskFor (codes "tcpsim" ∷ codes "debug" ∷ codes "-" ∷ []) (Session (Debug alone) (Some (codes "-")) no_wishes)
+  pub debug_shown : AskFor (codes "tcpsim" ∷ codes "debug" ∷ codes "--explain" ∷ codes "a.txt" ∷ []) (Session (Debug alone) (Some (codes "a.txt")) shown)
   pub asm_file : AskFor (codes "tcpsim" ∷ codes "asm" ∷ codes "a.txt" ∷ []) (Session (Scenario Asm) (Some (codes "a.txt")) no_wishes)
   pub dis_file : AskFor (codes "tcpsim" ∷ codes "dis" ∷ codes "-" ∷ []) (Session (Scenario Dis) (Some (codes "-")) no_wishes)
   pub run_file : AskFor (codes "tcpsim" ∷ codes "run" ∷ codes "--workers" ∷ codes "3" ∷ codes "a.txt" ∷ codes "--groups=0,1" ∷ []) (Session (Scenario (Run shared)) (Some (codes "a.txt")) no_wishes)
@@ -228,7 +229,7 @@ pub record WordsOfText : Type 0 where
   pub explain_help : AskForText (codes "tcpsim" ∷ codes "explain" ∷ codes "--help" ∷ [])
   pub version : AskForText (codes "tcpsim" ∷ codes "--version" ∷ [])
 
--- mistaken are the program's name alone, a second file, also one of `debug`, workers below 1 or above 64, an option of `asm` or of `figures` that only a run has, the flag of a run behind `debug`, and a second code
+-- mistaken are the program's name alone, a second file, also one of `debug`, workers below 1 or above 64, an option of `asm` or of `figures` that only a run has, the flag of how far a run is behind `debug`, and a second code
 pub record WordsOfMistake : Type 0 where
   pub nothing_else : AreMistaken (codes "tcpsim" ∷ [])
   pub two_files : AreMistaken (codes "tcpsim" ∷ codes "run" ∷ codes "once" ∷ codes "twice" ∷ [])

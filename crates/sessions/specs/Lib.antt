@@ -18,6 +18,7 @@ pub mod Output
 pub mod Session
 pub mod Debug
 pub mod Prompt
+pub mod Nearest
 pub mod Turns
 pub mod CommandLine
 pub mod Asked

@@ -21,11 +21,11 @@ use crate::notes::Notes;
 use crate::prompt::begin_prompt;
 use crate::rest::{Rest, no_run_left, rest_of};
 use crate::run::begin_run;
-use crate::scenario_input::read_scenario;
+use crate::scenario_input::told_scenario;
 use crate::sharing::Sharing;
 use crate::source::Source;
 use crate::subcommand::{Asked, OptionalWord, Subcommand, Task};
-use crate::why::why;
+use crate::why::tell_why;
 use crate::workers::WindowRun;
 use scenario_image::Scenario;
 use std::alloc::Global;
@@ -64,22 +64,8 @@ fn begin_bytes<W: Sink, G: Gate, N: Notes>(
     ensures session { BeginsRun (IsReadSession subcommand.entry input.now (W.contents writer.old)) result (W.contents writer.new) }
     ensures failures { W.failures writer.new ≡ writes_after result (W.failures writer.old) }
 {
-    let scenario = read_scenario(means.alloc, input)?;
+    let scenario = told_scenario(means, input, notes)?;
     begin_output(means, subcommand, &scenario, writer, notes)
-}
-
-/// Tells why an input is refused, where that is wished and there is memory to say it.
-fn tell_why<G: Gate, N: Notes>(
-    means: &Means<G>,
-    input: &[u8],
-    fault: &SessionFault,
-    notes: &mut N,
-) {
-    if means.wishes.explain {
-        if let Ok(Some(shown)) = why(means.alloc, input, fault) {
-            notes.refused(shown);
-        }
-    }
 }
 
 /// Begins the session of a subcommand over an input that was read.
@@ -93,28 +79,25 @@ fn begin_subcommand<W: Sink, G: Gate, N: Notes>(
     requires { IsWithin input.now }
     ensures { (now : Streams) → let at = written_by W.failures W.contents now in Begins (IsDone (IsSession subcommand.entry input.now) (at writer.old)) result (at writer.new) }
 {
-    let begun = begin_bytes(means, subcommand, input, writer, notes);
-    if let Err(fault) = &begun {
-        tell_why(means, input, fault, notes);
-    }
-    rest_of(begun)
+    rest_of(begin_bytes(means, subcommand, input, writer, notes))
 }
 
 /// Begins a debugging session over an input that was read: of a file commands are typed, and in any
 /// other they stand behind a text.
-fn begin_debug<W: Sink, G: Gate>(
+fn begin_debug<W: Sink, G: Gate, N: Notes>(
     means: &Means<G>,
     sharing: &Sharing,
     file: &OptionalWord,
     input: Vec<u8>,
     writer: &mut W,
+    notes: &mut N,
 ) -> Result<Rest, SessionFault>
     requires { IsWithin input.items }
     ensures { (now : Streams) → let at = written_by W.failures W.contents now in Begins (IsDebugWith sharing.now.groups file.now input.items (at writer.old)) result (at writer.new) }
 {
     match file.get() {
-        Some(_) => begin_prompt(means.alloc, sharing, input.as_slice()),
-        None => begin_commands(means, sharing, input, writer),
+        Some(_) => begin_prompt(means, sharing, input.as_slice(), notes),
+        None => begin_commands(means, sharing, input, writer, notes),
     }
 }
 
@@ -134,7 +117,7 @@ fn begin_task<W: Sink, G: Gate, N: Notes>(
         Task::Scenario(subcommand) => {
             begin_subcommand(means, subcommand, input.as_slice(), writer, notes)
         }
-        Task::Debug(sharing) => begin_debug(means, &sharing, file, input, writer),
+        Task::Debug(sharing) => begin_debug(means, &sharing, file, input, writer, notes),
     }
 }
 

@@ -156,7 +156,7 @@ fn sharing_subcommand<'a>(
         .arg(groups_option(alloc))
 }
 
-/// A subcommand that takes these options and a scenario's file.
+/// A subcommand that takes these options, a scenario's file and the flag of why.
 fn debug_subcommand<'a>(
     alloc: Global,
     name: &'a str,
@@ -164,7 +164,9 @@ fn debug_subcommand<'a>(
 ) -> Result<Command<'a>, AllocError>
     ensures { IfOk result (IsBelow (debug_shape name.entry.now)) }
 {
-    sharing_subcommand(alloc, name, about)?.arg(session_file_word(alloc))
+    sharing_subcommand(alloc, name, about)?
+        .arg(session_file_word(alloc))?
+        .arg(explain_flag(alloc))
 }
 
 /// A subcommand that takes these options, a scenario's file and two flags.

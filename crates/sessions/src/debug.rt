@@ -9,12 +9,12 @@ ghost use Rattle.sessions.specs.Streams.{Streams, streams_of};
 ghost use Rattle.sessions.specs.Written.{Writes};
 
 use crate::fault::SessionFault;
-use crate::groups::groups_for;
 use crate::means::{Crew, Means};
+use crate::notes::Notes;
 use crate::outcome::Outcome;
 use crate::rest::{Rest, no_run_left, rest_of};
-use crate::run::is_alone;
-use crate::scenario_input::read_text;
+use crate::run::{is_alone, told_groups};
+use crate::scenario_input::told_text;
 use crate::session::run_task;
 use crate::sharing::Sharing;
 use crate::source::Source;
@@ -42,18 +42,19 @@ pub(crate) struct Commands {
 
 /// Begins a debugging session over an input, where its text has a scenario whose nodes are in the
 /// groups: its commands are answered where the calling thread alone runs the groups, and else left.
-pub(crate) fn begin_commands<W: Sink, G: Gate>(
+pub(crate) fn begin_commands<W: Sink, G: Gate, N: Notes>(
     means: &Means<G>,
     sharing: &Sharing,
     input: Vec<u8>,
     writer: &mut W,
+    notes: &mut N,
 ) -> Result<Rest, SessionFault>
     requires { IsWithin input.items }
     ensures { (now : Streams) → let at = written_by W.failures W.contents now in Begins (IsDone (IsDebugSession sharing.now.groups input.items) (at writer.old)) result (at writer.new) }
 {
     let (text, _commands) = split(input.as_slice());
-    let scenario = read_text(means.alloc, text)?;
-    let partition = groups_for(means.alloc, sharing, &scenario)?;
+    let scenario = told_text(means, text, notes)?;
+    let partition = told_groups(means, sharing, &scenario, notes)?;
     let workers = sharing.workers();
     let commands = Commands {
         input,

@@ -80,7 +80,7 @@ impl fmt::Display for SessionFault {
             SessionFault::RefusedImage(fault) => write!(f, "refused {fault}\n"),
             SessionFault::CommandLine(error) => write!(f, "{error}"),
             SessionFault::NoSuchCode => f.write_str(
-                "error: no such code; there are E1 to E10, L1 to L8, I1, B1 to B4, M and groups\n",
+                "error: no such code; there are E1 to E10, L1 to L8, I1, B1 to B5, M and groups\n",
             ),
             SessionFault::WordsNotUtf8 => f.write_str("error: a word is not valid UTF-8\n"),
             SessionFault::Groups => f.write_str("refused groups\n"),

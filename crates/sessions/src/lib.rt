@@ -12,6 +12,7 @@ pub mod figures_table;
 pub mod groups;
 mod input;
 mod means;
+mod nearest;
 pub mod notes;
 pub mod outcome;
 mod output;

@@ -17,6 +17,8 @@ pub(crate) struct Means<'m, G> {
 /// What is done with several workers, or by commands, is done with.
 #[derive(Drop)]
 pub(crate) struct Crew<'m, H, G> {
+    /// Where memory is taken.
+    pub alloc: Global,
     /// Where threads are started, and waited for.
     pub rt: &'m H,
     /// Who is told of the workers.

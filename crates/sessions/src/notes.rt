@@ -39,8 +39,8 @@ impl fmt::Display for HowFar {
 }
 
 /// Is told how far a run is, while it goes on, why an input is refused, and at a prompt, when a line
-/// is asked for and that it is refused. What it does with that
-/// changes nothing of a session.
+/// is asked for, that it is refused, and the nearest command where it names none. What it does with
+/// that changes nothing of a session.
 pub trait Notes {
     /// The run is so far.
     fn progress(&mut self, far: &HowFar);
@@ -56,6 +56,10 @@ pub trait Notes {
 
     /// The line that was typed is refused: this is the refusal, a line.
     fn line_refused(&mut self, refusal: &[u8]);
+
+    /// The first word of the line that was refused begins no command's name, and this is the nearest of
+    /// the names. The word has no byte that is not printable.
+    fn no_command(&mut self, word: &str, nearest: &str);
 }
 
 /// Tells nobody.
@@ -72,4 +76,6 @@ impl Notes for NoNotes {
     fn prompt(&mut self) {}
 
     fn line_refused(&mut self, _refusal: &[u8]) {}
+
+    fn no_command(&mut self, _word: &str, _nearest: &str) {}
 }

@@ -15,13 +15,13 @@ ghost use Rattle.sessions.specs.Written.{Writes, IsBeginningOf};
 ghost use Rattle.window_engine.specs.Failures.{failures_after};
 
 use crate::fault::SessionFault;
-use crate::groups::groups_for;
-use crate::means::Crew;
+use crate::means::{Crew, Means};
+use crate::nearest::tell_nearest;
 use crate::notes::Notes;
 use crate::output::put_all;
 use crate::rest::Rest;
-use crate::run::is_alone;
-use crate::scenario_input::read_scenario;
+use crate::run::{is_alone, told_groups};
+use crate::scenario_input::told_scenario;
 use crate::sharing::Sharing;
 use crate::source::Source;
 use debug_session::{
@@ -46,14 +46,28 @@ pub(crate) enum Turn {
     NoLine,
 }
 
-/// Puts out an answer; that a line is refused is told beside it.
-fn put_answer<W: Sink, N: Notes>(said: &Said, writer: &mut W, notes: &mut N) -> Result<(), SinkFail>
+/// Tells that a line is refused, and the nearest command where it names none.
+fn tell_refused<N: Notes>(alloc: Global, line: &[u8], refusal: &[u8], notes: &mut N) {
+    notes.line_refused(refusal);
+    if refusal == b"refused B1\n".as_slice() {
+        tell_nearest(alloc, line, notes);
+    }
+}
+
+/// Puts out the answer to a line; that the line is refused is told beside it.
+fn put_answer<W: Sink, N: Notes>(
+    alloc: Global,
+    line: &[u8],
+    said: &Said,
+    writer: &mut W,
+    notes: &mut N,
+) -> Result<(), SinkFail>
     ensures ok { OnOk result (Appends (W.contents writer.old) (W.contents writer.new) (put_out said.now)) }
     ensures err { OnErr result (Writes (IsBeginningOf (λ all. all ≡ put_out said.now)) (W.contents writer.old) (W.contents writer.new)) }
     ensures failures { W.failures writer.new ≡ failures_after result (W.failures writer.old) }
 {
     if is_refusal(said.as_slice()) {
-        notes.line_refused(said.as_slice());
+        tell_refused(alloc, line, said.as_slice(), notes);
         return Ok(());
     }
     put_all(writer, said.as_slice())
@@ -104,7 +118,7 @@ fn take_turn<R: Source, W: Sink, G: Gate, H: Threads + Wait + Sync, N: Notes>(
         return Ok(Turn::Quit);
     }
     answer_line(crew, dialogue, limits, line, said);
-    put_answer(said, writer, notes)?;
+    put_answer(crew.alloc, line, said, writer, notes)?;
     Ok(Turn::Answered)
 }
 
@@ -185,17 +199,18 @@ fn open_prompt(
 
 /// Begins a debugging session at a prompt over an input, where this has a scenario whose nodes are
 /// in the groups: the lines that are typed are left.
-pub(crate) fn begin_prompt(
-    alloc: Global,
+pub(crate) fn begin_prompt<G, N: Notes>(
+    means: &Means<G>,
     sharing: &Sharing,
     input: &[u8],
+    notes: &mut N,
 ) -> Result<Rest, SessionFault>
     requires { IsWithin input.now }
     ensures { (now : Streams) → Begins (IsPromptDone sharing.now.groups input.now now) result now }
 {
-    let scenario = read_scenario(alloc, input)?;
-    let partition = groups_for(alloc, sharing, &scenario)?;
-    let prompt = open_prompt(alloc, sharing.workers(), &scenario, partition)?;
+    let scenario = told_scenario(means, input, notes)?;
+    let partition = told_groups(means, sharing, &scenario, notes)?;
+    let prompt = open_prompt(means.alloc, sharing.workers(), &scenario, partition)?;
     drop(scenario);
     Ok(Rest::Typed(prompt))
 }
@@ -213,6 +228,7 @@ pub(crate) fn answer_prompt<R: Source, W: Sink, G: Gate, H: Threads + Wait + Syn
 {
     let mut prompt = prompt;
     let crew = Crew {
+        alloc: crew.alloc,
         rt: crew.rt,
         gate: crew.gate,
         is_alone: prompt.is_alone,

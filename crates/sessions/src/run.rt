@@ -38,7 +38,7 @@ pub(crate) fn is_alone(workers: usize, partition: &Partition) -> bool
 
 /// The groups in which the nodes of a scenario are. Tells why they are refused, where that is wished
 /// and there is memory to say it.
-fn told_groups<G: Gate, N: Notes>(
+pub(crate) fn told_groups<G, N: Notes>(
     means: &Means<G>,
     sharing: &Sharing,
     scenario: &Scenario,

@@ -3,6 +3,9 @@ ghost use Rattle.sessions.specs.Input.{IsImageOf, IsImageFault, IsTextFault, Has
 ghost use Rattle.scenario_asm.specs.Meaning.{MeansScenario};
 
 use crate::fault::SessionFault;
+use crate::means::Means;
+use crate::notes::Notes;
+use crate::why::tell_why;
 use scenario_asm::assemble;
 use scenario_image::{Scenario, load};
 use std::alloc::Global;
@@ -18,7 +21,7 @@ fn read_image(alloc: Global, bytes: &[u8]) -> Result<Scenario, SessionFault>
 }
 
 /// The scenario that a text means.
-pub(crate) fn read_text(alloc: Global, text: &[u8]) -> Result<Scenario, SessionFault>
+fn read_text(alloc: Global, text: &[u8]) -> Result<Scenario, SessionFault>
     ensures { Reads (MeansScenario text.now) (IsTextFault text.now) result }
 {
     let scenario = assemble(alloc, text)?;
@@ -34,4 +37,36 @@ pub fn read_scenario(alloc: Global, input: &[u8]) -> Result<Scenario, SessionFau
     } else {
         read_text(alloc, input)
     }
+}
+
+/// The scenario of an input. Tells why it is refused, where that is wished and there is memory to say
+/// it.
+pub(crate) fn told_scenario<G, N: Notes>(
+    means: &Means<G>,
+    input: &[u8],
+    notes: &mut N,
+) -> Result<Scenario, SessionFault>
+    ensures { Reads (HasScenario input.now) (HasFault input.now) result }
+{
+    let read = read_scenario(means.alloc, input);
+    if let Err(fault) = &read {
+        tell_why(means, input, fault, notes);
+    }
+    read
+}
+
+/// The scenario that a text means. Tells why it is refused, where that is wished and there is memory
+/// to say it.
+pub(crate) fn told_text<G, N: Notes>(
+    means: &Means<G>,
+    text: &[u8],
+    notes: &mut N,
+) -> Result<Scenario, SessionFault>
+    ensures { Reads (MeansScenario text.now) (IsTextFault text.now) result }
+{
+    let read = read_text(means.alloc, text);
+    if let Err(fault) = &read {
+        tell_why(means, text, fault, notes);
+    }
+    read
 }

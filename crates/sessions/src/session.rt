@@ -88,6 +88,7 @@ pub fn run_task<R: Source, W: Sink, G: Gate, H: Threads + Wait + Sync>(
     ensures { let seen = streams_of R.failures R.typed W.failures W.contents in Tells result (λ ended. IsTaskOn task.entry (R.remaining reader.old) ended (seen reader.old writer.old) (seen reader.new writer.new)) }
 {
     let crew = Crew {
+        alloc,
         rt,
         gate,
         is_alone: false,
@@ -142,6 +143,7 @@ pub fn run_noted<
     match read_words(rt.alloc(), words) {
         Ok(asked) => {
             let crew = Crew {
+                alloc: rt.alloc(),
                 rt,
                 gate,
                 is_alone: false,

@@ -15,7 +15,7 @@ use node_core::{Acts, After, Event, Line};
 use scenario_image::Scenario;
 use sim_time::Key;
 use std::alloc::Global;
-use trace_text::{end_text, line_text};
+use trace_text::{LINE_ROOM, end_text, line_text_in};
 use window_engine::Sink;
 
 /// Runs a scenario to its end, writes its trace, and tells how far it is where that is wished.
@@ -99,8 +99,9 @@ fn put_lines<W: Sink, N: Notes>(
     ensures failed { result ≡ Err SessionFault.WriteFailed → Writes (IsBeginningOf (IsTraceOrStart net.old.state)) (W.contents writer.old) (W.contents writer.new) }
     ensures failures { W.failures writer.new ≡ writes_after result (W.failures writer.old) }
 {
+    let mut room = [0; LINE_ROOM];
     while net.step_into(line)? {
-        line_text(net.position(), line, page)?;
+        line_text_in(&mut room, net.position(), line, page)?;
         put_full_page(page, writer)?;
         progress.pass(line.key.time, net.position(), notes);
     }

@@ -1,6 +1,8 @@
 //! Why an input is refused, as a person is shown it.
 
 use crate::fault::SessionFault;
+use crate::means::Means;
+use crate::notes::Notes;
 use explanations::{Names, image_parts, tell_witness, text_of};
 use scenario_asm::{Part, Place, fault_place, parts_of_text};
 use std::alloc::{AllocError, Global};
@@ -11,7 +13,7 @@ const SHOWN: usize = 200;
 const BEFORE: usize = 80;
 
 /// Adds bytes as they can be shown: each that is not printable as a question mark.
-fn push_shown(shown: &mut String, bytes: &[u8]) -> Result<(), AllocError> {
+pub(crate) fn push_shown(shown: &mut String, bytes: &[u8]) -> Result<(), AllocError> {
     for byte in bytes {
         let is_shown = *byte >= b' ' && *byte <= b'~';
         shown.push(char::from(if is_shown { *byte } else { b'?' }))?;
@@ -100,11 +102,7 @@ fn push_image_witness(
 /// What is shown of a refused input behind its note: of a text's line the line, with carets under
 /// what is wrong; of a fault of no line what shows it first, with a statement that would mend it; and
 /// what the code means. Nothing where the input is not refused.
-pub(crate) fn why(
-    alloc: Global,
-    input: &[u8],
-    fault: &SessionFault,
-) -> Result<Option<String>, AllocError> {
+fn why(alloc: Global, input: &[u8], fault: &SessionFault) -> Result<Option<String>, AllocError> {
     let mut shown = String::new(alloc);
     match fault {
         SessionFault::TooLong => push_meaning(&mut shown, "I1")?,
@@ -123,6 +121,20 @@ pub(crate) fn why(
         _ => return Ok(None),
     }
     Ok(Some(shown))
+}
+
+/// Tells why an input is refused, where that is wished and there is memory to say it.
+pub(crate) fn tell_why<G, N: Notes>(
+    means: &Means<G>,
+    input: &[u8],
+    fault: &SessionFault,
+    notes: &mut N,
+) {
+    if means.wishes.explain {
+        if let Ok(Some(shown)) = why(means.alloc, input, fault) {
+            notes.refused(shown);
+        }
+    }
 }
 
 /// What is shown behind the note where these are no groups of so many nodes.

@@ -3,8 +3,9 @@
 use sessions::notes::{HowFar, Notes};
 use std::io::Write;
 
-/// Tells on standard error how far a run is, on one line, and at a prompt, that a line is asked for
-/// and that one is refused; keeps why an input is refused. That it fails there is ignored.
+/// Tells on standard error how far a run is, on one line, and at a prompt, that a line is asked for,
+/// that one is refused, and the nearest command where it names none; keeps why an input is refused.
+/// That it fails there is ignored.
 #[derive(Drop)]
 pub struct ErrorNotes<'r> {
     /// The process.
@@ -39,5 +40,9 @@ impl<'r> Notes for ErrorNotes<'r> {
 
     fn line_refused(&mut self, refusal: &[u8]) {
         let _ = self.rt.stderr().write_all(refusal);
+    }
+
+    fn no_command(&mut self, word: &str, nearest: &str) {
+        let _ = eprint!(self.rt; "tcpsim: no command {word}; the nearest is {nearest}\n");
     }
 }

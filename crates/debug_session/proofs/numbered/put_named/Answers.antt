@@ -7,3 +7,9 @@ put_word-requires-clause-within c =
     let rest = drop c.args.end c.args.line.now in
     let size = ap length c.put_count-at.ensures.written in
     omega (arith, size, length-drop c.put_count-at.result c.put_count-at.new.bytes, length-append (decimal c.args.n) rest, decimal_nonempty c.args.n c.ranges.n.fits)
+
+pub returns-clause-upto : goal.returns-clause-upto
+returns-clause-upto c =
+    let rest = drop c.args.end c.args.line.now in
+    let size = ap length c.put_count-at.ensures.written in
+    omega (arith, size, length-drop c.put_count-at.result c.put_count-at.new.bytes, length-append (decimal c.args.n) rest, length-drop c.args.end c.args.line.now, decimal_nonempty c.args.n c.ranges.n.fits)

@@ -1,14 +1,14 @@
-use Rattle.std.proofs.Common.{◌≡◌, ◌≤◌, ◌+◌, ◌∙◌, Option, Some, ℕ, refl, sym, ap, subst, arith, true≢false}
+use Rattle.std.proofs.Common.{◌≡◌, ◌≤◌, ◌+◌, ◌∙◌, Some, refl, sym, subst, arith, ⊎_elim}
 use Rattle.table_run.specs.State.{State}
-use Rattle.net_machine.specs.Run.{Reached}
 use Rattle.node_core.specs.TraceLine.{shown}
-use Rattle.debugger.specs.Backwards.{FindsLast}
+use Rattle.std.proofs.lemmas.Result.{IfOk-at_ok}
 use Rattle.debugger.specs.Breaks.{IsHit}
+use Rattle.debugger.specs.Backwards.{FindsLast, IsLaterStop}
 use Rattle.debugger.specs.Moves.{Passes, HasPosition, IsTooLong}
+use Rattle.debugger.proofs.Faults.{full_from_memory, memory_alone}
 use Rattle.debugger.proofs.Walks.{has_earlier}
 use Rattle.debugger.proofs.Backward.{nothing_yet, found_here, found_before}
 use Rattle.debugger.proofs.backwards.last_stop.Goals as goal
-use Rattle.debugger.proofs.backwards.last_stop.Goals.{then-hits, else-hits}
 
 pub overflow_sub-count : goal.overflow_sub-count
 overflow_sub-count c = omega (arith, c.requires.below, c.position.ensures.count)
@@ -51,18 +51,15 @@ loop-passed-preserved c =
     let i = c.loop-passed.invariant in
     let stepped = c.in-Ok.ensures.stepped in
     let below : from ≤ old.position = omega (arith, i.position) in
+    let later = IfOk-at_ok (IsLaterStop breaks old line new c.loop-passed.found) c.in-Ok-later_stop.is (c.later_stop.ensures old c.position-before.ensures.is_run stepped) in
     record {
       same = c.run_next.ensures.same ∙ i.same;
       on_run = subst (λ (s : State). Passes s new) i.same c.in-Ok.ensures.on_run;
       position = omega (arith, stepped.1, i.position);
-      last = elim c.if-hits.branch [
-        | then-hits w ↦ (
-            let is : c.if-hits.found ≡ Some new.position = w.found-is ∙ ap (λ (p : ℕ). Some p) w.position-then-hits.ensures.count in
-            subst (FindsLast start breaks from new.position) (sym is) (found_here start breaks from old new line i.on_run stepped below (c.hits.ensures.0 w.if-hits.true)))
-        | else-hits w ↦
-            subst (FindsLast start breaks from new.position) (sym w.found-is)
-            (found_before start breaks from old new line i.on_run stepped c.loop-passed.found i.last (λ hit. true≢false (sym (c.hits.ensures.1 hit) ∙ w.if-hits.false)))
-      ];
+      last = ⊎_elim
+          (λ (hit : IsHit breaks old.state line new.state × (c.in-Ok-later_stop.stop ≡ Some new.position)). subst (FindsLast start breaks from new.position) (sym hit.1) (found_here start breaks from old new line i.on_run stepped below hit.0))
+          (λ (missed : (IsHit breaks old.state line new.state → ⊥) × (c.in-Ok-later_stop.stop ≡ c.loop-passed.found)). subst (FindsLast start breaks from new.position) (sym missed.1) (found_before start breaks from old new line i.on_run stepped c.loop-passed.found i.last missed.0))
+          later;
     }
 
 pub returns-clause-ok : goal.returns-clause-ok
@@ -72,3 +69,12 @@ returns-clause-ok c =
 
 pub returns-clause-same : goal.returns-clause-same
 returns-clause-same c = c.loop-passed.invariant.same
+
+pub returns-in-Err-later_stop-clause-full : goal.returns-in-Err-later_stop-clause-full
+returns-in-Err-later_stop-clause-full c = full_from_memory
+
+pub returns-in-Err-later_stop-clause-no_worker : goal.returns-in-Err-later_stop-clause-no_worker
+returns-in-Err-later_stop-clause-no_worker c = memory_alone
+
+pub returns-in-Err-later_stop-clause-same : goal.returns-in-Err-later_stop-clause-same
+returns-in-Err-later_stop-clause-same c = c.run_next.ensures.same ∙ c.loop-passed.invariant.same

@@ -1,4 +1,4 @@
-use Rattle.std.proofs.Common.{◌≡◌, ◌<◌, ◌≤◌, ◌-◌, ◌∙◌, refl, sym, subst, arith}
+use Rattle.std.proofs.Common.{refl, sym, subst, arith}
 use Rattle.debugger.specs.Backwards.{FindsLast}
 use Rattle.debugger.proofs.Faults.{full_from_memory, memory_alone}
 use Rattle.debugger.proofs.backwards.search_before.Goals as goal

@@ -1,4 +1,4 @@
-use Rattle.std.proofs.Common.{◌≡◌, ◌<◌, ◌≤◌, ◌+◌, ◌∙◌, Some, None, refl, sym, subst, arith}
+use Rattle.std.proofs.Common.{◌≡◌, ◌∙◌, refl, sym, subst, arith}
 use Rattle.table_run.specs.State.{State}
 use Rattle.debugger.specs.Backwards.{NoneStops, FindsLast}
 use Rattle.debugger.specs.Moves.{Passes, HasPosition, IsTooLong}

@@ -1,4 +1,4 @@
-use Rattle.std.proofs.Common.{◌≡◌, ◌≤◌, ◌+◌, ◌++◌, ◌∙◌, OnOk, sym, subst, take, length, take_all, le_refl, arith}
+use Rattle.std.proofs.Common.{◌≡◌, ◌+◌, ◌++◌, ◌∙◌, OnOk, sym, subst, length, take_all, le_refl, arith}
 use Rattle.std.specs.List.{concat}
 use Rattle.table_run.specs.State.{State}
 use Rattle.debugger.specs.Moves.{Passes, HasPosition}

@@ -1,7 +1,6 @@
-use Rattle.std.proofs.Common.{◌≡◌, ◌≤◌, ◌<◌, ◌+◌, ◌++◌, ◌∙◌, take, length, refl, sym, ap, subst, arith}
+use Rattle.std.proofs.Common.{◌≡◌, ◌≤◌, ◌+◌, ◌++◌, ◌∙◌, take, length, refl, sym, ap, subst, arith}
 use Rattle.std.specs.List.{concat}
 use Rattle.table_run.specs.State.{State}
-use Rattle.net_machine.specs.Run.{Reached}
 use Rattle.node_core.specs.TraceLine.{shown}
 use Rattle.debugger.specs.Moves.{Passes, HasPosition}
 use Rattle.debugger.specs.Passed.{in_order, texts_between}

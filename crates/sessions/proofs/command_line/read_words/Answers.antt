@@ -1,10 +1,11 @@
-use Rattle.std.proofs.Common.{◌≡◌, ◌∙◌, List, sym, subst, map}
+use Rattle.std.proofs.Common.{◌≡◌, ◌∙◌, List, Err, sym, subst, map, rules}
+use Rattle.clap.specs.Kinds.{FailsBy}
 use Rattle.clap.specs.Matches.{found_of}
 use Rattle.clap.specs.Simple.{app_of, subcommand_of}
 use Rattle.clap.specs.Walk.{Row, Text, rows_of}
-use Rattle.sessions.specs.CommandLine.{program}
+use Rattle.sessions.specs.CommandLine.{program, word_faults}
 use Rattle.sessions.specs.Given.{AreOfSubcommand}
-use Rattle.sessions.proofs.Naming.{parsed_faultless, parsed_rows, met_named, named_by, asked_for}
+use Rattle.sessions.proofs.Naming.{parsed_faultless, parsed_faulty, parsed_rows, met_named, named_by, asked_for}
 use Rattle.sessions.proofs.Options.{same_some}
 use Rattle.sessions.proofs.command_line.read_words.Goals as goal
 
@@ -18,6 +19,13 @@ asked_of-requires g c =
     let named = named_by words faultless in
     let same : named.0 ≡ (c.in-Some.word.now, rows_of (found_of c.in-Some.options.now)) = same_some _ _ (sym named.1 ∙ met) in
     subst (λ (n : Text × List Row). AreOfSubcommand n.0 n.1) same named.2
+
+pub returns-in_err-matches-clause-faults : goal.returns-in_err-matches-clause-faults
+returns-in_err-matches-clause-faults g c =
+    let words = map g.S.AsStr.text c.args.words.now in
+    let error = c.in_err-matches.field-0.0 in
+    let is : c.from_residual-in_err-matches.result ≡ Err error = search rules in
+    subst (FailsBy (word_faults words)) (sym is) (parsed_faulty (app_of c.in_ok-commands.field-0) words c.in_ok-commands.ensures error c.in_err-matches.ensures.kinds)
 
 pub returns-clause-faults : goal.returns-clause-faults
 returns-clause-faults g c = parsed_faultless (app_of c.in_ok-commands.field-0) (map g.S.AsStr.text c.args.words.now) c.in_ok-commands.ensures c.in_ok-matches.ensures.kinds

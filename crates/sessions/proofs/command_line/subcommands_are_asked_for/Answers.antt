@@ -14,6 +14,7 @@ subcommand_words = record {
   debug_shared = record { faultless = refl; named = refl; given = (record { workers = refl; groups = refl }, refl, refl) };
   debug_file = record { faultless = refl; named = refl; given = (record { workers = refl; groups = refl }, refl, refl) };
   debug_dash = record { faultless = refl; named = refl; given = (record { workers = refl; groups = refl }, refl, refl) };
+  debug_shown = record { faultless = refl; named = refl; given = (record { workers = refl; groups = refl }, refl, refl) };
   asm_file = record { faultless = refl; named = refl; given = (tt, refl, refl) };
   dis_file = record { faultless = refl; named = refl; given = (tt, refl, refl) };
   run_file = record { faultless = refl; named = refl; given = (record { workers = refl; groups = refl }, refl, refl) };

@@ -17,10 +17,10 @@ returns-in_err-scenario g c now =
     let text = c.split.result.0.now in
     let is : c.from_residual.result ≡ Err fault = search rules in
     let same : c.as_slice.result.now ≡ input = search rules in
-    let free = no_failure text fault c.read_text.result c.in_err-scenario.was c.read_text.ensures in
+    let free = no_failure text fault c.told_text.result c.in_err-scenario.was c.told_text.ensures in
     subst (λ (r : Result Rest SessionFault). Begins (IsDone (IsDebugSession groups input) before) r before) (sym is)
     (record {
-      session = text_refused groups input text fault c.read_text.result before.written (c.split.ensures.text ∙ ap text_lines same) c.requires c.in_err-scenario.was c.read_text.ensures;
+      session = text_refused groups input text fault c.told_text.result before.written (c.split.ensures.text ∙ ap text_lines same) c.requires c.in_err-scenario.was c.told_text.ensures;
       no_read = free.1;
       reads = refl;
       writes = free.0 before.write_failures;
@@ -38,8 +38,8 @@ returns-in_err-partition g c now =
     let free = groups_no_failure groups p fault c.in_err-partition.ensures.faults in
     subst (λ (r : Result Rest SessionFault). Begins (IsDone (IsDebugSession groups input) before) r before) (sym is)
     (record {
-      session = not_grouped groups input c.split.result.0.now c.split.result.1.now p c.read_text.result before.written before.written (c.split.ensures.text ∙ ap text_lines same) (c.split.ensures.commands ∙ ap command_lines same) c.requires
-          c.in_ok-scenario.was c.read_text.ensures c.in_ok-scenario.ensures.scenario fault c.in_err-partition.ensures.faults;
+      session = not_grouped groups input c.split.result.0.now c.split.result.1.now p c.told_text.result before.written before.written (c.split.ensures.text ∙ ap text_lines same) (c.split.ensures.commands ∙ ap command_lines same) c.requires
+          c.in_ok-scenario.was c.told_text.ensures c.in_ok-scenario.ensures.scenario fault c.in_err-partition.ensures.faults;
       no_read = free.1;
       reads = refl;
       writes = free.0 before.write_failures;
@@ -58,8 +58,8 @@ returns-then-is_alone g c now =
     let p = c.in_ok-scenario.scenario in
     let same : c.as_slice.result.now ≡ input = search rules in
     let done =
-    commands_end groups input c.split.result.0.now c.split.result.1.now p c.read_text.result before after (c.split.ensures.text ∙ ap text_lines same) (c.split.ensures.commands ∙ ap command_lines same) c.requires c.in_ok-scenario.was
-    c.read_text.ensures c.in_ok-scenario.ensures.scenario c.in_ok-partition.ensures.named c.answer_alone.result (record { output = c.answer_alone.ensures.output; reads = refl; writes = c.answer_alone.ensures.failures }) in
+    commands_end groups input c.split.result.0.now c.split.result.1.now p c.told_text.result before after (c.split.ensures.text ∙ ap text_lines same) (c.split.ensures.commands ∙ ap command_lines same) c.requires c.in_ok-scenario.was
+    c.told_text.ensures c.in_ok-scenario.ensures.scenario c.in_ok-partition.ensures.named c.answer_alone.result (record { output = c.answer_alone.ensures.output; reads = refl; writes = c.answer_alone.ensures.failures }) in
     nothing_begins (IsDone (IsDebugSession groups input) before) c.answer_alone.result c.no_run_left.result c.rest_of.result after c.no_run_left.ensures c.rest_of.ensures done
 
 pub returns : goal.returns
@@ -74,6 +74,6 @@ returns g c now =
         several = omega (arith, c.workers-workers.ensures.few.0, c.is_alone.ensures c.if-is_alone.false);
       },
       λ ended after left.
-          commands_end groups input c.split.result.0.now c.split.result.1.now p c.read_text.result before after (c.split.ensures.text ∙ ap text_lines same) (c.split.ensures.commands ∙ ap command_lines same) c.requires c.in_ok-scenario.was
-          c.read_text.ensures c.in_ok-scenario.ensures.scenario c.in_ok-partition.ensures.named ended left,
+          commands_end groups input c.split.result.0.now c.split.result.1.now p c.told_text.result before after (c.split.ensures.text ∙ ap text_lines same) (c.split.ensures.commands ∙ ap command_lines same) c.requires c.in_ok-scenario.was
+          c.told_text.ensures c.in_ok-scenario.ensures.scenario c.in_ok-partition.ensures.named ended left,
     )

@@ -8,37 +8,37 @@ use Rattle.sessions.proofs.Rests.{typed_end}
 use Rattle.sessions.proofs.prompt.begin_prompt.Goals as goal
 
 pub returns-in_err-scenario : goal.returns-in_err-scenario
-returns-in_err-scenario c now =
+returns-in_err-scenario g c now =
     let fault = c.in_err-scenario.field-0.0 in
     let groups = c.args.sharing.now.groups in
     let input = c.args.input.now in
     let is : c.from_residual.result ≡ Err fault = search rules in
-    let refused = input_refused groups input fault c.read_scenario.result now c.requires c.in_err-scenario.was c.read_scenario.ensures in
+    let refused = input_refused groups input fault c.told_scenario.result now c.requires c.in_err-scenario.was c.told_scenario.ensures in
     subst (λ (r : Result Rest SessionFault). Begins (IsPromptDone groups input now) r now) (sym is)
     (record { over = refused.over; reads = refused.reads now.read_failures; writes = refused.writes now.write_failures })
 
 pub returns-in_err-partition : goal.returns-in_err-partition
-returns-in_err-partition c now =
+returns-in_err-partition g c now =
     let fault = c.in_err-partition.field-0.0 in
     let groups = c.args.sharing.now.groups in
     let input = c.args.input.now in
     let p = c.in_ok-scenario.scenario in
     let is : c.from_residual-in_err-partition.result ≡ Err fault = search rules in
-    let means = scenario_of input c.read_scenario.result p c.in_ok-scenario.was c.read_scenario.ensures in
+    let means = scenario_of input c.told_scenario.result p c.in_ok-scenario.was c.told_scenario.ensures in
     let refused = groups_refused groups input p fault now c.requires means c.in_err-partition.ensures.faults in
     subst (λ (r : Result Rest SessionFault). Begins (IsPromptDone groups input now) r now) (sym is)
     (record { over = refused.over; reads = refused.reads now.read_failures; writes = refused.writes now.write_failures })
 
 pub returns-in_err-prompt : goal.returns-in_err-prompt
-returns-in_err-prompt c now =
+returns-in_err-prompt g c now =
     let is : c.from_residual-in_err-prompt.result ≡ Err NoMemory = search rules in
     subst (λ (r : Result Rest SessionFault). Begins (IsPromptDone c.args.sharing.now.groups c.args.input.now now) r now) (sym is) (record { over = unbegun now; reads = refl; writes = refl })
 
 pub returns : goal.returns
-returns c now =
+returns g c now =
     let input = c.args.input.now in
     let p = c.in_ok-scenario.scenario in
-    let means = scenario_of input c.read_scenario.result p c.in_ok-scenario.was c.read_scenario.ensures in
+    let means = scenario_of input c.told_scenario.result p c.in_ok-scenario.was c.told_scenario.ensures in
     let opens = c.in_ok-prompt.ensures in (
       opens.room,
       λ ended after left.

@@ -1,10 +1,14 @@
-use Rattle.std.proofs.Common.{◌≡◌, refl, sym, subst, ◌∙◌, IfOk, IfErr, OnErr, length}
+use Rattle.std.proofs.Common.{◌≡◌, refl, sym, subst, ◌∙◌, IfOk, IfErr, OnErr, length, true≢false}
+use Rattle.std.proofs.lemmas.Result.{IfOk-weaker}
 use Rattle.table_run.specs.State.{State}
 use Rattle.debugger.specs.declared.fault.MoveFault.{MoveFault}
 use Rattle.debugger.specs.declared.fault.MoveFault.TheVariants.{CountFull}
-use Rattle.debugger.specs.Moves.{Passes, RunGoesTo, IsTooLong}
+use Rattle.debugger.specs.Moves.{Passes, RunsTo, RunGoesTo, IsTooLong}
+use Rattle.debugger.specs.Breaks.{AsksStall}
+use Rattle.debugger.specs.Aims.{LineHit}
 use Rattle.debugger.specs.Debugging.{Debugging, HasMoved}
 use Rattle.debugger.specs.DebuggerOf.{IsDebugger}
+use Rattle.debugger.proofs.Aims.{by_lines}
 use Rattle.debugger.proofs.Batches.{same_nodes}
 use Rattle.debugger.proofs.Shown.{ok_shown, err_shown}
 use Rattle.debugger.proofs.moves.Debugger.run.Goals as goal
@@ -34,7 +38,12 @@ returns-clause-moved g c =
 
 pub returns-clause-goes : goal.returns-clause-goes
 returns-clause-goes g c =
-    let here = ok_shown (RunGoesTo c.self.inside.saved c.self.inside.breaks c.self.inside.net.position) c.find-found.result c.show.result c.show.ensures.answer c.find-found.ensures.goes in
+    let start = c.self.inside.saved in
+    let breaks = c.self.inside.breaks in
+    let from = c.self.inside.net.position in
+    let none : AsksStall breaks → ⊥ = λ asked. true≢false (sym (c.asks_stall.ensures.1 asked) ∙ c.if-asks_stall.false) in
+    let lines = ok_shown (RunsTo (LineHit breaks) start from) c.find-found.result c.show.result c.show.ensures.answer c.find-found.ensures.goes in
+    let here = IfOk-weaker c.show.result (RunsTo (LineHit breaks) start from) (RunGoesTo start breaks from) (λ p. by_lines breaks none start from p) lines in
     subst (λ (d : Debugging). IfOk c.show.result (RunGoesTo d.start d.breaks d.shown.position)) c.self.view_is here
 
 pub returns-clause-full : goal.returns-clause-full
@@ -63,3 +72,19 @@ returns-then-self-eq1-clause-full g c = c.run_alone.ensures.full
 
 pub returns-then-self-eq1-clause-err : goal.returns-then-self-eq1-clause-err
 returns-then-self-eq1-clause-err g c = c.run_alone.ensures.err
+
+-- where a stall is asked for
+pub returns-then-asks_stall-clause-moved : goal.returns-then-asks_stall-clause-moved
+returns-then-asks_stall-clause-moved g c = c.run_singly.ensures.moved
+
+pub returns-then-asks_stall-clause-goes : goal.returns-then-asks_stall-clause-goes
+returns-then-asks_stall-clause-goes g c = c.run_singly.ensures.goes
+
+pub returns-then-asks_stall-clause-full : goal.returns-then-asks_stall-clause-full
+returns-then-asks_stall-clause-full g c = c.run_singly.ensures.full
+
+pub returns-then-asks_stall-clause-err : goal.returns-then-asks_stall-clause-err
+returns-then-asks_stall-clause-err g c = c.run_singly.ensures.err
+
+pub same-self-then-self-eq1 : goal.same-self-then-self-eq1
+same-self-then-self-eq1 g c = refl

@@ -1,0 +1,44 @@
+-- The nearest name of a command to a word.
+use Rattle.std.specs.Prelude.{◌≡◌, ◌<◌, ◌≤◌, ℕ, nat_eq, nat_lt, List, [], ◌∷◌, ◌++◌, if◌then◌else◌, codes, length, Option, None, Some}
+use Rattle.std.specs.List.{All}
+use Rattle.strsim.specs.Edits.{levenshtein_row}
+use Rattle.debug_session.specs.declared.name.Name.{Name}
+use Rattle.debug_session.specs.declared.name.Name.TheVariants.{Step, Back, Break, Breaks, Run, Reverse, Until, State, Lines, Delete, Clear, Help, Quit, Why}
+use Rattle.sessions.specs.declared.nearest.Near.{Near}
+
+-- how a name is spelled
+abbrev pub spelling : Name → List ℕ
+spelling Step = codes "step"
+spelling Back = codes "back"
+spelling Break = codes "break"
+spelling Breaks = codes "breaks"
+spelling Run = codes "run"
+spelling Reverse = codes "reverse"
+spelling Until = codes "until"
+spelling State = codes "state"
+spelling Lines = codes "lines"
+spelling Delete = codes "delete"
+spelling Clear = codes "clear"
+spelling Help = codes "help"
+spelling Quit = codes "quit"
+spelling Why = codes "why"
+
+-- how many bytes have to be put in, taken out or replaced until a word is a name
+abbrev pub edits_to : List ℕ → Name → ℕ
+edits_to word name = levenshtein_row nat_eq word (spelling name) (length (spelling name))
+
+abbrev pub with_edits : List ℕ → Name → Near
+with_edits word name = record { name = name; edits = edits_to word name }
+
+abbrev pub nearer : Option Near → Near → Near
+nearer None next = next
+nearer (Some found) next = if nat_lt next.edits found.edits then next else found
+
+-- none of the names is nearer to a word, and none before it is as near
+pub record IsNearest (word : List ℕ) (names : List Name) (found : Near) : Type 0 where
+  pub before : List Name
+  pub behind : List Name
+  pub among : names ≡ before ++ found.name ∷ behind
+  pub edits : found.edits ≡ edits_to word found.name
+  pub first : All (λ other. found.edits < edits_to word other) before
+  pub least : All (λ other. found.edits ≤ edits_to word other) behind

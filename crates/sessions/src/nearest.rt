@@ -1,0 +1,132 @@
+//! The nearest name of a command, for a word that begins none.
+ghost use Rattle.std.specs.Prelude.{◌≡◌, [], IfOk, MatchOption};
+ghost use Rattle.sessions.specs.Nearest.{IsNearest, nearer, spelling, with_edits};
+
+use crate::notes::Notes;
+use crate::why::push_shown;
+use debug_session::Name;
+use std::alloc::{AllocError, Global};
+use strsim::generic_levenshtein;
+
+/// The most bytes of a word whose nearest name is told.
+const MOST_WORD: usize = 32;
+
+/// The names, in the order in which a word that begins several of them is read.
+const NAMES: [Name; 14] = [
+    Name::Step,
+    Name::Back,
+    Name::Break,
+    Name::Breaks,
+    Name::Run,
+    Name::Reverse,
+    Name::Until,
+    Name::State,
+    Name::Lines,
+    Name::Delete,
+    Name::Clear,
+    Name::Help,
+    Name::Quit,
+    Name::Why,
+];
+
+/// How a name is spelled.
+fn spelling(name: Name) -> &'static str
+    ensures { result.now ≡ spelling name }
+{
+    match name {
+        Name::Step => "step",
+        Name::Back => "back",
+        Name::Break => "break",
+        Name::Breaks => "breaks",
+        Name::Run => "run",
+        Name::Reverse => "reverse",
+        Name::Until => "until",
+        Name::State => "state",
+        Name::Lines => "lines",
+        Name::Delete => "delete",
+        Name::Clear => "clear",
+        Name::Help => "help",
+        Name::Quit => "quit",
+        Name::Why => "why",
+    }
+}
+
+/// A name, and how many edits lead to it from a word.
+#[derive(Clone, Copy, Debug)]
+struct Near {
+    name: Name,
+    edits: usize,
+}
+
+/// A name, with the edits that lead to it from a word.
+fn with_edits(alloc: Global, word: &[u8], name: Name) -> Result<Near, AllocError>
+    ensures { IfOk result (λ found. found ≡ with_edits word.now name) }
+{
+    let edits = generic_levenshtein(alloc, word, spelling(name).as_bytes())?;
+    Ok(Near { name, edits })
+}
+
+/// The nearer of two names, the first of them where they are as near.
+fn nearer(best: Option<Near>, next: Near) -> Near
+    ensures { result ≡ nearer best next }
+{
+    match best {
+        None => next,
+        Some(found) => {
+            if next.edits < found.edits {
+                next
+            } else {
+                found
+            }
+        }
+    }
+}
+
+/// The nearest of names to a word, the first of those that are as near.
+fn nearest(alloc: Global, names: &[Name], word: &[u8]) -> Result<Option<Near>, AllocError>
+    ensures { IfOk result (λ found. MatchOption found (names.now ≡ []) (IsNearest word.now names.now)) }
+{
+    let mut best = None;
+    for name in names {
+        let next = with_edits(alloc, word, *name)?;
+        best = Some(nearer(best, next));
+    }
+    Ok(best)
+}
+
+/// The first word of a line; no byte where it has none.
+fn first_word(line: &[u8]) -> &[u8] {
+    let start = line
+        .iter()
+        .position(|byte| *byte != b' ')
+        .unwrap_or(line.len());
+    let rest = &line[start..];
+    let end = rest
+        .iter()
+        .position(|byte| *byte == b' ')
+        .unwrap_or(rest.len());
+    &rest[..end]
+}
+
+/// Whether a word begins a name.
+fn begins_name(word: &[u8]) -> bool {
+    NAMES
+        .iter()
+        .any(|name| spelling(*name).as_bytes().starts_with(word))
+}
+
+/// Tells the nearest name to the first word of a line, where that begins no name, is short, and there
+/// is memory to say it.
+pub(crate) fn tell_nearest<N: Notes>(alloc: Global, line: &[u8], notes: &mut N) {
+    let word = first_word(line);
+    if word.len() > MOST_WORD || begins_name(word) {
+        return;
+    }
+    let mut shown = String::new(alloc);
+    if let (Ok(Some(found)), Ok(())) = (
+        nearest(alloc, &NAMES, word),
+        push_shown(&mut shown, word),
+    ) {
+        notes.no_command(shown.as_str(), spelling(found.name));
+    }
+}
