@@ -8,12 +8,14 @@ are: two crates side by side, each with as many functions at once as there are p
 which fewer crates stand gives way to the other. Of a library
 its statements are kept (crates/tcpsim/out/libs), so that what stands on it does not read its proofs;
 after a change the changed crate and those that stand on it are proved again. `rt ci` trusts nothing of
-it. With --ready it only says whether the toolchain is the one that is wanted, whether every file is
-in the layout that `rt fmt` gives, and whether a module has a library's name, as `rt ci` asks.
+it. Beside them NAME.cost says what each cost, for the table of bench/gate.py. With --ready it only says
+whether the toolchain is the one that is wanted, whether every file is in the layout that `rt fmt` gives,
+and whether a module has a library's name, as `rt ci` asks.
 """
 import argparse
 import contextlib
 import hashlib
+import json
 import os
 import re
 import shutil
@@ -141,6 +143,22 @@ def words_of(name, kit, jobs, libraries):
     return [*words, "--statements", "-o", f"{KEPT}/{name}.rlib"]
 
 
+def cost_of(name):
+    """What is kept of what a crate's proof cost: by what was proved, the seconds of all processors, and the
+    most bytes that one process held."""
+    with contextlib.suppress(FileNotFoundError), open(f"{KEPT}/{name}.cost", encoding="utf-8") as file:
+        return json.load(file)
+    return {}
+
+
+def keep_cost(name, kind, seconds, memory):
+    """Keeps what was proved last of a crate, for the table of bench/gate.py."""
+    os.makedirs(KEPT, exist_ok=True)
+    costs = {**cost_of(name), kind: {"seconds": round(seconds, 1), "memory": memory}}
+    with open(f"{KEPT}/{name}.cost", "w", encoding="utf-8") as file:
+        json.dump(costs, file)
+
+
 class Crate:
     """One crate: what it waits for, and its prover while that runs."""
 
@@ -148,7 +166,7 @@ class Crate:
         self.name, self.stamp = name, stamp
         self.waits = [it for it in libraries[name] if it in libraries]
         self.above = sum(name in libraries[it] for it in libraries)
-        self.prover, self.begun = None, 0
+        self.prover, self.begun, self.usage = None, 0, None
 
     def mark(self):
         return f"{KEPT}/{self.name}.stamp"
@@ -169,9 +187,17 @@ class Crate:
             how = {"stdin": subprocess.DEVNULL, "stdout": log, "stderr": subprocess.STDOUT}
             self.prover = subprocess.Popen(words, cwd=TOP, start_new_session=True, **how)
 
+    def has_ended(self):
+        """Whether its prover has ended; what it used is then known."""
+        ended, status, self.usage = os.wait4(self.prover.pid, os.WNOHANG)
+        if ended:
+            self.prover.returncode = os.waitstatus_to_exitcode(status)
+        return bool(ended)
+
     def keep(self):
         with open(self.mark(), "w", encoding="utf-8") as file:
             file.write(self.stamp)
+        keep_cost(self.name, "check", self.usage.ru_utime + self.usage.ru_stime, 1024 * self.usage.ru_maxrss)
 
     def stop(self):
         if self.prover and self.prover.poll() is None:
@@ -197,7 +223,7 @@ def prove(crates, count, words_for):
             left.remove(it)
             it.start(words_for(it.name), any(other.above > it.above for other in [*left, *running]))
             running.append(it)
-        for it in [it for it in running if it.prover.poll() is not None]:
+        for it in [it for it in running if it.has_ended()]:
             running.remove(it)
             if it.prover.returncode:
                 return it

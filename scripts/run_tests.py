@@ -6,8 +6,9 @@
 Without names these are scripts/refuse_tests.sh, each scripts/test_*.py and scripts/try_shell.sh. It goes after
 `rt ci`, or after `make run` where it is told to leave scripts/refuse_tests.sh out by naming the others. Each
 test has a folder of its own for what it makes; all are ended, and the folders taken away, where this script is
-interrupted. What wants matplotlib is run by the python of --python, and left out where that is empty. The last
-line is 'N tests passed, N failed', and the status is 1 where one failed.
+interrupted. What wants matplotlib is run by the python of --python, and left out where that is empty. What all
+of them cost is kept for the table of bench/gate.py. The last line is 'N tests passed, N failed', and the
+status is 1 where one failed.
 """
 import argparse
 import contextlib
@@ -19,6 +20,8 @@ import subprocess
 import sys
 import tempfile
 import time
+
+import build
 
 TOP = os.path.dirname(os.path.dirname(os.path.abspath(__file__)))
 DRAWING = ('scripts/test_scripts.py', 'scripts/test_plot.py')
@@ -40,7 +43,7 @@ class Test:
     def __init__(self, name, python, folder):
         self.name, self.folder = name, f'{folder}/{os.path.basename(name)}'
         self.words = [python, name] if name.endswith('.py') else [f'./{name}']
-        self.process, self.seconds, self.begun = None, 0, 0
+        self.process, self.seconds, self.begun, self.usage = None, 0, 0, None
 
     def start(self):
         os.mkdir(self.folder)
@@ -51,10 +54,15 @@ class Test:
                                             env={**os.environ, 'TMPDIR': self.folder})
 
     def has_ended(self):
-        if self.process.poll() is None:
-            return False
-        self.seconds = time.monotonic() - self.begun
-        return True
+        ended, status, self.usage = os.wait4(self.process.pid, os.WNOHANG)
+        if ended:
+            self.process.returncode = os.waitstatus_to_exitcode(status)
+            self.seconds = time.monotonic() - self.begun
+        return bool(ended)
+
+    def spent(self):
+        """The seconds of processors that it took."""
+        return self.usage.ru_utime + self.usage.ru_stime
 
     def end(self):
         """Asks all of it to end, and then makes it."""
@@ -73,7 +81,8 @@ class Test:
         """Prints what it said; answers whether it passed."""
         passed = self.process.returncode == 0
         how = 'passed' if passed else f'FAILED, status {self.process.returncode}'
-        print(f'== {self.name}: {how} ({self.seconds:.0f} s)\n{self.said()}', end='', flush=True)
+        took = f'{self.seconds:.0f} s, {self.spent():.0f} s of processors'
+        print(f'== {self.name}: {how} ({took})\n{self.said()}', end='', flush=True)
         return passed
 
 
@@ -130,6 +139,8 @@ def main():
     with room() as folder:
         tests = [Test(it, python or sys.executable, folder) for it in names if it not in gone]
         failed, out = run(tests, max(1, words.jobs))
+    if not words.names and not failed:
+        build.keep_cost('scripts', 'tests', sum(it.spent() for it in tests), 0)
     if gone:
         out.append(f'LEFT OUT, not passed: {" ".join(gone)} (no python3 with matplotlib)')
     print(''.join(f'{it}\n' for it in out), end='')

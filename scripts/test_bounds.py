@@ -30,6 +30,7 @@ sys.path.insert(0, os.path.join(HERE, 'model'))
 
 import tcpsim_model  # noqa: E402
 from image import places  # noqa: E402
+from whole import tables  # noqa: E402
 
 PROGRAM = os.path.join(TOP, 'crates', 'tcpsim', 'out', 'tcpsim')
 LONGEST = 60                # seconds that a run may take
@@ -652,7 +653,9 @@ class Ends(Case):
             (('run',), IMAGE, trace),
             (('run',), OLD_IMAGE, trace),
             (('asm',), FIRST, IMAGE),
+            (('dis',), FIRST, CANONICAL),
             (('dis',), IMAGE, CANONICAL),
+            (('figures',), FIRST, tables.ONE_SEGMENT.encode()),
             (('debug',), FIRST + COMMANDS, model(('debug',), FIRST + COMMANDS).out),
             (('debug', '--groups', 'each', '--workers', '2'), FIRST + COMMANDS,
              model(('debug',), FIRST + COMMANDS).out),

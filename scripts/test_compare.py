@@ -34,7 +34,7 @@ at_prompt = prompt.Prompt
 right = {name: getattr(place, name) for place, name in (
     (at_prompt, 'answer'), (at_prompt, 'quits'), (at_prompt, 'on_break'), (at_prompt, 'where'), (at_prompt, 'of_node'),
     (at_prompt, 'of_flow'), (prompt, 'time_in'), (prompt, 'numbered'), (prompt.Marked, 'is_met'), (prompt, 'standing'),
-    (prompt, 'waiting'))}
+    (prompt, 'waiting'), (prompt, 'edits'))}
 
 
 def empty_lines_do_nothing(self, line):
@@ -125,6 +125,8 @@ FAULTS = {
     'conditions are told in another order': (7, prompt, 'CONDITIONS', prompt.CONDITIONS[::-1]),
     'a drop is at no link': (7, prompt.Marked, 'is_met', drops_are_at_no_link),
     'a stall that goes on matches again': (8, prompt.Marked, 'event', stalls_match_as_long_as_they_last),
+    'a word of four bytes has no nearest name': (1, prompt, 'MOST_WORD', 3),
+    'the last of the nearest is told': (1, prompt, 'edits', lambda word, name: right['edits'](word, name) - list(prompt.NAMES).index(name) / 99),
     'a 64th breakpoint is refused': (1, debugger, 'MOST_BREAKS', 63),
 }
 

@@ -16,7 +16,7 @@ HERE = os.path.dirname(os.path.abspath(__file__))
 TOP = os.path.dirname(HERE)
 PROGRAM = os.path.join(TOP, 'crates', 'tcpsim', 'out', 'tcpsim')
 CODES = [f'E{k}' for k in range(1, 11)] + [f'L{k}' for k in range(1, 9)] + ['I1'] \
-    + [f'B{k}' for k in range(1, 5)] + ['M', 'groups']
+    + [f'B{k}' for k in range(1, 6)] + ['M', 'groups']
 
 
 def explained(*code):
@@ -50,14 +50,14 @@ class Explained(unittest.TestCase):
         os.chmod(path, 0o700)
 
     def tried(self, example):
-        """What an example writes and notes: shell commands behind `$`, or a scenario's text."""
+        """What an example writes and notes beside prompts: shell commands behind `$`, or a scenario's text."""
         if example.startswith('$ '):
             words, given = ['sh', '-c', re.sub(r'^\$ ', '', example, flags=re.M)], ''
         else:
             words, given = [PROGRAM, 'run'], example
         done = subprocess.run(words, capture_output=True, text=True, input=given, cwd=self.folder,
                               env=self.environment, timeout=60, check=False)
-        return done.stdout, done.stderr
+        return done.stdout, done.stderr.replace('(tcpsim) ', '')
 
     def test_each_example_is_refused_as_its_text_says(self):
         for code in CODES:

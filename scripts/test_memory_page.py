@@ -188,7 +188,7 @@ class Page(unittest.TestCase):
             if clauses:
                 self.assertEqual(self.calls[crate, name].clauses, clauses)
         self.assertGreater(len(self.calls), 250)
-        self.assertEqual({crate for crate, _ in self.calls} | {'table_run'}, set(crates()))
+        self.assertEqual({crate for crate, _ in self.calls} | {'table_run', 'window_law'}, set(crates()))
         self.assertLessEqual({'AllocError', 'LoadFault', 'AsmFault', 'StepFault', 'GroupFault', 'TurnFault',
                               'EngineFault', 'MoveFault', 'BreakFault', 'SessionFault'}, refusals())
 

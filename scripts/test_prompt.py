@@ -7,10 +7,13 @@ Usage: scripts/test_prompt.py [--program PATH] [--steps N] [TEST..]. --steps N i
 first N steps of its grammar (scripts/model/prompt.py), else all. The last line is 'N passed, N failed'.
 """
 import argparse
+import glob
 import os
 import pty
 import random
+import re
 import select
+import signal
 import subprocess
 import sys
 import tempfile
@@ -53,13 +56,18 @@ LINES = {
     5: [b'back 999', b'why 0', b'step', b'w 0', b's 20', b'wh 0', b'', b'w 0', b'b 3', b'why 0', b'u 9s', b'why 0'],
     6: [b'clear', b'reverse', b'', b'u 9s', b're', b'br kind rto', b'u 9s', b'rev', b'', b's', b'', b'', b'br drop', b'u 9s', b'reve', b'', b'', b'',
         b'', b'r', b'', b're', b's 3', b'b', b're', b'', b'c'],
+    7: [b'break kind data flow 0', b'br flow 0  kind data', b'br link 0 drop', b'br link 1', b'br byte 4000 kind ack', b'breaks', b'r', b'', b'd 1',
+        b'r', b'', b'', b'd 2', b'r', b'', b'', b'', b're', b'', b'c', b'br byte 5000 link 1 drop kind delack flow 0 node 1', b'br byte 9000000000000',
+        b'br byte 3000', b'br node 0 link 0', b'breaks', b're', b'', b'r', b'', b'd 1', b'd 4', b'breaks', b'c', b'help', b'h br'],
+    8: [b'back 999', b'br stall', b'break stall 0', b'br  stall', b'r', b'w 0', b'', b'w 0', b'', b're', b'', b'', b'd 1', b'r', b'br kind rto', b'r', b're',
+        b'breaks', b'c'],
 }
 REFUSALS = {
     0: [(b'bak 1', b'B1'), (b'step 01', b'B3'), (b'break flow 1', b'B3'), (b'run 1', b'B2'), (b'break', b'B2')],
     1: [(b'stepp', b'B1'), (b'y', b'B1'), (b'step 1 2', b'B2'), (b'step x', b'B3'), (b'back 1000000000000001', b'B3'), (b'until', b'B2'),
         (b'until 1 s', b'B2'), (b'until 1.5', b'B3'), (b'u 1.0ns', b'B3'), (b'u 1.0000us', b'B3'), (b'u .5s', b'B3'), (b'u 5.s', b'B3'),
         (b'u 01s', b'B3'), (b'u 1000000.000000001s', b'B3'), (b'u 1S', b'B3'), (b'br n 0', b'B1'), (b'br kind', b'B2'),
-        (b'break drop 1', b'B2'), (b'clear x', b'B2'), (b'step\t1', b'B1'), (b'quit now', b'B2')],
+        (b'clear x', b'B2'), (b'step\t1', b'B1'), (b'quit now', b'B2')],
     2: [(b'breaks 1', b'B2'), (b'delete', b'B2'), (b'd 1 2', b'B2'), (b'd 01', b'B3'), (b'd x', b'B3'), (b'd 0', b'B5'), (b'd 1', b'B5'),
         (b'delete 99999999999999999999999', b'B5'), (b'help stepp', b'B1'), (b'h x y', b'B1'), (b'h s t', b'B2')],
     3: [(b'lines 1 2', b'B2'), (b'l 1001', b'B3'), (b'l 01', b'B3'), (b'l x', b'B3')],
@@ -67,6 +75,12 @@ REFUSALS = {
         (b'state link 0 1', b'B2'), (b'state node 2', b'B3'), (b'state link 2', b'B3'), (b'state flow 1', b'B3'), (b'state flow 00', b'B3')],
     5: [(b'why', b'B2'), (b'w 0 0', b'B2'), (b'why 1', b'B3'), (b'wh 00', b'B3'), (b'why f', b'B3'), (b'whys 0', b'B1')],
     6: [(b'reverse 1', b'B2'), (b'rev drop', b'B2'), (b'reverses', b'B1')],
+    7: [(b'break drop 1', b'B1'), (b'br node 0 1', b'B1'), (b'br node 2 lin 0', b'B1'), (b'br kind acks link 0 1', b'B1'), (b'br drop drop', b'B2'),
+        (b'br drop foo drop', b'B1'), (b'br node 0 node 1', b'B2'), (b'br node 2 node 1', b'B2'), (b'br node 0 node', b'B2'), (b'br node 2 flow', b'B2'),
+        (b'br node 0 node 1 foo', b'B2'), (b'br link', b'B2'), (b'br drop byte', b'B2'), (b'br node node', b'B3'), (b'br flow drop', b'B3'),
+        (b'br node 0 flow 1', b'B3'), (b'br link 2', b'B3'), (b'br drop byte 9000000000001', b'B3'), (b'br byte 01 kind ack', b'B3')],
+    8: [(b'br stall 1', b'B3'), (b'br stall x', b'B3'), (b'br stall 00', b'B3'), (b'br stall 0 0', b'B2'), (b'br stall 1 x', b'B2'), (b'br stal', b'B1'),
+        (b'br stall drop', b'B3'), (b'br drop stall', b'B1'), (b'br node 0 stall 0', b'B1')],
 }
 
 
@@ -91,7 +105,7 @@ def answers(path, lines):
         try:
             found.append((session.answer(line).encode(), b''))
         except Refused as refusal:
-            found.append((b'', f'{refusal.note()}\n'.encode()))
+            found.append((b'', session.noted(line, refusal).encode()))
     return found
 
 
@@ -105,6 +119,25 @@ def debug(path, given, *options, **more):
     done = subprocess.run([PROGRAM, 'debug', path, *options], input=given, capture_output=True, timeout=LONGEST,
                           check=False, **more)
     return done.returncode, done.stdout, done.stderr
+
+
+def page():
+    """What docs/DEBUGGING.md shows: of each session its file, its lines and what is answered, and of each command of
+    the shell what it prints. A line `...` stands for some lines that are left out."""
+    with open(os.path.join(TOP, 'docs', 'DEBUGGING.md'), encoding='utf-8') as file:
+        blocks = re.findall(r'^```\n(.*?)^```$', file.read(), re.M | re.S)
+    sessions_, commands = [], []
+    for block in blocks:
+        for line in block.splitlines():
+            if started := re.fullmatch(r'\$ crates/tcpsim/out/tcpsim debug (\S+)', line):
+                sessions_.append((os.path.join(TOP, started[1]), [], ['']))
+            elif line.startswith('{ '):
+                commands.append((line, ['']))
+            elif line.startswith('(tcpsim) '):
+                sessions_[-1][1].append(line.removeprefix('(tcpsim) ').encode())
+            else:
+                (commands[-1] if commands else sessions_[-1])[-1][0] += r'(?:.*\n)+' if line == '...' else re.escape(line + '\n')
+    return sessions_, commands
 
 
 class Typed:
@@ -224,8 +257,20 @@ class AtThePrompt(unittest.TestCase):
     def test_refused_lines(self):
         for line, code in of_steps(REFUSALS):
             with self.subTest(line=line):
-                told = debug(ONE, line + b'\nstep 1\n')
-                self.assertEqual(told, (0, model(ONE, [b'step 1']), PROMPT + b'refused ' + code + b'\n' + PROMPT * 2))
+                (_, note), = answers(ONE, [line])
+                self.assertTrue(note.startswith(b'refused ' + code + b'\n'))
+                self.assertEqual(debug(ONE, line + b'\nstep 1\n'), (0, model(ONE, [b'step 1']), PROMPT + note + PROMPT * 2))
+
+    def test_the_nearest_command(self):
+        for word, nearest in ((b'stpe', b'step'), (b'bak', b'back'), (b'brak', b'break'), (b'brakes', b'breaks'), (b'halp', b'help'),
+                              (b'exit', b'quit'), (b'x', b'run'), (b'x' * 32, b'step'), (b'\xff\trun', b'run')):
+            with self.subTest(word=word):
+                shown = word.replace(b'\xff\t', b'??')
+                noted = PROMPT + b'refused B1\ntcpsim: no command ' + shown + b'; the nearest is ' + nearest + b'\n' + PROMPT
+                for line in (word, b'  ' + word + b'  1'):
+                    self.assertEqual(debug(ONE, line + b'\n'), (0, b'', noted))
+        for line in (b'x' * 33, b'break n 0', b'state kind rto', b'help stpe'):
+            self.assertEqual(debug(ONE, line + b'\n'), (0, b'', PROMPT + b'refused B1\n' + PROMPT))
 
     def test_long_lines(self):
         step = model(ONE, [b'step 1'])
@@ -269,6 +314,38 @@ class AtThePrompt(unittest.TestCase):
             expected = b''.join(piece.encode() for piece in debugger.session(given))
             self.assertTrue(expected.endswith(b'refused B1\n'))
             self.assertEqual((done.returncode, done.stdout, done.stderr), (0, expected, b''))
+
+    def test_the_hunts_of_the_examples(self):
+        found = sorted(glob.glob(os.path.join(TOP, 'examples', '*.commands')))
+        self.assertEqual(len(found), 2)
+        for path in found:
+            given = read(path.replace('.commands', '.txt')) + b'---\n' + read(path)
+            done = subprocess.run([PROGRAM, 'debug'], input=given, capture_output=True, timeout=LONGEST, check=False)
+            expected = ''.join(debugger.session(given)).encode()
+            self.assertEqual((done.returncode, done.stdout, done.stderr), (0, expected, b''), path)
+
+    def test_the_page(self):
+        """What docs/DEBUGGING.md shows is what is answered."""
+        shown, commands = page()
+        self.assertEqual((len(shown), len(commands)), (3, 1))
+        for path, lines, (answer,) in shown:
+            status, out, _ = debug(path, b''.join(line + b'\n' for line in lines))
+            with self.subTest(path=path):
+                self.assertEqual(status, 0)
+                self.assertIsNotNone(re.fullmatch(answer, out.decode()), out.decode())
+        for line, (answer,) in commands:
+            done = subprocess.run(line.replace('crates/tcpsim/out/tcpsim', PROGRAM), shell=True, capture_output=True, cwd=TOP,
+                                  timeout=LONGEST, check=False)
+            self.assertEqual((done.returncode, done.stderr), (0, b''))
+            self.assertIsNotNone(re.fullmatch(answer, done.stdout.decode()), done.stdout)
+
+    def test_an_interrupt_ends_it_as_any_program(self):
+        session = Typed(ONE, terminal=False)
+        session.until_asked()
+        session.type(b'step\n')
+        session.until_asked()
+        session.program.send_signal(signal.SIGINT)
+        self.assertEqual(session.end(), (-signal.SIGINT, b''))
 
     def test_ends_that_fail(self):
         with open('/dev/full', 'wb') as full:

@@ -20,34 +20,12 @@ HERE = os.path.dirname(os.path.abspath(__file__))
 TOP = os.path.dirname(HERE)
 sys.path.insert(0, HERE)
 
-from whole import images, sessions, tables, texts  # noqa: E402
+from whole import command_line, images, refusals, sessions, tables, texts  # noqa: E402
 from whole.texts import RIGHT  # noqa: E402
 
 PROGRAM = os.path.join(TOP, 'crates', 'tcpsim', 'out', 'tcpsim')
 LONGEST = 60  # seconds that a run may take
 FIRST = ''.join(f'{line}\n' for line in texts.LINES).encode()
-
-# Words that are refused. The input, a right text, plays no part.
-MISTAKEN = [
-    [],
-    ['asm', 'one', 'two'],
-    ['help'],
-    ['run', 'one', 'two'],
-    ['debug', 'one', 'two'],
-    ['explain', 'E1', 'E2'],
-    ['run', '--workers', '0'],
-    ['run', '--workers=65'],
-    ['run', '--workers', 'two'],
-    ['run', '--workers='],
-    ['run', '--workers', '1', '--workers', '1'],
-    ['debug', '--workers', '18446744073709551617'],
-    ['run', '--groups'],
-    ['--groups', 'one', 'run'],
-    ['asm', '--groups', 'one'],
-    ['dis', '--workers', '1'],
-    ['run', '--version'],
-    ['--fast', 'run'],
-]
 
 
 def read(name):
@@ -128,6 +106,25 @@ class Whole(unittest.TestCase):
         self.assertEqual(len(trace), 5_656_297)
         self.assertEqual(hash_of(trace), 0x7547_0a11_fb92_3df2)
 
+    def test_a_router_with_256_incoming_links_passes_all_on(self):
+        """Of each flow there are its start, and the segment and its acknowledgement, which are three times sent and have
+        three times arrived."""
+        status, note, trace = outcome(['run'], texts.star().encode())
+        self.assertEqual((status, note), (0, b''))
+        *lines, end = trace.decode().splitlines()
+        self.assertEqual((len(lines), end), (8 * 13, f'end {8 * 13}'))
+        times = [int(line.split()[1]) for line in lines]
+        self.assertEqual(times, sorted(times))
+        self.assertEqual(sum(' una=1000 ' in line for line in lines), 8)
+
+    def test_groups_that_are_found_change_no_byte(self):
+        """Three flows of which each has its own links: a window with many events in each group."""
+        for given in (FIRST, texts.ISLANDS.encode()):
+            plain = outcome(['run'], given)
+            self.assertEqual(plain[0], 0)
+            self.expect([(['run', '--groups', 'auto', '--workers', workers], given, *plain)
+                         for workers in ('1', '3', '64')])
+
     def test_figures_have_their_tables(self):
         self.expect([(['figures'], FIRST, 0, b'', tables.ONE_SEGMENT.encode()),
                      (['figures'], tables.BOTH_LOST.encode(), 0, b'', tables.AFTER_A_TIMEOUT.encode()),
@@ -137,7 +134,8 @@ class Whole(unittest.TestCase):
 
     def test_sessions_have_their_answers(self):
         self.expect([(words, FIRST + b'---\n' + commands.encode(), 0, b'', answers.encode()) for words in sessions.SHARED
-                     for commands, answers in ((sessions.MOVES, sessions.ANSWERS), (sessions.BREAKS, sessions.STOPS))])
+                     for commands, answers in ((sessions.MOVES, sessions.ANSWERS), (sessions.BREAKS, sessions.STOPS),
+                                               (sessions.FAULTS, sessions.REFUSED_FOR))])
 
     def test_a_session_has_a_group_for_each_node(self):
         self.expect([(['debug', '--groups', groups], FIRST + b'---\n' + sessions.MOVES.encode(), 2, b'refused groups\n', b'')
@@ -153,13 +151,12 @@ class Whole(unittest.TestCase):
             file.write(FIRST)
             file.flush()
             for words in sessions.TYPED:
-                for lines, prompts, answers, codes in sessions.LINES_TYPED:
+                for lines, prompts, answers, notes in sessions.LINES_TYPED:
                     with self.subTest(words=words, lines=lines):
                         status, noted, output = outcome([*words, file.name], ''.join(f'{it}\n' for it in lines).encode())
                         self.assertEqual((status, output), (0, answers.encode()))
                         self.assertEqual(noted.count(b'(tcpsim) '), prompts)
-                        self.assertEqual(noted.replace(b'(tcpsim) ', b'').decode().split('\n'),
-                                         [*(f'refused {code}' for code in codes.split()), ''])
+                        self.assertEqual(noted.replace(b'(tcpsim) ', b'').decode().split('\n'), [*notes, ''])
 
     # ---- texts
 
@@ -253,14 +250,92 @@ class Whole(unittest.TestCase):
             self.assertEqual((status, note), (0, b''))
             self.expect([(['asm'], text, 0, b'', image)])
 
+    # ---- why
+
+    def expect_why(self, words, given, code, lines):
+        """The note with the code, these lines, and the first line of the code's text are on standard error."""
+        with self.subTest(words=words, given=given[:2000]):
+            status, said, output = outcome([*words, '--explain'], given)
+            note, shown = said.decode().split('\n', 1)
+            self.assertEqual((status, output), (1, b''))
+            self.assertRegex(note, rf'^refused {code}( line \d+)?$')
+            about = outcome(['explain', code], b'')[2].decode().split('\n', 1)[0]
+            self.assertEqual(shown, f'{lines}{about}\n')
+
+    def test_a_refusal_of_a_text_is_shown_with_its_reason(self):
+        texts_of = [*refusals.SHOWN, *((text_with(texts.ROUTED, texts.LOSSES, place, line), code, lines)
+                                       for place, line, code, lines in refusals.CHANGED)]
+        for given, code, lines in texts_of:
+            for word in ('asm', 'dis', 'run'):
+                self.expect_why([word], given.encode(), code, lines)
+
+    def test_a_refusal_of_an_image_is_shown_with_its_reason(self):
+        image = outcome(['asm'], ''.join(f'{line}\n' for line in texts.ROUTED).encode())[2]
+        self.assertEqual(len(image), 232)
+        for place, put, kept, code, lines in refusals.CHANGED_BYTES:
+            put = bytes.fromhex(put)
+            self.expect_why(['dis'], (image[:place] + put + image[place + len(put):])[:kept], code, lines)
+        image = outcome(['asm'], refusals.TWO_ROUTERS.encode())[2]
+        place, put, code, lines = refusals.RETURNING
+        put = bytes.fromhex(put)
+        self.expect_why(['asm'], image[:place] + put + image[place + len(put):], code, lines)
+
+    def test_nothing_is_shown_unasked_and_of_a_right_input(self):
+        self.expect([(['run'], b'sim 0\n', 1, b'refused E5 line 1\n', b''),
+                     (['asm'], text_with(texts.ROUTED, texts.LOSSES, 1, 'sim 5').encode(), 0, b'',
+                      outcome(['asm', '--explain'], text_with(texts.ROUTED, texts.LOSSES, 1, 'sim 5').encode())[2]),
+                     (['run', '--explain'], FIRST, 0, b'', read(f'{TOP}/examples/one_segment.trace')),
+                     (['run', '--explain', '--groups', '0,1,1'], FIRST, 2,
+                      b'refused groups\ngroups that are given: 3; nodes: 2\n'
+                      + outcome(['explain', 'groups'], b'')[2].split(b'\n', 1)[0] + b'\n', b'')])
+
+    def test_each_hundredth_that_is_passed_is_told(self):
+        """Of a run of 4 ms, whose events are at 0, 1.04, 2.04, 2.08 and 3.08 ms, and of one of a second."""
+        trace = read(f'{TOP}/examples/one_segment.trace')
+        for given, end, passed in ((FIRST.replace(b'sim 1000000000', b'sim 4000000'), '0.004',
+                                    [(26, 2), (51, 3), (52, 4), (77, 5), (100, 5)]),
+                                   (FIRST, '1', [(100, 5)])):
+            told = ''.join(f'\r{percent} % of {end} s simulated, {events} events' for percent, events in passed)
+            self.expect([(['run', '--progress'], given, 0, f'{told}\n'.encode(), trace)])
+        self.expect([(['run', '--progress'], b'sim 1\n', 1, b'refused L3 line 0\n', b''), (['run'], FIRST, 0, b'', trace)])
+
     # ---- words
 
-    def test_mistaken_words_are_refused(self):
-        for words in MISTAKEN:
-            with self.subTest(words=words):
-                status, note, output = outcome(words, FIRST)
+    def unread(self, given):
+        """The outcome of a run whose standard input is a folder, which fails whenever it is read."""
+        folder = os.open(TOP, os.O_RDONLY)
+        try:
+            done = subprocess.run([PROGRAM, *given], stdin=folder, capture_output=True, timeout=LONGEST, check=False)
+        finally:
+            os.close(folder)
+        return done.returncode, done.stderr, done.stdout
+
+    def test_mistaken_words_are_refused_unread(self):
+        self.assertEqual(self.unread(['run']), (3, b'read failed\n', b''))
+        for given in command_line.MISTAKEN:
+            with self.subTest(words=given):
+                status, note, output = self.unread(given)
                 self.assertEqual((status, output), (2, b''))
                 self.assertTrue(note.startswith(b'error: ') and note.endswith(b'\n'), note)
+                self.assertEqual(outcome(given, FIRST), (status, note, output))
+
+    def test_codes_are_explained_unread(self):
+        none = b'error: no such code; there are E1 to E10, L1 to L8, I1, B1 to B5, M and groups\n'
+        for code in ('E0', 'e1', '', 'E1:'):
+            self.assertEqual(self.unread(['explain', code]), (2, none, b''))
+        self.assertEqual(self.unread(['explain', 'M']), (0, b'', command_line.MEMORY.encode()))
+
+    def test_options_are_written_in_several_ways(self):
+        trace = read(f'{TOP}/examples/one_segment.trace')
+        self.expect([(['run', *given], FIRST, 0, b'', trace) for given in command_line.WRITTEN])
+
+    def test_groups_that_do_not_fit_the_nodes_are_refused(self):
+        self.expect([(['run', *given], FIRST, 2, b'refused groups\n', b'') for given in command_line.NO_GROUPS])
+
+    def test_an_input_is_refused_before_its_groups(self):
+        cases = [([task, '--groups', '0'], given, 1, note, b'')
+                 for given, note in command_line.BEFORE_GROUPS for task in ('run', 'debug')]
+        self.expect([*cases, (['run', '--groups', '0'], b'TCB1', 1, b'refused L1\n', b'')])
 
 
 def main():

@@ -1,5 +1,6 @@
 """The debugger at a prompt: lines that are typed over a scenario, in the prompt's own grammar, each answered before
-the next is read. Answers go to standard output, prompts and refusals to standard error.
+the next is read. Answers go to standard output, prompts and refusals to standard error, and with the refusal of a word
+that begins no name the name that is nearest.
 
 The grammar was made in steps. A session of fewer than all `STEPS` stands for a program that has only these; that of
 none reads lines as a session whose commands are all there (`debugger.obey`).
@@ -22,11 +23,12 @@ from text import NUMBER
 
 STEPS = 8
 # How many of them the program has.
-BUILT = 6
+BUILT = 8
 PROMPT = '(tcpsim) '
 MOST_LINE = 65_536      # bytes
 MOST_SHOWN = 10         # lines that a move passed
 MOST_LINES = 1_000      # of `lines`
+MOST_WORD = 32          # bytes of a word whose nearest name is told
 # The names that a first word can begin, the first of them first, and the step that each came with.
 NAMES = {b'step': 1, b'back': 1, b'break': 1, b'breaks': 2, b'run': 1, b'reverse': 6, b'until': 1, b'state': 1, b'lines': 3,
          b'delete': 2, b'clear': 1, b'help': 2, b'quit': 1, b'why': 5}
@@ -41,7 +43,7 @@ HELP = {
     b'reverse': ('reverse', 'go back until a breakpoint matches, or to the beginning', 'reverse'),
     b'until': ('until T', 'run all events before the moment T, as 1.5s, 20ms or 10000ns', 'until 20ms'),
     b'state': ('state [PART]', 'show all of the state, or of it: node N, link L or flow F', 'state flow 0'),
-    b'break': ('break COND', 'stop where COND matches: node N, flow F, kind K, drop', 'break kind rto'),
+    b'break': ('break COND..', 'stop where all match: node N, flow F, kind K, drop, link L, byte B; or stall [F]', 'break flow 0 kind rto'),
     b'breaks': ('breaks', 'list the breakpoints', 'breaks'),
     b'delete': ('delete I', 'take breakpoint I away', 'delete 1'),
     b'clear': ('clear', 'take all breakpoints away', 'clear'),
@@ -101,6 +103,20 @@ def numbered(lines, after, to):
 def shown(passed):
     more = len(passed) - MOST_SHOWN
     return ''.join(passed[:MOST_SHOWN]) + (f'.. {more} more\n' if more > 0 else '')
+
+
+def edits(word, name):
+    """How many bytes have to be put in, taken out or replaced until a word is a name."""
+    row = list(range(len(name) + 1))
+    for before, byte in enumerate(word, 1):
+        corner, row[0] = row[0], before
+        for place, wanted in enumerate(name, 1):
+            corner, row[place] = row[place], min(corner + (byte != wanted), row[place] + 1, row[place - 1] + 1)
+    return row[-1]
+
+
+def printable(word):
+    return ''.join(chr(byte) if 32 <= byte <= 126 else '?' for byte in word)
 
 
 # What a flow waits for: first how it stands, then where its packets are, then its alarms.
@@ -260,6 +276,15 @@ class Prompt:
             return obey(self.debugger, words)
         return getattr(self, 'on_' + self.name_of(words[0]).decode())(words[1:])
 
+    def noted(self, line, refusal):
+        """What is noted of a line that is refused so."""
+        note, words = refusal.note() + '\n', words_in(line)
+        names = [name for name, step in NAMES.items() if step <= self.steps]
+        if refusal.code != 'B1' or self.steps == 0 or len(words[0]) > MOST_WORD or any(name.startswith(words[0]) for name in names):
+            return note
+        nearest = min(names, key=lambda name: edits(words[0], name))
+        return f'{note}tcpsim: no command {printable(words[0])}; the nearest is {nearest.decode()}\n'
+
     def move(self, name, *numbers):
         self.last = name, *numbers
         before, position = self.debugger.lines, self.debugger.net.position
@@ -404,5 +429,5 @@ def typed(scenario, lines, steps=STEPS):
         try:
             yield session.answer(line), ''
         except Refused as refusal:
-            yield '', refusal.note() + '\n'
+            yield '', session.noted(line, refusal)
         yield '', PROMPT

@@ -786,7 +786,8 @@ class Prompts(Case):
 
     def refuses(self, code, *lines):
         for line in lines:
-            self.assertEqual(self.typed(ONE_SEGMENT, line), ('', ['refused', code]), line)
+            out, notes = self.typed(ONE_SEGMENT, line)
+            self.assertEqual((out, notes[:2]), ('', ['refused', code]), line)
 
     def where(self, *lines):
         """The positions that the dumps are of."""
@@ -798,6 +799,16 @@ class Prompts(Case):
         self.assertEqual(self.typed(ONE_SEGMENT, 'br drop', 'brea drop', 'c', 'break node 1', steps=1)[0],
                          'break 1\nbreak 1\nclear\nbreak 1\n')
         self.refuses('B1', 'x', 'steps', 'stepp 1', 'S', 'y', 'break no 1', 'br k rto', 'ste\tp', '#')
+
+    def test_the_nearest_name(self):
+        for line, word, name in (('stpe', 'stpe', 'step'), ('bak 1', 'bak', 'back'), ('sate', 'sate', 'state'), ('  exit', 'exit', 'quit'),
+                                 ('x', 'x', 'run'), ('bt', 'bt', 'step'), ('ste\tp', 'ste?p', 'step'), ('x' * 32, 'x' * 32, 'step')):
+            told = f'refused B1 tcpsim: no command {word}; the nearest is {name}'.split()
+            self.assertEqual(self.typed(ONE_SEGMENT, line), ('', told), line)
+        for line in ('x' * 33, 'break no 1', 'help stpe', 'state x'):
+            self.assertEqual(self.typed(ONE_SEGMENT, line), ('', ['refused', 'B1']), line)
+        self.assertEqual(self.typed(ONE_SEGMENT, 'wy 0', steps=4)[1][-1], 'run')
+        self.assertEqual(self.typed(ONE_SEGMENT, 'stpe', steps=0), ('', ['refused', 'B1']))
 
     def test_words(self):
         self.refuses('B2', 'step 1 2', 'back 1 1', 'run 1', 'until', 'until 1 s', 'clear 1', 'break', 'br drop link',
@@ -968,7 +979,7 @@ class Prompts(Case):
             'run          run until a breakpoint matches, or to the end',
             'until T      run all events before the moment T, as 1.5s, 20ms or 10000ns',
             'state [PART] show all of the state, or of it: node N, link L or flow F',
-            'break COND   stop where COND matches: node N, flow F, kind K, drop',
+            'break COND.. stop where all match: node N, flow F, kind K, drop, link L, byte B; or stall [F]',
             'breaks       list the breakpoints',
             'delete I     take breakpoint I away',
             'clear        take all breakpoints away',

@@ -93,6 +93,48 @@ event 1000000000 0 0 1 rto 0
 refused B1
 '''
 
+# Each refusal, the first that holds; a line with no words says nothing.
+FAULTS = '''\
+bak 1
+break
+break sort 1
+break node
+break drop 1
+break node 2
+break flow 1
+break kind acks
+step 01
+step 1000000000000001
+run 1
+
+   
+step # 1
+---
+break node 1
+ break  drop 
+break node 1
+clear'''
+
+REFUSED_FOR = '''\
+refused B1
+refused B2
+refused B1
+refused B2
+refused B2
+refused B3
+refused B3
+refused B3
+refused B3
+refused B3
+refused B2
+refused B2
+refused B1
+break 1
+break 2
+break 2
+clear
+'''
+
 # How a session into which lines are typed is shared out; a file follows.
 TYPED = [['debug'], ['debug', '--workers', '2', '--groups', 'each'], ['debug', '--workers=64']]
 
@@ -169,11 +211,19 @@ at 5 of the run, time 3080000 ns, the end
 at 5 of the run, time 3080000 ns, the end
 '''
 
-# The lines that are typed, how many of them are read and one more where the input ends, what is answered, and the codes
-# that lines are refused with.
+def refused(*codes):
+    """The notes of lines that are refused with these codes."""
+    return [f'refused {code}' for code in codes]
+
+
+# What a word is refused with that begins no name, and the name that is nearest to it.
+NO_NAME = [*refused('B1'), 'tcpsim: no command bak; the nearest is back']
+
+# The lines that are typed, how many of them are read and one more where the input ends, what is answered, and what is
+# told of lines that are refused.
 LINES_TYPED = [
-    (CUT_SHORT, 11, MOVED, 'B1 B3 B2 B3 B2'),
-    (REFUSED, 9, MOVED, 'B1 B3 B2 B3'),
-    (BREAKPOINTS, 16, NUMBERED, 'B5 B5 B5 B3 B1'),
-    (LINES, 17, TOLD, 'B3 B2'),
+    (CUT_SHORT, 11, MOVED, NO_NAME + refused('B3', 'B2', 'B3', 'B2')),
+    (REFUSED, 9, MOVED, NO_NAME + refused('B3', 'B2', 'B3')),
+    (BREAKPOINTS, 16, NUMBERED, refused('B5', 'B5', 'B5', 'B3', 'B1')),
+    (LINES, 17, TOLD, refused('B3', 'B2')),
 ]

@@ -24,6 +24,42 @@ ROUTED = [
     'route p s d',
 ]
 
+# Three senders, each with a receiver of its own.
+ISLANDS = '''sim 1000000000
+node a sender
+node b receiver
+node c sender
+node d receiver
+node e sender
+node f receiver
+link ab a b 800000000 100000 droptail 100
+link ba b a 800000000 100000 droptail 100
+link cd c d 800000000 100000 droptail 100
+link dc d c 800000000 100000 droptail 100
+link ef e f 800000000 100000 droptail 100
+link fe f e 800000000 100000 droptail 100
+flow g a b 1000 1000 0 64000 0
+flow h c d 1000 1000 0 64000 0
+flow i e f 1000 1000 0 64000 0
+'''
+
+
+def star():
+    """A router in the middle, 16 routers about it, and behind each an end, which has a link to the middle; besides
+    each router has 15 links to the middle that no packet takes. So 256 links come to the middle. Eight flows of one
+    segment go from each second end to the next, all from time 0."""
+    arms = range(1, 17)
+    lines = ['sim 1000000000', 'node m router', *(f'node q{k} router' for k in arms)]
+    lines += [f'node e{k} {"sender" if k % 2 else "receiver"}' for k in arms]
+    for k in arms:
+        ways = [f'a{k} m q{k}', f'b{k} q{k} e{k}', f'c{k} e{k} m', *(f'd{k}x{idle} q{k} m' for idle in range(15))]
+        lines += [f'link {way} 8000000 1000000 droptail 10' for way in ways]
+    lines += [f'flow f{k} e{k} e{k + 1} 1000 1 0 64000 0' for k in arms[::2]]
+    lines += [f'route m e{k} a{k}' for k in arms]
+    lines += [f'route q{k} e{k} b{k}' for k in arms]
+    return ''.join(f'{line}\n' for line in lines)
+
+
 # The pieces of lines that each name a number: a lost packet, a link of the router or of the first text, a
 # node and a flow.
 LOSSES = ('lose a ', '')

@@ -1,8 +1,10 @@
-//! Sessions whose answers were worked out by hand from the tables, with several groups and workers.
+//! Sessions whose answers were worked out by hand from the tables, with several groups and workers. What commands
+//! are refused for is tried on the built program: scripts/test_whole.py.
 
 mod at_once;
 mod newreno;
 mod texts;
+mod typed;
 
 use self::texts::{ONE_SEGMENT, TWO_FLOWS};
 use crate::hands::AllHands;
@@ -187,34 +189,6 @@ link 1 offered=0 sent=0 queue=-
 event 1040000 0 0 3 free 0
 event 2040000 1 1 1 data 0 0
 event 1000000000 0 0 1 rto 0
-",
-    )
-}
-
-/// Each refusal, the first that holds; a line with no words says nothing.
-#[test]
-fn refusals(rt: HostRuntime) -> Result<(), Fail> {
-    expect(
-        &rt,
-        ONE_SEGMENT,
-        "bak 1\nbreak\nbreak sort 1\nbreak node\nbreak drop 1\nbreak node 2\nbreak flow 1\nbreak kind acks\nstep 01\nstep 1000000000000001\nrun 1\n\n   \nstep # 1\n---\nbreak node 1\n break  drop \nbreak node 1\nclear",
-        "refused B1
-refused B2
-refused B1
-refused B2
-refused B2
-refused B3
-refused B3
-refused B3
-refused B3
-refused B3
-refused B2
-refused B2
-refused B1
-break 1
-break 2
-break 2
-clear
 ",
     )
 }

@@ -4,7 +4,7 @@
 ghost use Rattle.std.specs.Prelude.{◌<◌, ◌≤◌};
 
 use crate::hands::AllHands;
-use debugger::{Break, Debugger, EventKind, MoveFault};
+use debugger::{Break, Condition, Debugger, EventKind, MoveFault};
 use scenario_asm::assemble;
 use scenario_image::Scenario;
 use std::alloc::Global;
@@ -269,7 +269,7 @@ fn debugger_of(rt: &impl Abort, alloc: Global, scenario: &Scenario, workers: usi
 
 /// Stops at segments from now on.
 fn stops_at_segments(rt: &impl Abort, debugger: &mut Debugger) {
-    let segments = Break::Kind(EventKind::Data);
+    let segments = Break::of(Condition::Kind(EventKind::Data));
     if debugger.add_break(segments).is_err() {
         let again = debugger.add_break(segments);
         assert!(rt; again == Ok(1));

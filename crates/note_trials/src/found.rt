@@ -1,16 +1,10 @@
-//! Groups that the program finds.
+//! Groups that the program finds. That they change no byte is tried on the built program: scripts/test_whole.py.
 
 use crate::FIRST;
-use engine_trials::hands::AllHands;
 use scenario_asm::assemble;
-use sessions::session::run_with;
-use sessions::source::OverRead;
 use std::process::Abort;
-use std::sync::Wait;
 use std::test::Fail;
-use std::thread::Threads;
 use window_core::Partition;
-use window_engine::OverWrite;
 
 /// Three senders, each with a receiver of its own.
 const ISLANDS: &str = "sim 1000000000
@@ -57,31 +51,4 @@ fn islands_are_found_for_as_many_workers(rt: HostRuntime) -> Result<(), Fail> {
     expect_found(&rt, ISLANDS, 64, &[0, 0, 1, 1, 2, 2])?;
     expect_found(&rt, ISLANDS, 1, &[0, 0, 0, 0, 0, 0])?;
     expect_found(&rt, FIRST, 64, &[0, 0])
-}
-
-/// The output of a run with these words.
-fn run(
-    rt: &(impl Abort + AllocGlobal + Threads + Wait + Sync),
-    words: &[&str],
-    text: &str,
-) -> Result<Vec<u8>, Fail> {
-    let mut out = Vec::new(rt.alloc());
-    let mut input = OverRead::new(text.as_bytes());
-    let mut writer = OverWrite::new(&mut out);
-    let outcome = run_with(rt, &mut input, &mut writer, words, &AllHands);
-    assert_eq!(rt; outcome.status, 0);
-    Ok(out)
-}
-
-#[test]
-fn groups_that_are_found_change_no_byte(rt: HostRuntime) -> Result<(), Fail> {
-    for text in [FIRST, ISLANDS] {
-        let plain = run(&rt, &["tcpsim", "run"], text)?;
-        for workers in ["1", "3", "64"] {
-            let words = ["tcpsim", "run", "--groups", "auto", "--workers", workers];
-            let found = run(&rt, &words, text)?;
-            assert!(rt; found.as_slice() == plain.as_slice());
-        }
-    }
-    Ok(())
 }

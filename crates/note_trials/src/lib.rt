@@ -1,5 +1,5 @@
-//! Tests of what sessions tell beside their output, and of the groups that they find, by public calls alone,
-//! so that no library is proved a second time with its tests.
+//! Tests of what sessions tell beside their output, of the groups that they find, and of an image's parts, by
+//! public calls alone, so that no library is proved a second time with its tests.
 #![tactic(auto)]
 
 #[cfg(test)]
@@ -7,7 +7,7 @@ mod found;
 #[cfg(test)]
 mod notes;
 #[cfg(test)]
-mod witnesses;
+mod saved_parts;
 
 #[cfg(test)]
 const FIRST: &str = "sim 1000000000

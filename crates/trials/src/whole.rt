@@ -58,9 +58,3 @@ fn expect_words(
     assert_eq!(rt; out.as_slice(), output);
     Ok(())
 }
-
-#[test]
-fn one_segment_goes_and_its_acknowledgement_comes(rt: HostRuntime) -> Result<(), Fail> {
-    let (text, trace) = (FIRST.as_bytes(), FIRST_TRACE.as_bytes());
-    expect_words(&rt, &["tcpsim", "run"], text, 0, "", trace)
-}

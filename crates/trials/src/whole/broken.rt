@@ -1,4 +1,5 @@
-//! Sessions whose reader or writer fails at one of its calls, or that are long.
+//! Sessions whose reader or writer fails at one of its calls, or that are long. Those of the other subcommands
+//! are tried so on the built program, by scripts/test_bounds.py.
 
 use super::ends::{Break, Giver, Taker};
 use crate::whole::{FIRST, FIRST_TRACE};
@@ -31,30 +32,6 @@ break kind data
 run
 bak
 ";
-
-/// Sessions: their words and what they read.
-const SESSIONS: [(&[&str], &str); 8] = [
-    (&["tcpsim", "run"], FIRST),
-    (
-        &["tcpsim", "run", "--groups", "each", "--workers", "1"],
-        FIRST,
-    ),
-    (
-        &["tcpsim", "run", "--groups", "each", "--workers", "2"],
-        FIRST,
-    ),
-    (&["tcpsim", "asm"], FIRST),
-    (&["tcpsim", "dis"], FIRST),
-    (&["tcpsim", "figures"], FIRST),
-    (&["tcpsim", "debug"], SESSION),
-    (
-        &["tcpsim", "debug", "--groups", "each", "--workers", "2"],
-        SESSION,
-    ),
-];
-
-/// Words that are answered unread.
-const UNREAD: [&[&str]; 2] = [&["tcpsim", "--version"], &["tcpsim", "run", "--help"]];
 
 /// A session over a reader and a writer ends with this status and this note.
 fn expect_end(
@@ -150,18 +127,26 @@ fn expect_writing(
     Ok(())
 }
 
+/// Sessions of the calling thread, words that are answered unread, and the places of a run's first line,
+/// which has 75 bytes without its line feed.
 #[test]
 fn a_writer_breaks_at_each_call(rt: HostRuntime) -> Result<(), Fail> {
-    for (words, input) in SESSIONS {
-        expect_writing(&rt, words, input)?;
-    }
-    for words in UNREAD {
-        expect_writing(&rt, words, "")?;
-    }
-    // The first line without its line feed has 75 bytes.
+    expect_writing(&rt, &["tcpsim", "run"], FIRST)?;
+    expect_writing(&rt, &["tcpsim", "debug"], SESSION)?;
+    expect_writing(&rt, &["tcpsim", "--version"], "")?;
     let run = taken_whole(&rt, &["tcpsim", "run"], FIRST, FEW)?;
     assert_eq!(rt; run.taken.as_slice(), FIRST_TRACE.as_bytes());
     assert_eq!(rt; run.places.as_slice().get(25), Some(&75));
+    Ok(())
+}
+
+/// Two workers are at each window, however few events it holds.
+#[test]
+fn a_writer_behind_two_workers_breaks_at_each_call(rt: HostRuntime) -> Result<(), Fail> {
+    for (word, input) in [("run", FIRST), ("debug", SESSION)] {
+        let words = ["tcpsim", word, "--groups", "each", "--workers", "2"];
+        expect_writing(&rt, &words, input)?;
+    }
     Ok(())
 }
 
@@ -209,10 +194,8 @@ fn expect_reading(
 
 #[test]
 fn a_reader_breaks_at_each_call(rt: HostRuntime) -> Result<(), Fail> {
-    for (words, input) in SESSIONS {
-        expect_reading(&rt, words, input)?;
-    }
-    Ok(())
+    expect_reading(&rt, &["tcpsim", "run"], FIRST)?;
+    expect_reading(&rt, &["tcpsim", "debug"], SESSION)
 }
 
 #[test]

@@ -149,7 +149,7 @@ fn a_debugging_session_writes_its_answers(rt: HostRuntime) -> Result<(), Fail> {
 fn all_codes_are_listed(rt: HostRuntime) -> Result<(), Fail> {
     let list = list_codes(rt.alloc())?;
     let lines = list.as_slice().iter().filter(|byte| **byte == b'\n');
-    assert_eq!(rt; lines.count(), 25);
+    assert_eq!(rt; lines.count(), 26);
     assert!(rt; list.as_slice().starts_with(b"E1: "));
     expect_words(&rt, &["tcpsim", "explain"], b"", 0, "", list.as_slice())
 }

@@ -1,4 +1,4 @@
-//! Sessions over files, and what codes mean.
+//! Sessions over files.
 
 use crate::whole::{FIRST, FIRST_TRACE, expect_words};
 use engine_trials::hands::AllHands;
@@ -127,21 +127,6 @@ fn a_file_that_cannot_be_read_is_named(rt: HostRuntime) -> Result<(), Fail> {
         )?;
     }
     Ok(())
-}
-
-#[test]
-fn codes_are_explained_and_nothing_is_read(rt: HostRuntime) -> Result<(), Fail> {
-    let note = "error: no such code; there are E1 to E10, L1 to L8, I1, B1 to B4, M and groups\n";
-    for code in ["E0", "e1", "", "E1:"] {
-        expect_of_folder(&rt, &["tcpsim", "explain", code], (2, note, ""), 0, false)?;
-    }
-    let text =
-        "M: there was no memory, the run has more than 10^15 events, or a worker could not be started or did not give back what it ran
-
-The command has changed nothing and can be given again; the session goes on. There is no example, as
-it depends on the machine: `ulimit -v` takes memory away.
-";
-    expect_of_folder(&rt, &["tcpsim", "explain", "M"], (0, "", text), 0, false)
 }
 
 #[test]

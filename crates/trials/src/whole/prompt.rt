@@ -105,6 +105,8 @@ impl Notes for Told {
             self.refused += 1;
         }
     }
+
+    fn no_command(&mut self, _word: &str, _nearest: &str) {}
 }
 
 /// How a session over the file ends into which these lines are typed: its status and its note, its

@@ -1,12 +1,11 @@
-//! What the command line says of workers and groups: who runs what changes no byte.
+//! What the command line says of workers and groups: who runs what changes no byte. How that is written, and
+//! what is refused, is tried on the built program: scripts/test_whole.py.
 
 use super::networks::{EQUAL_TIMES, EQUAL_TIMES_TRACE};
 use super::{FIRST, FIRST_TRACE, expect_words};
 use engine_trials::crowd::Crowd;
 use sessions::session::{run_all, run_with};
 use sessions::source::OverRead;
-use std::io;
-use std::io::Read;
 use std::process::Abort;
 use std::sync::Wait;
 use std::test::Fail;
@@ -23,26 +22,6 @@ fn one_segment_goes_as_before_by_any_workers(rt: HostRuntime) -> Result<(), Fail
             let words = ["tcpsim", "run", "--workers", workers, "--groups", groups];
             expect_words(&rt, &words, text, 0, "", trace)?;
         }
-    }
-    Ok(())
-}
-
-/// One option alone, and options that are one word with their values.
-const WRITTEN: [&[&str]; 8] = [
-    &["tcpsim", "run", "--groups", "each"],
-    &["tcpsim", "run", "--workers", "64"],
-    &["tcpsim", "run", "--groups=0,1"],
-    &["tcpsim", "run", "--workers=2"],
-    &["tcpsim", "run", "--groups=each", "--workers=2"],
-    &["tcpsim", "run", "--workers=64", "--groups=each"],
-    &["tcpsim", "run", "--workers=01", "--groups", "63,7"],
-    &["tcpsim", "run", "--groups", "one", "--workers=+1"],
-];
-
-#[test]
-fn options_are_written_in_several_ways(rt: HostRuntime) -> Result<(), Fail> {
-    for words in WRITTEN {
-        expect_words(&rt, words, FIRST.as_bytes(), 0, "", FIRST_TRACE.as_bytes())?;
     }
     Ok(())
 }
@@ -83,95 +62,6 @@ fn many_windows_give_the_lines_of_the_plain_run(rt: HostRuntime) -> Result<(), F
             "",
             plain.as_slice(),
         )?;
-    }
-    Ok(())
-}
-
-/// The same mistakes in one word with the option, and beside workers.
-const NO_GROUPS: [&[&str]; 4] = [
-    &["tcpsim", "run", "--groups="],
-    &["tcpsim", "run", "--groups=0"],
-    &["tcpsim", "run", "--workers=64", "--groups=0,01"],
-    &["tcpsim", "run", "--groups", "0,64", "--workers", "2"],
-];
-
-/// Too few, too many, a number over 63 or with a leading zero, and what is no list.
-#[test]
-fn groups_that_do_not_fit_the_nodes_are_refused(rt: HostRuntime) -> Result<(), Fail> {
-    for groups in ["0", "0,1,2", "0,64", "0,01", "0,", "", "+0,1", "ones"] {
-        let words = ["tcpsim", "run", "--groups", groups];
-        expect_words(&rt, &words, FIRST.as_bytes(), 2, "refused groups\n", b"")?;
-    }
-    for words in NO_GROUPS {
-        expect_words(&rt, words, FIRST.as_bytes(), 2, "refused groups\n", b"")?;
-    }
-    Ok(())
-}
-
-/// Groups are judged once there is a scenario.
-#[test]
-fn an_input_is_refused_before_its_groups(rt: HostRuntime) -> Result<(), Fail> {
-    for (input, note) in [
-        (b"sim 01".as_slice(), "refused E4 line 1\n"),
-        (b"sim 5".as_slice(), "refused L3 line 0\n"),
-        (b"".as_slice(), "refused E10 line 0\n"),
-    ] {
-        for task in ["run", "debug"] {
-            let words = ["tcpsim", task, "--groups", "0"];
-            expect_words(&rt, words.as_slice(), input, 1, note, b"")?;
-        }
-    }
-    let words = ["tcpsim", "run", "--groups", "0"];
-    expect_words(&rt, words.as_slice(), b"TCB1", 1, "refused L1\n", b"")
-}
-
-/// Fails whenever it is read.
-#[derive(Drop)]
-struct Unreadable;
-
-impl Read for Unreadable {
-    fn read(&mut self, _buf: &mut [u8]) -> io::Result<usize> {
-        Err(io::Error::from(io::ErrorKind::Other))
-    }
-}
-
-/// These words are refused, and nothing is read or written.
-fn expect_unread(
-    rt: &(impl Abort + AllocGlobal + Threads + Wait + Sync),
-    words: &[&str],
-) -> Result<(), Fail> {
-    let mut out = Vec::new(rt.alloc());
-    let mut input = OverRead::new(Unreadable);
-    let outcome = run_all(rt, &mut input, &mut OverWrite::new(&mut out), words);
-    assert_eq!(rt; outcome.status, 2);
-    let note = outcome.note.ok_or("a note")?.to_string(rt.alloc())?;
-    assert!(rt; note.starts_with("error: "), "{note}");
-    assert!(rt; out.is_empty());
-    Ok(())
-}
-
-/// No number of workers, or an option that is not the subcommand's.
-const UNREAD: [&[&str]; 8] = [
-    &["tcpsim", "run", "--workers=0"],
-    &["tcpsim", "run", "--workers=65"],
-    &["tcpsim", "run", "--workers=-1"],
-    &["tcpsim", "run", "--workers="],
-    &["tcpsim", "run", "--workers"],
-    &["tcpsim", "debug", "--groups"],
-    &["tcpsim", "asm", "--workers", "1"],
-    &["tcpsim", "dis", "--groups", "one"],
-];
-
-#[test]
-fn a_wrong_number_of_workers_is_refused_unread(rt: HostRuntime) -> Result<(), Fail> {
-    for workers in ["0", "65", "x", "1,2", "18446744073709551617"] {
-        let words = ["tcpsim", "run", "--workers", workers];
-        expect_unread(&rt, &words)?;
-        let words = ["tcpsim", "debug", "--workers", workers];
-        expect_unread(&rt, &words)?;
-    }
-    for words in UNREAD {
-        expect_unread(&rt, words)?;
     }
     Ok(())
 }
