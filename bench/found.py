@@ -1,4 +1,4 @@
-"""The groups that `--groups auto` finds, reckoned once more as crates/window_core/src/found.rt says, since the
+"""The groups that `--groups auto` finds, reckoned once more as crates/net_partition/src/found.rt says, since the
 program does not tell them: found_groups(scenario, workers) answers a group for each node.
 """
 HEADERS = 40

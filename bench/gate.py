@@ -1,22 +1,32 @@
 #!/usr/bin/env python3
-"""What the gate costs, crate by crate: runs `rt ci` and counts processor seconds.
+"""What the gate costs, crate by crate, in seconds of processors.
 
     bench/gate.py [-o bench/GATE.md] [COMMAND ..]
+    bench/gate.py --kept [-o bench/GATE.md] [CRATE ..]
 
-Every quarter of a second it looks at the processes that the command started, and counts what each has
-used: of a prover the crate is in its words (`--crate-name`), and whether it checks the crate, its tests
-(`--test`) or a wrong body (it then runs in a folder of its own). With -o the table between the two
-marks of that file is written anew. Without a command it is `rt ci`, with one job a processor.
+The first runs a command, `rt ci` with one job a processor where none is given. Every quarter of a second it
+looks at the processes that the command started, and counts what each has used: of a prover the crate is in
+its words (`--crate-name`), and whether it checks the crate, its tests (`--test`) or a wrong body (it then
+runs in a folder of its own).
+
+With --kept no command is run: what is proved anew is each CRATE with its tests, over what `make run` keeps.
+The table is of what was counted last of each crate, by whatever was run last: of its check by `make run`, of
+its tests by --kept, of all by the first form, and of the scripts' tests by scripts/run_tests.py. With -o the
+table between the two marks of that file is written anew.
 """
 import argparse
 import os
 import re
 import subprocess
 import sys
+import tempfile
 import threading
 import time
 
 TOP = os.path.dirname(os.path.dirname(os.path.abspath(__file__)))
+sys.path.insert(0, f"{TOP}/scripts")
+import build  # pylint: disable=wrong-import-position
+
 TICKS = os.sysconf("SC_CLK_TCK")
 PAGE = os.sysconf("SC_PAGE_SIZE")
 KINDS = ("check", "tests", "wrong bodies")
@@ -84,26 +94,49 @@ def follow(words):
     return command.returncode, time.time() - begun, list(seen.values())
 
 
-def crates():
-    with open(f"{TOP}/crates.txt", encoding="utf-8") as file:
-        return [line.split()[0].rstrip(":") for line in file if ":" in line.partition("#")[0]]
+def counted(processes):
+    """What the provers cost, by crate and kind: seconds, and the most bytes that one held. One function alone,
+    and what was taken over from an earlier check, say nothing of the whole."""
+    found = {}
+    for it in processes:
+        if it.is_prover() and "--only" not in it.words:
+            seconds, memory = found.get((it.crate(), it.kind()), (0, 0))
+            found[it.crate(), it.kind()] = seconds + it.seconds, max(memory, it.memory)
+    return found
 
 
-def table(processes, seconds):
+def prove_with_tests(name, kit, libraries):
+    """Proves a crate with its tests from nothing, over what is kept; answers whether it is proved."""
+    words = build.words_of(name, kit, build.jobs_at_once(0), libraries)
+    words = [words[0], "check", *words[2 : words.index("--statements")], "--test"]
+    begun = time.time()
+    with tempfile.TemporaryDirectory() as folder, open(f"{build.KEPT}/{name}.tests.log", "w", encoding="utf-8") as log:
+        prover = subprocess.Popen([*words, "--incremental", folder], cwd=TOP, stdin=subprocess.DEVNULL,
+                                  stdout=log, stderr=subprocess.STDOUT)
+        _, status, usage = os.wait4(prover.pid, 0)
+        prover.returncode = os.waitstatus_to_exitcode(status)
+    seconds = usage.ru_utime + usage.ru_stime
+    if status == 0:
+        build.keep_cost(name, "tests", seconds, 1024 * usage.ru_maxrss)
+    else:
+        print(f"{name} with its tests is not proved: see {log.name}")
+    print(f"{name} with its tests: {seconds:.0f} s of processors, {time.time() - begun:.0f} s", flush=True)
+    return status == 0
+
+
+def table():
     """The lines of the table: a row a crate, then all."""
-    provers = [it for it in processes if it.is_prover()]
     rows = ["| crate | check | tests | wrong bodies | most memory, GB |", "|---|---|---|---|---|"]
-    for name in crates():
-        own = [it for it in provers if it.crate() == name]
-        spent = [sum(it.seconds for it in own if it.kind() == kind) for kind in KINDS]
-        most = max((it.memory for it in own), default=0) / 1e9
-        rows.append(f"| {name} | {' | '.join(f'{it:.0f}' if it else '-' for it in spent)} | {most:.1f} |")
-    spent = [sum(it.seconds for it in provers if it.kind() == kind) for kind in KINDS]
+    every = {name: build.cost_of(name) for name in build.declared()}
+    for name, costs in every.items():
+        spent = [f"{costs[kind]['seconds']:.0f}" if kind in costs else "-" for kind in KINDS]
+        most = max((it["memory"] for it in costs.values()), default=0) / 1e9
+        rows.append(f"| {name} | {' | '.join(spent)} | {most:.1f} |")
+    spent = [sum(it[kind]["seconds"] for it in every.values() if kind in it) for kind in KINDS]
     rows.append(f"| all | {' | '.join(f'{it:.0f}' for it in spent)} | |")
-    whole = sum(it.seconds for it in processes) / 60
-    where = f"{len(os.sched_getaffinity(0))} processors"
-    rows += ["", f"{whole:.0f} processor minutes, {seconds / 60:.0f} minutes on {where}."]
-    return "\n".join(rows)
+    scripts = build.cost_of("scripts").get("tests", {"seconds": 0})["seconds"]
+    whole = (sum(spent) + scripts) / 60
+    return "\n".join([*rows, "", f"{whole:.0f} processor minutes, {scripts / 60:.1f} of them for the scripts' tests."])
 
 
 def write(file, rows):
@@ -116,14 +149,32 @@ def write(file, rows):
         it.write(f"{before}{BEGIN}\n{rows}\n{END}{behind}")
 
 
+def run(command):
+    """Runs a command and keeps what its provers cost; answers its status."""
+    own = ["env", f"RT_JOBS={len(os.sched_getaffinity(0))}", "rt", "ci"]
+    status, seconds, processes = follow(command or own)
+    for (name, kind), (spent, memory) in counted(processes).items():
+        build.keep_cost(name, kind, spent, memory)
+    whole = sum(it.seconds for it in processes) / 60
+    print(f"{whole:.0f} processor minutes, {seconds / 60:.0f} minutes on {len(os.sched_getaffinity(0))} processors.")
+    return status
+
+
 def main():
     reader = argparse.ArgumentParser(description="Counts what the gate costs, crate by crate.")
     reader.add_argument("-o", dest="output", metavar="FILE", help="write the table between the marks of this file")
+    reader.add_argument("--kept", action="store_true", help="prove only the crates that are named, with their tests")
     reader.add_argument("command", nargs=argparse.REMAINDER, help="left out: rt ci, one job a processor")
     words = reader.parse_args()
-    own = ["env", f"RT_JOBS={len(os.sched_getaffinity(0))}", "rt", "ci"]
-    status, seconds, processes = follow(words.command or own)
-    rows = table(processes, seconds)
+    if words.kept:
+        kit, libraries = build.toolchain(), build.declared()
+        for name in words.command:
+            if name not in libraries:
+                reader.error(f"crates.txt has no crate {name}")
+        status = 0 if all([prove_with_tests(name, kit, libraries) for name in words.command]) else 1
+    else:
+        status = run(words.command)
+    rows = table()
     print(rows)
     if words.output:
         write(words.output, rows)

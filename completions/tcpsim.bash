@@ -13,7 +13,7 @@ _tcpsim() {
   if [ "$before" = = ]; then before=${COMP_WORDS[COMP_CWORD - 2]}; fi
   if [ "$word" = = ]; then word=; fi
   local flags=
-  if [ "${COMP_WORDS[1]}" = run ]; then flags=' --progress --explain'; fi
+  case ${COMP_WORDS[1]} in run) flags=' --progress --explain' ;; debug) flags=' --explain' ;; esac
   case ${COMP_WORDS[1]} in
     explain) COMPREPLY=($(compgen -W "$(_tcpsim_codes) --help -h" -- "$word")) ;;
     asm | dis) COMPREPLY=($(compgen -W '--explain --help -h' -- "$word")) ;;

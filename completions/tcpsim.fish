@@ -11,7 +11,7 @@ complete -c tcpsim -n __fish_use_subcommand -s V -l version -d 'Print version'
 complete -c tcpsim -n '__fish_seen_subcommand_from run debug' -l workers -x -a '1 2 4 8 16 32 64' -d 'Run the groups by so many workers, 1 to 64'
 complete -c tcpsim -n '__fish_seen_subcommand_from run debug' -l groups -x -a 'one each auto' -d 'Which group each node is in, or a number a node with commas between'
 complete -c tcpsim -n '__fish_seen_subcommand_from run figures' -l progress -d 'Say on standard error how far the run is'
-complete -c tcpsim -n '__fish_seen_subcommand_from asm dis run figures' -l explain -d 'Show on standard error why an input is refused'
+complete -c tcpsim -n '__fish_seen_subcommand_from asm dis run figures debug' -l explain -d 'Show on standard error why an input is refused'
 
 # The options that a tool's help lists, behind the shape of tcpsim-net those of the shape.
 function __tcpsim_options

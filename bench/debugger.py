@@ -1,0 +1,314 @@
+#!/usr/bin/env python3
+"""Measures the debugger at its prompt and writes bench/DEBUGGER.md:
+bench/debugger.py [--program PATH] [--rounds N] [--priority P] [--print]
+
+Commands are typed into pipes, one by one; an answer has come once the next prompt is there. What is timed is
+done in turn in each round, so that what else the machine does disturbs it alike; the least of all rounds counts,
+and of many commands in a row the mean and the longest of the best round. On a machine with other work a real-time
+priority keeps the cores for them (as root). With --print nothing is written. A command that the program does not
+have yet is left out of its table. Instructions are counted where valgrind is installed. It wants python3 alone else.
+"""
+import argparse
+import os
+import re
+import select
+import shutil
+import subprocess
+import sys
+import time
+from collections import namedtuple
+
+from results import BENCH, CALLGRIND, ENVIRONMENT, PROGRAM, instructions, number, processor, saved, table
+from scenarios import EVER, GBIT, MBIT, MS, MSS, ROUTER, SCENARIOS, US, Net, disassemble, droptail, four_groups, islands, two_ends
+
+PAGE = os.path.join(BENCH, 'DEBUGGER.md')
+PROMPT = b'(tcpsim) '
+LONGEST = 600                   # seconds that an answer may take
+PLACE, STRETCH = 900_000, 100_000   # the line to which `reverse` goes, and how many events behind it it is typed
+ANSWER, BACK, DUMP = 0.050, 0.5, 0.020   # seconds: an answer, `reverse`, a dump
+STALL = 1.15                    # times the time of a breakpoint on timeouts
+STEP = 1.3                      # times the instructions of `run`
+SAVED = 64 * 2**20              # bytes of saved states
+Timed = namedtuple('Timed', 'mean longest')
+
+
+class Session:
+    """A session at a prompt, into which lines are typed."""
+
+    def __init__(self, path, *options, before=()):
+        self.program = subprocess.Popen([*before, PROGRAM, 'debug', path, *options], stdin=subprocess.PIPE, stdout=subprocess.PIPE,
+                                        stderr=subprocess.PIPE, bufsize=0, env=ENVIRONMENT)
+        self.out, self.notes = self.program.stdout.fileno(), self.program.stderr.fileno()
+        self.answered()
+
+    def __enter__(self):
+        return self
+
+    def __exit__(self, *_):
+        self.program.stdin.close()
+        status = self.program.wait()
+        assert status == 0, f'the session ended with status {status}'
+
+    def answered(self):
+        """What is written up to the next prompt, and what is noted."""
+        answer, noted = b'', b''
+        while not noted.endswith(PROMPT):
+            ready, _, _ = select.select([self.out, self.notes], [], [], LONGEST)
+            assert ready, 'no answer'
+            if self.out in ready:
+                answer += os.read(self.out, 1 << 20)
+            elif piece := os.read(self.notes, 1 << 16):
+                noted += piece
+            else:
+                sys.exit(f'the session has ended: {noted.decode()}')
+        while select.select([self.out], [], [], 0)[0]:
+            answer += os.read(self.out, 1 << 20)
+        return answer.decode(), noted.removesuffix(PROMPT).decode()
+
+    def timed(self, line):
+        """The answer to a line, and the seconds until the next prompt. It may not be refused."""
+        begin = time.perf_counter()
+        self.program.stdin.write(line.encode() + b'\n')
+        answer, noted = self.answered()
+        took = time.perf_counter() - begin
+        assert not noted, f'{line}: {noted}'
+        return answer, took
+
+    def type(self, line):
+        return self.timed(line)[0]
+
+    def knows(self, line):
+        """Whether a line is one of the program's; it is answered then."""
+        self.program.stdin.write(line.encode() + b'\n')
+        return not self.answered()[1]
+
+    def resident(self):
+        """The most memory that was resident so far, in bytes."""
+        with open(f'/proc/{self.program.pid}/status') as status:
+            return number(r'VmHWM:\s+(\d+) kB', status.read()) * 1024
+
+
+def position(answer):
+    return number(r'^at (\d+) of the run', re.sub(r'(?s).*\n(?=at )', '', answer))
+
+
+def path_of(name, scenario):
+    return saved(name, disassemble(scenario).decode())
+
+
+def two_flows(start):
+    """A long flow through two routers, and one of a segment, which starts at a moment."""
+    net = Net()
+    near, far = net.node(ROUTER), net.node(ROUTER)
+    net.cable(near, far, 50 * MBIT, 5 * MS, droptail(200))
+    for segments, at in ((100_000, 0), (1, start)):
+        cable = 100 * MBIT, MS, droptail(1000)
+        net.ends(near, far, cable, cable, MSS, segments, at, 500 * MSS)
+    return net.scenario(EVER)
+
+
+def crowd(flows, segments):
+    """Many flows through a tree of routers, whose windows the bottleneck's queue takes: nothing is lost."""
+    net = Net()
+    tops = [net.node(ROUTER), net.node(ROUTER)]
+    net.cable(*tops, 50 * MBIT, 5 * MS, droptail(1000))
+    leaves = [[net.node(ROUTER) for _ in range(7)] for _ in tops]
+    for top, below in zip(tops, leaves):
+        for leaf in below:
+            net.cable(leaf, top, GBIT, 100 * US, droptail(1000))
+    for n in range(flows):
+        cable = GBIT, (100 + 37 * n) * US, droptail(1000)
+        net.ends(leaves[0][n % 7], leaves[1][n % 7], cable, cable, MSS, segments, n * MS, 9 * MSS)
+    return net.scenario(EVER)
+
+
+def no_losses(segments):
+    link = 100 * MBIT, MS, droptail(65_535)
+    return two_ends(segments, link, link, 44)
+
+
+def late_flow():
+    """The islands, the last of whose flows starts late, and their groups."""
+    scenario = islands(12, 2, 20_000)
+    scenario.flows[47].start = 400 * MS
+    return path_of('debugger islands', scenario), four_groups(scenario)
+
+
+def place(before):
+    """The scenario in which a flow starts near the wanted place of the run."""
+    with Session(path_of('debugger place', two_flows(EVER - 1)), before=before) as session:
+        moment = number(r'time (\d+) ns', session.type(f'step {PLACE}').splitlines()[-1])
+    return path_of('debugger place', two_flows(moment))
+
+
+def many(session, line, count):
+    """The mean and the longest of a line's answers, typed so many times in a row."""
+    took = [session.timed(line)[1] for _ in range(count)]
+    return Timed(sum(took) / count, max(took))
+
+
+def answers(path, rounds, before):
+    """Where the flow starts and where the commands are typed, their times, and that of `reverse`."""
+    kinds = ('step', 100), ('back', 1000), ('step', 100), ('why 0', 100), ('state flow 0', 100)
+    found, back = {}, []
+    with Session(path, before=before) as session:
+        session.type('break kind start')
+        session.type('run')
+        first = position(session.type('run'))
+        for _ in range(rounds):
+            session.type(f'step {STRETCH}')
+            for line, count in kinds:
+                found.setdefault(line, []).append(many(session, line, count))
+            here = position(session.type('step 0'))
+            session.type(f'step {first + STRETCH - here}' if here < first + STRETCH else f'back {here - first - STRETCH}')
+            answer, took = session.timed('reverse')
+            assert position(answer) == first, answer
+            back.append(took)
+        memory = session.resident()
+    return first, {line: min(times) for line, times in found.items()}, min(back), memory
+
+
+def until(path, breakpoint_, before, *options):
+    """The answer to `run` until a breakpoint, and the seconds; nothing where the program has no such breakpoint."""
+    with Session(path, *options, before=before) as session:
+        return session.timed('run') if session.knows(f'break {breakpoint_}') else None
+
+
+def stalls(rounds, before):
+    """Of each scenario its name, its events, and the least seconds of a run to its end with either breakpoint."""
+    for name, scenario in (('one flow, nothing lost', no_losses(250_000)), ('98 flows over one bottleneck, nothing lost', crowd(98, 500))):
+        path, least, events = path_of(f'debugger {name}', scenario), {}, 0
+        for _ in range(rounds):
+            for kind in 'kind rto', 'stall':
+                if done := until(path, kind, before):
+                    assert done[0].endswith(', the end\n'), done[0][-200:]
+                    events, least[kind] = position(done[0]), min(done[1], least.get(kind, done[1]))
+        yield name, events, least.get('kind rto'), least.get('stall')
+
+
+def grouped(rounds, before):
+    """Of each way to share out: the position at the breakpoint, the least seconds until it, the times of `back`."""
+    path, groups = late_flow()
+    crews = {'without options': (), **{f'{n} worker{"s" if n > 1 else ""}, 4 groups': ('--workers', str(n), '--groups', groups) for n in (1, 4)}}
+    found = {crew: [] for crew in crews}
+    for _ in range(rounds):
+        for crew, options in crews.items():
+            with Session(path, *options, before=before) as session:
+                session.type('break flow 47')
+                answer, took = session.timed('run')
+                found[crew].append((position(answer), took, many(session, 'back', 100)))
+    return {crew: (times[0][0], min(it[1] for it in times), min(it[2] for it in times)) for crew, times in found.items()}
+
+
+def dump(rounds, before):
+    """Seconds of a dump of the largest scenario in the midst of its run, and its bytes."""
+    with Session(path_of('largest', SCENARIOS['largest']()), before=before) as session:
+        session.type('step 100000')
+        found = [session.timed('state') for _ in range(10 * rounds)]
+    return min(took for _, took in found), len(found[0][0])
+
+
+def crowded(before):
+    """Bytes that are resident after a run with 100,000 packets under way, with the debugger's saved states and without."""
+    path = path_of('under_way_100000', SCENARIOS['under_way_100000']())
+    with Session(path, before=before) as session:
+        session.type('run')
+        kept = session.resident()
+    process = subprocess.Popen([PROGRAM, 'run', path], stdout=subprocess.PIPE, env=ENVIRONMENT)
+    plain = 0
+    while process.stdout.read1(1 << 16):
+        with open(f'/proc/{process.pid}/status') as status:
+            found = re.search(r'VmHWM:\s+(\d+) kB', status.read())
+        plain = int(found[1]) * 1024 if found else plain
+    process.wait()
+    return kept, plain
+
+
+def counted():
+    """Instructions an event of `step` and of `run`, over 100,000 events of one flow; nothing without valgrind."""
+    if not shutil.which('valgrind', path=ENVIRONMENT['PATH']):
+        return None
+    link = 8 * MBIT, MS, droptail(100)
+    path = path_of('debugger counted', two_ends(26_000, link, link, 44))
+
+    def cost(words, lines):
+        done = subprocess.run([*CALLGRIND, PROGRAM, *words, path], input=lines, capture_output=True, env=ENVIRONMENT, check=True)
+        return instructions(done.stderr.decode())
+    step = (cost(('debug',), b'step 100000\n') - cost(('debug',), b'step 0\n')) / 100_000
+    done = subprocess.run([PROGRAM, 'run', path], capture_output=True, env=ENVIRONMENT, check=True)
+    events = number(r'end (\d+)\n$', done.stdout[-40:].decode())
+    return step, cost(('run',), b'') / events
+
+
+def shown(seconds):
+    return f'{seconds * 1000:.2f} ms' if seconds < 0.1 else f'{seconds:.2f} s'
+
+
+def within(count, bar):
+    return 'yes' if count <= bar else 'no'
+
+
+def page(args, before):
+    yield '# What the debugger costs\n'
+    yield (f'Made by `python3 bench/debugger.py` on {processor()}: commands are typed at a prompt, one by one, into pipes; a time is from '
+           'a line to the next prompt, so the program\'s own and the pipes\'. '
+           f'The least of {args.rounds} rounds counts, and of commands in a row the mean and the longest of the best round.\n')
+    yield '## At a prompt\n'
+    first, times, back, memory = answers(place(before), args.rounds, before)
+    yield (f'A flow of 100,000 segments through two routers, 12 events each; a second one starts at position {first:,}, where `reverse` goes '
+           f'back to by `break kind start`. The commands are typed {STRETCH:,} events behind it.\n')
+    names = {'step': '`step`, 100 in a row', 'back': '`back`, 1,000 in a row', 'why 0': '`why 0`', 'state flow 0': '`state flow 0`'}
+    yield from table(('What', 'Mean', 'Longest', 'At most', 'Within'),
+                     [(names[line], shown(it.mean), shown(it.longest), shown(ANSWER), within(it.longest, ANSWER)) for line, it in times.items()]
+                     + [(f'`reverse` over {STRETCH:,} events', shown(back), '', shown(BACK), within(back, BACK))])
+    yield f'Resident memory after all of that: {memory / 10**6:.1f} MB.\n'
+    taken, size = dump(args.rounds, before)
+    kept, plain = crowded(before)
+    rows = [(f'`state` of the largest scenario: 256 nodes, 1,024 links, 64 flows, {size // 1000} KB of text', shown(taken), shown(DUMP), within(taken, DUMP)),
+            ('resident after `run` with 100,000 packets under way', f'{kept / 10**6:.0f} MB',
+             f'{(plain + SAVED) / 10**6:.0f} MB: {plain / 10**6:.0f} of `tcpsim run`, {SAVED / 10**6:.0f} of saved states', within(kept, plain + SAVED))]
+    if costs := counted():
+        most = STEP * costs[1]
+        rows.append(('`step 100000`, instructions an event', f'{costs[0]:,.0f}', f'{most:,.0f}: {STEP} times those of `run`', within(costs[0], most)))
+    yield from table(('What', 'Measured', 'At most', 'Within'), rows)
+    yield '## A breakpoint on stalls\n'
+    yield 'From the beginning to the end, where neither breakpoint matches: `break kind rto` and `run`, and `break stall` and `run`.\n'
+    rows = []
+    for name, events, rto, stall in stalls(args.rounds, before):
+        last = (shown(stall), f'{stall / rto:.2f}', f'{STALL}', within(stall / rto, STALL)) if stall else ('no such breakpoint', '', f'{STALL}', '')
+        rows.append((f'{name}: {events:,} events', shown(rto), *last))
+    yield from table(('Run', '`break kind rto`', '`break stall`', 'Times', 'At most', 'Within'), rows)
+    yield '## With groups and workers\n'
+    crews = grouped(args.rounds, before)
+    at = next(iter(crews.values()))[0]
+    assert all(it[0] == at for it in crews.values())
+    alone = crews['without options'][1]
+    yield (f'The scenario `islands` of bench/scenarios.py, its last flow starting at 400 ms: `break flow 47` and `run` go to position {at:,}. '
+           'The answers are the same bytes.\n')
+    yield from table(('What', *crews, 'At most', 'Within'),
+                     [('`run` to the breakpoint', *(shown(it[1]) for it in crews.values()), f'by four workers {shown(alone)}',
+                       within(crews['4 workers, 4 groups'][1], alone)),
+                      ('`back` there, 100 in a row, mean', *(shown(it[2].mean) for it in crews.values()), shown(ANSWER),
+                       within(max(it[2].mean for it in crews.values()), ANSWER))])
+
+
+def main():
+    global PROGRAM
+    words = argparse.ArgumentParser(description='Measures the debugger at its prompt and writes bench/DEBUGGER.md.')
+    words.add_argument('--program', default=PROGRAM)
+    words.add_argument('--rounds', type=int, default=5)
+    words.add_argument('--priority', type=int, help='the real-time priority of the timed sessions, 1 to 99')
+    words.add_argument('--print', action='store_true', help='write no page')
+    args = words.parse_args()
+    PROGRAM = os.path.abspath(args.program)
+    if not os.path.exists(PROGRAM):
+        sys.exit(f"{PROGRAM} is not there: build it with 'make run'")
+    made = '\n'.join(page(args, ('chrt', '-f', str(args.priority)) if args.priority else ())).rstrip('\n') + '\n'
+    if not args.print:
+        with open(PAGE, 'w') as file:
+            file.write(made)
+    print(made, end='')
+
+
+if __name__ == '__main__':
+    main()
