@@ -1,5 +1,6 @@
 -- What is decided of an event, and what that makes of its node.
 use Rattle.std.specs.Prelude.{◌≡◌, ◌<◌, ◌≤◌, ◌+◌, ◌^◌, ℕ, Bool, false, List, [], ◌∷◌, ◌++◌, length, option_to_list, Option, None, Some}
+use Rattle.sim_time.specs.Moment.{IsMoment}
 use Rattle.sim_time.specs.declared.key.Key.{Key}
 use Rattle.packet_chain.specs.declared.packet.Packet.{Packet}
 use Rattle.reno_sender.specs.declared.fields.SenderFields.{SenderFields}
@@ -16,9 +17,10 @@ use Rattle.node_core.specs.declared.event.Event.TheVariants.{Start, Rto, DelAck,
 use Rattle.node_core.specs.declared.role.Role.{Role}
 use Rattle.node_core.specs.declared.role.Role.TheVariants.{Sends, Receives, Routes}
 use Rattle.node_core.specs.Alarms.{first_free, alarm_number, alarm_key}
-use Rattle.node_core.specs.InStep.{flow_of, deadline_of, delayed_of}
+use Rattle.node_core.specs.InStep.{HasItsLink, flow_of, deadline_of, delayed_of}
 use Rattle.node_core.specs.Links.{packets_of}
 use Rattle.node_core.specs.Part.{LinkState, PartState, link_at}
+use Rattle.node_core.specs.Ready.{CanRun, IsOfLink, IsSetBy}
 use Rattle.node_core.specs.Row.{Effect, quiet, row, timer_moved, with_step}
 use Rattle.node_core.specs.Running.{part}
 
@@ -116,6 +118,15 @@ CanDo key event links room Leave = Unit {0}
 CanDo key event links room (PassOn index) = CanPass event links room index
 CanDo key event links room (TakeNext index) = CanTake key event links room index
 CanDo key event links room (Send sending) = CanSend event links room sending
+
+-- what is needed of a role, its links and an event, so that what the event does is decided
+pub record CanDecide (role : Role) (links : List LinkState) (key : Key) (event : Event) : Type 0 where
+  pub moment : IsMoment key.time
+  pub set : IsSetBy role event
+  pub own : IsOfLink key.number (length links) event
+  pub takes : CanRun (part role links) key.time event
+  pub linked : HasItsLink role links
+  pub few : length links ≤ 1024
 
 -- what is decided has the row's effect, and can be done
 pub record IsDecided (old new : Role) (links : List LinkState) (key : Key) (event : Event) (room : ℕ) (decision : Decision) : Type 0 where

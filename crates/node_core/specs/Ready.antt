@@ -16,9 +16,8 @@ use Rattle.node_core.specs.declared.role.Role.{Role}
 use Rattle.node_core.specs.declared.role.Role.TheVariants.{Sends, Receives, Routes}
 use Rattle.node_core.specs.RouteTable.{exit_for}
 use Rattle.node_core.specs.Alarms.{first_free}
-use Rattle.node_core.specs.InStep.{HasItsLink, deadline_of, delayed_of}
+use Rattle.node_core.specs.InStep.{deadline_of, delayed_of}
 use Rattle.node_core.specs.Part.{LinkState, PartState}
-use Rattle.node_core.specs.Running.{part}
 
 -- an acknowledgement has to be one for the sender
 abbrev pub SenderTakes : SenderFields → ℕ → Kind → ℕ → Type 0
@@ -86,12 +85,3 @@ IsOfLink number links (Rto flow) = Unit {0}
 IsOfLink number links (DelAck flow) = Unit {0}
 IsOfLink number links (Free link) = (first_free ≤ number) × (number < first_free + links)
 IsOfLink number links (Arrive packet) = Unit {0}
-
--- what is needed of a role, its links and an event, so that what the event does is decided
-pub record CanDecide (role : Role) (links : List LinkState) (key : Key) (event : Event) : Type 0 where
-  pub moment : IsMoment key.time
-  pub set : IsSetBy role event
-  pub own : IsOfLink key.number (length links) event
-  pub takes : CanRun (part role links) key.time event
-  pub linked : HasItsLink role links
-  pub few : length links ≤ 1024

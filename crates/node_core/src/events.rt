@@ -2,10 +2,10 @@
 ghost use Rattle.std.specs.Prelude.{◌≡◌, ℕ, List, IfOk, OnErr, IsSome};
 ghost use Rattle.sim_time.specs.Moment.{IsMoment};
 ghost use Rattle.node_core.specs.declared.event.Event.TheVariants.{Start, Rto, DelAck, Arrive};
-ghost use Rattle.node_core.specs.Decided.{IsDecided};
+ghost use Rattle.node_core.specs.Decided.{CanDecide, IsDecided};
 ghost use Rattle.node_core.specs.InStep.{HasItsLink, deadline_of, delayed_of};
 ghost use Rattle.node_core.specs.Part.{LinkState};
-ghost use Rattle.node_core.specs.Ready.{CanDecide, EndTakes, Takes};
+ghost use Rattle.node_core.specs.Ready.{EndTakes, Takes};
 ghost use Rattle.node_core.specs.Running.{part};
 ghost use Rattle.node_core.specs.TraceLine.{IsSameEvent};
 
