@@ -11,3 +11,5 @@ pub mod LastEvents
 mod Backward
 mod Judged
 mod Sent
+mod UnderWay
+mod Passing

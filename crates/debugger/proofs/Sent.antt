@@ -114,7 +114,7 @@ module _ (flow : ℕ) (part : PartState) (key : Key) where
   arrives x (Receives n b) = to_receiver x n b x.kind
   arrives x (Routes table) = passes x (exit_for table x)
 
-  row_leaves : (event : Event) → LeavesWhereSent flow (row part key event)
+  pub row_leaves : (event : Event) → LeavesWhereSent flow (row part key event)
   row_leaves (Start own) = starts part.role
   row_leaves (Rto own) = ends part.role
   row_leaves (DelAck own) = answers part.role

@@ -1,5 +1,5 @@
 -- Which lines of the trace a breakpoint matches, with the states before and after them.
-use Rattle.std.specs.Prelude.{◌≡◌, ◌==◌, ◌+◌, ℕ, Bool, true, false, IsTrue, IsSome, List, ◌∷◌, ◌++◌, length, Any, Option, None, Some, IfSome}
+use Rattle.std.specs.Prelude.{◌≡◌, ◌==◌, ◌+◌, ℕ, Bool, true, false, IsTrue, IsSome, IsNone, List, ◌∷◌, ◌++◌, length, Any, Option, None, Some, IfSome}
 use Rattle.std.specs.List.{list_any}
 use Rattle.packet_chain.specs.declared.packet.Kind.{Kind}
 use Rattle.packet_chain.specs.declared.packet.Kind.TheVariants.{Data, Ack}
@@ -130,6 +130,14 @@ AsksStall breaks = Any (λ b. IsSome b.stall) breaks
 -- a line meets the conditions of one of the breakpoints: where none asks for a stall, that one matches
 abbrev pub IsLineHit : List Break → TraceLine → Type 0
 IsLineHit breaks line = Any (λ b. MeetsLine b line) breaks
+
+-- a breakpoint may match a line, by which no flow becomes stalled where it is quiet: the line meets each condition, and no stall is asked for there
+abbrev pub MayMatch : Bool → TraceLine → Break → Type 0
+MayMatch quiet line b = (IsTrue quiet → IsNone b.stall) × MeetsLine b line
+
+-- one of the breakpoints may match
+abbrev pub IsMayHit : List Break → Bool → TraceLine → Type 0
+IsMayHit breaks quiet line = Any (MayMatch quiet line) breaks
 
 -- the breakpoint at an index was taken out, and the others stay in their order
 pub record IsTakenOut (old new : List Break) (index : ℕ) (b : Break) : Type 0 where

@@ -8,3 +8,4 @@ pub mod Courses
 pub mod Aims
 pub mod Debugging
 pub mod DebuggerOf
+pub mod UnderWay

@@ -4,7 +4,7 @@ ghost use Rattle.std.specs.List.{list_any};
 ghost use Rattle.node_core.specs.TraceLine.{shown};
 ghost use Rattle.net_machine.specs.Run.{Reached, IsRun, Stepped};
 ghost use Rattle.flow_waits.specs.Stalled.{becomes_stalled as becomes_stalled_by};
-ghost use Rattle.debugger.specs.Breaks.{flow_of, kind_of, byte_of, is_drop, link_of, is_at_link, is_sent_of, sends_own, asking, asks_nothing, MeetsLine, Stalls, Matches, IsHit, IsFirstHit, AsksStall, IsLineHit, IsTakenOut};
+ghost use Rattle.debugger.specs.Breaks.{flow_of, kind_of, byte_of, is_drop, link_of, is_at_link, is_sent_of, sends_own, asking, asks_nothing, MeetsLine, Stalls, Matches, MayMatch, IsHit, IsFirstHit, AsksStall, IsLineHit, IsMayHit, IsTakenOut};
 
 use flow_waits::{becomes_stalled, some_becomes_stalled};
 use net_machine::Net;
@@ -140,7 +140,7 @@ fn byte_of(event: &Event) -> Option<u64>
 }
 
 /// Whether a packet was dropped.
-fn has_drop(acts: &[Act]) -> bool
+pub(crate) fn has_drop(acts: &[Act]) -> bool
     ensures { result ≡ list_any is_drop acts.now }
 {
     acts.iter().any(|act| matches!(act, Act::Dropped(_, _, _)))
@@ -297,6 +297,17 @@ impl Break {
             && drops_as_asked(self.drops, line.acts.as_slice())
             && goes_by_link(self.link, line.acts.as_slice())
             && has_byte(self.byte, &line.event)
+    }
+
+    /// Whether this breakpoint may match a line, by which no flow becomes stalled where that is quiet.
+    fn may_match(&self, quiet: bool, line: &Line) -> bool
+        ensures { IsTrue result ↔ MayMatch quiet (shown line.now) self.now }
+    {
+        if quiet && self.stall.is_some() {
+            false
+        } else {
+            self.meets_line(line)
+        }
     }
 
     /// Whether this breakpoint matches a line, after which a net stands.
@@ -539,6 +550,23 @@ impl Breaks {
             Ok(hit) => Ok(hit.is_some()),
             Err(fault) => Err(fault),
         }
+    }
+
+    /// Whether one of them may match a line, by which no flow becomes stalled where that is quiet.
+    pub(crate) fn may_hit(&self, quiet: bool, line: &Line) -> bool
+        ensures { IsTrue result ↔ IsMayHit self.now quiet (shown line.now) }
+    {
+        for b in &self.items {
+            if b.may_match(quiet, line) {
+                return true;
+            }
+        }
+        false
+    }
+
+    /// Where their memory comes from.
+    pub(crate) fn allocator(&self) -> Global {
+        *self.items.allocator()
     }
 
     /// Whether a line meets the conditions of one of them, a stall aside.

@@ -12,6 +12,7 @@ mod passed;
 pub mod reached;
 pub mod saved;
 mod to_stop;
+mod under_way;
 pub mod walk;
 
 pub use breaks::{Break, BreakFault, Breaks, Condition, EventKind, Hit, StallOf, is_among};

@@ -1,13 +1,38 @@
 //! On to the next line that a breakpoint matches, one event after another.
-ghost use Rattle.std.specs.Prelude.{◌≡◌, IfOk, IfErr, OnOk};
+ghost use Rattle.std.specs.Prelude.{◌≡◌, ◌↔◌, Some, IsTrue, IfOk, IfErr, OnOk};
+ghost use Rattle.node_core.specs.TraceLine.{shown};
+ghost use Rattle.net_machine.specs.Run.{Reached, IsRun, Stepped};
+ghost use Rattle.debugger.specs.Breaks.{IsHit};
+ghost use Rattle.debugger.specs.UnderWay.{AreUnderWay};
 ghost use Rattle.debugger.specs.Moves.{Passes, RunGoesTo, IsTooLong};
 
 use crate::breaks::Breaks;
 use crate::fault::MoveFault;
 use crate::saved::Saved;
+use crate::under_way::{count_on, leaves_moving, none_counted};
 use crate::walk::run_one;
 use net_machine::Net;
 use node_core::Line;
+use std::alloc::AllocError;
+
+/// Whether a breakpoint matches a line, after which a net stands. Where what is counted of packets under way tells that
+/// no flow becomes stalled, no stall is looked for.
+#[tactic(none)]
+fn is_stop(
+    breaks: &Breaks,
+    counts: &[u64],
+    net: &Net,
+    line: &Line,
+) -> Result<bool, AllocError>
+    ensures { (before : Reached) → IsRun before → Stepped before (Some (shown line.now)) net.now → AreUnderWay counts.now net.now.state → IfOk result (λ found. IsTrue found ↔ IsHit breaks.now before.state (shown line.now) net.now.state) }
+{
+    let quiet = leaves_moving(counts, line);
+    if breaks.may_hit(quiet, line) {
+        breaks.hits(net, line)
+    } else {
+        Ok(false)
+    }
+}
 
 /// Runs events up to the next position whose line a breakpoint matches, or to the run's end.
 #[tactic(none)]
@@ -23,6 +48,7 @@ fn run_to_stop(
     ensures full { IfErr result (λ fault. fault ≡ MoveFault.CountFull → IsTooLong saved.old) }
     ensures same { saved.new ≡ saved.old }
 {
+    let mut counts = none_counted(breaks.allocator());
     loop {
         let _before = net.position();
         match run_one(net, saved, line) {
@@ -30,7 +56,8 @@ fn run_to_stop(
             Ok(false) => return Ok(()),
             Err(fault) => return Err(fault.into()),
         }
-        match breaks.hits(net, line) {
+        count_on(&mut counts, line);
+        match is_stop(breaks, counts.as_slice(), net, line) {
             Ok(true) => return Ok(()),
             Ok(false) => {}
             Err(_) => return Err(MoveFault::NoMemory),
