@@ -1,5 +1,5 @@
 -- A packet that comes to a router, which drops none, goes on, and no flow becomes stalled.
-use Rattle.std.proofs.Common.{◌≡◌, ◌≢◌, ℕ, ◌+◌, ◌-◌, ◌<◌, ◌≤◌, ◌==◌, ◌&&◌, ◌||◌, Bool, true, false, cond, not, List, [], ◌∷◌, ◌++◌, length, get_or, set, refl, sym, ap, subst, ◌∙◌, Option, Some, None, is_none, inl, inr, ◌⊎◌, ⊎_elim, true≢false, eq-eqb}
+use Rattle.std.proofs.Common.{◌≡◌, ◌≢◌, ℕ, ◌+◌, ◌-◌, ◌<◌, ◌==◌, ◌&&◌, Bool, true, false, cond, not, List, [], ◌∷◌, length, get_or, set, refl, sym, ap, subst, ◌∙◌, Option, Some, None, is_none, ◌⊎◌, ⊎_elim, true≢false, eq-eqb}
 use Rattle.std.proofs.lemmas.List.{get_or-set_same, length-set}
 use Rattle.std.specs.List.{list_any}
 use Rattle.std.specs.FinMap as map
@@ -13,17 +13,16 @@ use Rattle.aqm.proofs.Stays.{enters_last}
 use Rattle.port.specs.declared.acts.Act.{Act}
 use Rattle.port.specs.declared.acts.Act.TheVariants.{Tx, Dropped}
 use Rattle.port.specs.Losses.{is_lost}
-use Rattle.port.specs.Port.{PortState, PortStep, Departure, taken, only, with_packet, offered_one}
+use Rattle.port.specs.Port.{PortState, PortStep, only, with_packet, offered_one}
 use Rattle.node_core.specs.declared.event.Event.{Event}
 use Rattle.node_core.specs.declared.event.Event.TheVariants.{Start, Rto, DelAck, Free, Arrive}
-use Rattle.node_core.specs.declared.line.After.{After}
 use Rattle.node_core.specs.declared.role.Role.{Role}
 use Rattle.node_core.specs.declared.role.Role.TheVariants.{Sends, Receives, Routes}
 use Rattle.node_core.specs.Part.{LinkState, PartState, link_at, no_link}
 use Rattle.node_core.specs.RouteTable.{exit_for}
 use Rattle.reno_sender.specs.declared.fields.SenderFields.{SenderFields}
 use Rattle.reno_receiver.specs.Received.{ReceiverState}
-use Rattle.node_core.specs.Row.{Effect, Leaving, after_of, leaving_over, with_step, arrival_row, at_sender, at_receiver, passed_on}
+use Rattle.node_core.specs.Row.{Effect, after_of, leaving_over, with_step, arrival_row, at_sender, at_receiver, passed_on}
 use Rattle.node_core.specs.TraceLine.{TraceLine}
 use Rattle.table_run.specs.State.{State, part_at, no_part, effect_of, stepped}
 use Rattle.table_run.specs.Laws.{HasRoute}
@@ -33,9 +32,9 @@ use Rattle.table_run.proofs.Runs.{of_step}
 use Rattle.table_run.proofs.RunLaws.{routers_have_routes}
 use Rattle.net_machine.specs.Run.{Reached, IsRun, Stepped}
 use Rattle.trace_text.specs.DumpParts.{has_waiting}
-use Rattle.flow_waits.specs.Stalled.{sender_of, is_some_unfinished, waits_at, is_waiting, start_of, is_under_way, is_stalled, becomes_stalled, is_drop_of, some_stalls, is_stalled_by_drop}
-use Rattle.flow_waits.proofs.Any.{or_cases, or_first, or_second, any_at, any_right}
-use Rattle.flow_waits.proofs.Waiting.{is_of, Holds, Departs, Leaves, AfterTake, waits, leaves, dropped, take_keeps}
+use Rattle.flow_waits.specs.Stalled.{sender_of, is_some_unfinished, waits_at, is_waiting, is_stalled, becomes_stalled, is_drop_of, some_stalls, is_stalled_by_drop}
+use Rattle.flow_waits.proofs.Any.{or_cases, or_first, any_at, any_right}
+use Rattle.flow_waits.proofs.Waiting.{is_of, Holds, Departs, AfterTake, waits, leaves, dropped, take_keeps}
 use Rattle.flow_waits.proofs.Pending.{leaving_pends}
 use Rattle.flow_waits.proofs.Found.{moving, some_found}
 use Rattle.std.specs.Prelude.{IfSome, IsNone}
@@ -79,7 +78,7 @@ module _ (flow now : ℕ) where
       either (is_lost port.lose counted.offered) _ _ (refused _ _ _) (λ _.
       either (is_full (fifo_of port.queue)) _ _ (refused _ _ _) (λ room.
       let holds : Holds flow (with_packet now counted x).queue =
-          ap (list_any (is_of flow)) (enters_last port.queue (x, now) now room) ∙ any_right (is_of flow) (waiting_in port.queue) ((x, now) ∷ []) (or_first (x.flow == flow) false its) in
+      ap (list_any (is_of flow)) (enters_last port.queue (x, now) now room) ∙ any_right (is_of flow) (waiting_in port.queue) ((x, now) ∷ []) (or_first (x.flow == flow) false its) in
       either (is_none port.next_free) _ _ (λ none. after_take none (take_keeps flow now (with_packet now counted x) holds)) (λ _ none. stays holds)))
     where
       after_take : {step : PortStep} → list_any is_drop step.acts ≡ false → AfterTake flow now step → Offered step

@@ -1,5 +1,5 @@
 -- What is counted of packets under way over a run, and where it tells that no flow becomes stalled.
-use Rattle.std.proofs.Common.{◌≡◌, ◌≢◌, ℕ, zero, suc, ◌+◌, ◌-◌, ◌<◌, ◌≤◌, ◌==◌, ◌&&◌, ◌||◌, min, Bool, true, false, cond, not, List, [], ◌∷◌, ◌++◌, length, get_or, set, refl, sym, ap, subst, ◌∙◌, Option, Some, None, arith, inl, inr, ◌⊎◌, ⊎_elim, true≢false, eqb-true, eq-eqb}
+use Rattle.std.proofs.Common.{◌≡◌, ◌≢◌, ℕ, zero, suc, ◌+◌, ◌-◌, ◌<◌, ◌≤◌, ◌==◌, ◌||◌, min, true, false, List, [], ◌∷◌, ◌++◌, length, get_or, set, refl, sym, ap, subst, ◌∙◌, Option, Some, None, arith, inl, inr, ◌⊎◌, ⊎_elim, true≢false, eqb-true, eq-eqb}
 use Rattle.std.proofs.lemmas.Bool.{cases_eq, cases_lt}
 use Rattle.std.proofs.lemmas.List.{get_or-set_same, get_or-set_other, length-set}
 use Rattle.std.proofs.Math.ListN.{get_or-eq_default}
@@ -10,14 +10,12 @@ use Rattle.std.specs.FinMap as map
 use Rattle.sim_time.specs.declared.key.Key.{Key}
 use Rattle.sim_time.specs.Keys.{key_cmp}
 use Rattle.sim_time.proofs.Order.{exact_keys}
-use Rattle.packet_chain.specs.declared.packet.Packet.{Packet}
 use Rattle.port.specs.declared.acts.Act.{Act}
 use Rattle.port.specs.declared.acts.Act.TheVariants.{Tx, Dropped}
 use Rattle.node_core.specs.declared.event.Event.{Event}
 use Rattle.node_core.specs.declared.event.Event.TheVariants.{Start, Rto, DelAck, Free, Arrive}
-use Rattle.node_core.specs.Part.{LinkState}
-use Rattle.node_core.specs.Pending.{Events, Change}
-use Rattle.node_core.specs.Row.{Effect, Leaving, home_changes, sent_away, arrives, changes_of}
+use Rattle.node_core.specs.Pending.{Events}
+use Rattle.node_core.specs.Row.{Effect, Leaving, home_changes, sent_away, arrives}
 use Rattle.node_core.specs.TraceLine.{TraceLine}
 use Rattle.ranking.specs.Keyed.{apply}
 use Rattle.ranking.proofs.Maps.{not_some, same_some, is_equal, tied, get_here}
@@ -165,9 +163,12 @@ module _ (before after : Reached) (line : TraceLine) (is : IsRun before) (steppe
     keys = h.keys;
     enough = h.enough;
     apart = h.apart;
-    each = all_map (ArrivesUnder flow s) (λ q. ArrivesUnder flow s q × (q ≢ line.key)) (λ q its. (its, λ same.
-      let event : line.event ≡ Arrive its.0 = same_some line.event (Arrive its.0) (sym was_pending ∙ ap (λ (r : Key). map.get s.pending r) (sym same) ∙ its.1) in
-      true≢false (sym its.2 ∙ sym (ap (is_arrival_of flow) event) ∙ other))) h.keys h.each;
+    each = all_map (ArrivesUnder flow s) (λ q. ArrivesUnder flow s q × (q ≢ line.key)) (λ q its. (
+      its,
+      λ same.
+          let event : line.event ≡ Arrive its.0 = same_some line.event (Arrive its.0) (sym was_pending ∙ ap (λ (r : Key). map.get s.pending r) (sym same) ∙ its.1) in
+          true≢false (sym its.2 ∙ sym (ap (is_arrival_of flow) event) ∙ other),
+    )) h.keys h.each;
   }
 
   -- it is, and one fewer is under way
