@@ -19,7 +19,7 @@ import time
 from collections import namedtuple
 
 from results import BENCH, CALLGRIND, ENVIRONMENT, PROGRAM, instructions, number, processor, saved, table
-from scenarios import EVER, GBIT, MBIT, MS, MSS, ROUTER, SCENARIOS, US, Net, disassemble, droptail, four_groups, islands, two_ends
+from scenarios import EVER, GBIT, MBIT, MS, MSS, ROUTER, SCENARIOS, US, Net, disassemble, droptail, four_groups, islands, two_ends, under_way
 
 PAGE = os.path.join(BENCH, 'DEBUGGER.md')
 PROMPT = b'(tcpsim) '
@@ -176,7 +176,8 @@ def until(path, breakpoint_, before, *options):
 
 def stalls(rounds, before):
     """Of each scenario its name, its events, and the least seconds of a run to its end with either breakpoint."""
-    for name, scenario in (('one flow, nothing lost', no_losses(250_000)), ('98 flows over one bottleneck, nothing lost', crowd(98, 500))):
+    for name, scenario in (('one flow, nothing lost', no_losses(250_000)), ('98 flows over one bottleneck, nothing lost', crowd(98, 500)),
+                           ("a flow that its receiver's window binds, acknowledgements delayed", under_way(64, 100_000, 40 * MS))):
         path, least, events = path_of(f'debugger {name}', scenario), {}, 0
         for _ in range(rounds):
             for kind in 'kind rto', 'stall':
