@@ -4,8 +4,9 @@
     scripts/build.py [--jobs N] [--ready]
 
 Each crate is proved once, by `rattle build`, the prover behind `rt`, as soon as those that it stands on
-are: two crates side by side, each with as many functions at once as there are processors; the one on
-which fewer crates stand gives way to the other. Of a library
+are: up to three crates side by side. The one on which most others stand gets the processors that the
+others leave, for as many functions at once; each of the others gets one, since a crate costs a third more
+by four jobs than by one. Of a library
 its statements are kept (crates/tcpsim/out/libs), so that what stands on it does not read its proofs;
 after a change the changed crate and those that stand on it are proved again. `rt ci` trusts nothing of
 it. Beside them NAME.cost says what each cost, for the table of bench/gate.py. With --ready it only says
@@ -30,7 +31,7 @@ KEPT = f"{TOP}/crates/{PROGRAM}/out/libs"
 MADE = f"{TOP}/crates/{PROGRAM}/out/{PROGRAM}"
 PARTS = ("src", "specs", "proofs")
 # How many crates are proved side by side.
-CRATES_AT_ONCE = 2
+CRATES_AT_ONCE = 3
 # What one of the prover's processes may take, in bytes.
 JOB_MEMORY = 2_500_000_000
 # How often it says how far it is where nothing else is said, in seconds.
@@ -210,18 +211,20 @@ class Crate:
             return "".join(line for line in log if not QUIET.match(line))
 
 
-def prove(crates, count, words_for):
-    """Proves the crates that are not kept, each behind those that it stands on, and says how far it is;
-    answers the crate that was refused, or None."""
+def prove(crates, count, jobs, words_for):
+    """Proves the crates that are not kept, each behind those that it stands on, by so many jobs at once, and
+    says how far it is; answers the crate that was refused, or None."""
     begun = told = time.time()
     done = {it.name for it in crates if it.is_kept()}
     left = [it for it in crates if it.name not in done]
     running = []
     while left or running:
         ready = [it for it in left if all(name in done for name in it.waits)]
-        for it in ready[: CRATES_AT_ONCE - len(running)]:
+        for at, it in enumerate(ready[: CRATES_AT_ONCE - len(running)]):
+            beside = min(CRATES_AT_ONCE - 1, len(running) + len(ready) - at - 1)
             left.remove(it)
-            it.start(words_for(it.name), any(other.above > it.above for other in [*left, *running]))
+            gives_way = any(other.above > it.above for other in [*left, *running])
+            it.start(words_for(it.name, 1 if gives_way else max(1, jobs - beside)), gives_way)
             running.append(it)
         for it in [it for it in running if it.has_ended()]:
             running.remove(it)
@@ -273,7 +276,7 @@ def build(asked):
 
     for it in (signal.SIGINT, signal.SIGTERM, signal.SIGHUP):
         signal.signal(it, stop)
-    refused = prove(crates, len(crates), lambda name: words_of(name, kit, jobs, libraries))
+    refused = prove(crates, len(crates), jobs, lambda name, most: words_of(name, kit, most, libraries))
     if refused:
         for it in crates:
             it.stop()
@@ -285,7 +288,7 @@ def build(asked):
 
 def main():
     reader = argparse.ArgumentParser(description="Proves the program with all its libraries, and builds it.")
-    reader.add_argument("--jobs", type=int, default=0, help="functions at once in a crate (left out: one a processor)")
+    reader.add_argument("--jobs", type=int, default=0, help="functions at once in all (left out: one a processor)")
     reader.add_argument("--ready", action="store_true", help="only say whether the toolchain, the layout and the modules' names are right")
     words = reader.parse_args()
     try:
