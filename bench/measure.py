@@ -1,10 +1,10 @@
 #!/usr/bin/env python3
 """Measures the built program and writes bench/RESULTS.md:
-bench/measure.py [--jobs N] [--program PATH] [--priority P] [--alone] [NAME ..]
+bench/measure.py [--jobs N] [--program PATH] [--priority P] [--alone] [--budget] [NAME ..]
 
 Run by `make bench`. With names of scenarios (bench/scenarios.py) only what their events cost is counted
-and printed. Instructions and bytes of heap are counted by valgrind and do not depend on the machine's
-speed. Seconds do, and say only what the machine at hand did. On a machine with other work a real-time priority
+and printed, and with --budget the functions that their events' instructions go to. Instructions and bytes of heap are counted by valgrind, as are data references, misses of the nearest cache and mispredicted
+branches, of the machine that it simulates: none depends on the machine's speed. Seconds do, and say only what the machine at hand did. On a machine with other work a real-time priority
 keeps a core for the timed runs (as root). With --alone the sections of images, of workers and of ns-2 stay as
 they are; else they are made anew too.
 """
@@ -16,7 +16,7 @@ import subprocess
 import sys
 import tempfile
 import time
-from collections import namedtuple
+from collections import Counter, namedtuple
 from concurrent.futures import ThreadPoolExecutor
 
 import beside_ns2
@@ -38,22 +38,32 @@ UNDER_WAY = (40, 400, 4_000)
 LONGEST, FIGURED = 25_000_000, 10
 # Each scenario, what it is, and the most instructions that one of its events is to cost.
 BARS = (
-    ('one_flow', 'one flow, 100 Mbit/s, 1 ms each way', 1_000),
-    ('one_flow_delayed_acks', 'the same with delayed acknowledgements', 1_000),
-    ('under_way_10000', '10,000 packets under way, 100 ms there and 50 ms back', 1_100),
-    ('under_way_10000_delayed_acks', 'the same, acknowledgements delayed by 50 ms', 1_100),
-    ('under_way_100000', '100,000 packets under way, 100 ms there and 50 ms back', 1_200),
-    ('dumbbell_droptail', '14 flows, two routers, a drop-tail bottleneck', 1_200),
-    ('dumbbell_codel', 'the same with CoDel', 1_200),
-    ('tree', '100 flows through a tree of routers, one bottleneck', 1_300),
-    ('chain', 'one flow through a chain of 16 routers', 1_000),
+    ('one_flow', 'one flow, 100 Mbit/s, 1 ms each way', 860),
+    ('one_flow_delayed_acks', 'the same with delayed acknowledgements', 870),
+    ('under_way_10000', '10,000 packets under way, 100 ms there and 50 ms back', 890),
+    ('under_way_10000_delayed_acks', 'the same, acknowledgements delayed by 50 ms', 910),
+    ('under_way_100000', '100,000 packets under way, 100 ms there and 50 ms back', 900),
+    ('dumbbell_droptail', '14 flows, two routers, a drop-tail bottleneck', 810),
+    ('dumbbell_codel', 'the same with CoDel', 810),
+    ('tree', '100 flows through a tree of routers, one bottleneck', 850),
+    ('chain', 'one flow through a chain of 16 routers', 730),
+    ('few_islands', 'four parts of three flows each, of which one goes over to the next', 830),
 )
 # The sections of bench/RESULTS.md that other scripts make, behind this one's.
 OTHERS = re.compile(r'\n## (?!What ).*', re.S)
 DHAT = ('valgrind', '--tool=dhat', '--dhat-out-file=/dev/null')
 Case = namedtuple('Case', 'name segments path')
 Run = namedtuple('Run', 'name segments events packets written resident seconds instructions heap')
-Cost = namedtuple('Cost', 'name what events an_event bar figures bare')
+Cost = namedtuple('Cost', 'name what events run bar figures bare')
+# What is counted of an event of a run: by the names of callgrind's columns.
+Count = namedtuple('Count', 'instructions references misses mispredicted')
+COUNTED = (('Ir',), ('Dr', 'Dw'), ('D1mr', 'D1mw'), ('Bcm', 'Bim'))
+COLUMNS = 'Ir Dr Dw I1mr D1mr D1mw ILmr DLmr DLmw Bc Bcm Bi Bim'.split()
+# The caches that are simulated, and not those of the machine at hand.
+SIMULATED = (*CALLGRIND, '--cache-sim=yes', '--branch-sim=yes', '--I1=32768,8,64', '--D1=49152,12,64',
+             '--LL=8388608,16,64')
+# How many functions of a scenario's budget are told.
+TOLD = 16
 # The functions that make a run's text.
 TEXT = 'trace_text::'
 # The most instructions that an event's figures are to cost above the same run without its text.
@@ -126,6 +136,57 @@ def longest(before):
     return number(r'run,,events,events,(\d+)', table), *(seconds(path, before, it, 1) for it in ('run', 'figures'))
 
 
+def counted(numbers):
+    """What is counted of numbers that stand in callgrind's columns."""
+    found = dict(zip(COLUMNS, map(int, numbers)))
+    return Count(*(sum(found.get(it, 0) for it in kind) for kind in COUNTED))
+
+
+def collected(said):
+    """The same of what callgrind has said at its end."""
+    return counted(re.search(r'Collected : (.*)', said)[1].split())
+
+
+def by_function(path):
+    """What each function of a whole run has been counted to do itself, by its name."""
+    with tempfile.TemporaryDirectory() as work:
+        out = os.path.join(work, 'functions')
+        named = [it for it in SIMULATED if it not in CALLGRIND[2:]]
+        run(path, [*named, f'--callgrind-out-file={out}', '--compress-strings=no', '--compress-pos=no'])
+        found, name, is_call = Counter(), '', False
+        with open(out) as lines:
+            for line in lines:
+                if line.startswith('fn='):
+                    name = re.sub(r'::<#\w+>', '', line[3:].strip())
+                elif line.startswith('calls='):
+                    is_call = True
+                elif line[:1].isdigit():
+                    # Behind a call stands what it has cost, which is its function's own.
+                    if not is_call:
+                        for kind, many in zip(Count._fields, counted(line.split()[1:])):
+                            found[name, kind] += many
+                    is_call = False
+        return found
+
+
+def budget(name):
+    """The functions that the events of a scenario go to, those with most instructions first."""
+    paths = [saved(f'{name}{word}', disassemble(it).decode())
+             for word, it in ((' started', started(SCENARIOS[name]())), ('', SCENARIOS[name]()))]
+    few, many = (watch(it)[0] for it in paths)
+    start, whole = map(by_function, paths)
+
+    def an_event(function, kind):
+        return (whole[function, kind] - start[function, kind]) / (many - few)
+
+    functions = sorted({it for it, _ in whole}, key=lambda it: -an_event(it, 'instructions'))
+    yield f'`{name}`, an event by function, {TOLD} of them:\n'
+    yield from table(('Function', 'Instructions', 'Data references', 'Misses', 'Mispredicted branches'),
+                     [(f'`{it}`', f'{an_event(it, "instructions"):,.0f}', f'{an_event(it, "references"):,.0f}',
+                       *(f'{an_event(it, kind):,.1f}' for kind in ('misses', 'mispredicted')))
+                      for it in functions[:TOLD]])
+
+
 def without_text(path):
     """The instructions of a whole run, less those of the calls by which what is no part of the text calls what
     makes it, with all that these call. What is part of the calling loop itself stays."""
@@ -156,13 +217,14 @@ def costs(names, jobs):
     paths += [saved(name, disassemble(SCENARIOS[name]()).decode()) for name, *_ in bars]
     events = [watch(path)[0] for path in paths]
     with ThreadPoolExecutor(jobs) as pool:
-        counts = [list(pool.map(lambda path: instructions(run(path, CALLGRIND, subcommand)), paths))
-                  for subcommand in ('run', 'figures')]
-        counts.append(list(pool.map(without_text, paths)))
+        counts = [list(pool.map(lambda path: collected(run(path, SIMULATED)), paths)),
+                  list(pool.map(lambda path: (instructions(run(path, CALLGRIND, 'figures')),), paths)),
+                  list(pool.map(lambda path: (without_text(path),), paths))]
     for at, (name, what, bar) in enumerate(bars):
         few, many = events[at::len(bars)]
-        an_event = [(whole - start) / (many - few) for start, whole in (kind[at::len(bars)] for kind in counts)]
-        yield Cost(name, what, many, an_event[0], bar, *an_event[1:])
+        whole, figures, bare = ([(more - less) / (many - few) for less, more in zip(*kind[at::len(bars)])]
+                                for kind in counts)
+        yield Cost(name, what, many, Count(*whole), bar, *figures, *bare)
 
 
 def within(count, bar):
@@ -171,9 +233,13 @@ def within(count, bar):
 
 
 def cost_table(rows):
-    yield from table(('Scenario', 'Events', 'Instructions an event', 'At most', 'Within'),
-                     [(f'`{r.name}`: {r.what}', f'{r.events:,}', f'{r.an_event:,.0f}', f'{r.bar:,}',
-                       within(r.an_event, r.bar)) for r in rows])
+    yield from table(('Scenario', 'Events', 'Instructions an event', 'At most', 'Within', 'Data references',
+                      'Misses of the nearest cache', 'Mispredicted branches'),
+                     [(f'`{r.name}`: {r.what}', f'{r.events:,}', f'{r.run.instructions:,.0f}', f'{r.bar:,}',
+                       within(r.run.instructions, r.bar), f'{r.run.references:,.0f}', f'{r.run.misses:,.1f}',
+                       f'{r.run.mispredicted:,.1f}') for r in rows])
+    yield ('Data references, misses of the nearest cache (48 kB, of 12 ways) and mispredicted branches are an event\'s, '
+           'of the machine that callgrind simulates.\n')
     yield ('The same without its text, which is what is left of it once the calls that make text are taken off, with '
            f'the loop that makes them, and what `figures` costs, which makes no text: {ABOVE} instructions more at most.\n')
     yield from table(('Scenario', '`run` without text', '`figures`', 'At most', 'Within'),
@@ -261,6 +327,7 @@ def words_of():
     words.add_argument('--jobs', type=int, default=os.cpu_count(), help='counts that run side by side')
     words.add_argument('--program', help='else the built one, which is built where it is not there')
     words.add_argument('--priority', type=int, help='the real-time priority of the timed runs, 1 to 99')
+    words.add_argument('--budget', action='store_true', help='print the functions that the events of these scenarios go to, and write nothing')
     words.add_argument('--alone', action='store_true', help='leave the sections of images, workers and ns-2 as they are')
     return words.parse_args()
 
@@ -275,6 +342,10 @@ def main():
         sys.exit('valgrind is not installed')
     if not os.path.exists(PROGRAM):
         build()
+    if given.budget:
+        for name in given.names or [name for name, *_ in BARS]:
+            print('\n'.join(budget(name)))
+        return
     if given.names:
         print('\n'.join(cost_table(list(costs(given.names, given.jobs)))))
         return
