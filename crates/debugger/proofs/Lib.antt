@@ -12,4 +12,5 @@ mod Backward
 mod Judged
 mod Sent
 mod UnderWay
+mod Counting
 mod Passing

@@ -73,7 +73,7 @@ without P k (q ∷ qs) a e =
     }
 
 -- numbers of a list of which one is set
-set_here : (xs : List ℕ) (i v : ℕ) → get_or (set xs i v) i 0 ≤ v
+pub set_here : (xs : List ℕ) (i v : ℕ) → get_or (set xs i v) i 0 ≤ v
 set_here xs i v =
     ⊎_elim
     (λ (within : i < length xs). let is = get_or-set_same xs i v 0 within in omega (arith, is))

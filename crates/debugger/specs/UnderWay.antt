@@ -85,3 +85,16 @@ leaves_moving counts after acts (Rto flow) = true
 leaves_moving counts after acts (DelAck flow) = true
 leaves_moving counts after acts (Free link) = not (list_any is_drop acts)
 leaves_moving counts after acts (Arrive packet) = is_known counts packet.flow || is_passed_on after acts
+
+-- the flow of the packet whose arrival an event is
+abbrev pub arriving_flow : Event → Option ℕ
+arriving_flow (Start flow) = None
+arriving_flow (Rto flow) = None
+arriving_flow (DelAck flow) = None
+arriving_flow (Free link) = None
+arriving_flow (Arrive packet) = Some packet.flow
+
+-- each packet whose arrival is pending is counted
+abbrev pub all_counted : List ℕ → List (Key × Event) → List ℕ
+all_counted counts [] = counts
+all_counted counts (entry ∷ pending) = all_counted (after_sending counts (arriving_flow entry.1)) pending

@@ -9,7 +9,7 @@ ghost use Rattle.debugger.specs.Moves.{Passes, RunGoesTo, IsTooLong};
 use crate::breaks::Breaks;
 use crate::fault::MoveFault;
 use crate::saved::Saved;
-use crate::under_way::{count_on, leaves_moving, none_counted};
+use crate::under_way::{count_on, counts_of, leaves_moving};
 use crate::walk::run_one;
 use net_machine::Net;
 use node_core::Line;
@@ -43,7 +43,7 @@ fn run_to_stop(
     ensures full { IfErr result (λ fault. fault ≡ MoveFault.CountFull → IsTooLong saved.old) }
     ensures same { saved.new ≡ saved.old }
 {
-    let mut counts = none_counted(breaks.allocator());
+    let mut counts = counts_of(breaks.allocator(), net);
     loop {
         let _before = net.position();
         match run_one(net, saved, line) {

@@ -4,18 +4,21 @@ ghost use Rattle.std.specs.Prelude.{◌≡◌, ℕ, slice_index_or, slice_set};
 ghost use Rattle.std.specs.List.{list_any};
 ghost use Rattle.node_core.specs.TraceLine.{shown};
 ghost use Rattle.debugger.specs.Breaks.{is_drop};
-ghost use Rattle.debugger.specs.UnderWay.{one_less, one_more, after_event, sent_flow, after_sending, counted, is_known, is_at_router, is_passed_on, leaves_moving};
+ghost use Rattle.debugger.specs.UnderWay.{one_less, one_more, after_event, sent_flow, after_sending, arriving_flow, all_counted, counted, AreUnderWay, is_known, is_at_router, is_passed_on, leaves_moving};
 
 use crate::breaks::has_drop;
+use net_machine::Net;
 use node_core::{After, Event, Line};
 use port::Act;
+use sim_time::Key;
 use std::alloc::Global;
+use trace_text::pending_events;
 
 /// The most flows of a net; all their numbers are below it.
 const MOST_FLOWS: usize = 128;
 
 /// No packet of any flow is known to be under way. Where memory is refused, none ever is.
-pub(crate) fn none_counted(alloc: Global) -> Vec<u64>
+fn none_counted(alloc: Global) -> Vec<u64>
     ensures { (flow : ℕ) → slice_index_or result.items flow 0 ≡ 0 }
 {
     match vec![in alloc; 0u64; MOST_FLOWS] {
@@ -66,6 +69,39 @@ fn count_sending(counts: &mut Vec<u64>, sent: Option<u16>)
     if let Some(flow) = sent {
         let more = count_of(counts.as_slice(), flow).saturating_add(1);
         set_count(counts, flow, more);
+    }
+}
+
+/// The flow of the packet whose arrival an event is.
+fn arriving_flow(event: &Event) -> Option<u16>
+    ensures { result ≡ arriving_flow event.now }
+{
+    match event {
+        Event::Start(_) | Event::Rto(_) | Event::DelAck(_) | Event::Free(_) => None,
+        Event::Arrive(packet) => Some(packet.flow),
+    }
+}
+
+/// Counts each packet whose arrival is pending.
+fn count_pending(counts: &mut Vec<u64>, pending: &[(Key, Event)])
+    ensures { counts.new.items ≡ all_counted counts.old.items pending.now }
+{
+    for (_, event) in pending {
+        count_sending(counts, arriving_flow(event));
+    }
+}
+
+/// How many packets of each flow are under way in a net. Where memory is refused, none is known.
+pub(crate) fn counts_of(alloc: Global, net: &Net) -> Vec<u64>
+    ensures { AreUnderWay result.items net.now.state }
+{
+    let mut counts = none_counted(alloc);
+    match pending_events(alloc, net) {
+        Ok(pending) => {
+            count_pending(&mut counts, pending.as_slice());
+            counts
+        }
+        Err(_) => counts,
     }
 }
 

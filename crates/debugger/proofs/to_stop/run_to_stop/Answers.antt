@@ -8,11 +8,11 @@ use Rattle.debugger.proofs.Faults.{full_from_step, full_from_memory}
 use Rattle.debugger.proofs.Judged.{was_found, was_not}
 use Rattle.debugger.proofs.Walks.{was_made, none_made, none_by_yet, none_by_next, run_stopped, run_ended}
 use Rattle.debugger.specs.UnderWay.{AreUnderWay}
-use Rattle.debugger.proofs.UnderWay.{none_under_way, counted_on}
+use Rattle.debugger.proofs.UnderWay.{counted_on}
 use Rattle.debugger.proofs.to_stop.run_to_stop.Goals as goal
 
 pub loop-counts-init : goal.loop-counts-init
-loop-counts-init c = record { same = refl; on_run = c.requires; from = omega arith; counted = none_under_way c.none_counted-counts.result.items c.args.net.now.state c.none_counted-counts.ensures; none = none_by_yet (IsHit c.args.breaks.now) c.args.saved.now c.args.net.now.position }
+loop-counts-init c = record { same = refl; on_run = c.requires; from = omega arith; counted = c.counts_of-counts.ensures; none = none_by_yet (IsHit c.args.breaks.now) c.args.saved.now c.args.net.now.position }
 
 pub run_one-requires : goal.run_one-requires
 run_one-requires c = subst (λ (s : State). Passes s c.loop-counts.net) (sym c.loop-counts.invariant.same) c.loop-counts.invariant.on_run
