@@ -1,6 +1,7 @@
 #!/usr/bin/env python3
 """Tests of README.md and of the lists of pages: README is a page and a half, each of its commands runs as it
-stands and prints what stands below it, docs/index.md has every page, docs/PROOFS.md every crate.
+stands and prints what stands below it, docs/index.md has every page, docs/PROOFS.md every crate, and each place that
+docs/GLOSSARY.md names is there.
 
 The commands run in a folder of their own, with the project's folders in it, so they go after `make run`. Left out
 are `make` and `apt-get`, and pictures and pages where matplotlib or d3 is not there, which is said.
@@ -101,6 +102,13 @@ class Pages(unittest.TestCase):
         wanted = [name for name in os.listdir(os.path.join(TOP, 'docs')) if name.endswith('.md') and name != 'index.md']
         wanted += [f'../bench/{name}' for name in os.listdir(os.path.join(TOP, 'bench')) if name.endswith('.md')]
         self.assertEqual(sorted(found), sorted(wanted))
+
+    def test_the_glossary_names_files_that_are_there(self):
+        found = re.findall(r'`((?:\w+/)+[\w.]+)`', read('docs', 'GLOSSARY.md'))
+        self.assertGreater(len(found), 60)
+        for path in found:
+            with self.subTest(path=path):
+                self.assertTrue(os.path.exists(os.path.join(TOP, '' if path.startswith('scripts/') else 'crates', path)))
 
     def test_each_crate_has_some_points(self):
         crates = re.findall(r'^(\w+).*:', read('crates.txt'), re.M)
