@@ -234,9 +234,11 @@ class AtThePrompt(unittest.TestCase):
         """What is there before it is asked for is answered in turn, with a prompt a line."""
         lines = of_steps(LINES)
         noted = b''.join(PROMPT + note for _, note in answers(TWO, lines)) + PROMPT
-        for options in ((), ('--groups', 'each', '--workers=2')):
-            told = debug(TWO, b''.join(line + b'\n' for line in lines), *options)
-            self.assertEqual(told, (0, model(TWO, lines), noted))
+        for groups in 'one', 'each':
+            for workers in '1', '2', '64':
+                told = debug(TWO, b''.join(line + b'\n' for line in lines), '--groups', groups, '--workers', workers)
+                with self.subTest(groups=groups, workers=workers):
+                    self.assertEqual(told, (0, model(TWO, lines), noted))
 
     def test_the_end_of_input(self):
         self.assertEqual(debug(ONE, b''), (0, b'', PROMPT))
