@@ -168,22 +168,26 @@ def answers(path, rounds, before):
     return first, {line: min(times) for line, times in found.items()}, min(back), memory
 
 
-def until(path, breakpoint_, before, *options):
-    """The answer to `run` until a breakpoint, and the seconds; nothing where the program has no such breakpoint."""
-    with Session(path, *options, before=before) as session:
+def until(path, breakpoint_, start, before):
+    """The answer to `run` from a position until a breakpoint, and the seconds; nothing where the program has no such
+    breakpoint."""
+    with Session(path, before=before) as session:
+        session.type(f'step {start}')
         return session.timed('run') if session.knows(f'break {breakpoint_}') else None
 
 
 def stalls(rounds, before):
     """Of each scenario its name, its events, and the least seconds of a run to its end with either breakpoint."""
-    for name, scenario in (('one flow, nothing lost', no_losses(250_000)), ('98 flows over one bottleneck, nothing lost', crowd(98, 500)),
-                           ("a flow that its receiver's window binds, acknowledgements delayed", under_way(64, 100_000, 40 * MS))):
+    for name, scenario, start in (
+            ('one flow, nothing lost', no_losses(250_000), 0), ('98 flows over one bottleneck, nothing lost', crowd(98, 500), 0),
+            ("a flow that its receiver's window binds, acknowledgements delayed", under_way(64, 100_000, 40 * MS), 0),
+            ('from the midst of a run with 20,000 packets under way', under_way(20_000, 60_000), 50_000)):
         path, least, events = path_of(f'debugger {name}', scenario), {}, 0
         for _ in range(rounds):
             for kind in 'kind rto', 'stall':
-                if done := until(path, kind, before):
+                if done := until(path, kind, start, before):
                     assert done[0].endswith(', the end\n'), done[0][-200:]
-                    events, least[kind] = position(done[0]), min(done[1], least.get(kind, done[1]))
+                    events, least[kind] = position(done[0]) - start, min(done[1], least.get(kind, done[1]))
         yield name, events, least.get('kind rto'), least.get('stall')
 
 
@@ -273,7 +277,7 @@ def page(args, before):
         rows.append(('`step 100000`, instructions an event', f'{costs[0]:,.0f}', f'{most:,.0f}: {STEP} times those of `run`', within(costs[0], most)))
     yield from table(('What', 'Measured', 'At most', 'Within'), rows)
     yield '## A breakpoint on stalls\n'
-    yield 'From the beginning to the end, where neither breakpoint matches: `break kind rto` and `run`, and `break stall` and `run`.\n'
+    yield 'To the end, where neither breakpoint matches: `break kind rto` and `run`, and `break stall` and `run`.\n'
     rows = []
     for name, events, rto, stall in stalls(args.rounds, before):
         last = (shown(stall), f'{stall / rto:.2f}', f'{STALL}', within(stall / rto, STALL)) if stall else ('no such breakpoint', '', f'{STALL}', '')
