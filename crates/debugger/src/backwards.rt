@@ -4,12 +4,15 @@ ghost use Rattle.node_core.specs.TraceLine.{shown};
 ghost use Rattle.net_machine.specs.Run.{Reached, IsRun, Stepped};
 ghost use Rattle.debugger.specs.Backwards.{FindsLast, IsLaterStop, IsSearched};
 ghost use Rattle.debugger.specs.Moves.{Passes, HasPosition, ReverseGoesTo, IsTooLong};
+ghost use Rattle.debugger.specs.UnderWay.{AreUnderWay};
 
 use crate::breaks::Breaks;
 use crate::fault::MoveFault;
 use crate::passed::run_next;
 use crate::reached::net_at;
 use crate::saved::Saved;
+use crate::to_stop::is_stop;
+use crate::under_way::{count_on, counts_of};
 use net_machine::Net;
 use node_core::Line;
 use std::alloc::AllocError;
@@ -30,10 +33,11 @@ fn later_stop(
     net: &Net,
     line: &Line,
     breaks: &Breaks,
+    counts: &[u64],
 ) -> Result<Option<u64>, AllocError>
-    ensures { (before : Reached) → IsRun before → Stepped before (Some (shown line.now)) net.now → IfOk result (IsLaterStop breaks.now before (shown line.now) net.now found) }
+    ensures { (before : Reached) → IsRun before → Stepped before (Some (shown line.now)) net.now → AreUnderWay counts.now net.now.state → IfOk result (IsLaterStop breaks.now before (shown line.now) net.now found) }
 {
-    match breaks.hits(net, line) {
+    match is_stop(breaks, counts, net, line) {
         Ok(true) => Ok(Some(net.position())),
         Ok(false) => Ok(found),
         Err(fault) => Err(fault),
@@ -59,6 +63,7 @@ fn last_stop(
     ensures same { saved.new ≡ saved.old }
 {
     let mut found = None;
+    let mut counts = counts_of(breaks.allocator(), net);
     let count = upto - net.position();
     for passed in 0..count {
         let _before = net.position();
@@ -66,7 +71,8 @@ fn last_stop(
             Ok(()) => {}
             Err(fault) => return Err(fault),
         }
-        match later_stop(found, net, line, breaks) {
+        count_on(&mut counts, line);
+        match later_stop(found, net, line, breaks, counts.as_slice()) {
             Ok(stop) => found = stop,
             Err(_) => return Err(MoveFault::NoMemory),
         }

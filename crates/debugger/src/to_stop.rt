@@ -18,7 +18,12 @@ use std::alloc::AllocError;
 /// Whether a breakpoint matches a line, after which a net stands. Where what is counted of packets under way tells that
 /// no flow becomes stalled, no stall is looked for.
 #[tactic(none)]
-fn is_stop(breaks: &Breaks, counts: &[u64], net: &Net, line: &Line) -> Result<bool, AllocError>
+pub(crate) fn is_stop(
+    breaks: &Breaks,
+    counts: &[u64],
+    net: &Net,
+    line: &Line,
+) -> Result<bool, AllocError>
     ensures { (before : Reached) → IsRun before → Stepped before (Some (shown line.now)) net.now → AreUnderWay counts.now net.now.state → IfOk result (λ found. IsTrue found ↔ IsHit breaks.now before.state (shown line.now) net.now.state) }
 {
     let quiet = leaves_moving(counts, line);

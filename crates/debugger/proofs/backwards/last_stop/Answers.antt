@@ -1,13 +1,15 @@
-use Rattle.std.proofs.Common.{◌≡◌, ◌≤◌, ◌+◌, ◌∙◌, Some, refl, sym, subst, arith, ⊎_elim}
+use Rattle.std.proofs.Common.{ℕ, List, ◌≡◌, ◌≤◌, ◌+◌, ◌∙◌, Some, refl, sym, subst, arith, ⊎_elim}
 use Rattle.table_run.specs.State.{State}
 use Rattle.node_core.specs.TraceLine.{shown}
 use Rattle.std.proofs.lemmas.Result.{IfOk-at_ok}
 use Rattle.debugger.specs.Breaks.{IsHit}
 use Rattle.debugger.specs.Backwards.{FindsLast, IsLaterStop}
 use Rattle.debugger.specs.Moves.{Passes, HasPosition, IsTooLong}
+use Rattle.debugger.specs.UnderWay.{AreUnderWay}
 use Rattle.debugger.proofs.Faults.{full_from_memory, memory_alone}
 use Rattle.debugger.proofs.Walks.{has_earlier}
 use Rattle.debugger.proofs.Backward.{nothing_yet, found_here, found_before}
+use Rattle.debugger.proofs.UnderWay.{counted_on}
 use Rattle.debugger.proofs.backwards.last_stop.Goals as goal
 
 pub overflow_sub-count : goal.overflow_sub-count
@@ -18,6 +20,7 @@ loop-passed-init c = record {
   same = refl;
   on_run = c.requires.on_run;
   position = omega arith;
+  counted = c.counts_of-counts.ensures;
   last = nothing_yet c.args.saved.now c.args.breaks.now c.args.net.now.position;
 }
 
@@ -51,11 +54,14 @@ loop-passed-preserved c =
     let i = c.loop-passed.invariant in
     let stepped = c.in-Ok.ensures.stepped in
     let below : from ≤ old.position = omega (arith, i.position) in
-    let later = IfOk-at_ok (IsLaterStop breaks old line new c.loop-passed.found) c.in-Ok-later_stop.is (c.later_stop.ensures old c.position-before.ensures.is_run stepped) in
+    let all : AreUnderWay c.count_on.new.counts.items new.state = subst (λ (counts : List ℕ). AreUnderWay counts new.state) (sym c.count_on.ensures) (counted_on old new line c.position-before.ensures.is_run stepped c.loop-passed.counts.items i.counted) in
+    let counted : AreUnderWay c.as_slice.result.now new.state = subst (λ (counts : List ℕ). AreUnderWay counts new.state) (sym c.as_slice.ensures.value) all in
+    let later = IfOk-at_ok (IsLaterStop breaks old line new c.loop-passed.found) c.in-Ok-later_stop.is (c.later_stop.ensures old c.position-before.ensures.is_run stepped counted) in
     record {
       same = c.run_next.ensures.same ∙ i.same;
       on_run = subst (λ (s : State). Passes s new) i.same c.in-Ok.ensures.on_run;
       position = omega (arith, stepped.1, i.position);
+      counted = all;
       last = ⊎_elim
           (λ (hit : IsHit breaks old.state line new.state × (c.in-Ok-later_stop.stop ≡ Some new.position)). subst (FindsLast start breaks from new.position) (sym hit.1) (found_here start breaks from old new line i.on_run stepped below hit.0))
           (λ (missed : (IsHit breaks old.state line new.state → ⊥) × (c.in-Ok-later_stop.stop ≡ c.loop-passed.found)). subst (FindsLast start breaks from new.position) (sym missed.1) (found_before start breaks from old new line i.on_run stepped c.loop-passed.found i.last missed.0))
