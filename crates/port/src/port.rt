@@ -1,9 +1,10 @@
 //! A link's sending side.
-ghost use Rattle.std.specs.Prelude.{◌≡◌, ℕ, ◌+◌, ◌^◌, ◌<◌, ◌≤◌, ◌++◌, Some, None, All, length, IfOk};
+ghost use Rattle.std.specs.Prelude.{◌≡◌, ℕ, ◌+◌, ◌^◌, ◌<◌, ◌≤◌, ◌++◌, Some, None, [], false, All, IsTrue, length, IfOk};
 ghost use Rattle.std.specs.List.Sorted.{IsStrictlyIncreasing};
 ghost use Rattle.sim_time.specs.Moment.{IsMoment};
 ghost use Rattle.packet_chain.specs.declared.packet.Packet.{Packet};
-ghost use Rattle.aqm.specs.Queue.{waiting_in};
+ghost use Rattle.aqm.specs.DropTail.{is_full};
+ghost use Rattle.aqm.specs.Queue.{fifo_of, may_drop, waiting_in};
 ghost use Rattle.port.specs.Port.{IsPort, opening_port, offered_one, taken, departed};
 ghost use Rattle.port.specs.Laws.{NothingWaitsWhereIdle};
 ghost use Rattle.port.specs.Room.{drops_at, drops_at_offer};
@@ -163,6 +164,10 @@ impl Port {
             drop_cell(cell, self.link, DropReason::Lost, acts);
             return;
         }
+        if self.is_open() {
+            self.begin(Some(cell), now, acts, out);
+            return;
+        }
         match self.queue.offer(cell, now) {
             Offered::Full(cell) => drop_cell(cell, self.link, DropReason::Full, acts),
             Offered::Entered => {
@@ -189,6 +194,18 @@ impl Port {
         ensures caught_up { NothingWaitsWhereIdle self.new }
     {
         self.take(now, acts, out);
+    }
+
+    // Whether a packet that is offered would enter the queue and be given at once: the link is idle, and nothing
+    // waits in a queue whose takes drop nothing.
+    #[inline(always)]
+    fn is_open(&self) -> bool
+        ensures idle { IsTrue result → self.now.next_free ≡ None }
+        ensures keeps { IsTrue result → may_drop self.now.queue ≡ false }
+        ensures nothing { IsTrue result → waiting_in self.now.queue ≡ [] }
+        ensures room { IsTrue result → is_full (fifo_of self.now.queue) ≡ false }
+    {
+        self.next_free.is_none() && !self.queue.may_drop() && self.queue.len() == 0
     }
 
     /// A port in the same state, with the packets that wait in cells of its own.

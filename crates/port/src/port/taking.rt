@@ -55,7 +55,7 @@ impl Port {
 
     // Begins to send what the queue has given; with nothing the link is idle.
     #[inline(always)]
-    fn begin(
+    pub(super) fn begin(
         &mut self,
         given: Option<PacketCell>,
         now: Time,
