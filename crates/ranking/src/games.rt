@@ -48,7 +48,7 @@ pub(crate) fn games_above(leaves: &[Standing], winners: &mut [u32], place: u32, 
 {
     let mut first = place;
     let mut at = leaves.len() + place as usize;
-    while at > 1 {
+    while at != 1 {
         let other = winners[beside(at)];
         let its = leaves[other as usize].moment;
         at /= 2;

@@ -34,7 +34,7 @@ loop-at-preserved c =
         (omega (arith, c.min-moment.ensures, w.if-its-moment-2.false) ∙ kept.moment ∙ ap (λ p. (standing_at leaves p).moment) (sym w.first-is), omega (arith, w.first-is, kept.here, kept.within at kept.inside)),
       )
     ] in
-    let some : 0 < half = omega (arith, c.loop-at-test.true) in
+    let some : 0 < half = omega (arith, kept.some, c.loop-at-test.true) in
     let inside : half < length winners = omega (arith, kept.inside) in
     record {
       size = same ∙ kept.size;
