@@ -17,8 +17,9 @@ use Rattle.node_core.specs.declared.role.Role.{Role}
 use Rattle.node_core.specs.declared.role.Role.TheVariants.{Sends, Receives, Routes}
 use Rattle.node_core.specs.declared.routes.FlowExits.{FlowExits}
 use Rattle.node_core.specs.Alarms.{alarm_key, alarm_number}
-use Rattle.node_core.specs.Decided.{sent_by, timer_event, timer_of, CanMove, IsArrival, IsDecided, IsSent, OnSend, of_sender, of_receiver}
+use Rattle.node_core.specs.Decided.{sent_by, timer_event, timer_of, CanMove, IsArrival, IsDecided, IsSent, IsRouted, OnSend, of_sender, of_receiver, route_of}
 use Rattle.node_core.specs.Part.{LinkState, PartState, link_at}
+use Rattle.node_core.specs.Ready.{CanRun}
 use Rattle.node_core.specs.Row.{row, sender_row, receiver_row, passed_on, data_packet, ack_of, with_step, timer_moved}
 use Rattle.node_core.specs.RouteTable.{exit_for}
 use Rattle.node_core.specs.Running.{part}
@@ -105,3 +106,13 @@ route_decides table links key packet room index exit within enough = record {
 -- a router has none
 pub no_route_decides : (table : List FlowExits) (links : List LinkState) (key : Key) (packet : Packet) (room : ℕ) → exit_for table packet ≡ None → IsDecided (Routes table) (Routes table) links key (Arrive packet) room Leave
 no_route_decides table links key packet room none = record { row_is = ap (passed_on (part (Routes table) links) key packet) none; suits = (refl, tt); can = tt }
+
+-- it goes on by the link of its route
+pub through_decides : (role : Role) (links : List LinkState) (key : Key) (event : Event) (room index : ℕ) → IsRouted role event index → CanRun (part role links) key.time event → 2 ≤ room → IsDecided role role links key event room (PassOn index)
+through_decides role links key event room index routed runs enough =
+    subst (λ (e : Event). CanRun (part role links) key.time e → IsDecided role role links key e room (PassOn index)) (sym routed.arrives) (passes role routed.route) runs
+  where
+    passes : (role : Role) → route_of role routed.packet ≡ Some index → CanRun (part role links) key.time (Arrive routed.packet) → IsDecided role role links key (Arrive routed.packet) room (PassOn index)
+    passes (Sends flow fields) route can = absurd (cc)
+    passes (Receives flow state) route can = absurd (cc)
+    passes (Routes table) route can = route_decides table links key routed.packet room index route (can index route) enough

@@ -22,6 +22,7 @@ use Rattle.node_core.specs.Links.{packets_of}
 use Rattle.node_core.specs.Part.{LinkState, PartState, link_at}
 use Rattle.node_core.specs.Ready.{CanRun, IsOfLink, IsSetBy}
 use Rattle.node_core.specs.Row.{Effect, quiet, row, timer_moved, with_step}
+use Rattle.node_core.specs.RouteTable.{exit_for}
 use Rattle.node_core.specs.Running.{part}
 
 -- the packets that an end sends: those that have cells, and behind them the one that takes the arriving packet's
@@ -118,6 +119,18 @@ CanDo key event links room Leave = Unit {0}
 CanDo key event links room (PassOn index) = CanPass event links room index
 CanDo key event links room (TakeNext index) = CanTake key event links room index
 CanDo key event links room (Send sending) = CanSend event links room sending
+
+-- the link by which a packet goes on from a node
+abbrev pub route_of : Role → Packet → Option ℕ
+route_of (Sends flow fields) packet = None
+route_of (Receives flow state) packet = None
+route_of (Routes table) packet = exit_for table packet
+
+-- a packet arrives at a router, which has a link for it
+pub record IsRouted (role : Role) (event : Event) (index : ℕ) : Type 0 where
+  pub packet : Packet
+  pub arrives : event ≡ Arrive packet
+  pub route : route_of role packet ≡ Some index
 
 -- what is needed of a role, its links and an event, so that what the event does is decided
 pub record CanDecide (role : Role) (links : List LinkState) (key : Key) (event : Event) : Type 0 where

@@ -137,7 +137,7 @@ pub(crate) fn decide(
         Event::Start(_) => decide_start(alloc, role, key, acts),
         Event::Rto(_) => decide_timeout(alloc, role, key, acts),
         Event::DelAck(_) => decide_delayed(alloc, role, acts),
-        Event::Free(_) => free_link(links, key, acts),
+        Event::Free(_) => Ok(Decision::TakeNext(free_link(links, key, acts)?)),
         Event::Arrive(packet) => decide_arrival(alloc, role, *packet, key, acts),
     }
 }

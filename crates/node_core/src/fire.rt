@@ -1,8 +1,9 @@
 //! Running the event of a node's least key: it is decided, and then carried out.
-ghost use Rattle.std.specs.Prelude.{◌≡◌, ◌++◌, OnOk, OnErr, IfOk};
+ghost use Rattle.std.specs.Prelude.{◌≡◌, ℕ, ◌++◌, OnOk, OnErr, IfOk};
 ghost use Rattle.std.specs.Option.{option_map};
 ghost use Rattle.node_core.specs.CarriedOut.{IsNext, IsCarriedOut};
-ghost use Rattle.node_core.specs.Decided.{CanDo};
+ghost use Rattle.node_core.specs.declared.event.Event.TheVariants.{Free};
+ghost use Rattle.node_core.specs.Decided.{CanDo, IsRouted};
 ghost use Rattle.node_core.specs.InStep.{IsInStep};
 ghost use Rattle.node_core.specs.Ready.{CanRun};
 ghost use Rattle.node_core.specs.Running.{HasRun, IsAsBefore, part};
@@ -11,12 +12,14 @@ ghost use Rattle.node_core.specs.TraceLine.{IsSameEvent};
 
 use crate::agenda::Agenda;
 use crate::decision::Decision;
+use crate::event::Event;
 use crate::events::decide;
 use crate::line::Line;
 use crate::link::Link;
 use crate::outbox::Outbox;
 use crate::passing::{pass_on, send, take_next};
 use crate::role::Role;
+use crate::router_node::free_link;
 use std::alloc::AllocError;
 
 /// Carries out what was decided of a line's event, which leaves: it takes no memory. The answer is
@@ -44,8 +47,57 @@ pub(crate) fn carry_out(
     }
 }
 
-/// Runs a line's event, which is the least: first all memory is taken, then the event is done.
-pub(crate) fn run(
+// The event of a link, which has sent a packet whole.
+#[inline(always)]
+fn run_free(
+    role: &mut Role,
+    links: &mut Vec<Link>,
+    agenda: &mut Agenda,
+    line: &mut Line,
+    out: &mut Outbox,
+) -> Result<Option<u16>, AllocError>
+    requires in_step { IsInStep role.old links.old.items agenda.old }
+    requires next { IsNext line.old.key line.old.event links.old.items agenda.old out.old }
+    requires runs { CanRun (part role.old links.old.items) line.old.key.time line.old.event }
+    requires frees { (link : ℕ) × (line.old.event ≡ Free link) }
+    ensures ran { OnOk result (HasRun line.old.key (row (part role.old links.old.items) line.old.key line.old.event) role.new links.new.items agenda.old agenda.new out.old out.new) }
+    ensures acts { OnOk result (line.new.acts.acts ≡ line.old.acts.acts ++ (row (part role.old links.old.items) line.old.key line.old.event).acts) }
+    ensures leaving { IfOk result (λ index. index ≡ option_map (λ (leaving : Leaving). leaving.index) (row (part role.old links.old.items) line.old.key line.old.event).leaving) }
+    ensures same_event { IsSameEvent line.old.key line.new.key line.old.event line.new.event }
+    ensures same { OnErr result (IsAsBefore role.old role.new links.old.items links.new.items agenda.old agenda.new out.old out.new) }
+{
+    let index = free_link(links, line.key, &mut line.acts)?;
+    Ok(take_next(index, links, agenda, line, out))
+}
+
+// The arrival at a router whose link for the packet has this index.
+#[inline(always)]
+fn run_through(
+    role: &mut Role,
+    index: u16,
+    links: &mut Vec<Link>,
+    agenda: &mut Agenda,
+    line: &mut Line,
+    out: &mut Outbox,
+) -> Result<Option<u16>, AllocError>
+    requires in_step { IsInStep role.old links.old.items agenda.old }
+    requires next { IsNext line.old.key line.old.event links.old.items agenda.old out.old }
+    requires runs { CanRun (part role.old links.old.items) line.old.key.time line.old.event }
+    requires routed { IsRouted role.old line.old.event index }
+    ensures ran { OnOk result (HasRun line.old.key (row (part role.old links.old.items) line.old.key line.old.event) role.new links.new.items agenda.old agenda.new out.old out.new) }
+    ensures acts { OnOk result (line.new.acts.acts ≡ line.old.acts.acts ++ (row (part role.old links.old.items) line.old.key line.old.event).acts) }
+    ensures leaving { IfOk result (λ index. index ≡ option_map (λ (leaving : Leaving). leaving.index) (row (part role.old links.old.items) line.old.key line.old.event).leaving) }
+    ensures same_event { IsSameEvent line.old.key line.new.key line.old.event line.new.event }
+    ensures same { OnErr result (IsAsBefore role.old role.new links.old.items links.new.items agenda.old agenda.new out.old out.new) }
+{
+    line.acts.reserve(2)?;
+    Ok(pass_on(index, links, agenda, line, out))
+}
+
+// Any other event, by a function of its own also in the program: most events are of links, and the places that
+// an end needs would be cleared for them too.
+#[inline(never)]
+fn run_decided(
     role: &mut Role,
     links: &mut Vec<Link>,
     agenda: &mut Agenda,
@@ -63,4 +115,33 @@ pub(crate) fn run(
 {
     let decision = decide(agenda.alloc(), role, links, line)?;
     Ok(carry_out(decision, links, agenda, line, out))
+}
+
+/// Runs a line's event, which is the least: first all memory is taken, then the event is done.
+pub(crate) fn run(
+    role: &mut Role,
+    links: &mut Vec<Link>,
+    agenda: &mut Agenda,
+    line: &mut Line,
+    out: &mut Outbox,
+) -> Result<Option<u16>, AllocError>
+    requires in_step { IsInStep role.old links.old.items agenda.old }
+    requires next { IsNext line.old.key line.old.event links.old.items agenda.old out.old }
+    requires runs { CanRun (part role.old links.old.items) line.old.key.time line.old.event }
+    ensures ran { OnOk result (HasRun line.old.key (row (part role.old links.old.items) line.old.key line.old.event) role.new links.new.items agenda.old agenda.new out.old out.new) }
+    ensures acts { OnOk result (line.new.acts.acts ≡ line.old.acts.acts ++ (row (part role.old links.old.items) line.old.key line.old.event).acts) }
+    ensures leaving { IfOk result (λ index. index ≡ option_map (λ (leaving : Leaving). leaving.index) (row (part role.old links.old.items) line.old.key line.old.event).leaving) }
+    ensures same_event { IsSameEvent line.old.key line.new.key line.old.event line.new.event }
+    ensures same { OnErr result (IsAsBefore role.old role.new links.old.items links.new.items agenda.old agenda.new out.old out.new) }
+{
+    match &line.event {
+        Event::Free(_) => run_free(role, links, agenda, line, out),
+        Event::Arrive(packet) => match role.route(packet) {
+            Some(index) => run_through(role, index, links, agenda, line, out),
+            None => run_decided(role, links, agenda, line, out),
+        },
+        Event::Start(_) | Event::Rto(_) | Event::DelAck(_) => {
+            run_decided(role, links, agenda, line, out)
+        }
+    }
 }

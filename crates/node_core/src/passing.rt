@@ -46,6 +46,7 @@ fn follow(agenda: &mut Agenda, index: u16, was_busy: bool, next_free: Option<Tim
 }
 
 /// The packet that arrives is offered to the link of an index, in its cell.
+#[inline(always)]
 pub(crate) fn pass_on(
     index: u16,
     links: &mut Vec<Link>,
@@ -68,6 +69,7 @@ pub(crate) fn pass_on(
 }
 
 /// The link of an index, whose alarm the event is, takes the next packet from its queue.
+#[inline(always)]
 pub(crate) fn take_next(
     index: u16,
     links: &mut Vec<Link>,

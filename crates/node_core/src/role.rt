@@ -3,6 +3,7 @@ ghost use Rattle.std.specs.Prelude.{◌≡◌, IfOk};
 
 use crate::line::After;
 use crate::routes::RouteTable;
+use packet_chain::Packet;
 use reno_receiver::Receiver;
 use reno_sender::{Sender, SenderFields};
 use sim_time::RENO;
@@ -46,6 +47,7 @@ pub enum Role {
 impl Role {
     ghost use Rattle.node_core.specs.Row.{after_of};
     ghost use Rattle.node_core.specs.InStep.{flow_of};
+    ghost use Rattle.node_core.specs.Decided.{route_of};
 
     /// The number of its flow; 0 at a router.
     pub(crate) fn flow(&self) -> u16
@@ -54,6 +56,17 @@ impl Role {
         match self {
             Role::Sends(flow, _) | Role::Receives(flow, _) => *flow,
             Role::Routes(_) => 0,
+        }
+    }
+
+    /// The outgoing link by which a packet goes on; none at a flow's end.
+    #[inline(always)]
+    pub(crate) fn route(&self, packet: &Packet) -> Option<u16>
+        ensures { result ≡ route_of self.now packet.now }
+    {
+        match self {
+            Role::Routes(table) => table.exit(packet),
+            Role::Sends(_, _) | Role::Receives(_, _) => None,
         }
     }
 

@@ -2,6 +2,7 @@
 ghost use Rattle.std.specs.Prelude.{◌≡◌, ◌<◌, ◌≤◌, ◌+◌, ◌-◌, ℕ, List, IfOk, length};
 ghost use Rattle.sim_time.specs.Moment.{IsMoment};
 ghost use Rattle.sim_time.specs.declared.key.Key.{Key};
+ghost use Rattle.node_core.specs.declared.decision.Decision.TheVariants.{TakeNext};
 ghost use Rattle.node_core.specs.declared.event.Event.TheVariants.{Arrive, Free};
 ghost use Rattle.node_core.specs.declared.role.Role.{Role};
 ghost use Rattle.node_core.specs.declared.role.Role.TheVariants.{Routes};
@@ -35,19 +36,16 @@ pub(crate) fn pass_packet(
     Ok(Decision::PassOn(index))
 }
 
-/// A link has sent a packet whole, and takes the next. The node's role stays.
-pub(crate) fn free_link(
-    links: &Vec<Link>,
-    key: Key,
-    acts: &mut Acts,
-) -> Result<Decision, AllocError>
+/// A link has sent a packet whole, and takes the next. The answer is the index of the link.
+#[inline(always)]
+pub(crate) fn free_link(links: &Vec<Link>, key: Key, acts: &mut Acts) -> Result<u16, AllocError>
     requires moment { IsMoment key.time }
     requires own { IsOfLink key.number (length links.now.items) (Free 0) }
     requires few { length links.now.items ≤ 1024 }
-    ensures decided { (role : Role) (link : ℕ) → IfOk result (IsDecided role role links.now.items key (Free link) acts.new.room) }
+    ensures decided { IfOk result (λ index. (role : Role) (link : ℕ) → IsDecided role role links.now.items key (Free link) acts.new.room (TakeNext index)) }
     ensures acts { acts.new.acts ≡ acts.old.acts }
 {
     let place = (key.number - FIRST_FREE as u64) as usize;
     acts.reserve(links[place].port().room_at(key.time))?;
-    Ok(Decision::TakeNext(place as u16))
+    Ok(place as u16)
 }

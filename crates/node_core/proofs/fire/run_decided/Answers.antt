@@ -5,7 +5,7 @@ use Rattle.node_core.specs.CarriedOut.{IsNext}
 use Rattle.node_core.specs.Decided.{CanDo}
 use Rattle.node_core.proofs.Carried.{ran}
 use Rattle.node_core.proofs.Due.{of_link, set_by}
-use Rattle.node_core.proofs.fire.run.Goals as goal
+use Rattle.node_core.proofs.fire.run_decided.Goals as goal
 
 pub decide-requires : goal.decide-requires
 decide-requires c = record {
