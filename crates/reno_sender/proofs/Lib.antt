@@ -6,3 +6,4 @@ pub mod Advances
 pub mod RowLaws
 pub mod FillLaw
 pub mod Laws
+pub mod AckRuns

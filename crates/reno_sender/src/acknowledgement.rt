@@ -1,8 +1,9 @@
 //! An acknowledgement, and what a new one does (RFC 5681 sections 3.1 and 3.2, RFC 6298 section 5).
-ghost use Rattle.std.specs.Prelude.{◌≡◌, ◌<◌};
+ghost use Rattle.std.specs.Prelude.{◌≡◌, ◌<◌, ◌≤◌, IfSome};
 ghost use Rattle.reno_sender.specs.Fields.{IsSound};
 ghost use Rattle.sim_time.specs.Moment.{IsMoment};
 ghost use Rattle.reno_sender.specs.Laws.{IsAckFor};
+ghost use Rattle.reno_sender.specs.AckRun.{IsAckRun};
 ghost use Rattle.reno_sender.specs.PlanView.{planned_of};
 ghost use Rattle.reno_sender.specs.Table.{advanced, restarted, new_acknowledgement, acknowledged};
 
@@ -10,12 +11,14 @@ use crate::duplicates::{early_duplicate, further_duplicate, repeated_duplicate, 
 use crate::fields::SenderFields;
 use crate::fill::fill;
 use crate::partial::{is_partial, partial_acknowledgement};
-use crate::plan::Plan;
+use crate::plan::{AckRun, Plan};
+use crate::sending::send_run;
 use crate::timer::measure;
 use crate::window::window_after;
 use sim_time::Time;
 
 /// What a new acknowledgement does before anything is sent.
+#[inline(always)]
 fn advance(fields: &mut SenderFields, ack: u64, now: Time)
     requires sound { IsSound fields.old }
     requires moment { IsMoment now }
@@ -51,6 +54,38 @@ pub(crate) fn new_acknowledgement(fields: &SenderFields, ack: u64, now: Time) ->
     let mut advanced = *fields;
     advance(&mut advanced, ack, now);
     fill(&advanced, now)
+}
+
+/// What an acknowledgement lets go, where it is new and not partial.
+#[inline(always)]
+pub(crate) fn run_after(fields: &SenderFields, ack: u64) -> Option<AckRun>
+    requires sound { IsSound fields.now }
+    requires most { ack ≤ fields.now.high }
+    ensures { IfSome result (IsAckRun fields.now ack) }
+{
+    if ack <= fields.una || is_partial(fields, ack) {
+        return None;
+    }
+    let cwnd = window_after(fields, ack - fields.una);
+    let first = fields.nxt.max(ack);
+    let end = (ack + cwnd.min(fields.rwnd)).min(fields.segments * fields.mss);
+    Some(AckRun {
+        first,
+        count: end.saturating_sub(first) / fields.mss,
+    })
+}
+
+/// A new acknowledgement that is not partial, where the fields lie.
+#[inline(always)]
+pub(crate) fn take_run(fields: &mut SenderFields, ack: u64, now: Time, run: AckRun)
+    requires sound { IsSound fields.old }
+    requires moment { IsMoment now }
+    requires ack { IsAckFor fields.old ack now }
+    requires run { IsAckRun fields.old ack run }
+    ensures { fields.new ≡ (new_acknowledgement fields.old ack now).fields }
+{
+    advance(fields, ack, now);
+    send_run(fields, run.count, now);
 }
 
 /// An acknowledgement: new, old, or the first, second, third or a further duplicate.

@@ -16,7 +16,7 @@ pub mod timer;
 pub mod window;
 
 pub use fields::{SenderFields, Timing};
-pub use plan::Plan;
+pub use plan::{AckRun, Plan};
 pub use sender::Sender;
 pub use sim_time::{Iw, SenderSettings, Variant};
 pub use timer::after_sample;

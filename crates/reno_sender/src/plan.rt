@@ -7,6 +7,15 @@ ghost use Rattle.reno_sender.specs.Table.{nothing_sent};
 use crate::fields::SenderFields;
 use std::marker::Model;
 
+/// The segments that a new acknowledgement lets go: consecutive ones.
+#[derive(Clone, Copy, Debug, PartialEq, Eq)]
+pub struct AckRun {
+    /// The byte number of the first.
+    pub first: u64,
+    /// How many segments, each `mss` bytes after the one before.
+    pub count: u64,
+}
+
 /// The new fields of a sender, and the byte numbers to send: at most one that is sent again, and
 /// then a run of consecutive segments. Nothing has happened until the sender commits it.
 #[derive(Clone, Copy, Debug)]

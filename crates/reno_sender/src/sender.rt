@@ -1,15 +1,16 @@
 //! The sender itself: what it keeps, and the plan that each event makes.
-ghost use Rattle.std.specs.Prelude.{◌≡◌, ◌≤◌, ◌+◌, IsSome, SomeIff};
+ghost use Rattle.std.specs.Prelude.{◌≡◌, ◌≤◌, ◌+◌, IsSome, IfSome, SomeIff};
 ghost use Rattle.reno_sender.specs.Fields.{IsSound};
 ghost use Rattle.sim_time.specs.Moment.{IsMoment};
 ghost use Rattle.reno_sender.specs.Laws.{IsAckFor, IsFlow};
+ghost use Rattle.reno_sender.specs.AckRun.{IsAckRun};
 ghost use Rattle.reno_sender.specs.PlanView.{planned_of, IsPlanOf, IsWellMade};
 ghost use Rattle.reno_sender.specs.Table.{opening_fields, started, acknowledged, timed_out};
 
-use crate::acknowledgement::acknowledged;
+use crate::acknowledgement::{acknowledged, run_after, take_run};
 use crate::fields::SenderFields;
 use crate::fill::fill;
-use crate::plan::Plan;
+use crate::plan::{AckRun, Plan};
 use crate::soundness::is_sound;
 use crate::timeout::timed_out;
 use crate::timer::LEAST_RTO;
@@ -122,6 +123,26 @@ impl Sender {
         ensures well_made { IsWellMade result }
     {
         acknowledged(&self.fields, ack, now)
+    }
+
+    /// Which segments an acknowledgement lets go, where it is new and not partial: the others are planned.
+    #[inline(always)]
+    pub fn run_for(&self, ack: u64) -> Option<AckRun>
+        requires { ack ≤ self.now.high }
+        ensures { IfSome result (IsAckRun self.now ack) }
+    {
+        run_after(&self.fields, ack)
+    }
+
+    /// Takes such an acknowledgement, which has come: the segments of its run are sent.
+    #[inline(always)]
+    pub fn take_run(&mut self, ack: u64, now: Time, run: AckRun)
+        requires moment { IsMoment now }
+        requires ack { IsAckFor self.old ack now }
+        requires run { IsAckRun self.old ack run }
+        ensures { self.new ≡ (acknowledged self.old ack now).fields }
+    {
+        take_run(&mut self.fields, ack, now, run);
     }
 
     /// The deadline has come.

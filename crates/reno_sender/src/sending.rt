@@ -79,6 +79,24 @@ pub(crate) fn after_run(fields: &SenderFields, count: u64, now: Time) -> SenderF
     }
 }
 
+/// Sends `count` segments from `nxt` on: the same fields, where they lie.
+#[inline(always)]
+pub(crate) fn send_run(fields: &mut SenderFields, count: u64, now: Time)
+    requires sound { IsSound fields.old }
+    requires moment { IsMoment now }
+    requires in_total { fields.old.nxt + count * fields.old.mss ≤ total fields.old }
+    ensures { let sent = spaced fields.old.nxt fields.old.mss count in
+        fields.new ≡ (sending fields.old sent (fields.old.nxt + count * fields.old.mss) now).fields }
+{
+    let nxt = fields.nxt + count * fields.mss;
+    let timing = timing_after_run(fields, count, now);
+    let deadline = deadline_after_run(fields, count, now);
+    fields.high = fields.high.max(nxt);
+    fields.nxt = nxt;
+    fields.timing = timing;
+    fields.deadline = deadline;
+}
+
 /// Sends the one segment at `nxt`, with `lt` bytes sent by limited transmit then.
 pub(crate) fn send_one(fields: &SenderFields, lt: u64, now: Time) -> Plan
     requires sound { IsSound fields.now }
