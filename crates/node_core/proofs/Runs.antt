@@ -1,11 +1,12 @@
 -- Runs of segments, and an agenda whose event has left.
 use Rattle.std.proofs.Common.{◌≡◌, ℕ, zero, suc, ◌+◌, ◌-◌, ◌*◌, ◌<◌, ◌≤◌, ◌==◌, cond, true, false, List, [], ◌∷◌, ◌++◌, set, map, length, Option, Some, None, refl, sym, ap, subst, ◌∙◌, arith, append_assoc, append-nil, length-append}
 use Rattle.std.specs.Prelude.{option_to_list}
-use Rattle.std.proofs.Math.Nat.{suc-mul}
+use Rattle.std.proofs.Math.Nat.{suc-mul, mul-le-mul_right}
 use Rattle.std.proofs.lemmas.List.{length-map, length-set, map-append}
 use Rattle.packet_chain.specs.Stamped.{Stamped}
 use Rattle.packet_chain.specs.declared.packet.Packet.{Packet}
 use Rattle.sim_time.specs.declared.key.Key.{Key}
+use Rattle.reno_sender.specs.Fields.{IsSound, total}
 use Rattle.reno_sender.specs.Sending.{spaced}
 use Rattle.reno_sender.specs.PlanView.{PlanView, sent_of}
 use Rattle.reno_sender.specs.declared.fields.SenderFields.{SenderFields}
@@ -34,6 +35,13 @@ length_spaced : (first step count : ℕ) → length (spaced first step count) �
 length_spaced first step zero = refl
 length_spaced first step (suc n) = omega (arith, length_spaced (first + step) step n)
 
+pub few_run : (f : ℕ → Packet) (first step count : ℕ) → length (map f (spaced first step count)) ≡ count
+few_run f first step count = length-map (spaced first step count) f ∙ length_spaced first step count
+
+-- the bytes of a flow
+pub flow_fits : (f : SenderFields) → IsSound f → total f ≤ 9000000000000
+flow_fits f s = let most = mul-le-mul_right {m = f.segments} {n = 1000000000} f.mss s.segments_most in omega (arith, most, s.mss_most)
+
 one_at_most : (resent : Option ℕ) → length (option_to_list resent) ≤ 1
 one_at_most None = omega arith
 one_at_most (Some x) = omega arith
@@ -51,6 +59,14 @@ run_ends first step (suc n) =
 spaced_last : (first step count : ℕ) → 0 < count → spaced first step count ≡ spaced first step (count - 1) ++ (first + (count - 1) * step) ∷ []
 spaced_last first step zero some = absurd (omega (arith, some))
 spaced_last first step (suc n) some = run_ends first step n ∙ ap (λ k. spaced first step k ++ (first + k * step) ∷ []) {x = n} {y = suc n - 1} (omega arith)
+
+-- a run, the last beside its cells
+pub run_last : (f : ℕ → Packet) (cells : List Stamped) (last : Packet) (first step count : ℕ) → 0 < count → packets_of cells ≡ map f (spaced first step (count - 1)) → last ≡ f (first + (count - 1) * step)
+    → packets_of cells ++ last ∷ [] ≡ map f (spaced first step count)
+run_last f cells last first step count some cells_are last_is =
+    let run = spaced first step (count - 1) in
+    let number = first + (count - 1) * step in
+    ap (λ ps. ps ++ last ∷ []) cells_are ∙ ap (λ x. map f run ++ x ∷ []) last_is ∙ sym (map-append f run (number ∷ [])) ∙ ap (map f) (sym (spaced_last first step count some))
 
 -- a plan's segments, the last beside its cells
 pub all_but_last : (f : ℕ → Packet) (p : PlanView) (cells : List Stamped) (last : Packet) → 0 < p.count → packets_of cells ≡ map f (option_to_list p.resent ++ spaced p.first p.fields.mss (p.count - 1)) → last ≡ f (p.first + (p.count - 1) * p.fields.mss)

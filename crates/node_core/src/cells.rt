@@ -6,7 +6,7 @@ ghost use Rattle.node_core.specs.Links.{packets_of};
 ghost use Rattle.node_core.specs.Row.{data_packet, ack_packet};
 
 use packet_chain::{Kind, Packet, PacketBytes, PacketCell, PacketChain};
-use reno_sender::Plan;
+use reno_sender::{AckRun, Plan};
 use std::alloc::{AllocError, Global};
 
 /// Whose packets are made, and what their cells take their memory from.
@@ -101,6 +101,29 @@ pub(crate) fn but_last(
     }
     let cells = segments(origin, mss, plan.resent(), first, count - 1)?;
     let last = segment(origin.flow, mss, first + (count - 1) * mss);
+    Ok((cells, Some(last)))
+}
+
+/// The segments of a run: all but the last in cells of their own, and the last, if there is one.
+#[inline(always)]
+pub(crate) fn run_but_last(
+    origin: Origin,
+    mss: u64,
+    run: AckRun,
+) -> Result<(PacketChain, Option<Packet>), AllocError>
+    requires mss { mss ≤ 9000 }
+    requires numbers { run.first + run.count * mss < 2 ^ 63 }
+    requires few { run.count ≤ 2 ^ 40 }
+    ensures { IfOk result (λ made. packets_of made.0 ++ option_to_list made.1 ≡ map (data_packet origin.flow mss) (spaced run.first mss run.count)) }
+{
+    if run.count == 0 {
+        return Ok((PacketChain::new(origin.alloc), None));
+    }
+    let last = segment(origin.flow, mss, run.first + (run.count - 1) * mss);
+    if run.count == 1 {
+        return Ok((PacketChain::new(origin.alloc), Some(last)));
+    }
+    let cells = segments(origin, mss, None, run.first, run.count - 1)?;
     Ok((cells, Some(last)))
 }
 

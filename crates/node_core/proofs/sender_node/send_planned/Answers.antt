@@ -4,7 +4,7 @@ use Rattle.reno_sender.specs.Sending.{Planned}
 use Rattle.node_core.specs.declared.alarm.Alarm.TheVariants.{Retransmission}
 use Rattle.node_core.specs.Decided.{IsSent, OnSend}
 use Rattle.node_core.specs.Row.{data_packet}
-use Rattle.node_core.proofs.sender_node.send_for_ack.Goals as goal
+use Rattle.node_core.proofs.sender_node.send_planned.Goals as goal
 
 pub returns-clause-sends : goal.returns-clause-sends
 returns-clause-sends c =
