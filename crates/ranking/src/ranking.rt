@@ -133,6 +133,17 @@ impl Ranking {
         }
     }
 
+    /// The same where some place has a key.
+    #[inline(always)]
+    pub fn leader(&self) -> (usize, Key)
+        requires { ¬ ((place : ℕ) → rank_at self.now place ≡ None) }
+        ensures { Leads self.now result.0 result.1 }
+    {
+        let place = self.winners[1] as usize;
+        let leaf = &self.leaves[place];
+        (place, leaf.key)
+    }
+
     /// A ranking of its own with the same keys.
     pub fn copy(&self) -> Result<Ranking, AllocError>
         ensures { IfOk result (λ ranking. ranking ≡ self.now) }
