@@ -249,21 +249,15 @@ impl Agenda {
         ensures value { least self.now.pending ≡ Some (key.new, event.new) }
         ensures due { IsDue self.now key.new event.new }
     {
-        match self.ranking.first() {
-            Some((slot, first)) => {
-                let alarms = self.alarms.len();
-                if slot < alarms {
-                    *key = first;
-                    *event = self.announced(slot);
-                    return;
-                }
-                let wire = &self.wires[slot - alarms];
-                let (coming, arrival) = wire.head().unwrap();
-                *key = coming;
-                *event = arrival;
-            }
-            None => {}
+        let (slot, first) = self.ranking.leader();
+        let alarms = self.alarms.len();
+        if slot < alarms {
+            *key = first;
+            *event = self.announced(slot);
+            return;
         }
+        let wire = &self.wires[slot - alarms];
+        wire.tell_head(key, event);
     }
 
     // What an alarm announces.
@@ -286,7 +280,7 @@ impl Agenda {
         ensures state { self.new ≡ record self.old { alarms = cleared key self.old.alarms; pending = map.remove self.old.pending key } }
         ensures packet { (packet : Packet) → least self.old.pending ≡ Some (key, Arrive packet) → option_map (λ cell. cell.0) result ≡ Some packet }
     {
-        let (slot, _) = self.ranking.first()?;
+        let (slot, _) = self.ranking.leader();
         let alarms = self.alarms.len();
         if slot < alarms {
             self.alarms[slot] = None;

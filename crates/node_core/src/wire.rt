@@ -94,6 +94,26 @@ impl Wire {
         Some((key, Event::Arrive(packet)))
     }
 
+    /// Tells the first arrival where its key and it are kept, so that they lie nowhere else before.
+    #[inline(always)]
+    pub(crate) fn tell_head(&self, key: &mut Key, event: &mut Event)
+        requires { IsSome (least (pending_on self.now)) }
+        ensures { least (pending_on self.now) ≡ Some (key.new, event.new) }
+    {
+        match self.under_way.front() {
+            Some((packet, time)) => {
+                *key = Key {
+                    time,
+                    node: self.node,
+                    source: self.link + 1,
+                    number: self.taken + 1,
+                };
+                *event = Event::Arrive(packet);
+            }
+            None => {}
+        }
+    }
+
     /// The key of the first arrival.
     pub fn next_key(&self) -> Option<Key>
         ensures { result ≡ next_key (pending_on self.now) }

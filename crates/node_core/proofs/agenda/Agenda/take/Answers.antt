@@ -16,68 +16,62 @@ use Rattle.node_core.proofs.Wires.{popped_node, popped_link, popped_came}
 use Rattle.node_core.proofs.Slots.{none_first, first_next, first_alarm, first_wire, first_within, set_ranked, wire_ranked, wire_pending, cleared_alarm, cleared_wire, same_agenda, same_incoming, alarm_is_no_arrival}
 use Rattle.node_core.proofs.agenda.Agenda.take.Goals as goal
 
--- nothing leads, and yet there is a next key
-pub returns-in_err-slot-clause-state : goal.returns-in_err-slot-clause-state
-returns-in_err-slot-clause-state c =
+pub leader-slot-requires : goal.leader-slot-requires
+leader-slot-requires c = λ none.
     let a = c.self.inside in
-    absurd (not_some (ap (option_map (λ (entry : Key × Event). entry.0)) (sym (none_first (owner_of a) a.alarms.items a.wires.items a.ranking c.self.invariant c.in_err-slot.ensures)) ∙ ap (λ (s : AgendaState). next_key s.pending) c.self.view_is ∙ c.requires))
-
-pub returns-in_err-slot-clause-packet : goal.returns-in_err-slot-clause-packet
-returns-in_err-slot-clause-packet c = λ packet first.
-    let a = c.self.inside in
-    absurd (not_some (ap (option_map (λ (entry : Key × Event). entry.0)) (sym (none_first (owner_of a) a.alarms.items a.wires.items a.ranking c.self.invariant c.in_err-slot.ensures)) ∙ ap (λ (s : AgendaState). next_key s.pending) c.self.view_is ∙ c.requires))
+    not_some (ap (option_map (λ (entry : Key × Event). entry.0)) (sym (none_first (owner_of a) a.alarms.items a.wires.items a.ranking c.self.invariant none)) ∙ ap (λ (s : AgendaState). next_key s.pending) c.self.view_is ∙ c.requires)
 
 pub invariant_of-self : goal.invariant_of-self
 invariant_of-self c =
     let a = c.self.inside in
-    let within : c.in_ok-slot.slot < length a.alarms.items = omega (arith, c.if-slot-alarms.true, c.len-alarms.ensures, a.alarms.ok.0) in
-    subst (IsAgenda (owner_of a) (set a.alarms.items c.in_ok-slot.slot None) a.wires.items) (sym c.set.ensures) (set_ranked (owner_of a) a.alarms.items a.wires.items a.ranking c.self.invariant c.in_ok-slot.slot within None)
+    let within : c.leader-slot.result.0 < length a.alarms.items = omega (arith, c.if-slot-alarms.true, c.len-alarms.ensures, a.alarms.ok.0) in
+    subst (IsAgenda (owner_of a) (set a.alarms.items c.leader-slot.result.0 None) a.wires.items) (sym c.set.ensures) (set_ranked (owner_of a) a.alarms.items a.wires.items a.ranking c.self.invariant c.leader-slot.result.0 within None)
 
 pub returns-then-slot-alarms-clause-state : goal.returns-then-slot-alarms-clause-state
 returns-then-slot-alarms-clause-state c =
     let a = c.self.inside in
-    let within : c.in_ok-slot.slot < length a.alarms.items = omega (arith, c.if-slot-alarms.true, c.len-alarms.ensures, a.alarms.ok.0) in
-    let key_is : c.in_ok-slot.field-0-1 ≡ c.args.key =
-    same_some c.in_ok-slot.field-0-1 c.args.key (sym (first_next (owner_of a) a.alarms.items a.wires.items a.ranking c.self.invariant c.in_ok-slot.slot c.in_ok-slot.field-0-1 c.in_ok-slot.ensures) ∙ ap (λ (s : AgendaState). next_key s.pending) c.self.view_is ∙ c.requires) in
-    let leads = subst (Leads a.ranking c.in_ok-slot.slot) key_is c.in_ok-slot.ensures in
-    let first = first_alarm (owner_of a) a.alarms.items a.wires.items a.ranking c.self.invariant c.in_ok-slot.slot c.args.key leads within in
-    same_agenda (owner_of a) (sym (cleared_alarm c.args.key a.alarms.items c.in_ok-slot.slot first.source first.number_is)) refl first.rest
+    let within : c.leader-slot.result.0 < length a.alarms.items = omega (arith, c.if-slot-alarms.true, c.len-alarms.ensures, a.alarms.ok.0) in
+    let key_is : c.leader-slot.result.1 ≡ c.args.key =
+    same_some c.leader-slot.result.1 c.args.key (sym (first_next (owner_of a) a.alarms.items a.wires.items a.ranking c.self.invariant c.leader-slot.result.0 c.leader-slot.result.1 c.leader-slot.ensures) ∙ ap (λ (s : AgendaState). next_key s.pending) c.self.view_is ∙ c.requires) in
+    let leads = subst (Leads a.ranking c.leader-slot.result.0) key_is c.leader-slot.ensures in
+    let first = first_alarm (owner_of a) a.alarms.items a.wires.items a.ranking c.self.invariant c.leader-slot.result.0 c.args.key leads within in
+    same_agenda (owner_of a) (sym (cleared_alarm c.args.key a.alarms.items c.leader-slot.result.0 first.source first.number_is)) refl first.rest
     ∙ ap (λ (s : AgendaState). record s { alarms = cleared c.args.key s.alarms; pending = fin.remove s.pending c.args.key }) c.self.view_is
 
 pub returns-then-slot-alarms-clause-packet : goal.returns-then-slot-alarms-clause-packet
 returns-then-slot-alarms-clause-packet c = λ packet e.
     let a = c.self.inside in
-    let within : c.in_ok-slot.slot < length a.alarms.items = omega (arith, c.if-slot-alarms.true, c.len-alarms.ensures, a.alarms.ok.0) in
-    let first = first_alarm (owner_of a) a.alarms.items a.wires.items a.ranking c.self.invariant c.in_ok-slot.slot c.in_ok-slot.field-0-1 c.in_ok-slot.ensures within in
-    absurd (alarm_is_no_arrival (owner_of a) c.in_ok-slot.slot packet
-    (ap (λ (entry : Key × Event). entry.1) (same_some {A = Key × Event} (c.in_ok-slot.field-0-1, alarm_event (owner_of a) c.in_ok-slot.slot) (c.args.key, Arrive packet) (sym first.least_is ∙ ap (λ (s : AgendaState). least s.pending) c.self.view_is ∙ e))))
+    let within : c.leader-slot.result.0 < length a.alarms.items = omega (arith, c.if-slot-alarms.true, c.len-alarms.ensures, a.alarms.ok.0) in
+    let first = first_alarm (owner_of a) a.alarms.items a.wires.items a.ranking c.self.invariant c.leader-slot.result.0 c.leader-slot.result.1 c.leader-slot.ensures within in
+    absurd (alarm_is_no_arrival (owner_of a) c.leader-slot.result.0 packet
+    (ap (λ (entry : Key × Event). entry.1) (same_some {A = Key × Event} (c.leader-slot.result.1, alarm_event (owner_of a) c.leader-slot.result.0) (c.args.key, Arrive packet) (sym first.least_is ∙ ap (λ (s : AgendaState). least s.pending) c.self.view_is ∙ e))))
 
 pub index_mut-wire-requires : goal.index_mut-wire-requires
 index_mut-wire-requires c =
     let a = c.self.inside in
-    let within : c.in_ok-slot.slot < length a.alarms.items + length a.wires.items = first_within (owner_of a) a.alarms.items a.wires.items a.ranking c.self.invariant c.in_ok-slot.slot c.in_ok-slot.field-0-1 c.in_ok-slot.ensures in
+    let within : c.leader-slot.result.0 < length a.alarms.items + length a.wires.items = first_within (owner_of a) a.alarms.items a.wires.items a.ranking c.self.invariant c.leader-slot.result.0 c.leader-slot.result.1 c.leader-slot.ensures in
     omega (arith, within, c.if-slot-alarms.false, c.len-alarms.ensures, a.alarms.ok.0, a.wires.ok.0)
 
 pub invariant_of-self-2 : goal.invariant_of-self-2
 invariant_of-self-2 c =
     let a = c.self.inside in
-    let j = c.in_ok-slot.slot - c.len-alarms.result in
-    let at : length a.alarms.items + j ≡ c.in_ok-slot.slot = omega (arith, c.if-slot-alarms.false, c.len-alarms.ensures, a.alarms.ok.0) in
-    let first = first_wire (owner_of a) a.alarms.items a.wires.items a.ranking c.self.invariant c.in_ok-slot.slot c.in_ok-slot.field-0-1 c.in_ok-slot.ensures j at in
+    let j = c.leader-slot.result.0 - c.len-alarms.result in
+    let at : length a.alarms.items + j ≡ c.leader-slot.result.0 = omega (arith, c.if-slot-alarms.false, c.len-alarms.ensures, a.alarms.ok.0) in
+    let first = first_wire (owner_of a) a.alarms.items a.wires.items a.ranking c.self.invariant c.leader-slot.result.0 c.leader-slot.result.1 c.leader-slot.ensures j at in
     let is : c.index_mut-wire.result.now ≡ wire_at a.wires.items j = get_or_read a.wires.items j c.index_mut-wire.result.now first.within c.index_mut-wire.ensures.value no_wire in
     let new : c.pop-cell.new.self ≡ after_pop (wire_at a.wires.items j) = c.pop-cell.ensures.state ∙ ap after_pop is in
-    subst (IsAgenda (owner_of a) a.alarms.items (set a.wires.items j c.pop-cell.new.self)) (ap (λ i. set a.ranking i (next_key (pending_on c.pop-cell.new.self))) at ∙ sym (c.set-2.ensures ∙ ap (set a.ranking c.in_ok-slot.slot) c.next_key-next.ensures))
+    subst (IsAgenda (owner_of a) a.alarms.items (set a.wires.items j c.pop-cell.new.self)) (ap (λ i. set a.ranking i (next_key (pending_on c.pop-cell.new.self))) at ∙ sym (c.set-2.ensures ∙ ap (set a.ranking c.leader-slot.result.0) c.next_key-next.ensures))
     (wire_ranked (owner_of a) a.alarms.items a.wires.items a.ranking c.self.invariant j first.within c.pop-cell.new.self (ap (λ (w : WireState). w.node) new ∙ popped_node (wire_at a.wires.items j)) (ap (λ (w : WireState). w.link) new ∙ popped_link (wire_at a.wires.items j)))
 
 pub returns-clause-state : goal.returns-clause-state
 returns-clause-state c =
     let a = c.self.inside in
-    let j = c.in_ok-slot.slot - c.len-alarms.result in
-    let at : length a.alarms.items + j ≡ c.in_ok-slot.slot = omega (arith, c.if-slot-alarms.false, c.len-alarms.ensures, a.alarms.ok.0) in
-    let key_is : c.in_ok-slot.field-0-1 ≡ c.args.key =
-    same_some c.in_ok-slot.field-0-1 c.args.key (sym (first_next (owner_of a) a.alarms.items a.wires.items a.ranking c.self.invariant c.in_ok-slot.slot c.in_ok-slot.field-0-1 c.in_ok-slot.ensures) ∙ ap (λ (s : AgendaState). next_key s.pending) c.self.view_is ∙ c.requires) in
-    let leads = subst (Leads a.ranking c.in_ok-slot.slot) key_is c.in_ok-slot.ensures in
-    let first = first_wire (owner_of a) a.alarms.items a.wires.items a.ranking c.self.invariant c.in_ok-slot.slot c.args.key leads j at in
+    let j = c.leader-slot.result.0 - c.len-alarms.result in
+    let at : length a.alarms.items + j ≡ c.leader-slot.result.0 = omega (arith, c.if-slot-alarms.false, c.len-alarms.ensures, a.alarms.ok.0) in
+    let key_is : c.leader-slot.result.1 ≡ c.args.key =
+    same_some c.leader-slot.result.1 c.args.key (sym (first_next (owner_of a) a.alarms.items a.wires.items a.ranking c.self.invariant c.leader-slot.result.0 c.leader-slot.result.1 c.leader-slot.ensures) ∙ ap (λ (s : AgendaState). next_key s.pending) c.self.view_is ∙ c.requires) in
+    let leads = subst (Leads a.ranking c.leader-slot.result.0) key_is c.leader-slot.ensures in
+    let first = first_wire (owner_of a) a.alarms.items a.wires.items a.ranking c.self.invariant c.leader-slot.result.0 c.args.key leads j at in
     let is : c.index_mut-wire.result.now ≡ wire_at a.wires.items j = get_or_read a.wires.items j c.index_mut-wire.result.now first.within c.index_mut-wire.ensures.value no_wire in
     let new : c.pop-cell.new.self ≡ after_pop (wire_at a.wires.items j) = c.pop-cell.ensures.state ∙ ap after_pop is in
     let node = ap (λ (w : WireState). w.node) new ∙ popped_node (wire_at a.wires.items j) in
@@ -92,8 +86,8 @@ returns-clause-state c =
 pub returns-clause-packet : goal.returns-clause-packet
 returns-clause-packet c = λ packet e.
     let a = c.self.inside in
-    let j = c.in_ok-slot.slot - c.len-alarms.result in
-    let at : length a.alarms.items + j ≡ c.in_ok-slot.slot = omega (arith, c.if-slot-alarms.false, c.len-alarms.ensures, a.alarms.ok.0) in
-    let first = first_wire (owner_of a) a.alarms.items a.wires.items a.ranking c.self.invariant c.in_ok-slot.slot c.in_ok-slot.field-0-1 c.in_ok-slot.ensures j at in
+    let j = c.leader-slot.result.0 - c.len-alarms.result in
+    let at : length a.alarms.items + j ≡ c.leader-slot.result.0 = omega (arith, c.if-slot-alarms.false, c.len-alarms.ensures, a.alarms.ok.0) in
+    let first = first_wire (owner_of a) a.alarms.items a.wires.items a.ranking c.self.invariant c.leader-slot.result.0 c.leader-slot.result.1 c.leader-slot.ensures j at in
     let is : c.index_mut-wire.result.now ≡ wire_at a.wires.items j = get_or_read a.wires.items j c.index_mut-wire.result.now first.within c.index_mut-wire.ensures.value no_wire in
     c.pop-cell.ensures.packet c.args.key packet (ap (λ (w : WireState). least (pending_on w)) is ∙ sym first.least_is ∙ ap (λ (s : AgendaState). least s.pending) c.self.view_is ∙ e)
