@@ -710,6 +710,23 @@ class Ends(Case):
                 (words, data, {'READ': str(call), 'ERROR': str(error)}, (Answer(3, b'', 'read failed\n'), call, []))
                 for call in range(1, reads + 1) for error in READ_ERRORS)
 
+    def test_a_reader_gives_as_many_bytes_a_call_as_it_likes(self):
+        for words, data, out in self.sessions:
+            for most in (1, 2, len(data)):
+                found, reads, _ = self.ended('likes', words, data, MOST=str(most))
+                with self.subTest(words=words, most=most):
+                    self.assertEqual((found, reads), (Answer(0, out, ''), -(-len(data) // most) + 1))
+
+    def test_a_long_run_goes_out_in_pages(self):
+        """10,000 segments without a loss: the start, and four events for each segment."""
+        text = FIRST.replace(b'sim 1000000000', b'sim 1000000000000000').replace(b' 8000000 ', b' 8000000000 ')
+        text = text.replace(b'droptail 10', b'droptail 100').replace(b' 1000 1 0 ', b' 1000 10000 0 ')
+        found, _, took = self.ended('pages', ('run',), text, MOST='1000000000')
+        self.assertEqual((found.status, found.note, found.out[-11:]), (0, '', b'\nend 40001\n'))
+        self.assertGreater(len(found.out), 2_000_000)
+        self.assertEqual(sum(took), len(found.out))
+        self.assertLessEqual(max(took), 65_536)
+
     def test_a_call_behind_the_last_is_not_made(self):
         for words, data, out in self.sessions:
             reads, took = self.whole(words, data, out)

@@ -67,6 +67,14 @@ class Threads(unittest.TestCase):
         self.assertEqual(len(numbers), 4)
         return ','.join(str(numbers.index(it)) for it in group.values())
 
+    def test_threads_change_no_byte(self):
+        """By fewer workers than groups, and where two of the groups are one."""
+        text = self.text_of(WIDE)
+        four = self.parts()
+        for groups in (four, four.replace('1', '0'), four.replace('3', '2').replace('1', '0')):
+            for workers in ('2', '3'):
+                self.assertGreater(self.run_of(text, '--groups', groups, '--workers', workers), 0)
+
     def test_one_worker_or_one_group_starts_none(self):
         text = self.text_of(WIDE)
         self.assertEqual(self.run_of(text, '--groups', self.parts(), '--workers', '1'), 0)

@@ -13,7 +13,6 @@ import glob
 import os
 import subprocess
 import sys
-import tempfile
 import unittest
 
 HERE = os.path.dirname(os.path.abspath(__file__))
@@ -31,6 +30,9 @@ FIRST = ''.join(f'{line}\n' for line in texts.LINES).encode()
 def read(name):
     with open(name, 'rb') as file:
         return file.read()
+
+
+EQUAL_TIMES = read(f'{TOP}/examples/equal_times.txt')
 
 
 def outcome(words, given):
@@ -125,6 +127,20 @@ class Whole(unittest.TestCase):
             self.expect([(['run', '--groups', 'auto', '--workers', workers], given, *plain)
                          for workers in ('1', '3', '64')])
 
+    def test_groups_and_workers_change_no_byte(self):
+        """Of one segment, of two flows of equal times, and of a run that ends on a full queue's losses, whose events
+        were counted by the model."""
+        many = FIRST.replace(b' 1000 1 0 ', b' 1000 200 0 ')
+        plain = outcome(['run'], many)
+        self.assertEqual((plain[0], plain[2][-9:]), (0, b'\nend 145\n'))
+        trace, equal = (read(f'{TOP}/examples/{name}.trace') for name in ('one_segment', 'equal_times'))
+        rows = [(FIRST, ('one', 'each', '0,1', '63,7'), ('1', '2', '64', '01', '+1'), (0, b'', trace)),
+                (EQUAL_TIMES, ('one', 'each', '0,1,0,1,0', '5,5,63,0,0'), ('1', '2', '64'), (0, b'', equal)),
+                (many, ('each',), ('1', '2', '64'), plain)]
+        self.expect([(['run', *words], given, *wanted) for given, groups, workers, wanted in rows
+                     for group in groups for count in workers
+                     for words in (('--groups', group, '--workers', count), ('--workers', count, '--groups', group))])
+
     def test_figures_have_their_tables(self):
         self.expect([(['figures'], FIRST, 0, b'', tables.ONE_SEGMENT.encode()),
                      (['figures'], tables.BOTH_LOST.encode(), 0, b'', tables.AFTER_A_TIMEOUT.encode()),
@@ -137,6 +153,28 @@ class Whole(unittest.TestCase):
                      for commands, answers in ((sessions.MOVES, sessions.ANSWERS), (sessions.BREAKS, sessions.STOPS),
                                                (sessions.FAULTS, sessions.REFUSED_FOR))])
 
+    def test_sessions_of_other_texts_have_their_answers(self):
+        """What waits in a queue that is CoDel's, with each event that is pending; and a NewReno flow that loses
+        segments of one window, and one of them again, beside a Reno flow."""
+        names = sorted(glob.glob(f'{HERE}/whole/*.session'))
+        self.assertEqual(len(names), 2)
+        self.expect([(words, read(it), 0, b'', read(f'{it[:-8]}.answers')) for it in names for words in sessions.CREWS])
+
+    def test_each_state_is_the_one_that_is_reached_at_once(self):
+        """A flow's events, the end, back and until a moment that is past; and 50 events forwards and 50 back, one at a
+        time, of a run of 6 events and of one that is longer."""
+        longer = EQUAL_TIMES.replace(b'sim 2040001', b'sim 1000000000').replace(b' 1000 1 0 ', b' 1000 20 0 ')
+        for text, commands, first, positions in [
+                (EQUAL_TIMES, b'break flow 1\nrun\nrun\nrun\nback 1\nuntil 2040000\n', b'break 1\n', [2, 6, 6, 5, 5]),
+                *((text, b'step 1\n' * 50 + b'back 1\n' * 50, b'',
+                   [min(it, last) for it in range(1, 51)] + [max(0, last - it) for it in range(1, 51)])
+                  for text, last in ((EQUAL_TIMES, 6), (longer, 50)))]:
+            reached = {it: outcome(['debug'], text + b'---\nstep %d\n' % it) for it in sorted(set(positions))}
+            for it, (status, note, state) in reached.items():
+                self.assertEqual((status, note, state[:state.index(b'\n')]), (0, b'', b'at %d' % it))
+            answers = first + b''.join(reached[it][2] for it in positions)
+            self.expect([(words, text + b'---\n' + commands, 0, b'', answers) for words in sessions.CREWS])
+
     def test_a_session_has_a_group_for_each_node(self):
         self.expect([(['debug', '--groups', groups], FIRST + b'---\n' + sessions.MOVES.encode(), 2, b'refused groups\n', b'')
                      for groups in sessions.NO_GROUPS])
@@ -147,13 +185,12 @@ class Whole(unittest.TestCase):
                      for words in ([], *(['--groups', groups] for groups in sessions.NO_GROUPS))])
 
     def test_typed_lines_have_their_answers(self):
-        with tempfile.NamedTemporaryFile(suffix='.txt') as file:
-            file.write(FIRST)
-            file.flush()
-            for words in sessions.TYPED:
-                for lines, prompts, answers, notes in sessions.LINES_TYPED:
+        for words in sessions.TYPED:
+            for name, rows in (('one_segment', sessions.LINES_TYPED), ('equal_times', sessions.LINES_OF_EQUAL_TIMES)):
+                for lines, prompts, answers, notes in rows:
                     with self.subTest(words=words, lines=lines):
-                        status, noted, output = outcome([*words, file.name], ''.join(f'{it}\n' for it in lines).encode())
+                        typed = ''.join(f'{it}\n' for it in lines).encode()
+                        status, noted, output = outcome([*words, f'{TOP}/examples/{name}.txt'], typed)
                         self.assertEqual((status, output), (0, answers.encode()))
                         self.assertEqual(noted.count(b'(tcpsim) '), prompts)
                         self.assertEqual(noted.replace(b'(tcpsim) ', b'').decode().split('\n'), [*notes, ''])
@@ -298,6 +335,24 @@ class Whole(unittest.TestCase):
             told = ''.join(f'\r{percent} % of {end} s simulated, {events} events' for percent, events in passed)
             self.expect([(['run', '--progress'], given, 0, f'{told}\n'.encode(), trace)])
         self.expect([(['run', '--progress'], b'sim 1\n', 1, b'refused L3 line 0\n', b''), (['run'], FIRST, 0, b'', trace)])
+
+    def test_by_workers_each_hundredth_is_told_up_to_the_last_event(self):
+        """Of the run of 4 ms, with how many events are run by each hundredth."""
+        trace = read(f'{TOP}/examples/one_segment.trace')
+        moments = [0, 1040000, 2040000, 2080000, 3080000]
+        passed = [(it, sum(at < it * 40000 for at in moments)) for it in range(1, 78)] + [(100, 5)]
+        told = ''.join(f'\r{percent} % of 0.004 s simulated, {events} events' for percent, events in passed)
+        self.expect([(['run', '--progress', '--groups', 'each', '--workers', workers],
+                      FIRST.replace(b'sim 1000000000', b'sim 4000000'), 0, f'{told}\n'.encode(), trace)
+                     for workers in ('1', '2', '64')])
+
+    def test_seconds_have_the_decimals_that_they_need(self):
+        rows = [(1, '0.000000001'), (1_000_000_000, '1'), (90_500_000_000, '90.5'), (1_000_000_000_000_000, '1000000'),
+                (2_010_000_001, '2.010000001')]
+        for end, seconds in rows:
+            status, said, _ = outcome(['run', '--progress'], FIRST.replace(b'sim 1000000000', b'sim %d' % end))
+            events = 1 if end == 1 else 5
+            self.assertEqual((status, said), (0, f'\r100 % of {seconds} s simulated, {events} events\n'.encode()))
 
     # ---- words
 

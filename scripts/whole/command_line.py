@@ -35,11 +35,11 @@ WRITTEN = [
     ['--groups', 'one', '--workers=+1'],
 ]
 
-# Groups that two nodes don't have: too few, too many, a number over 63 or with a leading zero, and what is no list.
+# Groups that two nodes don't have: too few, too many, a number over 63 or spelt otherwise, and what is no list.
 NO_GROUPS = [
     *(['--groups', it] for it in ('0', '0,1,2', '0,64', '0,01', '0,', '', '+0,1', 'ones')),
-    ['--groups='],
-    ['--groups=0'],
+    *([f'--groups={it}'] for it in ('', '0', '00,1', '64,0', '0,256', '0,18446744073709551616', '1,', ',1', ',', ',,', '0,,1', '-0,1',
+                                    '0, 1', ' 0,1', '0,1 ', '0;1', 'a,b', 'One', 'each,', 'one,one', '0,1\n')),
     ['--workers=64', '--groups=0,01'],
     ['--groups', '0,64', '--workers', '2'],
 ]

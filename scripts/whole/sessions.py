@@ -1,5 +1,6 @@
-"""Debugging sessions over one segment that goes, and whose acknowledgement comes, by hand: their commands, and what they
-answer. scripts/test_whole.py has the text.
+"""Debugging sessions, whose answers were worked out by hand over one segment that goes, and whose acknowledgement
+comes, and by the model of scripts/model over two flows of equal times: their commands, and what they answer.
+scripts/test_whole.py has the texts, and of two more texts the sessions stand in files beside this one.
 """
 
 # How a session whose commands are all there is shared out. Its answers are the same.
@@ -11,6 +12,9 @@ SHARED = [
     ['debug', '--groups=1,0', '--workers=64'],
     ['debug', '--workers=+64', '--groups=one'],
 ]
+
+# The same where a text has any number of nodes.
+CREWS = [['debug', '--groups', groups, '--workers', workers] for groups in ('one', 'each') for workers in ('1', '2', '64')]
 
 # Groups that the text's two nodes don't have.
 NO_GROUPS = ['', '0', '0,0,0', '0,64', 'two']
@@ -211,6 +215,40 @@ at 5 of the run, time 3080000 ns, the end
 at 5 of the run, time 3080000 ns, the end
 '''
 
+# Breakpoints of several conditions over two flows of equal times, and words that are none.
+CONDITIONS = ['br kind data flow 1', 'br link 4', 'br byte 0 link 2 node 2 flow 0', 'br  flow 1 kind data', 'breaks', 'r', '', 're',
+              'br node 5 flow 0', 'br link 8', 'br kind ack kind ack', 'br node 5 node 1 kin ack', 'br drop drop', 'br drop byte', 'br node',
+              'br link 1 0', 'br drop byte 9000000000001', 'br byte 9000000000000 link 7 drop kind delack flow 1 node 4', 'd 1', 'r']
+
+MATCHED = '''\
+break 1: flow 1 kind data
+break 2: link 4
+break 3: node 2 flow 0 link 2 byte 0
+break 1: flow 1 kind data
+break 1: flow 1 kind data
+break 2: link 4
+break 3: node 2 flow 0 link 2 byte 0
+1 0 0 0 0 start 0 una=0 nxt=1000 cwnd=4000 ssthresh=64000 phase=ss tx=0:0:0
+2 0 1 0 0 start 1 una=0 nxt=1000 cwnd=4000 ssthresh=64000 phase=ss tx=1:1:0
+3 1040000 0 0 3 free 0 una=0 nxt=1000 cwnd=4000 ssthresh=64000 phase=ss
+4 1040000 1 0 3 free 1 una=0 nxt=1000 cwnd=4000 ssthresh=64000 phase=ss
+5 2040000 2 1 1 data 0 0 tx=2:0:0
+at 5 of the run, time 2040000 ns
+break 3: node 2 flow 0 link 2 byte 0
+6 2040000 2 2 1 data 1 0 tx=4:1:0
+at 6 of the run, time 2040000 ns, the end
+break 1: flow 1 kind data
+6 2040000 2 2 1 data 1 0 tx=4:1:0
+at 5 of the run, time 2040000 ns
+break 3: node 2 flow 0 link 2 byte 0
+break 4: node 4 flow 1 kind delack drop link 7 byte 9000000000000
+deleted 1: flow 1 kind data
+6 2040000 2 2 1 data 1 0 tx=4:1:0
+at 6 of the run, time 2040000 ns, the end
+break 1: link 4
+'''
+
+
 def refused(*codes):
     """The notes of lines that are refused with these codes."""
     return [f'refused {code}' for code in codes]
@@ -226,4 +264,9 @@ LINES_TYPED = [
     (REFUSED, 9, MOVED, NO_NAME + refused('B3', 'B2', 'B3')),
     (BREAKPOINTS, 16, NUMBERED, refused('B5', 'B5', 'B5', 'B3', 'B1')),
     (LINES, 17, TOLD, refused('B3', 'B2')),
+]
+
+# The same over two flows of equal times.
+LINES_OF_EQUAL_TIMES = [
+    (CONDITIONS, 21, MATCHED, refused('B3', 'B3', 'B2', 'B2', 'B2', 'B2', 'B2', 'B1', 'B3')),
 ]
