@@ -14,7 +14,7 @@ import unittest
 TOP = os.path.dirname(os.path.dirname(os.path.abspath(__file__)))
 PAGE = os.path.join(TOP, 'docs', 'MEMORY.md')
 # Crates that have tests alone and what these run by, and the program, which has no call but `main`.
-WITHOUT_CALLS = {'end_trials', 'text_trials', 'part_trials', 'net_trials', 'engine_trials', 'note_trials', 'trials', 'tcpsim'}
+WITHOUT_CALLS = {'end_trials', 'text_trials', 'part_trials', 'net_trials', 'engine_trials', 'trials', 'tcpsim'}
 # What the last column says in the place of clauses.
 READS, GIVEN, ONE_CLAUSE = 'reads', 'given', 'its clause'
 # Types that are numbers or the like: who gives one keeps it.

@@ -1,8 +1,8 @@
 //! The engine and the debugger where memory is refused, by one worker and by two. Each test passes
 //! whichever one request is refused, as scripts/refuse_tests.sh tries: what is refused is asked for
 //! once more.
-ghost use Rattle.std.specs.Prelude.{◌<◌, ◌≤◌};
 
+use crate::engines::{run_to, window};
 use crate::hands::AllHands;
 use debugger::{Break, Condition, Debugger, EventKind, MoveFault};
 use scenario_asm::assemble;
@@ -10,7 +10,6 @@ use scenario_image::Scenario;
 use std::alloc::Global;
 use std::process::Abort;
 use std::sync::Wait;
-use std::test::Fail;
 use std::thread::Threads;
 use window_core::Partition;
 use window_engine::{Engine, EngineFault, OverWrite, Stop};
@@ -50,15 +49,18 @@ fn scenario(rt: &impl Abort, alloc: Global) -> Scenario {
     }
 }
 
-/// Its engine, with a group for each node.
+/// Its engine, with a group for each node, unless it is refused.
+fn new_engine(rt: &impl Abort, alloc: Global, scenario: &Scenario) -> Option<Engine> {
+    let partition = Partition::each(2);
+    assert!(rt; partition.nodes() == scenario.parts().nodes.len());
+    Engine::new(alloc, scenario, partition).ok()
+}
+
+/// Its engine.
 fn engine_of(rt: &impl Abort, alloc: Global, scenario: &Scenario) -> Engine {
-    assert!(rt; scenario.parts().nodes.len() == 2 && Partition::each(2).nodes() == 2);
-    match Engine::new(alloc, scenario, Partition::each(2)) {
-        Ok(engine) => engine,
-        Err(_) => Engine::new(alloc, scenario, Partition::each(2)).expect(
-            rt,
-            "one request is refused",
-        ),
+    match new_engine(rt, alloc, scenario) {
+        Some(engine) => engine,
+        None => new_engine(rt, alloc, scenario).expect(rt, "one request is refused"),
     }
 }
 
@@ -67,33 +69,17 @@ fn is_refusal(fault: EngineFault, workers: usize) -> bool {
     fault == EngineFault::NoMemory || workers > 1 && fault == EngineFault::NoWorker
 }
 
-/// Runs the next window. The answer is how many lines it has.
-fn window<R: Threads + Wait + Sync>(
+/// Runs windows to the run's end, unless one is refused: the engine has failed then, and stands
+/// where it stood. Whether one was.
+fn is_refused<R: Threads + Wait + Abort + Sync>(
     rt: &R,
     engine: &mut Engine,
     workers: usize,
-) -> Result<usize, EngineFault>
-    requires { (0 < workers) × (workers ≤ 64) }
-{
-    match engine.window(rt, workers, &AllHands, u64::MAX) {
-        Ok(batch) => {
-            let lines = batch.len();
-            drop(batch);
-            Ok(lines)
-        }
-        Err(fault) => Err(fault),
-    }
-}
-
-/// Runs windows to the run's end, unless one is refused: the engine has failed then, and stands
-/// where it stood. Whether one was.
-fn is_refused<R: Threads + Wait + Abort + Sync>(rt: &R, engine: &mut Engine, workers: usize) -> bool
-    requires { (0 < workers) × (workers ≤ 64) }
-{
+) -> bool {
     for _window in 0..EVENTS + 1 {
         let position = engine.position();
-        match window(rt, engine, workers) {
-            Ok(0) => {
+        match window(rt, engine, workers, &AllHands, u64::MAX) {
+            Ok((_, 0)) => {
                 assert_eq!(rt; position, EVENTS);
                 return false;
             }
@@ -110,14 +96,16 @@ fn is_refused<R: Threads + Wait + Abort + Sync>(rt: &R, engine: &mut Engine, wor
 }
 
 /// An engine that has failed answers so, and puts nothing.
-fn stays_failed<R: Threads + Wait + Abort + Sync>(rt: &R, engine: &mut Engine, workers: usize)
-    requires { (0 < workers) × (workers ≤ 64) }
-{
-    let again = window(rt, engine, workers);
+pub(crate) fn stays_failed<R: Threads + Wait + Abort + Sync>(
+    rt: &R,
+    engine: &mut Engine,
+    workers: usize,
+) {
+    let again = window(rt, engine, workers, &AllHands, u64::MAX);
     assert!(rt; again == Err(EngineFault::Failed));
     let mut room = [0u8; 8];
     let mut sink = OverWrite::new(room.as_mut_slice());
-    let ended = engine.run(rt, workers, &AllHands, u64::MAX, &mut sink);
+    let ended = run_to(rt, engine, workers, &AllHands, u64::MAX, &mut sink);
     assert!(rt; ended == Err(EngineFault::Failed));
     assert_eq!(rt; room, [0; 8]);
 }
@@ -128,9 +116,7 @@ fn fails<R: Threads + Wait + Abort + Sync>(
     alloc: Global,
     scenario: &Scenario,
     workers: usize,
-) -> bool
-    requires { (0 < workers) × (workers ≤ 64) }
-{
+) -> bool {
     let mut engine = engine_of(rt, alloc, scenario);
     let refused = is_refused(rt, &mut engine, workers);
     if refused {
@@ -141,7 +127,7 @@ fn fails<R: Threads + Wait + Abort + Sync>(
 }
 
 #[test]
-fn a_refused_window_fails_the_engine(rt: HostRuntime) -> Result<(), Fail> {
+fn a_refused_window_fails_the_engine(rt: HostRuntime) {
     let alloc = rt.alloc();
     let scenario = scenario(&rt, alloc);
     for workers in [1, 2] {
@@ -151,7 +137,6 @@ fn a_refused_window_fails_the_engine(rt: HostRuntime) -> Result<(), Fail> {
         }
     }
     drop(scenario);
-    Ok(())
 }
 
 /// How many bytes the first lines of a text have, so many.
@@ -178,8 +163,8 @@ fn expect_edge<R: Threads + Wait + Abort + Sync>(
     let mut engine = engine_of(rt, alloc, scenario);
     for _window in 0..EVENTS {
         if engine.position() < position {
-            let lines = window(rt, &mut engine, 1);
-            assert!(rt; lines.is_ok());
+            let told = window(rt, &mut engine, 1, &AllHands, u64::MAX);
+            assert!(rt; told.is_ok());
         }
     }
     assert_eq!(rt; engine.position(), position);
@@ -193,13 +178,11 @@ fn stops_at_an_edge<R: Threads + Wait + Abort + Sync>(
     alloc: Global,
     scenario: &Scenario,
     workers: usize,
-) -> bool
-    requires { (0 < workers) × (workers ≤ 64) }
-{
+) -> bool {
     let mut engine = engine_of(rt, alloc, scenario);
     let mut room = [0u8; 1_000];
     let mut sink = OverWrite::new(room.as_mut_slice());
-    let ended = engine.run(rt, workers, &AllHands, u64::MAX, &mut sink);
+    let ended = run_to(rt, &mut engine, workers, &AllHands, u64::MAX, &mut sink);
     let position = engine.position();
     assert!(rt; engine.failed() == ended.is_err());
     drop(engine);
@@ -221,7 +204,7 @@ fn stops_at_an_edge<R: Threads + Wait + Abort + Sync>(
 }
 
 #[test]
-fn a_refused_text_commits_nothing_of_its_window(rt: HostRuntime) -> Result<(), Fail> {
+fn a_refused_text_commits_nothing_of_its_window(rt: HostRuntime) {
     let alloc = rt.alloc();
     let scenario = scenario(&rt, alloc);
     for workers in [1, 2] {
@@ -231,7 +214,6 @@ fn a_refused_text_commits_nothing_of_its_window(rt: HostRuntime) -> Result<(), F
         }
     }
     drop(scenario);
-    Ok(())
 }
 
 /// What a debugger is told.
@@ -253,17 +235,24 @@ const MOVES: [(Move, u64); 6] = [
     (Move::Run, 7),
 ];
 
-/// A debugger by so many workers, with that breakpoint.
-fn debugger_of(rt: &impl Abort, alloc: Global, scenario: &Scenario, workers: usize) -> Debugger
-    requires { (0 < workers) × (workers ≤ 64) }
-{
-    assert!(rt; scenario.parts().nodes.len() == 2 && Partition::each(2).nodes() == 2);
-    match Debugger::new(alloc, scenario, Partition::each(2), workers) {
-        Ok(debugger) => debugger,
-        Err(_) => Debugger::new(alloc, scenario, Partition::each(2), workers).expect(
-            rt,
-            "one request is refused",
-        ),
+/// A debugger by so many workers, unless it is refused.
+fn new_debugger(
+    rt: &impl Abort,
+    alloc: Global,
+    scenario: &Scenario,
+    workers: usize,
+) -> Option<Debugger> {
+    let partition = Partition::each(2);
+    assert!(rt; partition.nodes() == scenario.parts().nodes.len());
+    assert!(rt; workers > 0 && workers <= 64);
+    Debugger::new(alloc, scenario, partition, workers).ok()
+}
+
+/// A debugger by so many workers.
+fn debugger_of(rt: &impl Abort, alloc: Global, scenario: &Scenario, workers: usize) -> Debugger {
+    match new_debugger(rt, alloc, scenario, workers) {
+        Some(debugger) => debugger,
+        None => new_debugger(rt, alloc, scenario, workers).expect(rt, "one request is refused"),
     }
 }
 
@@ -333,9 +322,7 @@ fn moves_all<R: Threads + Wait + Abort + Sync>(
     alloc: Global,
     scenario: &Scenario,
     workers: usize,
-)
-    requires { (0 < workers) × (workers ≤ 64) }
-{
+) {
     let mut debugger = debugger_of(rt, alloc, scenario, workers);
     stops_at_segments(rt, &mut debugger);
     for (told, position) in MOVES {
@@ -346,11 +333,11 @@ fn moves_all<R: Threads + Wait + Abort + Sync>(
 }
 
 #[test]
-fn a_refused_move_changes_nothing(rt: HostRuntime) -> Result<(), Fail> {
+fn a_refused_move_changes_nothing(rt: HostRuntime) {
     let alloc = rt.alloc();
     let scenario = scenario(&rt, alloc);
-    moves_all(&rt, alloc, &scenario, 1);
-    moves_all(&rt, alloc, &scenario, 2);
+    for workers in [1, 2] {
+        moves_all(&rt, alloc, &scenario, workers);
+    }
     drop(scenario);
-    Ok(())
 }

@@ -1,13 +1,12 @@
-use net_machine::Net;
+//! Scenarios of one flow and of two, and what their runs write.
+
 use scenario_asm::assemble;
 use scenario_image::Scenario;
-use std::alloc::Global;
-use std::test::Fail;
-use trace_text::line_text;
+use std::process::Abort;
 
 /// The scenario of a text.
-fn scenario(alloc: Global, text: &str) -> Result<Scenario, Fail> {
-    Ok(assemble(alloc, text.as_bytes()).map_err(|_| "a scenario")?)
+fn scenario(rt: &(impl Abort + AllocGlobal), text: &[u8]) -> Scenario {
+    assemble(rt.alloc(), text).ok().expect(rt, "a scenario")
 }
 
 // A sender and a receiver, with a link each way of 8 Mbit/s and a millisecond that has room for 10 packets.
@@ -19,9 +18,9 @@ link b r s 8000000 1000000 droptail 10
 ";
 
 /// The sender gives the receiver so many segments of 1,000 bytes.
-pub(super) fn one_flow(alloc: Global, segments: u32) -> Result<Scenario, Fail> {
-    let text = format!(in alloc; "{PAIR}flow f s r 1000 {segments} 0 64000 0\n")?;
-    scenario(alloc, text.as_str())
+pub(super) fn one_flow(rt: &(impl Abort + AllocGlobal), segments: u32) -> Scenario {
+    let text = format!(in rt.alloc(); "{PAIR}flow f s r 1000 {segments} 0 64000 0\n");
+    scenario(rt, text.expect(rt, "a text").as_bytes())
 }
 
 // The same, twice.
@@ -37,20 +36,21 @@ link d u t 8000000 1000000 droptail 10
 ";
 
 // Each sender gives its receiver so many segments, within a receiver's window of so many bytes.
-fn flows_within(alloc: Global, segments: u32, rwnd: u32) -> Result<Scenario, Fail> {
-    let first = format!(in alloc; "flow f s r 1000 {segments} 0 {rwnd} 0\n")?;
-    let text = format!(in alloc; "{TWO_PAIRS}{first}flow g t u 1000 {segments} 0 {rwnd} 0\n")?;
-    scenario(alloc, text.as_str())
+fn flows_within(rt: &(impl Abort + AllocGlobal), segments: u32, rwnd: u32) -> Scenario {
+    let text = format!(in rt.alloc();
+        "{TWO_PAIRS}flow f s r 1000 {segments} 0 {rwnd} 0\nflow g t u 1000 {segments} 0 {rwnd} 0\n"
+    );
+    scenario(rt, text.expect(rt, "a text").as_bytes())
 }
 
 /// Two flows of so many segments, with no link between the two.
-pub(super) fn two_flows(alloc: Global, segments: u32) -> Result<Scenario, Fail> {
-    flows_within(alloc, segments, 64_000)
+pub(super) fn two_flows(rt: &(impl Abort + AllocGlobal), segments: u32) -> Scenario {
+    flows_within(rt, segments, 64_000)
 }
 
 /// The same with windows of 8 segments, so that nothing is lost and the links are always busy.
-pub(super) fn steady_flows(alloc: Global, segments: u32) -> Result<Scenario, Fail> {
-    flows_within(alloc, segments, 8_000)
+pub(super) fn steady_flows(rt: &(impl Abort + AllocGlobal), segments: u32) -> Scenario {
+    flows_within(rt, segments, 8_000)
 }
 
 /// The text of the run in which one sender gives one receiver one segment.
@@ -86,8 +86,8 @@ route q t i
 ";
 
 /// Two flows over a router, whose events come at the same moments.
-pub(super) fn equal_times(alloc: Global) -> Result<Scenario, Fail> {
-    scenario(alloc, STAR)
+pub(super) fn equal_times(rt: &(impl Abort + AllocGlobal)) -> Scenario {
+    scenario(rt, STAR.as_bytes())
 }
 
 /// The text of the run of [`equal_times`]: the node decides, lines 1 to 4, and then the link that
@@ -100,24 +100,3 @@ pub(super) const EQUAL_TIMES: &str =
 5 2040000 2 1 1 data 0 0 tx=2:0:0
 6 2040000 2 2 1 data 1 0 tx=4:1:0
 ";
-
-/// The text of a net's next events, all of them if they are fewer than 100,000.
-pub(super) fn text_of(alloc: Global, net: Net) -> Result<Vec<u8>, Fail> {
-    let mut net = net;
-    let mut text = Vec::new(alloc);
-    let put = put_lines(&mut net, &mut text);
-    drop(net);
-    put?;
-    Ok(text)
-}
-
-// The lines of a net's run, as text.
-fn put_lines(net: &mut Net, text: &mut Vec<u8>) -> Result<(), Fail> {
-    for number in 1..100_000u64 {
-        let Some(line) = net.step().map_err(|_| "step")? else {
-            return Ok(());
-        };
-        line_text(number, &line, text)?;
-    }
-    Ok(())
-}

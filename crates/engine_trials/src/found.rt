@@ -1,10 +1,17 @@
 //! Groups that the program finds. That they change no byte is tried on the built program: scripts/test_whole.py.
 
-use crate::FIRST;
+use net_partition::Partition;
 use scenario_asm::assemble;
 use std::process::Abort;
-use std::test::Fail;
-use window_core::Partition;
+
+/// One sender and its receiver.
+const FIRST: &str = "sim 1000000000
+node s sender
+node r receiver
+link a s r 8000000 1000000 droptail 10
+link b r s 8000000 1000000 droptail 10
+flow f s r 1000 1 0 64000 0
+";
 
 /// Three senders, each with a receiver of its own.
 const ISLANDS: &str = "sim 1000000000
@@ -26,29 +33,26 @@ flow i e f 1000 1000 0 64000 0
 ";
 
 /// The groups that are found for so many workers.
-fn expect_found(
-    rt: &(impl Abort + AllocGlobal),
-    text: &str,
-    workers: usize,
-    groups: &[usize],
-) -> Result<(), Fail> {
-    let Ok(scenario) = assemble(rt.alloc(), text.as_bytes()) else {
-        assert!(rt; false);
-        return Ok(());
-    };
-    let partition = Partition::found(&scenario, workers);
+fn found(rt: &(impl Abort + AllocGlobal), text: &str, workers: usize) -> Partition {
+    let scenario = assemble(rt.alloc(), text.as_bytes()).ok();
+    let scenario = scenario.expect(rt, "a scenario");
+    Partition::found(&scenario, workers)
+}
+
+/// Each node is in its group.
+fn expect_found(rt: &(impl Abort + AllocGlobal), text: &str, workers: usize, groups: &[usize]) {
+    let partition = found(rt, text, workers);
     assert_eq!(rt; partition.nodes(), groups.len());
     for (node, group) in groups.iter().enumerate() {
         assert!(rt; node < partition.nodes());
         assert_eq!(rt; partition.group(node), *group);
     }
-    Ok(())
 }
 
 #[test]
-fn islands_are_found_for_as_many_workers(rt: HostRuntime) -> Result<(), Fail> {
-    expect_found(&rt, ISLANDS, 3, &[0, 0, 1, 1, 2, 2])?;
-    expect_found(&rt, ISLANDS, 64, &[0, 0, 1, 1, 2, 2])?;
-    expect_found(&rt, ISLANDS, 1, &[0, 0, 0, 0, 0, 0])?;
-    expect_found(&rt, FIRST, 64, &[0, 0])
+fn islands_are_found_for_as_many_workers(rt: HostRuntime) {
+    expect_found(&rt, ISLANDS, 3, &[0, 0, 1, 1, 2, 2]);
+    expect_found(&rt, ISLANDS, 64, &[0, 0, 1, 1, 2, 2]);
+    expect_found(&rt, ISLANDS, 1, &[0, 0, 0, 0, 0, 0]);
+    expect_found(&rt, FIRST, 64, &[0, 0]);
 }
