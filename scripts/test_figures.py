@@ -210,6 +210,26 @@ class ByHand(unittest.TestCase):
         self.has(ONE_SEGMENT, '0 1000 3080000 1 0 0 0 1 3080000 3080000 3080000 3080000',
                  '1 0 0 0 1 1040 1040000 0 0 0 0 0', '1 0 0 0 1 40 40000 0 0 0 0 0', (5, 3080000))
 
+    def test_a_segment_that_waits(self):
+        """Of two segments 1000 waits for 1.04 ms while 0 is sent. Acknowledgements: 1000 at 3.08 ms, the one round trip (0 is
+        timed, then nothing new is sent), and 2000 at 4.12."""
+        self.has(ONE_SEGMENT.replace('1000 1 0', '1000 2 0'), '0 2000 4120000 2 0 0 0 1 3080000 3080000 3080000 3080000',
+                 '2 0 0 0 2 2080 2080000 1 1040000 0 1040000 1040000', '2 0 0 0 2 80 80000 0 0 0 0 0', (9, 4120000))
+
+    def test_waits_of_three_segments(self):
+        """Of three segments 1000 waits for 1.04 ms and 2000 for twice as long. The median is 1,040,000 = 63 * 2^14 + 7,808,
+        whose class ends at 64 * 2^14 - 1; the 3rd is the greatest, and no percentile is above that."""
+        self.has(ONE_SEGMENT.replace('1000 1 0', '1000 3 0'), '0 3000 5160000 3 0 0 0 1 3080000 3080000 3080000 3080000',
+                 '3 0 0 0 3 3120 3120000 2 3120000 1048575 2080000 2080000', '3 0 0 0 3 120 120000 0 0 0 0 0', (13, 5160000))
+
+    def test_a_segment_that_is_lost(self):
+        """Of two segments 1000 is lost. Acknowledgement 1000 comes at 3.08 ms, the one round trip, and the timer, of 1 s from
+        then on, ends at 1.00308 s: 1000 is sent again, and its acknowledgement comes 3.08 ms later, which is no sample.
+        Events: the start, the timer, and for each of the two that arrive a free, a data, b free, an ack."""
+        self.has(ONE_SEGMENT.replace('sim 1', 'sim 2').replace('1000 1 0', '1000 2 0') + 'lose a 2\n',
+                 '0 2000 1006160000 3 0 1 1 1 3080000 3080000 3080000 3080000',
+                 '3 1 0 0 2 2080 2080000 0 0 0 0 0', '2 0 0 0 2 80 80000 0 0 0 0 0', (10, 1006160000))
+
     def test_two_segments_lost_with_a_timeout(self):
         """0 to 3000 are offered at 0; 0 begins, 1000 waits 1.04 ms, 2000 and 3000 are lost.
         Acknowledgements: 1000 at 3.08 ms, the one round trip (0 is timed, then nothing new is sent); 2000 at 4.12.

@@ -1,8 +1,8 @@
 #!/usr/bin/env python3
 """Runs the built program on whole inputs whose outcome was worked out without it: each text of
 scripts/whole/ against the trace beside it, by hand from docs/MODEL.md or by the model of scripts/model,
-debugging sessions and figures against what was worked out by hand, and the texts, images and words of the
-tables there and below against their faults.
+debugging sessions, what flows wait for, and figures against what was worked out by hand, and the texts,
+images and words of the tables there and below against their faults.
 
 They were tests of the crate trials. On bytes alone they try the program as it is run, and the prover need
 not prove them. Usage: scripts/test_whole.py [--program PATH] [TEST..]. The last line is 'N passed, N failed'.
@@ -20,6 +20,7 @@ TOP = os.path.dirname(HERE)
 sys.path.insert(0, HERE)
 
 from whole import command_line, images, refusals, sessions, tables, texts  # noqa: E402
+from whole import waits  # noqa: E402
 from whole.texts import RIGHT  # noqa: E402
 
 PROGRAM = os.path.join(TOP, 'crates', 'tcpsim', 'out', 'tcpsim')
@@ -194,6 +195,18 @@ class Whole(unittest.TestCase):
                         self.assertEqual((status, output), (0, answers.encode()))
                         self.assertEqual(noted.count(b'(tcpsim) '), prompts)
                         self.assertEqual(noted.replace(b'(tcpsim) ', b'').decode().split('\n'), [*notes, ''])
+
+    def test_what_a_flow_waits_for_is_told(self):
+        """The lines that a move passed are the trace's, and left out here."""
+        for text, moves in waits.ROWS:
+            lines = ['break stall 0', *(line for move, _ in moves for line in (move, 'why 0'))]
+            wanted = ''.join(['break 1: stall 0\n', *(told for _, told in moves)])
+            with tempfile.NamedTemporaryFile(suffix='.txt') as file, self.subTest(text=text):
+                file.write(text.encode())
+                file.flush()
+                status, _, output = outcome(['debug', file.name], ''.join(f'{it}\n' for it in lines).encode())
+                told = [it for it in output.decode().splitlines(True) if not it[0].isdigit() and not it.startswith('.. ')]
+                self.assertEqual((status, ''.join(told)), (0, wanted))
 
     # ---- texts
 

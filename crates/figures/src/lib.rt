@@ -10,8 +10,6 @@ mod links;
 pub mod run;
 mod sender;
 pub mod tally;
-#[cfg(test)]
-mod tests;
 mod told;
 mod turn;
 mod waits;

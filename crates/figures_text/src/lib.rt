@@ -7,8 +7,6 @@ mod subject;
 pub mod summaries;
 mod summary;
 mod table;
-#[cfg(test)]
-mod tests;
 
 pub use summaries::run_text;
 pub use summary::{FlowSummary, LinkSummary, RunSummary};

@@ -13,8 +13,6 @@ mod queues;
 mod sentence;
 mod stalled;
 mod standing;
-#[cfg(test)]
-mod tests;
 mod waits;
 
 pub use becomes::{becomes_stalled, some_becomes_stalled};

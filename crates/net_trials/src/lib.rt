@@ -1,4 +1,4 @@
-//! Tests of nets, lines, windows and boards, by public calls alone, so that no library is proved a
+//! Tests of nets, lines, tables, windows and boards, by public calls alone, so that no library is proved a
 //! second time with its tests.
 #![tactic(auto)]
 
@@ -8,5 +8,7 @@ mod boards;
 mod lines;
 #[cfg(test)]
 mod nets;
+#[cfg(test)]
+mod tables;
 #[cfg(test)]
 mod windows;

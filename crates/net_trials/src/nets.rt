@@ -58,18 +58,10 @@ fn runs_on(rt: &impl Abort, net: &mut Net, from: usize) -> Result<(), Fail> {
 }
 
 #[test]
-fn one_segment_goes_there_and_is_acknowledged(rt: HostRuntime) -> Result<(), Fail> {
-    let scenario = scenario(rt.alloc(), ONE_SEGMENT)?;
-    let mut net = Net::new(rt.alloc(), &scenario)?;
-    assert_eq!(rt; net.end(), 1_000_000_000);
-    assert_eq!(rt; net.nodes().len(), 2);
-    runs_on(&rt, &mut net, 0)
-}
-
-#[test]
 fn a_copy_and_a_net_of_the_same_parts_go_on(rt: HostRuntime) -> Result<(), Fail> {
     let scenario = scenario(rt.alloc(), ONE_SEGMENT)?;
     let mut net = Net::new(rt.alloc(), &scenario)?;
+    assert_eq!(rt; (net.end(), net.nodes().len()), (1_000_000_000, 2));
     for _event in 0..2 {
         net.step().map_err(|_| "step")?;
     }

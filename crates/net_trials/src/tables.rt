@@ -1,4 +1,6 @@
-use crate::{FlowSummary, LinkSummary, RunSummary, figures_text};
+//! The table of a run's figures. That of a net of flows and links is tried on the built program, by
+//! scripts/test_whole.py and scripts/test_figures.py.
+use figures_text::{RunSummary, figures_text};
 use std::test::Fail;
 
 /// Neither flow nor link, behind a text that was there.
