@@ -13,6 +13,7 @@ import glob
 import os
 import subprocess
 import sys
+import tempfile
 import unittest
 
 HERE = os.path.dirname(os.path.abspath(__file__))
@@ -20,7 +21,7 @@ TOP = os.path.dirname(HERE)
 sys.path.insert(0, HERE)
 
 from whole import command_line, images, refusals, sessions, tables, texts  # noqa: E402
-from whole import waits  # noqa: E402
+from whole import canonical, nodes, waits  # noqa: E402
 from whole.texts import RIGHT  # noqa: E402
 
 PROGRAM = os.path.join(TOP, 'crates', 'tcpsim', 'out', 'tcpsim')
@@ -196,6 +197,12 @@ class Whole(unittest.TestCase):
                         self.assertEqual(noted.count(b'(tcpsim) '), prompts)
                         self.assertEqual(noted.replace(b'(tcpsim) ', b'').decode().split('\n'), [*notes, ''])
 
+    def test_nodes_have_their_ends_links_and_packets(self):
+        """By node, whose dump is the same in groups."""
+        given = read(f'{HERE}/whole/two_flows_over_a_router.txt') + b'---\n' + nodes.COMMANDS.encode()
+        self.expect([(words, given, 0, b'', nodes.ANSWERS.encode())
+                     for words in (['debug'], ['debug', '--groups', 'each', '--workers', '2'])])
+
     def test_what_a_flow_waits_for_is_told(self):
         """The lines that a move passed are the trace's, and left out here."""
         for text, moves in waits.ROWS:
@@ -235,6 +242,19 @@ class Whole(unittest.TestCase):
     def test_long_lines_have_their_faults(self):
         self.expect([(['run'], (first + piece * count).encode(), 1, f'{note}\n'.encode(), b'')
                      for first, piece, count, note in texts.LONG])
+
+    def test_scenarios_have_their_canonical_texts(self):
+        self.expect([(['dis'], given.encode(), 0, b'', again.encode()) for given, again in canonical.CANONICAL])
+        flow = FIRST.decode().rstrip()
+        again = images.FIRST_AGAIN.removesuffix('reno iw3\n')
+        self.expect([(['dis'], f'{flow} {words}\n'.encode(), 0, b'', f'{again}{words}\n'.encode()) for words in canonical.SENDERS])
+
+    def test_a_fault_is_shown_at_its_place(self):
+        for before, number, rows in ((canonical.RIGHT, 4, canonical.FOURTH), (canonical.RIGHT + canonical.FLOWS, 132, canonical.ONE_MORE)):
+            for line, code, start, count in rows:
+                shown = f"{line}\n{' ' * start}{'^' * count}\n".replace('\t', '?')
+                self.expect_why(['asm'], (before + line).encode(), code, shown)
+                self.expect_faults('asm', [((before + line).encode(), f'{code} line {number}', None)])
 
     def test_a_cut_text_has_its_fault_or_runs(self):
         trace = read(f'{TOP}/examples/one_segment.trace')

@@ -1,5 +1,4 @@
-//! Canonical texts, what a refused text declares, and where its fault is.
+//! What a refused text declares. Canonical texts, and where the faults of lines are, are tried on the built
+//! program, by scripts/test_whole.py.
 
-mod disassembler;
 mod named_parts;
-mod place;
