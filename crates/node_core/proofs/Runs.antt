@@ -8,7 +8,7 @@ use Rattle.packet_chain.specs.declared.packet.Packet.{Packet}
 use Rattle.sim_time.specs.declared.key.Key.{Key}
 use Rattle.reno_sender.specs.Fields.{IsSound, total}
 use Rattle.reno_sender.specs.Sending.{spaced}
-use Rattle.reno_sender.specs.PlanView.{PlanView, sent_of}
+use Rattle.reno_sender.specs.PlanView.{PlanView, IsWellMade, sent_of}
 use Rattle.reno_sender.specs.declared.fields.SenderFields.{SenderFields}
 use Rattle.node_core.specs.Links.{packets_of}
 use Rattle.node_core.specs.Row.{data_packet}
@@ -102,3 +102,22 @@ read_run flow p fields resent first count less fields_are resent_is first_is cou
     ∙ ap (λ r. map (data_packet flow p.fields.mss) (option_to_list r ++ spaced first p.fields.mss (less count))) resent_is
     ∙ ap (λ n. map (data_packet flow p.fields.mss) (option_to_list p.resent ++ spaced n p.fields.mss (less count))) first_is
     ∙ ap (λ n. map (data_packet flow p.fields.mss) (option_to_list p.resent ++ spaced p.first p.fields.mss (less n))) count_is
+
+-- a plan's run ends within the greatest flow
+pub run_most : (p : PlanView) → IsWellMade p → p.first + p.count * p.fields.mss ≤ 9000000000000
+run_most p is =
+    let most : p.fields.segments * p.fields.mss ≤ 1000000000 * p.fields.mss = mul-le-mul_right {m = p.fields.segments} {n = 1000000000} p.fields.mss is.sound.segments_most in
+    omega (arith, most, is.run_ends, is.sound.nxt_high, is.sound.high_total, is.sound.mss_most)
+
+but_last_most : (p : PlanView) → IsWellMade p → 0 < p.count → p.first + (p.count - 1) * p.fields.mss ≤ 9000000000000
+but_last_most p is some =
+    let one : p.count ≡ suc (p.count - 1) = omega (arith, some) in
+    let all : p.first + suc (p.count - 1) * p.fields.mss ≤ 9000000000000 = subst (λ n. p.first + n * p.fields.mss ≤ 9000000000000) one (run_most p is) in
+    omega (arith, all, suc-mul (p.count - 1) p.fields.mss)
+
+-- and so does the run but its last segment, as its fields are read
+pub read_most : (p : PlanView) → IsWellMade p → (mss first count : ℕ) → mss ≡ p.fields.mss → first ≡ p.first → count ≡ p.count → 0 < count → first + (count - 1) * mss ≤ 9000000000000
+read_most p is mss first count mss_is first_is count_is some =
+    subst (λ m. first + (count - 1) * m ≤ 9000000000000) (sym mss_is)
+    (subst (λ x. x + (count - 1) * p.fields.mss ≤ 9000000000000) (sym first_is)
+    (subst (λ n. p.first + (n - 1) * p.fields.mss ≤ 9000000000000) (sym count_is) (but_last_most p is (subst (λ n. 0 < n) count_is some))))

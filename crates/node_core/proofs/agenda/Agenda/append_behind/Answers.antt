@@ -1,4 +1,4 @@
-use Rattle.std.proofs.Common.{◌≡◌, ◌+◌, ◌<◌, ◌++◌, length, set, map as each, sym, ap, subst, ◌∙◌, arith, IsSome, is_some, true, rules, Option}
+use Rattle.std.proofs.Common.{◌≡◌, ◌+◌, ◌^◌, ◌<◌, ◌≤◌, ◌++◌, length, set, map as each, sym, ap, subst, ◌∙◌, arith, IsSome, is_some, true, false, rules, Option}
 use Rattle.std.specs.FinMap as fin
 use Rattle.std.specs.Prelude.{All}
 use Rattle.std.proofs.lemmas.List.{length-map, get_or_read}
@@ -11,6 +11,37 @@ use Rattle.node_core.specs.AgendaOf.{owner_of}
 use Rattle.node_core.proofs.Slots.{still_ranked, length-slots, slots_home, home_of, wire_ranked, wire_keys, joined_state}
 use Rattle.node_core.proofs.Stays.{same_next}
 use Rattle.node_core.proofs.agenda.Agenda.append_behind.Goals as goal
+
+pub index_mut-wire-requires : goal.index_mut-wire-requires
+index_mut-wire-requires c =
+    let a = c.self.inside in
+    let among : c.args.index < length (each incoming_of a.wires.items) = subst (λ (s : AgendaState). c.args.index < length s.incoming) (sym c.self.view_is) c.requires.within in
+    omega (arith, among, length-map a.wires.items incoming_of)
+
+pub append-requires-clause-rising : goal.append-requires-clause-rising
+append-requires-clause-rising c = c.requires.rising
+
+pub append-requires-clause-few : goal.append-requires-clause-few
+append-requires-clause-few c =
+    let a = c.self.inside in
+    let j = c.args.index in
+    let among : j < length (each incoming_of a.wires.items) = subst (λ (s : AgendaState). j < length s.incoming) (sym c.self.view_is) c.requires.within in
+    let within : j < length a.wires.items = omega (arith, among, length-map a.wires.items incoming_of) in
+    let is : c.index_mut-wire.result.now ≡ wire_at a.wires.items j = get_or_read a.wires.items j c.index_mut-wire.result.now within c.index_mut-wire.ensures.value no_wire in
+    let few = subst (λ (s : AgendaState). (incoming_at s.incoming j).came + length c.args.sent.now ≤ 2 ^ 50) (sym c.self.view_is) c.requires.few in
+    subst (λ (w : WireState). came_over w + length c.args.sent.now ≤ 2 ^ 50) (sym is) (subst (λ (over : Incoming). over.came + length c.args.sent.now ≤ 2 ^ 50) (get_or-map incoming_of a.wires.items j no_wire) few)
+
+pub returns-clause-sent : goal.returns-clause-sent
+returns-clause-sent c = c.append.ensures.sent
+
+pub returns-then-waiting-clause-sent : goal.returns-then-waiting-clause-sent
+returns-then-waiting-clause-sent c = c.append.ensures.sent
+
+pub returns-clause-stays : goal.returns-clause-stays
+returns-clause-stays c = λ said. absurd (not_said said)
+  where
+    not_said : false ≡ true → ⊥
+    not_said e = cc
 
 pub append-requires-clause-later : goal.append-requires-clause-later
 append-requires-clause-later c = λ i d under k v there.

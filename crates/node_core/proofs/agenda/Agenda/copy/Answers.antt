@@ -1,0 +1,34 @@
+use Rattle.std.proofs.Common.{◌≡◌, ℕ, List, Option, sym, subst, ◌∙◌, rules}
+use Rattle.std.proofs.lemmas.List.Elements.{same_from_all_zip}
+use Rattle.sim_time.specs.declared.key.Key.{Key}
+use Rattle.node_core.specs.WireState.{WireState}
+use Rattle.node_core.specs.AgendaState.{agenda_state, IsAgenda}
+use Rattle.node_core.proofs.agenda.Agenda.copy.Goals as goal
+
+exits_are : (c : goal.After-result-2-1) → c.in_ok-clone.field-0.items ≡ c.self.inside.exits.items
+exits_are c = same_from_all_zip (λ (x y : ℕ). y ≡ x) c.self.inside.exits.items c.in_ok-clone.field-0.items c.in_ok-clone.ensures.cases.0 (λ x y e. e)
+
+alarms_are : (c : goal.After-result-2-1) → c.in_ok-clone-2.field-0.items ≡ c.self.inside.alarms.items
+alarms_are c = same_from_all_zip _ c.self.inside.alarms.items c.in_ok-clone-2.field-0.items c.in_ok-clone-2.ensures.cases.0 (λ x y e. search rules)
+
+wires_are : (c : goal.After-result-2-1) → c.in_ok-copies_of.field-0.items ≡ c.self.inside.wires.items
+wires_are c = c.in_ok-copies_of.ensures ∙ c.deref.ensures.value
+
+-- an agenda of the same parts
+copied : (node flow : ℕ) {exits exits' : List ℕ} {alarms alarms' : List (Option ℕ)} {wires wires' : List WireState} {ranks ranks' : List (Option Key)} → exits' ≡ exits → alarms' ≡ alarms → wires' ≡ wires → ranks' ≡ ranks
+    → IsAgenda (record { node = node; flow = flow; exits = exits }) alarms wires ranks → IsAgenda (record { node = node; flow = flow; exits = exits' }) alarms' wires' ranks'
+copied node flow {exits} {exits'} {alarms} {alarms'} {wires} {wires'} {ranks} {ranks'} e f g h is =
+    subst (λ (x : List ℕ). IsAgenda (record { node = node; flow = flow; exits = x }) alarms' wires' ranks') (sym e)
+    (subst (λ (x : List (Option ℕ)). IsAgenda (record { node = node; flow = flow; exits = exits }) x wires' ranks') (sym f)
+    (subst (λ (x : List WireState). IsAgenda (record { node = node; flow = flow; exits = exits }) alarms x ranks') (sym g)
+    (subst (IsAgenda (record { node = node; flow = flow; exits = exits }) alarms wires) (sym h) is)))
+
+same_state : (node flow : ℕ) {exits exits' : List ℕ} {alarms alarms' : List (Option ℕ)} {wires wires' : List WireState} → exits' ≡ exits → alarms' ≡ alarms → wires' ≡ wires
+    → agenda_state (record { node = node; flow = flow; exits = exits' }) alarms' wires' ≡ agenda_state (record { node = node; flow = flow; exits = exits }) alarms wires
+same_state node flow e f g i = agenda_state (record { node = node; flow = flow; exits = e i }) (f i) (g i)
+
+pub invariant_of-result : goal.invariant_of-result
+invariant_of-result c = copied c.self.inside.node c.self.inside.flow (exits_are c) (alarms_are c) (wires_are c) c.in_ok-copy.ensures c.self.invariant
+
+pub returns : goal.returns
+returns c = same_state c.self.inside.node c.self.inside.flow (exits_are c) (alarms_are c) (wires_are c) ∙ c.self.view_is
