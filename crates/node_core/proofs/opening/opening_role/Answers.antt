@@ -1,10 +1,29 @@
-use Rattle.std.proofs.Common.{sym, ap, subst, ◌∙◌, arith, List, IsSome}
-use Rattle.scenario_image.specs.declared.parts.NodeKind.TheVariants.{Sender, Receiver}
+use Rattle.std.proofs.Common.{sym, ap, length, subst, ◌∙◌, arith, List, IsSome}
+use Rattle.scenario_image.specs.declared.parts.NodeKind.TheVariants.{Sender, Receiver, Router}
 use Rattle.scenario_image.specs.declared.parts.FlowPart.{FlowPart}
 use Rattle.reno_sender.specs.Laws.{IsFlow}
+use Rattle.reno_sender.specs.Table.{opening_fields}
+use Rattle.reno_sender.specs.declared.fields.SenderFields.{SenderFields}
+use Rattle.reno_receiver.specs.Received.{ReceiverState, opening_receiver}
+use Rattle.node_core.specs.declared.routes.FlowExits.{FlowExits}
+use Rattle.node_core.specs.declared.role.Role.TheVariants.{Sends, Receives, Routes}
+use Rattle.node_core.specs.Opening.{opening_role}
 use Rattle.node_core.specs.OpeningAgenda.{flow_sent, flow_received}
 use Rattle.node_core.proofs.OneFlow.{IsFlowOf, sender_finds, receiver_finds, sent_is, received_is, sender_limits, kind_read}
+use Rattle.node_core.proofs.AtFirst.{sender_role, receiver_role}
 use Rattle.node_core.proofs.opening.opening_role.Goals as goal
+
+pub bounds : goal.bounds
+bounds c = omega (arith, c.from.ensures, ap length c.as_slice.ensures.value, c.requires.within)
+
+pub opening_exits-requires-clause-limits : goal.opening_exits-requires-clause-limits
+opening_exits-requires-clause-limits c = c.requires.scenario.in_limits
+
+pub opening_exits-requires-clause-few : goal.opening_exits-requires-clause-few
+opening_exits-requires-clause-few c = c.requires.few
+
+pub opening_exits-requires-clause-leaving : goal.opening_exits-requires-clause-leaving
+opening_exits-requires-clause-leaving c = c.requires.leaving
 
 pub unwrap-number-requires : goal.unwrap-number-requires
 unwrap-number-requires c =
@@ -43,3 +62,27 @@ new-receiver-requires-clause-mss_greatest c = omega (arith, (received c).limits.
 
 pub new-receiver-requires-clause-delack_greatest : goal.new-receiver-requires-clause-delack_greatest
 new-receiver-requires-clause-delack_greatest c = omega (arith, (received c).limits.delack_range, c.from-in-Receiver-2.ensures)
+
+pub returns-in-Sender : goal.returns-in-Sender
+returns-in-Sender c =
+    let p = c.args.parts.now in
+    let kind = kind_read p c.args.node c.from.result c.as_slice.result.now Sender Sender c.as_slice.ensures.value c.from.ensures c.requires.within c.in-Sender.is in
+    let found = sym c.unwrap-number.ensures ∙ c.flow_from.ensures ∙ ap (λ (flows : List FlowPart). flow_sent flows c.args.node) c.as_slice-flows.ensures.value in
+    let flow = c.unwrap-number.result in
+    ap (λ (fields : SenderFields). Sends flow.0 fields) (c.new.ensures ∙ ap opening_fields c.sender_settings.ensures) ∙ sender_role p c.args.node flow.0 flow.1 kind (sym found)
+
+pub returns-in-Receiver : goal.returns-in-Receiver
+returns-in-Receiver c =
+    let p = c.args.parts.now in
+    let kind = kind_read p c.args.node c.from.result c.as_slice.result.now Sender Receiver c.as_slice.ensures.value c.from.ensures c.requires.within c.in-Receiver.is in
+    let found = sym c.unwrap-number-in-Receiver.ensures ∙ c.flow_to.ensures ∙ ap (λ (flows : List FlowPart). flow_received flows c.args.node) c.as_slice-flows.ensures.value in
+    let flow = c.unwrap-number-in-Receiver.result in
+    ap (λ (state : ReceiverState). Receives flow.0 state)
+    (c.new-receiver.ensures ∙ ap (λ mss. opening_receiver mss c.from-in-Receiver-2.result) c.from-in-Receiver.ensures ∙ ap (opening_receiver flow.1.mss) c.from-in-Receiver-2.ensures)
+    ∙ receiver_role p c.args.node flow.0 flow.1 kind (sym found)
+
+pub returns-in_ok-opening_exits-in-Router : goal.returns-in_ok-opening_exits-in-Router
+returns-in_ok-opening_exits-in-Router c =
+    let p = c.args.parts.now in
+    let kind = kind_read p c.args.node c.from.result c.as_slice.result.now Sender Router c.as_slice.ensures.value c.from.ensures c.requires.within c.in-Router.is in
+    ap (λ (table : List FlowExits). Routes table) c.in_ok-opening_exits-in-Router.ensures ∙ ap (opening_role p c.args.node) (sym kind)

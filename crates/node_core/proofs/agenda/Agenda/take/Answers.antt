@@ -1,5 +1,5 @@
 use Rattle.std.proofs.Common.{◌≡◌, ◌+◌, ◌-◌, ◌<◌, [], ◌∷◌, None, length, set, refl, sym, ap, subst, ◌∙◌, arith}
-use Rattle.std.proofs.lemmas.List.{get_or_read}
+use Rattle.std.proofs.lemmas.List.{length-map, get_or_read}
 use Rattle.std.proofs.Math.Seq.{map-set_same}
 use Rattle.std.specs.FinMap as fin
 use Rattle.std.specs.Option.{option_map}
@@ -10,16 +10,48 @@ use Rattle.sim_time.specs.declared.key.Key.{Key}
 use Rattle.node_core.specs.declared.event.Event.{Event}
 use Rattle.node_core.specs.declared.event.Event.TheVariants.{Arrive}
 use Rattle.node_core.specs.WireState.{WireState, pending_on, after_pop}
-use Rattle.node_core.specs.AgendaState.{AgendaState, IsAgenda, alarm_event, no_wire, wire_at, cleared, incoming_of}
+use Rattle.node_core.specs.AgendaState.{AgendaState, IsAgenda, slots, alarm_event, no_wire, wire_at, cleared, incoming_of}
 use Rattle.node_core.specs.AgendaOf.{owner_of}
 use Rattle.node_core.proofs.Wires.{popped_node, popped_link, popped_came}
-use Rattle.node_core.proofs.Slots.{none_first, first_next, first_alarm, first_wire, first_within, set_ranked, wire_ranked, wire_pending, cleared_alarm, cleared_wire, same_agenda, same_incoming, alarm_is_no_arrival}
+use Rattle.node_core.proofs.Slots.{length-slots, none_first, first_next, first_alarm, first_wire, first_within, set_ranked, wire_ranked, wire_pending, cleared_alarm, cleared_wire, same_agenda, same_incoming, alarm_is_no_arrival}
 use Rattle.node_core.proofs.agenda.Agenda.take.Goals as goal
 
 pub leader-slot-requires : goal.leader-slot-requires
 leader-slot-requires c = λ none.
     let a = c.self.inside in
     not_some (ap (option_map (λ (entry : Key × Event). entry.0)) (sym (none_first (owner_of a) a.alarms.items a.wires.items a.ranking c.self.invariant none)) ∙ ap (λ (s : AgendaState). next_key s.pending) c.self.view_is ∙ c.requires)
+
+pub index_mut-requires : goal.index_mut-requires
+index_mut-requires c = omega (arith, c.if-slot-alarms.true, c.len-alarms.ensures, c.self.inside.alarms.ok.0)
+
+pub set-requires : goal.set-requires
+set-requires c =
+    let a = c.self.inside in
+    let ranked : length a.ranking ≡ length (slots (owner_of a) a.alarms.items a.wires.items) = ap length c.self.invariant.ranked ∙ length-map (slots (owner_of a) a.alarms.items a.wires.items) next_key in
+    omega (arith, c.if-slot-alarms.true, c.len-alarms.ensures, a.alarms.ok.0, ranked, length-slots (owner_of a) a.alarms.items a.wires.items)
+
+pub set-requires-2 : goal.set-requires-2
+set-requires-2 c =
+    let a = c.self.inside in
+    let within : c.in_ok-slot.slot < length a.alarms.items + length a.wires.items = first_within (owner_of a) a.alarms.items a.wires.items a.ranking c.self.invariant c.in_ok-slot.slot c.in_ok-slot.field-0-1 c.in_ok-slot.ensures in
+    let ranked : length a.ranking ≡ length (slots (owner_of a) a.alarms.items a.wires.items) = ap length c.self.invariant.ranked ∙ length-map (slots (owner_of a) a.alarms.items a.wires.items) next_key in
+    omega (arith, within, ranked, length-slots (owner_of a) a.alarms.items a.wires.items)
+
+pub index_mut-requires : goal.index_mut-requires
+index_mut-requires c = omega (arith, c.if-slot-alarms.true, c.len-alarms.ensures, c.self.inside.alarms.ok.0)
+
+pub set-requires : goal.set-requires
+set-requires c =
+    let a = c.self.inside in
+    let ranked : length a.ranking ≡ length (slots (owner_of a) a.alarms.items a.wires.items) = ap length c.self.invariant.ranked ∙ length-map (slots (owner_of a) a.alarms.items a.wires.items) next_key in
+    omega (arith, c.if-slot-alarms.true, c.len-alarms.ensures, a.alarms.ok.0, ranked, length-slots (owner_of a) a.alarms.items a.wires.items)
+
+pub set-requires-2 : goal.set-requires-2
+set-requires-2 c =
+    let a = c.self.inside in
+    let within : c.in_ok-slot.slot < length a.alarms.items + length a.wires.items = first_within (owner_of a) a.alarms.items a.wires.items a.ranking c.self.invariant c.in_ok-slot.slot c.in_ok-slot.field-0-1 c.in_ok-slot.ensures in
+    let ranked : length a.ranking ≡ length (slots (owner_of a) a.alarms.items a.wires.items) = ap length c.self.invariant.ranked ∙ length-map (slots (owner_of a) a.alarms.items a.wires.items) next_key in
+    omega (arith, within, ranked, length-slots (owner_of a) a.alarms.items a.wires.items)
 
 pub invariant_of-self : goal.invariant_of-self
 invariant_of-self c =

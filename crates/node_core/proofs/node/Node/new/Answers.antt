@@ -1,9 +1,44 @@
-use Rattle.std.proofs.Common.{◌<◌, length, sym, ap, subst, arith}
+use Rattle.std.proofs.Common.{◌<◌, List, length, sym, ap, subst, ◌∙◌, arith}
 use Rattle.scenario_image.specs.Scenario.{IsScenario}
+use Rattle.scenario_image.specs.declared.parts.LinkPart.{LinkPart}
 use Rattle.scenario_image.specs.declared.parts.ScenarioParts.{ScenarioParts}
+use Rattle.node_core.specs.declared.role.Role.{Role}
+use Rattle.node_core.specs.InStep.{flow_of}
+use Rattle.node_core.specs.Node.{opening_node}
+use Rattle.node_core.specs.Opening.{node_kind, leaving_links}
+use Rattle.node_core.specs.OpeningAgenda.{numbers_of}
 use Rattle.node_core.proofs.OneFlow.{few_numbers}
-use Rattle.node_core.proofs.AtFirst.{in_step_at_first}
+use Rattle.node_core.proofs.AtFirst.{in_step_at_first, opened_node}
 use Rattle.node_core.proofs.node.Node.new.Goals as goal
+
+pub leaving_numbers-requires : goal.leaving_numbers-requires
+leaving_numbers-requires c =
+    let is = subst IsScenario (sym c.parts-parts.ensures.value) c.parts-parts.ensures.scenario in
+    omega (arith, ap length c.as_slice.ensures.value, is.in_limits.counts.link_count.1)
+
+pub opening_role-requires-clause-scenario : goal.opening_role-requires-clause-scenario
+opening_role-requires-clause-scenario c = subst IsScenario (sym c.parts-parts.ensures.value) c.parts-parts.ensures.scenario
+
+pub opening_role-requires-clause-within : goal.opening_role-requires-clause-within
+opening_role-requires-clause-within c = subst (λ (p : ScenarioParts). c.args.number < length p.nodes) (sym c.parts-parts.ensures.value) c.requires
+
+pub opening_role-requires-clause-leaving : goal.opening_role-requires-clause-leaving
+opening_role-requires-clause-leaving c = c.deref.ensures.value ∙ c.in_ok-leaving.ensures ∙ ap (λ (links : List LinkPart). numbers_of (leaving_links links c.args.number)) c.as_slice.ensures.value
+
+pub opening_links-requires : goal.opening_links-requires
+opening_links-requires c = let is = subst IsScenario (sym c.parts-parts.ensures.value) c.parts-parts.ensures.scenario in is.in_limits
+
+pub opening_agenda-requires-clause-scenario : goal.opening_agenda-requires-clause-scenario
+opening_agenda-requires-clause-scenario c = subst IsScenario (sym c.parts-parts.ensures.value) c.parts-parts.ensures.scenario
+
+pub opening_agenda-requires-clause-within : goal.opening_agenda-requires-clause-within
+opening_agenda-requires-clause-within c = subst (λ (p : ScenarioParts). c.args.number < length p.nodes) (sym c.parts-parts.ensures.value) c.requires
+
+pub opening_agenda-requires-clause-leaving : goal.opening_agenda-requires-clause-leaving
+opening_agenda-requires-clause-leaving c = c.in_ok-leaving.ensures ∙ ap (λ (links : List LinkPart). numbers_of (leaving_links links c.args.number)) c.as_slice.ensures.value
+
+pub opening_agenda-requires-clause-flow : goal.opening_agenda-requires-clause-flow
+opening_agenda-requires-clause-flow c = c.flow.ensures ∙ ap (λ (role : Role). flow_of role) c.in_ok-role.ensures
 
 pub opening_role-requires-clause-few : goal.opening_role-requires-clause-few
 opening_role-requires-clause-few c =
@@ -23,3 +58,9 @@ invariant_of-result c =
     let p = c.parts-parts in
     let under = subst (λ (q : ScenarioParts). c.args.number < length q.nodes) (sym p.ensures.value) c.requires in
     in_step_at_first p.result.now (subst IsScenario (sym p.ensures.value) p.ensures.scenario) c.args.number under c.in_ok-role.role c.in_ok-links.links.items c.in_ok-agenda.agenda c.in_ok-role.ensures c.in_ok-links.ensures c.in_ok-agenda.ensures
+
+pub returns : goal.returns
+returns c =
+    let p = c.parts-parts in
+    opened_node p.result.now (subst IsScenario (sym c.parts-parts.ensures.value) c.parts-parts.ensures.scenario) c.args.number (subst (λ (p : ScenarioParts). c.args.number < length p.nodes) (sym c.parts-parts.ensures.value) c.requires) c.in_ok-role.role c.in_ok-links.links.items c.in_ok-agenda.agenda c.in_ok-role.ensures c.in_ok-links.ensures c.in_ok-agenda.ensures
+    ∙ ap (λ (q : ScenarioParts). opening_node q (c.args.number, node_kind q c.args.number)) p.ensures.value
