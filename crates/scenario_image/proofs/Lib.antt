@@ -9,5 +9,6 @@ pub mod Appends
 pub mod Loops
 pub mod Numbers
 pub mod Takes
+pub mod Enough
 pub mod Again
 pub mod Judged

@@ -1,5 +1,5 @@
 -- What the loops that read keep: what is read so far, and what is left.
-use Rattle.std.proofs.Common.{◌≡◌, ℕ, suc, ◌+◌, ◌-◌, ◌*◌, ◌<◌, ◌≤◌, List, [], ◌∷◌, ◌++◌, length, drop, Option, Some, None, Result, arith, refl, ap, sym, subst, ◌∙◌, append_assoc}
+use Rattle.std.proofs.Common.{◌≡◌, ℕ, suc, ◌+◌, ◌-◌, ◌*◌, ◌<◌, ◌≤◌, List, [], ◌∷◌, ◌++◌, length, get_or, drop, drop-cons, add-one, Option, Some, None, Result, arith, refl, ap, sym, subst, ◌∙◌, append_assoc}
 use Rattle.std.specs.Option.{option_map, option_and_then}
 use Rattle.std.proofs.lemmas.List.{append-nil, length-drop}
 use Rattle.scenario_image.specs.Layout.{link_size, links_size, flow_size}
@@ -54,6 +54,13 @@ no_node bytes front byte rest is so_far = sym so_far ∙ ap (λ node. nodes_befo
 
 pub nodes_done : (bytes : List ℕ) (front : List NodeKind) → AreNodesSoFar bytes front [] → nodes_at bytes ≡ Some front
 nodes_done bytes front so_far = sym so_far ∙ ap Some (append-nil front)
+
+-- the same by the place of the byte
+pub nodes_step : (bytes : List ℕ) (front : List NodeKind) (i : ℕ) (kind : NodeKind) → i < length bytes → node_of_byte (get_or bytes i 0) ≡ Some kind → AreNodesSoFar bytes front (drop i bytes) → AreNodesSoFar bytes (front ++ kind ∷ []) (drop (i + 1) bytes)
+nodes_step bytes front i kind below is so_far = rw add-one (node_next bytes front (get_or bytes i 0) (drop (suc i) bytes) kind is (subst (λ rest. AreNodesSoFar bytes front rest) (drop-cons bytes i 0 below) so_far))
+
+pub nodes_stop : (bytes : List ℕ) (front : List NodeKind) (i : ℕ) → i < length bytes → node_of_byte (get_or bytes i 0) ≡ None → AreNodesSoFar bytes front (drop i bytes) → nodes_at bytes ≡ None
+nodes_stop bytes front i below is so_far = no_node bytes front (get_or bytes i 0) (drop (suc i) bytes) is (subst (λ rest. AreNodesSoFar bytes front rest) (drop-cons bytes i 0 below) so_far)
 
 -- links in front of those that are read
 abbrev pub links_before : List LinkPart → Option (List LinkPart × List ℕ) → Option (List LinkPart × List ℕ)

@@ -1,5 +1,5 @@
 -- What is read from bytes, the bytes begin with.
-use Rattle.std.proofs.Common.{◌≡◌, ℕ, zero, suc, ◌+◌, ◌*◌, ◌≤◌, Bool, true, false, cond, ◌&&◌, eqb, List, [], ◌∷◌, ◌++◌, map, length, get_or, take, drop, Some, None, arith, refl, ap, sym, subst, ◌∙◌, append_assoc}
+use Rattle.std.proofs.Common.{◌≡◌, ℕ, zero, suc, ◌+◌, ◌*◌, ◌≤◌, Bool, true, false, cond, ◌&&◌, eqb, List, [], ◌∷◌, ◌++◌, map, length, get_or, take, drop, Option, Some, None, arith, refl, ap, sym, subst, ◌∙◌, append_assoc}
 use Rattle.std.specs.List.{flat_map, AllByRecursion}
 use Rattle.std.specs.Option.{option_map, option_and_then}
 use Rattle.std.proofs.lemmas.Bool.{eqb-true}
@@ -20,6 +20,7 @@ use Rattle.sim_time.specs.declared.queue_kind.QueueKind.{QueueKind}
 use Rattle.sim_time.specs.declared.queue_kind.QueueKind.TheVariants.{DropTail, Codel}
 use Rattle.scenario_image.specs.declared.parts.LinkPart.{LinkPart}
 use Rattle.scenario_image.specs.declared.parts.FlowPart.{FlowPart}
+use Rattle.scenario_image.specs.declared.parts.RoutePart.{RoutePart}
 use Rattle.scenario_image.specs.declared.parts.ScenarioParts.{ScenarioParts}
 use Rattle.scenario_image.specs.declared.version.Version.{Version}
 use Rattle.scenario_image.specs.declared.version.Version.TheVariants.{One, Two}
@@ -326,3 +327,25 @@ pub at_links : (bytes behind : List ℕ) (nodes count : ℕ) (links : List LinkP
     → links_at (link_count bytes) (drop (22 + node_count bytes) bytes) ≡ Some links
 at_links bytes behind nodes count links nodes_are count_is behind_is at =
     ap (λ n. links_at n (drop (22 + node_count bytes) bytes)) (sym count_is) ∙ ap (links_at count) (ap (λ n. drop (22 + n) bytes) (sym nodes_are) ∙ sym behind_is) ∙ at
+
+-- the parts and the bytes behind them, from what was read of each
+pub parts_read : (bytes rest middle after : List ℕ) (nodes : List NodeKind) (links : List LinkPart) (version : Version) (flow_number size first second end : ℕ) (read flows : List FlowPart) (taken routes : List RoutePart)
+    → version ≡ version_of bytes → flow_number ≡ flow_count bytes → flows_at version flow_number rest ≡ Some read → flows ≡ read → size ≡ flow_size version * flow_number → middle ≡ drop size rest
+    → first ≡ route_count bytes → taken ≡ each_at 6 route_at first middle → routes ≡ taken → end ≡ big_number 8 (drop 4 bytes) → second ≡ route_count bytes → after ≡ drop (6 * second) middle
+    → parts_behind bytes nodes (links, rest) ≡ Some (record { end = end; nodes = nodes; links = links; flows = flows; routes = routes }, after)
+parts_read bytes rest middle after nodes links version flow_number size first second end read flows taken routes version_is number_is at flows_are size_is middle_is first_is taken_is routes_are end_is second_is after_is =
+    ap (λ found. option_map (parts_with bytes nodes (links, rest)) found) given
+    ∙ ap (λ bytes_left. whole (big_number 8 (drop 4 bytes)) read (each_at 6 route_at (route_count bytes) bytes_left) (drop (6 * route_count bytes) bytes_left)) left
+    ∙ ap (λ e. whole e read (each_at 6 route_at (route_count bytes) middle) (drop (6 * route_count bytes) middle)) (sym end_is)
+    ∙ ap (λ f. whole end f (each_at 6 route_at (route_count bytes) middle) (drop (6 * route_count bytes) middle)) (sym flows_are)
+    ∙ ap (λ r. whole end flows r (drop (6 * route_count bytes) middle)) (ap (λ n. each_at 6 route_at n middle) (sym first_is) ∙ sym taken_is ∙ sym routes_are)
+    ∙ ap (λ a. whole end flows routes a) (ap (λ n. drop (6 * n) middle) (sym second_is) ∙ sym after_is)
+  where
+    whole : ℕ → List FlowPart → List RoutePart → List ℕ → Option (ScenarioParts × List ℕ)
+    whole e f r a = Some (record { end = e; nodes = nodes; links = links; flows = f; routes = r }, a)
+
+    given : flows_at (version_of bytes) (flow_count bytes) rest ≡ Some read
+    given = ap (λ v. flows_at v (flow_count bytes) rest) (sym version_is) ∙ ap (λ n. flows_at version n rest) (sym number_is) ∙ at
+
+    left : drop (flow_size (version_of bytes) * flow_count bytes) rest ≡ middle
+    left = ap (λ v. drop (flow_size v * flow_count bytes) rest) (sym version_is) ∙ ap (λ n. drop (flow_size version * n) rest) (sym number_is) ∙ ap (λ n. drop n rest) (sym size_is) ∙ sym middle_is

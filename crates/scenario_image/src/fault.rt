@@ -1,5 +1,6 @@
 //! Why bytes or parts are refused.
 ghost use Rattle.std.specs.Prelude.{◌≡◌};
+ghost use Rattle.scenario_image.specs.Fault.{fault_name};
 ghost use Rattle.scenario_image.specs.declared.fault.LoadFault.TheVariants.{NoMemory};
 
 use std::alloc::{AllocError, AllocFailed};
@@ -32,6 +33,25 @@ pub enum LoadFault {
     NoMemory,
 }
 
+impl LoadFault {
+    /// What the fault is written as.
+    fn name(self) -> &'static str
+        ensures { result.now ≡ fault_name self }
+    {
+        match self {
+            LoadFault::L1 => "L1",
+            LoadFault::L2 => "L2",
+            LoadFault::L3 => "L3",
+            LoadFault::L4 => "L4",
+            LoadFault::L5 => "L5",
+            LoadFault::L6 => "L6",
+            LoadFault::L7 => "L7",
+            LoadFault::L8 => "L8",
+            LoadFault::NoMemory => "no memory",
+        }
+    }
+}
+
 impl fmt::Display for LoadFault {
     ghost use Rattle.std.specs.Prelude.{Some};
     ghost use Rattle.scenario_image.specs.Fault.{fault_name};
@@ -39,17 +59,7 @@ impl fmt::Display for LoadFault {
     ghost output = { λ fault. Some (fault_name fault) };
 
     fn fmt<W: fmt::Write>(&self, f: &mut fmt::Formatter<W>) -> fmt::Result {
-        match self {
-            LoadFault::L1 => write!(f, "L1"),
-            LoadFault::L2 => write!(f, "L2"),
-            LoadFault::L3 => write!(f, "L3"),
-            LoadFault::L4 => write!(f, "L4"),
-            LoadFault::L5 => write!(f, "L5"),
-            LoadFault::L6 => write!(f, "L6"),
-            LoadFault::L7 => write!(f, "L7"),
-            LoadFault::L8 => write!(f, "L8"),
-            LoadFault::NoMemory => write!(f, "no memory"),
-        }
+        f.write_str(self.name())
     }
 }
 

@@ -1,5 +1,6 @@
 //! How many bytes the layout of an image takes.
 ghost use Rattle.std.specs.Prelude.{◌≡◌, ◌↔◌, ◌≤◌, ◌<◌, ◌+◌, ◌*◌, ℕ, IsTrue, IfSome, IfNone, length, drop};
+ghost use Rattle.byteorder.specs.Endian.{big_number};
 ghost use Rattle.scenario_image.specs.Layout.{node_count as nodes_in, link_count as links_in, flow_count as flows_in, route_count as routes_in, version_of as version_in, link_size as size_of_link, links_size as size_of_links, flow_size as size_of_flow, layout_size};
 
 use crate::version::Version;
@@ -37,6 +38,30 @@ pub(crate) fn behind(bytes: &[u8], first: usize) -> &[u8]
     &bytes[first..]
 }
 
+/// The number of two bytes behind the first of them.
+pub(crate) fn short_at(bytes: &[u8], first: usize) -> u16
+    requires { first + 2 ≤ length bytes.now }
+    ensures { result ≡ big_number 2 (drop first bytes.now) }
+{
+    BigEndian::read_u16(behind(bytes, first))
+}
+
+/// The number of four bytes behind the first of them.
+pub(crate) fn number_at(bytes: &[u8], first: usize) -> u32
+    requires { first + 4 ≤ length bytes.now }
+    ensures { result ≡ big_number 4 (drop first bytes.now) }
+{
+    BigEndian::read_u32(behind(bytes, first))
+}
+
+/// The number of eight bytes behind the first of them.
+pub(crate) fn long_at(bytes: &[u8], first: usize) -> u64
+    requires { first + 8 ≤ length bytes.now }
+    ensures { result ≡ big_number 8 (drop first bytes.now) }
+{
+    BigEndian::read_u64(behind(bytes, first))
+}
+
 /// The version whose layout is judged: the second exactly where the fourth byte is `2`.
 pub(crate) fn version_of(bytes: &[u8]) -> Version
     requires { HEADER ≤ length bytes.now }
@@ -55,7 +80,7 @@ pub(crate) fn node_count(bytes: &[u8]) -> usize
     ensures value { result ≡ nodes_in bytes.now }
     ensures bound { result < 65536 }
 {
-    usize::from(BigEndian::read_u16(&bytes[12..]))
+    usize::from(short_at(bytes, 12))
 }
 
 /// How many links an image has by its header.
@@ -64,7 +89,7 @@ pub(crate) fn link_count(bytes: &[u8]) -> usize
     ensures value { result ≡ links_in bytes.now }
     ensures bound { result < 65536 }
 {
-    usize::from(BigEndian::read_u16(&bytes[14..]))
+    usize::from(short_at(bytes, 14))
 }
 
 /// How many flows an image has by its header.
@@ -73,7 +98,7 @@ pub(crate) fn flow_count(bytes: &[u8]) -> usize
     ensures value { result ≡ flows_in bytes.now }
     ensures bound { result < 65536 }
 {
-    usize::from(BigEndian::read_u16(&bytes[16..]))
+    usize::from(short_at(bytes, 16))
 }
 
 /// How many routes an image has by its header.
@@ -82,7 +107,7 @@ pub(crate) fn route_count(bytes: &[u8]) -> usize
     ensures value { result ≡ routes_in bytes.now }
     ensures bound { result < 4294967296 }
 {
-    BigEndian::read_u32(&bytes[18..]) as usize
+    number_at(bytes, 18) as usize
 }
 
 /// The bytes that the link at the front takes.

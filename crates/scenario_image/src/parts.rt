@@ -17,7 +17,7 @@ pub enum NodeKind {
 }
 
 /// A directed link, with its queue at the sending side.
-#[derive(Debug, Drop)]
+#[derive(Drop)]
 pub struct LinkPart {
     /// The node that sends.
     pub from: u16,
@@ -36,7 +36,7 @@ pub struct LinkPart {
 }
 
 /// A flow from a sender to a receiver.
-#[derive(Clone, Copy, Debug, PartialEq, Eq)]
+#[derive(Clone, Copy)]
 pub struct FlowPart {
     /// The sender's node.
     pub sender: u16,
@@ -82,7 +82,7 @@ pub struct RoutePart {
 }
 
 /// All that a scenario is made of. Nodes, links and flows are numbered from 0 in their order here.
-#[derive(Debug, Drop)]
+#[derive(Drop)]
 pub struct ScenarioParts {
     /// Events before this moment are run, in nanoseconds: 1 to 10^15.
     pub end: Time,

@@ -7,7 +7,7 @@ ghost use Rattle.scenario_image.specs.Reading.{Gives, each_at, node_of_byte, nod
 use crate::fault::LoadFault;
 use crate::layout::{
     FLOW, HEADER, LINK, LOST, LOST_COUNT, ROUTE, behind, flow_count, flow_size, flows_size,
-    link_count, link_size, node_count, route_count, version_of,
+    link_count, link_size, long_at, node_count, number_at, route_count, short_at, version_of,
 };
 use crate::parts::{FlowPart, LinkPart, NodeKind, RoutePart, ScenarioParts};
 use crate::records::Records;
@@ -48,9 +48,9 @@ fn codel_of(bytes: &[u8]) -> Codel
     ensures { result ≡ codel_at bytes.now }
 {
     Codel {
-        target: BigEndian::read_u64(&bytes[23..]),
-        interval: BigEndian::read_u64(&bytes[31..]),
-        maxpacket: BigEndian::read_u16(&bytes[39..]),
+        target: long_at(bytes, 23),
+        interval: long_at(bytes, 31),
+        maxpacket: short_at(bytes, 39),
     }
 }
 
@@ -88,11 +88,11 @@ fn new_link(bytes: &[u8], queue: QueueKind, lose: Records<u32>) -> LinkPart
 {
     LinkPart {
         from: BigEndian::read_u16(bytes),
-        to: BigEndian::read_u16(&bytes[2..]),
-        rate: BigEndian::read_u64(&bytes[4..]),
-        delay: BigEndian::read_u64(&bytes[12..]),
+        to: short_at(bytes, 2),
+        rate: long_at(bytes, 4),
+        delay: long_at(bytes, 12),
         queue,
-        capacity: BigEndian::read_u16(&bytes[21..]),
+        capacity: short_at(bytes, 21),
         lose,
     }
 }
@@ -155,12 +155,12 @@ fn new_flow(bytes: &[u8], variant: Variant) -> FlowPart
 {
     FlowPart {
         sender: BigEndian::read_u16(bytes),
-        receiver: BigEndian::read_u16(&bytes[2..]),
-        mss: BigEndian::read_u16(&bytes[4..]),
-        segments: BigEndian::read_u32(&bytes[6..]),
-        start: BigEndian::read_u64(&bytes[10..]),
-        rwnd: BigEndian::read_u32(&bytes[18..]),
-        delack: BigEndian::read_u32(&bytes[22..]),
+        receiver: short_at(bytes, 2),
+        mss: short_at(bytes, 4),
+        segments: number_at(bytes, 6),
+        start: long_at(bytes, 10),
+        rwnd: number_at(bytes, 18),
+        delack: number_at(bytes, 22),
         variant,
     }
 }
@@ -203,8 +203,8 @@ fn route_of(bytes: &[u8]) -> RoutePart
 {
     RoutePart {
         router: BigEndian::read_u16(bytes),
-        destination: BigEndian::read_u16(&bytes[2..]),
-        link: BigEndian::read_u16(&bytes[4..]),
+        destination: short_at(bytes, 2),
+        link: short_at(bytes, 4),
     }
 }
 
@@ -250,7 +250,7 @@ fn parts_from<'a>(
     let rest = behind(rest, flows_size(version, count));
     let routes = routes_of(alloc, route_count(bytes), rest)?;
     let parts = ScenarioParts {
-        end: BigEndian::read_u64(&bytes[4..]),
+        end: long_at(bytes, 4),
         nodes,
         links,
         flows: Records::new(flows),

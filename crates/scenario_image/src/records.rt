@@ -4,7 +4,7 @@ ghost use Rattle.std.specs.Prelude.{◌≡◌, length};
 use std::marker::Model;
 
 /// A list of records. A `Vec` becomes one and comes back without taking memory.
-#[derive(Debug, Drop)]
+#[derive(Drop)]
 pub struct Records<T> {
     items: Vec<T>,
 }

@@ -12,7 +12,7 @@ use crate::ways::{ways_are_simple, ways_are_unbroken};
 use std::marker::Model;
 
 /// A scenario that can be simulated. Contracts see its parts.
-#[derive(Debug, Drop)]
+#[derive(Drop)]
 pub struct Scenario {
     parts: ScenarioParts,
 }

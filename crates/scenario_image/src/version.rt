@@ -1,7 +1,7 @@
 //! The versions of images.
 
 /// A version of images.
-#[derive(Clone, Copy, Debug, PartialEq, Eq)]
+#[derive(Clone, Copy)]
 pub enum Version {
     /// Says nothing of a flow's variant: each flow is reno with the smaller initial window.
     One,

@@ -8,7 +8,7 @@ use crate::parts::{FlowPart, LinkPart, NodeKind, ScenarioParts};
 use crate::routes::route_link;
 
 /// The way of a flow's data, from its sender to its receiver, or of its acknowledgements, back.
-#[derive(Clone, Copy, Debug, PartialEq, Eq)]
+#[derive(Clone, Copy)]
 pub struct Way {
     /// The node that it starts at.
     pub start: u16,
