@@ -1,7 +1,9 @@
 pub mod Pieces
 pub mod Digits
 pub mod Verdicts
+pub mod Parts
 pub mod Links
+pub mod Flows
 pub mod Words
 pub mod Ranges
 pub mod Places

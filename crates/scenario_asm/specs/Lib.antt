@@ -15,6 +15,7 @@ pub mod Meaning
 pub mod Declarations
 pub mod Places
 pub mod Refusals
+pub mod WordParts
 pub mod Spelling
 pub mod CanonicalText
 pub use Rattle.scenario_image.specs.Limits

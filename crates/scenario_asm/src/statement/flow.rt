@@ -1,5 +1,6 @@
 //! `flow` statements.
-ghost use Rattle.std.specs.Prelude.{◌≡◌, IfErr};
+ghost use Rattle.std.specs.Prelude.{◌≡◌, ◌≤◌, IfErr, length};
+ghost use Rattle.scenario_asm.specs.WordParts.{IsReadFrom, flow_end_verdicts, flow_ends_said, flow_number_verdicts, flow_numbers_said, variant_verdicts, variant_said};
 ghost use Rattle.scenario_asm.specs.Places.{flow_word};
 ghost use Rattle.scenario_asm.specs.Refusals.{word_in, as_fault};
 ghost use Rattle.scenario_asm.specs.Statements.{has_flow_length, flow_at};
@@ -9,19 +10,80 @@ use super::variant::{iw, newreno};
 use super::{Refusal, Statement};
 use crate::fault::Fault;
 use crate::lexer::Word;
+use crate::name::Name;
 use crate::number::number_in;
 use crate::table::Table;
 use scenario_image::FlowPart;
 use scenario_image::limits::{
     GREATEST_MSS, GREATEST_RWND, LATEST_END, LONGEST_DELACK, MOST_FLOWS, MOST_SEGMENTS,
 };
-use sim_time::Variant;
+use sim_time::{Time, Variant};
 
 /// Whether a `flow` has a right number of words: nine, or two more that say its sender.
 fn has_flow_length(words: &[Word<'_>]) -> bool
     ensures { result ≡ has_flow_length words.now }
 {
     words.len() == 9 || words.len() == 11
+}
+
+/// The name and the ends of a `flow`, by its second to fourth word.
+fn name_and_ends<'a>(table: &Table<'a>, words: &[Word<'a>]) -> Result<(Name<'a>, u16, u16), Refusal>
+    requires { 9 ≤ length words.now }
+    ensures { IsReadFrom 1 (flow_end_verdicts (known_in table.now) words.now) (flow_ends_said (known_in table.now) words.now) result }
+{
+    let [_flow, name, sender, receiver, ..] = words else {
+        return Err(Refusal::Line(Fault::E3));
+    };
+    let name = judge!(1, table.new_name(name));
+    let sender = judge!(2, table.sender(sender));
+    let receiver = judge!(3, table.receiver(receiver));
+    Ok((name, sender, receiver))
+}
+
+/// What a `flow` says in numbers.
+#[derive(Clone, Copy)]
+struct FlowNumbers {
+    /// Bytes of data in a segment.
+    mss: u16,
+    /// How many segments are sent.
+    segments: u32,
+    /// When the flow starts, in nanoseconds.
+    start: Time,
+    /// The receiver's window, in bytes.
+    rwnd: u32,
+    /// How long the receiver may delay an acknowledgement, in nanoseconds.
+    delack: u32,
+}
+
+/// The numbers of a `flow`, by its fifth to ninth word.
+fn numbers(words: &[Word<'_>]) -> Result<FlowNumbers, Refusal>
+    requires { 9 ≤ length words.now }
+    ensures { IsReadFrom 4 (flow_number_verdicts words.now) (flow_numbers_said words.now) result }
+{
+    let [_, _, _, _, mss, segments, start, rwnd, delack, ..] = words else {
+        return Err(Refusal::Line(Fault::E3));
+    };
+    let mss = judge!(4, number_in(mss, 1, u64::from(GREATEST_MSS))) as u16;
+    let segments = judge!(5, number_in(segments, 1, u64::from(MOST_SEGMENTS))) as u32;
+    let start = judge!(6, number_in(start, 0, LATEST_END - 1));
+    let rwnd = judge!(7, number_in(rwnd, u64::from(mss), u64::from(GREATEST_RWND))) as u32;
+    let delack = judge!(8, number_in(delack, 0, u64::from(LONGEST_DELACK))) as u32;
+    Ok(FlowNumbers {
+        mss,
+        segments,
+        start,
+        rwnd,
+        delack,
+    })
+}
+
+/// Which sender a `flow` has, by its tenth and eleventh word.
+fn variant(words: &[Word<'_>]) -> Result<Variant, Refusal>
+    ensures { IsReadFrom 9 (variant_verdicts words.now) (variant_said words.now) result }
+{
+    let newreno = judge!(9, newreno(words));
+    let iw = judge!(10, iw(words));
+    Ok(Variant { newreno, iw })
 }
 
 /// `flow NAME SENDER RECEIVER MSS SEGMENTS START RWND DELACK`, and perhaps `reno` or `newreno` and
@@ -33,43 +95,21 @@ pub(super) fn read<'a>(table: &Table<'a>, words: &[Word<'a>]) -> Result<Statemen
     if !has_flow_length(words) {
         return Err(Refusal::Line(Fault::E3));
     }
-    let [
-        _flow,
-        name,
-        sender,
-        receiver,
-        mss,
-        segments,
-        start,
-        rwnd,
-        delack,
-        ..
-    ] = words
-    else {
-        return Err(Refusal::Line(Fault::E3));
-    };
-    let name = judge!(1, table.new_name(name));
-    let sender = judge!(2, table.sender(sender));
-    let receiver = judge!(3, table.receiver(receiver));
-    let mss = judge!(4, number_in(mss, 1, u64::from(GREATEST_MSS))) as u16;
-    let segments = judge!(5, number_in(segments, 1, u64::from(MOST_SEGMENTS))) as u32;
-    let start = judge!(6, number_in(start, 0, LATEST_END - 1));
-    let rwnd = judge!(7, number_in(rwnd, u64::from(mss), u64::from(GREATEST_RWND))) as u32;
-    let delack = judge!(8, number_in(delack, 0, u64::from(LONGEST_DELACK))) as u32;
-    let newreno = judge!(9, newreno(words));
-    let iw = judge!(10, iw(words));
+    let (name, sender, receiver) = name_and_ends(table, words)?;
+    let numbers = numbers(words)?;
+    let variant = variant(words)?;
     if table.flows.len() >= MOST_FLOWS {
         return Err(Refusal::Line(Fault::E9));
     }
     let part = FlowPart {
         sender,
         receiver,
-        mss,
-        segments,
-        start,
-        rwnd,
-        delack,
-        variant: Variant { newreno, iw },
+        mss: numbers.mss,
+        segments: numbers.segments,
+        start: numbers.start,
+        rwnd: numbers.rwnd,
+        delack: numbers.delack,
+        variant,
     };
     Ok(Statement::Flow(name, part))
 }

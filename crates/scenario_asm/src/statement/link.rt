@@ -1,11 +1,11 @@
 //! `link` statements.
-ghost use Rattle.std.specs.Prelude.{◌≡◌, ◌||◌, ◌≤◌, ◌++◌, IsTrue, IfErr, nat_le, length};
+ghost use Rattle.std.specs.Prelude.{◌≡◌, ◌||◌, ◌≤◌, IsTrue, IfErr, nat_le, length};
 ghost use Rattle.scenario_asm.specs.Names.{is_full_router};
-ghost use Rattle.scenario_asm.specs.Places.{first_faulty, link_word};
+ghost use Rattle.scenario_asm.specs.Places.{link_word};
 ghost use Rattle.scenario_asm.specs.Refusals.{word_in, as_fault};
-ghost use Rattle.scenario_asm.specs.Statements.{is_drop_tail, is_codel, has_link_length, codel_verdict, codel_verdicts, link_first_verdicts, link_verdicts, queue_said, link_said, link_at, nth};
+ghost use Rattle.scenario_asm.specs.Statements.{is_drop_tail, is_codel, has_link_length, codel_verdicts, queue_said, link_at};
 ghost use Rattle.scenario_asm.specs.Table.{known_in};
-ghost use Rattle.scenario_asm.specs.Verdicts.{Judges, first_fault};
+ghost use Rattle.scenario_asm.specs.WordParts.{IsReadFrom, link_end_verdicts, link_ends_said, link_number_verdicts, link_numbers_said};
 
 use super::{LinkLine, Refusal, Statement, has_word};
 use crate::fault::Fault;
@@ -15,6 +15,7 @@ use crate::number::number_in;
 use crate::table::Table;
 use scenario_image::limits::{LONGEST_DELAY, MOST_LINKS};
 use scenario_image::{Codel, QueueKind};
+use sim_time::Time;
 use sim_time::rate::{GREATEST_RATE, LEAST_RATE};
 
 /// Whether a `link` has a right number of words: 8 with `droptail`, 11 with `codel`, and one of
@@ -48,8 +49,7 @@ fn is_full(table: &Table<'_>, from: u16) -> bool
 /// How a queue drops: with the seventh word `codel` by the last three of eleven words.
 fn queue(words: &[Word<'_>]) -> Result<QueueKind, Refusal>
     requires { IsTrue (is_codel words.now) → length words.now ≡ 11 }
-    ensures judges { Judges (codel_verdict words.now) (queue_said words.now) (as_fault result) }
-    ensures word { IfErr result (λ refusal. word_in refusal ≡ first_faulty 8 (codel_verdicts words.now)) }
+    ensures { IsReadFrom 8 (codel_verdicts words.now) (queue_said words.now) result }
 {
     if !has_word(words, 6, b"codel") {
         return Ok(QueueKind::DropTail);
@@ -67,35 +67,35 @@ fn queue(words: &[Word<'_>]) -> Result<QueueKind, Refusal>
     }))
 }
 
-/// The words of `link` after the first.
-fn link_words<'a>(table: &Table<'a>, words: &[Word<'a>]) -> Result<(Name<'a>, LinkLine), Refusal>
-    requires least { 8 ≤ length words.now }
-    requires codel { IsTrue (is_codel words.now) → length words.now ≡ 11 }
-    ensures judges { Judges (first_fault (link_verdicts (known_in table.now) words.now)) (nth words.now 1, link_said (known_in table.now) words.now) (as_fault result) }
-    ensures word { IfErr result (λ refusal. word_in refusal ≡ first_faulty 1 (link_first_verdicts (known_in table.now) words.now ++ codel_verdicts words.now)) }
+/// The name and the ends of a `link`, by its second to fourth word.
+fn name_and_ends<'a>(table: &Table<'a>, words: &[Word<'a>]) -> Result<(Name<'a>, u16, u16), Refusal>
+    requires { 8 ≤ length words.now }
+    ensures { IsReadFrom 1 (link_end_verdicts (known_in table.now) words.now) (link_ends_said (known_in table.now) words.now) result }
 {
-    let [_link, name, from, to, rate, delay, _drops, capacity, ..] = words else {
+    let [_link, name, from, to, ..] = words else {
         return Err(Refusal::Line(Fault::E3));
     };
     let name = judge!(1, table.new_name(name));
     let from = judge!(2, table.node(from));
     let to = judge!(3, table.other_node(from, to));
+    Ok((name, from, to))
+}
+
+/// The rate, the delay and the capacity of a `link`, by its fifth to eighth word.
+fn numbers(words: &[Word<'_>]) -> Result<(u64, Time, u16), Refusal>
+    requires { 8 ≤ length words.now }
+    ensures { IsReadFrom 4 (link_number_verdicts words.now) (link_numbers_said words.now) result }
+{
+    let [_, _, _, _, rate, delay, _drops, capacity, ..] = words else {
+        return Err(Refusal::Line(Fault::E3));
+    };
     let rate = judge!(4, number_in(rate, LEAST_RATE, GREATEST_RATE));
     let delay = judge!(5, number_in(delay, 1, LONGEST_DELAY));
     if !names_a_queue(words) {
         return Err(Refusal::Word(6, Fault::E4));
     }
     let capacity = judge!(7, number_in(capacity, 1, u64::from(u16::MAX))) as u16;
-    let queue = queue(words)?;
-    let line = LinkLine {
-        from,
-        to,
-        rate,
-        delay,
-        queue,
-        capacity,
-    };
-    Ok((name, line))
+    Ok((rate, delay, capacity))
 }
 
 /// `link NAME FROM TO RATE DELAY droptail CAP`, or with `codel CAP TARGET INTERVAL MAXPACKET`
@@ -106,9 +106,19 @@ pub(super) fn read<'a>(table: &Table<'a>, words: &[Word<'a>]) -> Result<Statemen
     if !has_link_length(words) {
         return Err(Refusal::Line(Fault::E3));
     }
-    let (name, line) = link_words(table, words)?;
-    if is_full(table, line.from) {
+    let (name, from, to) = name_and_ends(table, words)?;
+    let (rate, delay, capacity) = numbers(words)?;
+    let queue = queue(words)?;
+    if is_full(table, from) {
         return Err(Refusal::Line(Fault::E9));
     }
+    let line = LinkLine {
+        from,
+        to,
+        rate,
+        delay,
+        queue,
+        capacity,
+    };
     Ok(Statement::Link(name, line))
 }
