@@ -57,6 +57,27 @@ fn seconds_after<'a>(
     Ok(seconds)
 }
 
+/// The parts that a text declares, with the names.
+fn with_names<'a>(
+    alloc: Global,
+    text: &'a [u8],
+    parts: ScenarioParts,
+) -> Result<NamedParts<'a>, AllocError>
+    requires { DeclaresParts text.now parts }
+    ensures declared { IfOk result (Declares text.now) }
+    ensures parts { IfOk result (λ named. named.parts ≡ parts) }
+{
+    let nodes = seconds_after(alloc, b"node", text)?;
+    let links = seconds_after(alloc, b"link", text)?;
+    let flows = seconds_after(alloc, b"flow", text)?;
+    Ok(NamedParts {
+        parts,
+        nodes,
+        links,
+        flows,
+    })
+}
+
 /// What a text declares, or `None` where a line of it is faulty or it has not exactly one `sim`. For use
 /// after a refusal: it reads the text once more, and thrice for the names.
 pub fn parts_of_text<'a>(
@@ -70,13 +91,8 @@ pub fn parts_of_text<'a>(
     if read_lines(alloc, text, &mut draft)?.is_some() {
         return Ok(None);
     }
-    let Some(parts) = draft.into_parts(alloc)? else {
-        return Ok(None);
-    };
-    Ok(Some(NamedParts {
-        parts,
-        nodes: seconds_after(alloc, b"node", text)?,
-        links: seconds_after(alloc, b"link", text)?,
-        flows: seconds_after(alloc, b"flow", text)?,
-    }))
+    match draft.into_parts(alloc)? {
+        Some(parts) => Ok(Some(with_names(alloc, text, parts)?)),
+        None => Ok(None),
+    }
 }
