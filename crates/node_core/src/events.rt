@@ -86,6 +86,7 @@ pub(crate) fn decide_delayed(
 }
 
 /// A packet arrives.
+#[inline(always)]
 pub(crate) fn decide_arrival(
     alloc: Global,
     role: &mut Role,
@@ -119,6 +120,7 @@ pub(crate) fn decide_arrival(
 }
 
 /// Decides what a line's event does: the role takes the event, and all memory is taken.
+#[inline(always)]
 pub(crate) fn decide(
     alloc: Global,
     role: &mut Role,

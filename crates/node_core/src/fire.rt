@@ -20,10 +20,12 @@ use crate::outbox::Outbox;
 use crate::passing::{pass_on, send, take_next};
 use crate::role::Role;
 use crate::router_node::free_link;
+use packet_chain::Kind;
 use std::alloc::AllocError;
 
 /// Carries out what was decided of a line's event, which leaves: it takes no memory. The answer is
 /// the index of the link over which a packet left.
+#[inline(always)]
 pub(crate) fn carry_out(
     decision: Decision,
     links: &mut Vec<Link>,
@@ -94,9 +96,8 @@ fn run_through(
     Ok(pass_on(index, links, agenda, line, out))
 }
 
-// Any other event, by a function of its own also in the program: most events are of links, and the places that
-// an end needs would be cleared for them too.
-#[inline(never)]
+// An event that is decided first, and then carried out.
+#[inline(always)]
 fn run_decided(
     role: &mut Role,
     links: &mut Vec<Link>,
@@ -115,6 +116,78 @@ fn run_decided(
 {
     let decision = decide(agenda.alloc(), role, links, line)?;
     Ok(carry_out(decision, links, agenda, line, out))
+}
+
+// The same by a function of its own also in the program: most events are of links, and the places that an end
+// needs would be cleared for them too.
+#[inline(never)]
+fn run_apart(
+    role: &mut Role,
+    links: &mut Vec<Link>,
+    agenda: &mut Agenda,
+    line: &mut Line,
+    out: &mut Outbox,
+) -> Result<Option<u16>, AllocError>
+    requires in_step { IsInStep role.old links.old.items agenda.old }
+    requires next { IsNext line.old.key line.old.event links.old.items agenda.old out.old }
+    requires runs { CanRun (part role.old links.old.items) line.old.key.time line.old.event }
+    ensures ran { OnOk result (HasRun line.old.key (row (part role.old links.old.items) line.old.key line.old.event) role.new links.new.items agenda.old agenda.new out.old out.new) }
+    ensures acts { OnOk result (line.new.acts.acts ≡ line.old.acts.acts ++ (row (part role.old links.old.items) line.old.key line.old.event).acts) }
+    ensures leaving { IfOk result (λ index. index ≡ option_map (λ (leaving : Leaving). leaving.index) (row (part role.old links.old.items) line.old.key line.old.event).leaving) }
+    ensures same_event { IsSameEvent line.old.key line.new.key line.old.event line.new.event }
+    ensures same { OnErr result (IsAsBefore role.old role.new links.old.items links.new.items agenda.old agenda.new out.old out.new) }
+{
+    run_decided(role, links, agenda, line, out)
+}
+
+// The same where nearly always a segment has come to a receiver: only what that needs is in the program's function.
+#[inline(never)]
+fn run_data(
+    role: &mut Role,
+    links: &mut Vec<Link>,
+    agenda: &mut Agenda,
+    line: &mut Line,
+    out: &mut Outbox,
+) -> Result<Option<u16>, AllocError>
+    requires in_step { IsInStep role.old links.old.items agenda.old }
+    requires next { IsNext line.old.key line.old.event links.old.items agenda.old out.old }
+    requires runs { CanRun (part role.old links.old.items) line.old.key.time line.old.event }
+    ensures ran { OnOk result (HasRun line.old.key (row (part role.old links.old.items) line.old.key line.old.event) role.new links.new.items agenda.old agenda.new out.old out.new) }
+    ensures acts { OnOk result (line.new.acts.acts ≡ line.old.acts.acts ++ (row (part role.old links.old.items) line.old.key line.old.event).acts) }
+    ensures leaving { IfOk result (λ index. index ≡ option_map (λ (leaving : Leaving). leaving.index) (row (part role.old links.old.items) line.old.key line.old.event).leaving) }
+    ensures same_event { IsSameEvent line.old.key line.new.key line.old.event line.new.event }
+    ensures same { OnErr result (IsAsBefore role.old role.new links.old.items links.new.items agenda.old agenda.new out.old out.new) }
+{
+    if role.answers(&line.event) {
+        run_decided(role, links, agenda, line, out)
+    } else {
+        run_apart(role, links, agenda, line, out)
+    }
+}
+
+// The same where nearly always an acknowledgement has come to a sender.
+#[inline(never)]
+fn run_ack(
+    role: &mut Role,
+    links: &mut Vec<Link>,
+    agenda: &mut Agenda,
+    line: &mut Line,
+    out: &mut Outbox,
+) -> Result<Option<u16>, AllocError>
+    requires in_step { IsInStep role.old links.old.items agenda.old }
+    requires next { IsNext line.old.key line.old.event links.old.items agenda.old out.old }
+    requires runs { CanRun (part role.old links.old.items) line.old.key.time line.old.event }
+    ensures ran { OnOk result (HasRun line.old.key (row (part role.old links.old.items) line.old.key line.old.event) role.new links.new.items agenda.old agenda.new out.old out.new) }
+    ensures acts { OnOk result (line.new.acts.acts ≡ line.old.acts.acts ++ (row (part role.old links.old.items) line.old.key line.old.event).acts) }
+    ensures leaving { IfOk result (λ index. index ≡ option_map (λ (leaving : Leaving). leaving.index) (row (part role.old links.old.items) line.old.key line.old.event).leaving) }
+    ensures same_event { IsSameEvent line.old.key line.new.key line.old.event line.new.event }
+    ensures same { OnErr result (IsAsBefore role.old role.new links.old.items links.new.items agenda.old agenda.new out.old out.new) }
+{
+    if role.is_answered(&line.event) {
+        run_decided(role, links, agenda, line, out)
+    } else {
+        run_apart(role, links, agenda, line, out)
+    }
 }
 
 /// Runs a line's event, which is the least: first all memory is taken, then the event is done.
@@ -138,10 +211,13 @@ pub(crate) fn run(
         Event::Free(_) => run_free(role, links, agenda, line, out),
         Event::Arrive(packet) => match role.route(packet) {
             Some(index) => run_through(role, index, links, agenda, line, out),
-            None => run_decided(role, links, agenda, line, out),
+            None => match packet.kind {
+                Kind::Data => run_data(role, links, agenda, line, out),
+                Kind::Ack => run_ack(role, links, agenda, line, out),
+            },
         },
         Event::Start(_) | Event::Rto(_) | Event::DelAck(_) => {
-            run_decided(role, links, agenda, line, out)
+            run_apart(role, links, agenda, line, out)
         }
     }
 }

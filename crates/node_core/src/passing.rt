@@ -103,6 +103,7 @@ fn in_cell(last: Option<Packet>, arrived: Option<PacketCell>) -> Option<PacketCe
 }
 
 /// The packets of a flow's end are offered to its link, and its timer moves.
+#[inline(always)]
 pub(crate) fn send(
     sending: Sending,
     links: &mut Vec<Link>,

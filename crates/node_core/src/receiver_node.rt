@@ -26,6 +26,7 @@ fn answer(flow: u16, reply: Reply) -> Option<Packet>
 }
 
 /// A segment has come: its cell takes the acknowledgement, if there is one now.
+#[inline(always)]
 pub(crate) fn answer_data(
     origin: Origin,
     receiver: &mut Receiver,

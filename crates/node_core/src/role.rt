@@ -1,9 +1,10 @@
 //! What a node does.
 ghost use Rattle.std.specs.Prelude.{◌≡◌, IfOk};
 
+use crate::event::Event;
 use crate::line::After;
 use crate::routes::RouteTable;
-use packet_chain::Packet;
+use packet_chain::{Kind, Packet};
 use reno_receiver::Receiver;
 use reno_sender::{Sender, SenderFields};
 use sim_time::RENO;
@@ -67,6 +68,30 @@ impl Role {
         match self {
             Role::Routes(table) => table.exit(packet),
             Role::Sends(_, _) | Role::Receives(_, _) => None,
+        }
+    }
+
+    /// Whether the event is a segment that comes to a receiver.
+    #[inline(always)]
+    pub(crate) fn answers(&self, event: &Event) -> bool {
+        match event {
+            Event::Arrive(packet) => match self {
+                Role::Receives(_, _) => packet.kind == Kind::Data,
+                Role::Sends(_, _) | Role::Routes(_) => false,
+            },
+            _ => false,
+        }
+    }
+
+    /// Whether the event is an acknowledgement that comes to a sender.
+    #[inline(always)]
+    pub(crate) fn is_answered(&self, event: &Event) -> bool {
+        match event {
+            Event::Arrive(packet) => match self {
+                Role::Sends(_, _) => packet.kind == Kind::Ack,
+                Role::Receives(_, _) | Role::Routes(_) => false,
+            },
+            _ => false,
         }
     }
 

@@ -118,6 +118,7 @@ fn send_run(
 }
 
 /// An acknowledgement has come: the last segment that it lets go takes its cell.
+#[inline(always)]
 pub(crate) fn send_for_ack(
     origin: Origin,
     sender: &mut Sender,
