@@ -102,11 +102,12 @@ impl Wire {
     {
         match self.under_way.front() {
             Some((packet, time)) => {
+                let number = self.taken + 1;
                 *key = Key {
                     time,
                     node: self.node,
                     source: self.link + 1,
-                    number: self.taken + 1,
+                    number,
                 };
                 *event = Event::Arrive(packet);
             }
