@@ -165,7 +165,7 @@ fn run_data(
     }
 }
 
-// The same where nearly always an acknowledgement has come to a sender.
+// The same where nearly always a new acknowledgement has come to a sender, which needs no plan.
 #[inline(never)]
 fn run_ack(
     role: &mut Role,

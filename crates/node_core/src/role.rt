@@ -83,12 +83,15 @@ impl Role {
         }
     }
 
-    /// Whether the event is an acknowledgement that comes to a sender.
+    /// Whether the event is a new acknowledgement that comes to a sender outside of recovery.
     #[inline(always)]
     pub(crate) fn is_answered(&self, event: &Event) -> bool {
         match event {
             Event::Arrive(packet) => match self {
-                Role::Sends(_, _) => packet.kind == Kind::Ack,
+                Role::Sends(_, sender) => {
+                    let fields = sender.as_fields();
+                    packet.kind == Kind::Ack && packet.number > fields.una && !fields.recovery
+                }
                 Role::Receives(_, _) | Role::Routes(_) => false,
             },
             _ => false,

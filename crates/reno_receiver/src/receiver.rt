@@ -78,6 +78,7 @@ impl Receiver {
 
     /// Takes a segment that comes at a moment, and says what it is answered with. Memory is
     /// wanted only for a number that is above the next one and new.
+    #[inline(always)]
     pub fn on_data(&mut self, seq: u64, now: Time) -> Result<Reply, AllocError>
         requires multiple { seq % self.old.mss ≡ 0 }
         requires greatest { seq ≤ 9000000000000 }

@@ -39,6 +39,7 @@ fn newly_timed(fields: &SenderFields, end: u64, now: Time) -> Option<Timing>
 }
 
 /// The timed segment after `count` segments from `nxt` on are sent.
+#[inline(always)]
 fn timing_after_run(fields: &SenderFields, count: u64, now: Time) -> Option<Timing>
     requires sound { IsSound fields.now }
     requires in_total { fields.now.nxt + count * fields.now.mss ≤ total fields.now }
@@ -49,6 +50,7 @@ fn timing_after_run(fields: &SenderFields, count: u64, now: Time) -> Option<Timi
 }
 
 /// The timer after `count` segments are sent: where it was off, it starts (RFC 6298 section 5.1).
+#[inline(always)]
 fn deadline_after_run(fields: &SenderFields, count: u64, now: Time) -> Option<Time>
     requires sound { IsSound fields.now }
     requires moment { IsMoment now }

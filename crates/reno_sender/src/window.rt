@@ -28,6 +28,7 @@ pub(crate) fn halved(flight: u64, mss: u64) -> u64
 
 /// The window after a new acknowledgement of so many bytes: the end of fast recovery, slow
 /// start, or congestion avoidance.
+#[inline(always)]
 pub(crate) fn window_after(fields: &SenderFields, bytes: u64) -> u64
     requires { IsSound fields.now }
     ensures { result ≡ window_after fields.now bytes }
