@@ -57,6 +57,10 @@ impl Held {
         requires { count ≤ length self.old }
         ensures { self.new ≡ drop count self.old }
     {
+        // Mostly nothing is held.
+        if count == 0 {
+            return;
+        }
         self.taken += count;
         if self.numbers.len() - self.taken <= self.taken {
             self.close_up();
