@@ -1,60 +1,63 @@
 //! Whole sessions over memory. Runs, refusals and words that compare bytes alone are tried on the built
-//! program: scripts/test_whole.py and scripts/try_shell.sh.
+//! program: scripts/test_whole.py, scripts/test_bounds.py, scripts/test_prompt.py and scripts/try_shell.sh.
 
 mod broken;
 mod calls;
-mod ends;
-mod files;
+mod folder;
 mod groups;
-mod networks;
-mod prompt;
+mod taker;
+mod texts;
 mod workers;
 
-use engine_trials::hands::AllHands;
+use sessions::outcome::Outcome;
 use sessions::session::run_with;
-use sessions::source::OverRead;
+use sessions::source::{OverRead, Source};
 use std::process::Abort;
 use std::sync::Wait;
-use std::test::Fail;
 use std::thread::Threads;
-use window_engine::OverWrite;
+use window_engine::{Gate, OverWrite, Sink};
 
-const FIRST: &str = "sim 1000000000
-node s sender
-node r receiver
-link a s r 8000000 1000000 droptail 10
-link b r s 8000000 1000000 droptail 10
-flow f s r 1000 1 0 64000 0
-";
+/// A session with these words.
+fn ended<S: Source, W: Sink, G: Gate>(
+    rt: &(impl AllocGlobal + Threads + Wait + Sync),
+    reader: &mut S,
+    writer: &mut W,
+    words: &[&str],
+    gate: &G,
+) -> Outcome {
+    run_with(rt, reader, writer, words, gate)
+}
 
-const FIRST_TRACE: &str =
-    "1 0 0 0 0 start 0 una=0 nxt=1000 cwnd=4000 ssthresh=64000 phase=ss tx=0:0:0
-2 1040000 0 0 3 free 0 una=0 nxt=1000 cwnd=4000 ssthresh=64000 phase=ss
-3 2040000 1 1 1 data 0 0 next=1000 tx=1:0:1000
-4 2080000 1 0 3 free 1 next=1000
-5 3080000 0 2 1 ack 0 1000 una=1000 nxt=1000 cwnd=5000 ssthresh=64000 phase=ss
-end 5
-";
+/// What goes to standard error.
+fn note(rt: &(impl Abort + AllocGlobal), outcome: &Outcome) -> String {
+    match &outcome.note {
+        Some(note) => note.to_string(rt.alloc()).expect(rt, "a note"),
+        None => String::new(rt.alloc()),
+    }
+}
 
-/// A session with these words: it ends with this status, note and output.
-fn expect_words(
+/// A session ended with this status and this note.
+fn expect_end(rt: &(impl Abort + AllocGlobal), outcome: Outcome, status: u8, noted: &str) {
+    let note = note(rt, &outcome);
+    assert!(rt;
+        outcome.status == status && note.as_str() == noted,
+        "{}",
+        note
+    );
+    drop(outcome);
+}
+
+/// A session with these words is done. The answer is what it writes.
+fn written<G: Gate>(
     rt: &(impl Abort + AllocGlobal + Threads + Wait + Sync),
     words: &[&str],
     input: &[u8],
-    status: u8,
-    note: &str,
-    output: &[u8],
-) -> Result<(), Fail> {
+    gate: &G,
+) -> Vec<u8> {
     let mut out = Vec::new(rt.alloc());
-    let mut input = OverRead::new(input);
+    let mut reader = OverRead::new(input);
     let mut writer = OverWrite::new(&mut out);
-    let outcome = run_with(rt, &mut input, &mut writer, words, &AllHands);
-    assert_eq!(rt; outcome.status, status);
-    let shown = match &outcome.note {
-        Some(note) => note.to_string(rt.alloc())?,
-        None => String::new(rt.alloc()),
-    };
-    assert_eq!(rt; shown.as_str(), note);
-    assert_eq!(rt; out.as_slice(), output);
-    Ok(())
+    let outcome = ended(rt, &mut reader, &mut writer, words, gate);
+    expect_end(rt, outcome, 0, "");
+    out
 }

@@ -1,91 +1,46 @@
-//! What texts of groups mean.
+//! What texts of groups mean. Those that mean nothing are tried on the built program: scripts/test_whole.py.
 
 use sessions::groups::partition_of;
-use std::alloc::AllocError;
 use std::process::Abort;
+use window_core::Partition;
 
-/// A text has this meaning for so many nodes: the group of each, or none.
-fn expect(
-    rt: &(impl Abort + AllocGlobal),
-    text: &str,
-    nodes: usize,
-    entries: Option<&[u8]>,
-) -> Result<(), AllocError> {
+/// What a text means for so many nodes.
+fn meaning(rt: &(impl Abort + AllocGlobal), text: &str, nodes: usize) -> Partition {
     assert!(rt; 2 <= nodes && nodes <= 256);
-    let found = partition_of(rt.alloc(), text, nodes)?;
-    match (found, entries) {
-        (None, None) => {}
-        (Some(partition), Some(entries)) => {
-            assert_eq!(rt; partition.nodes(), entries.len());
-            for (node, entry) in entries.iter().enumerate() {
-                assert!(rt; node < partition.nodes());
-                assert_eq!(rt; partition.group(node), usize::from(*entry));
-            }
-        }
-        (_, _) => assert!(rt; false),
+    let found = partition_of(rt.alloc(), text, nodes).expect(rt, "memory");
+    found.expect(rt, "a partition")
+}
+
+/// The group of a node.
+fn group(rt: &impl Abort, partition: &Partition, node: usize) -> usize {
+    assert!(rt; node < partition.nodes());
+    partition.group(node)
+}
+
+/// A text means these groups, one a node.
+fn expect(rt: &(impl Abort + AllocGlobal), text: &str, groups: &[usize]) {
+    let partition = meaning(rt, text, groups.len());
+    assert_eq!(rt; partition.nodes(), groups.len());
+    for (node, wanted) in groups.iter().enumerate() {
+        assert!(rt; group(rt, &partition, node) == *wanted, "{text}");
     }
-    Ok(())
 }
 
 #[test]
-fn all_in_one_group(rt: HostRuntime) -> Result<(), AllocError> {
-    expect(&rt, "one", 2, Some(&[0, 0]))?;
-    expect(&rt, "one", 5, Some(&[0, 0, 0, 0, 0]))
+fn texts_mean_groups(rt: HostRuntime) {
+    expect(&rt, "one", &[0, 0]);
+    expect(&rt, "one", &[0, 0, 0, 0, 0]);
+    expect(&rt, "each", &[0, 1, 2]);
+    expect(&rt, "0,1", &[0, 1]);
+    expect(&rt, "63,0,10", &[63, 0, 10]);
+    expect(&rt, "7,7,7", &[7, 7, 7]);
 }
 
 #[test]
-fn each_in_its_own(rt: HostRuntime) -> Result<(), AllocError> {
-    expect(&rt, "each", 3, Some(&[0, 1, 2]))?;
-    let partition = partition_of(rt.alloc(), "each", 256)?;
-    let Some(partition) = partition else {
-        assert!(rt; false);
-        return Ok(());
-    };
-    assert!(rt; partition.nodes() == 256);
-    assert_eq!(rt; partition.group(63), 63);
-    assert_eq!(rt; partition.group(64), 0);
-    assert_eq!(rt; partition.group(255), 63);
-    Ok(())
-}
-
-#[test]
-fn lists(rt: HostRuntime) -> Result<(), AllocError> {
-    expect(&rt, "0,1", 2, Some(&[0, 1]))?;
-    expect(&rt, "63,0,10", 3, Some(&[63, 0, 10]))?;
-    expect(&rt, "7,7,7", 3, Some(&[7, 7, 7]))
-}
-
-/// Another length, numbers that are spelt otherwise or name no group, and what is no list.
-#[test]
-fn no_meaning(rt: HostRuntime) -> Result<(), AllocError> {
-    for text in [
-        "",
-        "0",
-        "0,1,2",
-        "00,1",
-        "0,01",
-        "64,0",
-        "0,256",
-        "0,18446744073709551616",
-        "1,",
-        ",1",
-        ",",
-        ",,",
-        "0,,1",
-        "+0,1",
-        "-0,1",
-        "0, 1",
-        " 0,1",
-        "0,1 ",
-        "0;1",
-        "a,b",
-        "ones",
-        "One",
-        "each,",
-        "one,one",
-        "0,1\n",
-    ] {
-        expect(&rt, text, 2, None)?;
+fn each_of_many_nodes_has_one_of_64_groups(rt: HostRuntime) {
+    let partition = meaning(&rt, "each", 256);
+    assert_eq!(rt; partition.nodes(), 256);
+    for (node, wanted) in [(63, 63), (64, 0), (255, 63)] {
+        assert_eq!(rt; group(&rt, &partition, node), wanted);
     }
-    Ok(())
 }

@@ -1,10 +1,10 @@
-//! A reader and a writer that break at one of their calls.
+//! A writer that breaks at one of its calls.
 
 use std::alloc::Global;
 use std::io;
-use std::io::{Read, Write};
+use std::io::Write;
 
-/// What a reader or a writer does at one of its calls.
+/// What a writer does at one of its calls.
 #[derive(Clone, Copy, Drop)]
 pub(super) enum Break {
     /// It answers an error of this kind.
@@ -36,8 +36,6 @@ pub(super) struct Taker {
     /// The call at which it breaks, counted from 1.
     broken_call: usize,
     broken: Break,
-    /// The most bytes that it was offered at once.
-    pub(super) greatest: usize,
 }
 
 impl Taker {
@@ -48,7 +46,6 @@ impl Taker {
             most,
             broken_call,
             broken,
-            greatest: 0,
         }
     }
 }
@@ -56,7 +53,6 @@ impl Taker {
 impl Write for Taker {
     fn write(&mut self, buf: &[u8]) -> io::Result<usize> {
         self.places.push(self.taken.len())?;
-        self.greatest = self.greatest.max(buf.len());
         let usual = buf.len().min(self.most);
         let count = if self.places.len() == self.broken_call {
             self.broken.answer(usual)?.min(usual)
@@ -69,43 +65,5 @@ impl Write for Taker {
 
     fn flush(&mut self) -> io::Result<()> {
         Ok(())
-    }
-}
-
-/// Gives so many bytes a call, and breaks at one call. Asked again, it would go on.
-#[derive(Drop)]
-pub(super) struct Giver<'a> {
-    rest: &'a [u8],
-    /// The most bytes of a call.
-    most: usize,
-    /// How often it was asked.
-    pub(super) calls: usize,
-    /// The call at which it breaks, counted from 1.
-    broken_call: usize,
-    broken: Break,
-}
-
-impl<'a> Giver<'a> {
-    pub(super) fn new(input: &'a str, most: usize, broken_call: usize, broken: Break) -> Giver<'a> {
-        Giver {
-            rest: input.as_bytes(),
-            most,
-            calls: 0,
-            broken_call,
-            broken,
-        }
-    }
-}
-
-impl Read for Giver<'_> {
-    fn read(&mut self, buf: &mut [u8]) -> io::Result<usize> {
-        self.calls = self.calls.wrapping_add(1);
-        if self.calls == self.broken_call {
-            self.broken.answer(0)?;
-        }
-        let count = self.rest.len().min(self.most).min(buf.len());
-        buf[..count].copy_from_slice(&self.rest[..count]);
-        self.rest = &self.rest[count..];
-        Ok(count)
     }
 }
