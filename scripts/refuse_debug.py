@@ -8,16 +8,19 @@ byte is a failure. With one worker
 each request is refused once. With more the order of requests is not fixed, so each number up to twice
 the count of a whole run is tried once.
 
-Without a session it tries three of them, without options, by one worker and by two. It says how often
-each answer came, and runs as many at once as there are processors, or as JOBS says. It wants a C
+Without a session it tries three of them and one that is typed at a prompt, without options, by one worker
+and by two. What is typed and refused is noted behind the line's prompt. It says how often each answer came, and runs as many at once as there are processors, or as JOBS says. It wants a C
 compiler, `cc`, and goes after `make run`. Usage: scripts/refuse_debug.py [SESSION [OPTION..]]
 """
 import collections, concurrent.futures, os, subprocess, sys, tempfile
 top = os.path.dirname(os.path.dirname(os.path.abspath(__file__)))
 sys.path.insert(0, os.path.join(top, 'scripts', 'model'))
+import prompt  # noqa: E402
 import tcpsim_model  # noqa: E402
 program = os.path.join(top, 'crates/tcpsim/out/tcpsim')
 COMMANDS = b'break kind data\nrun\nrun\nback 1\nuntil 2040000\nbak 1\n'
+TYPED = b'break stall\nrun\nwhy 0\nrun\nbreak drop\nreverse\nreverse\nuntil 2s\nlines 3\nstate flow 0\nreverse\n'
+PROMPT = b'(tcpsim) '
 OPTIONS = ([], ['--groups', 'each', '--workers', '1'], ['--groups', 'each', '--workers', '2'])
 # The program ends by `_exit`, which runs no destructor: so requests are counted there.
 COUNT = '''#include "refuse.c"
@@ -44,10 +47,10 @@ def read(*path):
         return file.read()
 
 
-def run(text, commands, options, **more):
+def run(words, given, **more):
     try:
-        done = subprocess.run([program, 'debug'] + options, input=text + b'---\n' + commands, capture_output=True,
-                              env=dict(os.environ, **more), timeout=10)
+        done = subprocess.run([program, 'debug'] + words, input=given, capture_output=True, env=dict(os.environ, **more),
+                              timeout=10)
     except subprocess.TimeoutExpired:
         raise Failed('it takes longer than 10 seconds')
     return done.returncode, done.stdout, done.stderr
@@ -88,28 +91,56 @@ class Session:
             self.known[refused] = b''.join(REFUSED if at in refused else it for at, it in enumerate(answers))
         return self.known[refused]
 
+    def run(self, **more):
+        return run(self.options, self.text + b'---\n' + b''.join(self.commands), **more)
+
+    def refused(self, out, note):
+        """The places of the commands that were refused memory; nothing where it is no session's output."""
+        answers = answers_of(out)
+        if note or len(answers) != len(self.commands):
+            return None
+        return tuple(at for at, answer in enumerate(answers) if answer == REFUSED)
+
     def requests(self, library, work):
         """How many requests a run makes in which none is refused."""
         path = os.path.join(work, 'requests')
-        status, out, note = run(self.text, b''.join(self.commands), self.options, REQUESTS=path, LD_PRELOAD=library)
-        if (status, out, note) != (0, self.whole, b''):
+        status, out, note = self.run(REQUESTS=path, LD_PRELOAD=library)
+        if (status, out, self.refused(out, note)) != (0, self.whole, ()):
             raise Failed(f'with no request refused: status {status}, {note!r}, or another output')
         return int(read(path))
 
     def answer(self, request, library):
         """What comes where a request is refused."""
-        status, out, note = run(self.text, b''.join(self.commands), self.options, REFUSE=str(request),
-                                LD_PRELOAD=library)
+        status, out, note = self.run(REFUSE=str(request), LD_PRELOAD=library)
         said = f'request {request}: status {status}, {note!r}\n{out.decode(errors="replace")}'
         if (status, out, note) == (4, b'', b'no memory\n'):
             return 'no memory'
-        if (status, note) != (0, b''):
-            raise Failed(said)
-        answers = answers_of(out)
-        refused = tuple(at for at, answer in enumerate(answers) if answer == REFUSED)
-        if len(answers) != len(self.commands) or out != self.without(refused):
+        refused = self.refused(out, note)
+        if status or refused is None or out != self.without(refused):
             raise Failed(said)
         return 'refused: ' + ', '.join(self.commands[at].decode().strip() for at in refused) if refused else 'as always'
+
+
+class Typed(Session):
+    """A session over a scenario's file, whose lines are typed. None is empty: a move that is refused would be done again."""
+
+    def __init__(self, path, lines, options):
+        self.path = path
+        super().__init__(read(path), lines, options)
+
+    def without(self, refused):
+        session = prompt.Prompt(tcpsim_model.read(self.text))
+        lines = [line for at, line in enumerate(self.commands) if at not in refused]
+        return ''.join(session.answer(line.rstrip(b'\n')) for line in lines).encode()
+
+    def run(self, **more):
+        return run(self.options + [os.path.join(top, self.path)], b''.join(self.commands), **more)
+
+    def refused(self, out, note):
+        begin, *notes, end = note.split(PROMPT)
+        if begin or end or len(notes) != len(self.commands) or set(notes) - {b'', REFUSED}:
+            return None
+        return tuple(at for at, it in enumerate(notes) if it == REFUSED)
 
 
 def tried(name, session, refuse, count, work, pool):
@@ -127,14 +158,16 @@ def tried(name, session, refuse, count, work, pool):
 
 def sessions():
     if len(sys.argv) > 1:
-        yield sys.argv[1], *read(os.path.abspath(sys.argv[1])).split(b'---\n', 1), sys.argv[2:]
+        yield sys.argv[1], Session(*read(os.path.abspath(sys.argv[1])).split(b'---\n', 1), sys.argv[2:])
         return
     texts = [('one_segment', COMMANDS)]
     for hunt in ('two_timeouts_in_a_row', 'codel_enters_drop_state'):
         texts.append((hunt, read('examples', hunt + '.commands')))
     for name, commands in texts:
         for options in OPTIONS:
-            yield name, read('examples', name + '.txt'), commands, options
+            yield name, Session(read('examples', name + '.txt'), commands, options)
+    for options in OPTIONS:
+        yield 'lines that are typed', Typed('examples/two_timeouts_in_a_row.txt', TYPED, options)
 
 
 def main():
@@ -147,12 +180,12 @@ def main():
         for it, library in ((os.path.join(top, 'scripts/refuse.c'), refuse), (source, count)):
             subprocess.run(['cc', '-O1', '-shared', '-fPIC', '-I', os.path.join(top, 'scripts'), it, '-o', library,
                             '-ldl'], check=True)
-        for name, text, commands, options in sessions():
+        for name, session in sessions():
             try:
-                tried(name, Session(text, commands, options), refuse, count, work, pool)
+                tried(name, session, refuse, count, work, pool)
             except Failed as why:
                 pool.shutdown(cancel_futures=True)
-                print(f'FAILED: {" ".join(["debug"] + options)} of {name}: {why}')
+                print(f'FAILED: {" ".join(["debug"] + session.options)} of {name}: {why}')
                 sys.exit(1)
 
 
