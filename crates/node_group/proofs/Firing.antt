@@ -38,7 +38,7 @@ use Rattle.window_law.specs.Windows.{setting_of}
 use Rattle.window_law.specs.Calls.{IsOpenFrom}
 use Rattle.node_group.specs.Group.{GroupValue, state_of, member, IsGroup, IsOnRun, AfterFirings}
 use Rattle.window_law.proofs.Calls.{fire_keeps}
-use Rattle.window_law.proofs.Sent.{home_at}
+use Rattle.table_run.proofs.AtHome.{home_at}
 use Rattle.node_group.proofs.Made.{own_all, others_none, own_both, others_both}
 use Rattle.node_group.proofs.DueHere.{in_run, comes, effect_is, part_links, ready, stay, leaves}
 use Rattle.node_group.proofs.AfterEvent.{same_coming}

@@ -6,6 +6,7 @@ pub mod Changes
 pub mod Links
 pub mod Moved
 pub mod Rows
+pub mod AtHome
 pub mod KeptEvents
 pub mod KeptAlarms
 pub mod KeptNodes
