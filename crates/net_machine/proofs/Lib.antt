@@ -3,6 +3,7 @@ pub mod First
 pub mod Home
 pub mod Wired
 pub mod Steps
+pub mod NetEvent
 pub mod Counting
 pub mod Opened
 pub mod OpenedWires

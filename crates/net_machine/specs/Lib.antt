@@ -3,3 +3,4 @@ pub mod Nodes
 pub mod Wiring
 pub mod Codes
 pub mod NetOf
+pub mod Region

@@ -5,8 +5,10 @@ pub mod net;
 pub mod nodes;
 mod opening;
 pub mod places;
+pub mod region;
 
 pub use net::parts::{NetParts, Spare};
 pub use net::{Net, StepFault};
 pub use nodes::Nodes;
 pub use places::{LinkEnds, Place};
+pub use region::{Region, run_event};

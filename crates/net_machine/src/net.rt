@@ -13,6 +13,7 @@ use self::parts::{NetParts, Spare};
 use crate::nodes::Nodes;
 use crate::opening::{ends_of, nodes_of};
 use crate::places::LinkEnds;
+use crate::region::run_event;
 use node_core::{After, Event, Line, Node, Outbox};
 use port::Acts;
 use scenario_image::Scenario;
@@ -161,23 +162,9 @@ impl Net {
         ensures err { OnErr result (self.new ≡ self.old) }
     {
         let place = usize::from(node);
-        match self.nodes.fire_into(place, &mut self.out, line) {
-            Ok(Some(index)) => {
-                let index = usize::from(index);
-                let link = self.nodes.link_number(place, index);
-                let end = self.ends[usize::from(link)].to;
-                let chain = self.out.chain(index);
-                self.nodes
-                    .deliver(usize::from(end.node), usize::from(end.index), chain);
-                self.position += 1;
-                Ok(())
-            }
-            Ok(None) => {
-                self.position += 1;
-                Ok(())
-            }
-            Err(fault) => Err(fault),
-        }
+        run_event(&mut self.nodes, &mut self.out, &self.ends, place, line)?;
+        self.position += 1;
+        Ok(())
     }
 
     /// Runs the event of the least key below the end, where there is one, and tells of it in

@@ -3,27 +3,27 @@ use Rattle.std.proofs.Common.{◌≡◌, ◌≢◌, ℕ, ◌+◌, ◌<◌, false
 use Rattle.std.proofs.lemmas.Bool.{cases_eq, eqb-false}
 use Rattle.std.proofs.lemmas.List.{get_or-set_same, get_or-set_other, length-set}
 use Rattle.std.proofs.Math.Seq.{map-set_same}
-use Rattle.packet_chain.specs.Stamped.{Stamped}
+use Rattle.sim_time.specs.declared.key.Key.{Key}
 use Rattle.ranking.specs.Keyed.{apply, entering}
 use Rattle.node_core.specs.Pending.{Change}
 use Rattle.node_core.specs.AgendaState.{Incoming, incoming_at}
 use Rattle.node_core.specs.Part.{LinkState, link_at}
-use Rattle.node_core.specs.TraceLine.{TraceLine}
+use Rattle.node_core.specs.declared.event.Event.{Event}
+use Rattle.node_core.specs.Row.{Leaving}
 use Rattle.node_core.specs.WireState.{WireState, arrivals, came_over}
 use Rattle.net_machine.specs.Nodes.{node_at, net_pending}
 use Rattle.net_machine.specs.Wiring.{place_at}
-use Rattle.node_group.specs.Seats.{Seats}
 use Rattle.node_group.specs.Held.{no_wire, wire_at, held_on}
 use Rattle.window_law.specs.Groups.{own_of, others_of}
 use Rattle.node_group.specs.Passing.{is_seated, Waits}
-use Rattle.node_group.specs.Group.{GroupValue, bare, group_to, member, exit_at}
+use Rattle.node_group.specs.Group.{GroupValue, bare, group_to, member, exit_at, IsFiring}
 use Rattle.node_group.proofs.Made.{own_none, others_all}
 use Rattle.node_group.proofs.GroupKept.{IsBalanced, kept}
-use Rattle.node_group.proofs.Firing.{IsFiring, parts_ns, fires_by, on_run_new, one_firing}
-use Rattle.node_group.proofs.EventRun.{HasRun, next, ns, away, group, links_stay, count_stays, comes_same, came_same, counted, fits_more}
+use Rattle.node_group.proofs.Firing.{parts_ns, fires_by, on_run_new, one_firing}
+use Rattle.node_group.proofs.EventRun.{HasRun, next, ran, ns, told, placed, seats_stay, away, group, links_stay, count_stays, comes_same, came_same, counted, fits_more}
 use Rattle.node_group.proofs.SentOn.{IsSending, exit, link, its, sent_here, sent_else, packets, away_is, seat_there, apart, which}
 
-module _ {g : GroupValue} {end place : ℕ} {seats : Seats} {out after : List (List Stamped)} {line : TraceLine} {e : HasRun g end place seats out after line} {index : ℕ} (s : IsSending e index) (off : is_seated seats (place_at g.links (link s)).node ≡ false) (held : List WireState) (waits : Waits g.held held (link s) (packets s)) where
+module _ {g : GroupValue} {end place : ℕ} {k : Key} {v : Event} {e : HasRun g end place k v} {l : Leaving} (s : IsSending e l) (off : is_seated (ran e) (place_at g.links (link s)).node ≡ false) (held : List WireState) (waits : Waits g.held held (link s) (packets s)) where
   other_group : group_to g (link s) ≢ g.number
   other_group = eqb-false (group_to g (link s)) g.number (sym (seat_there s) ∙ off)
 
@@ -65,19 +65,19 @@ module _ {g : GroupValue} {end place : ℕ} {seats : Seats} {out after : List (L
       (λ (different : other ≢ (link s)). subst (P (wire_at g.held other)) (sym (wire_else other different)) (there (wire_at g.held other)))
       (cases_eq other (link s))
 
-  balanced_waits : (i j : ℕ) → j < length (member g i).part.links → IsBalanced g e.is seats held (g.lines ++ line ∷ []) i j
+  balanced_waits : (i j : ℕ) → j < length (member g i).part.links → IsBalanced g e.is (ran e) held (g.lines ++ told e ∷ []) i j
   balanced_waits i j under =
       ⊎_elim
-      (λ (this : (i ≡ place) × (j ≡ index)).
+      (λ (this : (i ≡ place) × (j ≡ l.index)).
       let at : exit_at g i j ≡ (exit s) = λ t. exit_at g (this.0 t) (this.1 t) in
-      let number : (exit_at g i j).port.link ≡ (link s) = ap (λ (l : LinkState). l.port.link) at in
+      let number : (exit_at g i j).port.link ≡ (link s) = ap (λ (x : LinkState). x.port.link) at in
       let sent : (link_at (node_at (ns e) i).part.links j).port.sent ≡ (exit s).port.sent + 1 = (λ t. (link_at (node_at (ns e) (this.0 t)).part.links (this.1 t)).port.sent) ∙ (sent_here s) in
-      let more : came_over longer ≡ came_over wire + 1 = (let l = length-append wire.under_way (packets s) in omega (arith, l)) in
+      let more : came_over longer ≡ came_over wire + 1 = (let more = length-append wire.under_way (packets s) in omega (arith, more)) in
       record {
         inside = λ its_own. absurd (other_group (ap (group_to g) (sym number) ∙ its_own));
         across = λ _. ap (λ n. came_over (wire_at held n)) number ∙ ap came_over wire_here ∙ more ∙ ap (λ n. n + 1) ((its s).across other_group) ∙ sym sent;
       })
-      (λ (other : (i ≡ place) × (j ≡ index) → ⊥).
+      (λ (other : (i ≡ place) × (j ≡ l.index) → ⊥).
       let old = e.is.exits i j under in
       let sent : (link_at (node_at (ns e) i).part.links j).port.sent ≡ (exit_at g i j).port.sent = (sent_else s) i j other in
       record {
@@ -89,12 +89,12 @@ module _ {g : GroupValue} {end place : ℕ} {seats : Seats} {out after : List (L
   many_wires : length held ≡ length g.held
   many_wires = ap length waits.wires ∙ length-set g.held (link s) longer
 
-  pub ends_across : IsFiring g end (next e seats held)
+  pub ends_across : IsFiring end g (next e (ran e) held)
   ends_across = record {
-    fires = fires_by g e.is e.on end e.below place e.first seats out after line e.has e.others e.early seats held (parts_ns g e.is e.on end e.below place e.first seats out after line e.has e.others e.early) pending_same waits_more end e.early;
-    is_group = kept g e.is seats held (g.lines ++ line ∷ []) record {
-      same_seats = e.same_seats;
-      placed = e.placed;
+    fires = fires_by g e.is e.on end e.below place e.first k v e.here e.early (ran e) held (parts_ns g e.is e.on end e.below place e.first k v e.here e.early) pending_same waits_more end e.early;
+    is_group = kept g e.is (ran e) held (g.lines ++ told e ∷ []) record {
+      same_seats = seats_stay e;
+      placed = placed e;
       count = (count_stays e);
       same = (links_stay e);
       balanced = balanced_waits;
@@ -108,12 +108,12 @@ module _ {g : GroupValue} {end place : ℕ} {seats : Seats} {out after : List (L
       there = at_wire (λ (v w : WireState). w.node ≡ v.node) refl (λ w. refl);
       fits = (fits_more e);
     };
-    on_run = on_run_new g e.is e.on end e.below place e.first seats out after line e.has e.others e.early seats held (parts_ns g e.is e.on end e.below place e.first seats out after line e.has e.others e.early) pending_same waits_more;
+    on_run = on_run_new g e.is e.on end e.below place e.first k v e.here e.early (ran e) held (parts_ns g e.is e.on end e.below place e.first k v e.here e.early) pending_same waits_more;
     after = record {
       times = 1;
-      state = one_firing g e.is e.on end e.below place e.first seats out after line e.has e.others e.early seats held (parts_ns g e.is e.on end e.below place e.first seats out after line e.has e.others e.early) pending_same waits_more;
+      state = one_firing g e.is e.on end e.below place e.first k v e.here e.early (ran e) held (parts_ns g e.is e.on end e.below place e.first k v e.here e.early) pending_same waits_more;
       rest = refl;
-      seats_stay = e.same_seats;
+      seats_stay = seats_stay e;
       from_others = λ other under apart_from. (came_same e) other;
       wires_stay = ap (map bare) waits.wires ∙ map-set_same bare g.held (link s) longer no_wire refl;
     };

@@ -1,14 +1,15 @@
 -- An event of a group: what it leaves as it was, and how it ends where nothing leaves the node.
 use Rattle.std.proofs.Common.{◌≡◌, ◌≢◌, ℕ, ◌+◌, ◌<◌, ◌≤◌, List, [], ◌∷◌, ◌++◌, length, set, refl, sym, ap, subst, ◌∙◌, Some, None, Option, arith, length-append}
-use Rattle.packet_chain.specs.Stamped.{Stamped}
-use Rattle.ranking.specs.Keyed.{apply}
+use Rattle.sim_time.specs.declared.key.Key.{Key}
+use Rattle.ranking.specs.Keyed.{apply, least}
 use Rattle.ranking.proofs.Maps.{not_some}
+use Rattle.node_core.specs.declared.event.Event.{Event}
 use Rattle.node_core.specs.Pending.{Change}
 use Rattle.node_core.specs.AgendaState.{Incoming, incoming_at}
 use Rattle.node_core.specs.Part.{link_at}
 use Rattle.node_core.specs.Row.{Leaving, sent_away}
 use Rattle.node_core.specs.TraceLine.{TraceLine}
-use Rattle.node_core.specs.Node.{NodeState, HasFired}
+use Rattle.node_core.specs.Node.{NodeState}
 use Rattle.node_core.specs.WireState.{WireState}
 use Rattle.table_run.proofs.Ready.{IsSameLink}
 use Rattle.net_machine.specs.Nodes.{node_at, net_pending, IsPlaced, IsFirst}
@@ -17,52 +18,60 @@ use Rattle.net_partition.specs.Partition.{group_in}
 use Rattle.node_group.specs.Seats.{Seats, seated, taken}
 use Rattle.node_group.specs.Held.{held_on}
 use Rattle.window_law.specs.Groups.{own_of, others_of}
-use Rattle.node_group.specs.Group.{GroupValue, member, exit_at, came_in, IsGroup, IsOnRun}
+use Rattle.node_group.specs.Group.{GroupValue, member, exit_at, came_in, IsGroup, IsOnRun, IsFiring}
 use Rattle.node_group.proofs.DueHere.{in_run}
 use Rattle.node_group.proofs.AfterEvent.{same_link, same_count, same_sent}
 use Rattle.node_group.proofs.GroupKept.{kept}
 use Rattle.node_group.proofs.Come.{came_at, AreCounted}
-use Rattle.node_group.proofs.Firing.{IsFiring, is_due, own_place, eff, links_ns, incoming_ns, parts_ns, coming_ns, came_ns, counted_ns, new, fires_by, on_run_new, one_firing}
+use Rattle.node_group.proofs.Firing.{is_due, own_place, eff, line, seats, others, placed_ns, same_seats, links_ns, incoming_ns, parts_ns, coming_ns, came_ns, counted_ns, new, fires_by, on_run_new, one_firing}
 use Rattle.node_core.specs.Row.{Effect}
 use Rattle.window_law.specs.Calls.{IsDueInRun}
 use Rattle.node_group.specs.Group.{state_of}
 
--- an event of a group was run at one of its nodes, below a moment, and told in a line
-pub record HasRun (g : GroupValue) (end place : ℕ) (seats : Seats) (out after : List (List Stamped)) (line : TraceLine) : Type 0 where
+-- the least event of a group's node, which is below a moment, can be run
+pub record HasRun (g : GroupValue) (end place : ℕ) (k : Key) (v : Event) : Type 0 where
   pub is : IsGroup g
   pub on : IsOnRun g
   pub below : end ≤ g.until
   pub first : IsFirst (seated g.seats) place
-  pub has : HasFired (member g place) (node_at (seated seats) place) out after line
-  pub others : seated seats ≡ set (seated g.seats) place (node_at (seated seats) place)
-  pub early : line.key.time < end
-  pub placed : IsPlaced (seated seats)
-  pub same_seats : taken seats ≡ taken g.seats
+  pub here : least (member g place).pending ≡ Some (k, v)
+  pub early : k.time < end
   pub fits : g.position + length g.lines < 1000000000000000
 
-pub has_run : (g : GroupValue) → IsGroup g → IsOnRun g → (end : ℕ) → end ≤ g.until → (place : ℕ) → IsFirst (seated g.seats) place → (seats : Seats) (out after : List (List Stamped)) (line : TraceLine) → HasFired (member g place) (node_at (seated seats) place) out after line
-    → seated seats ≡ set (seated g.seats) place (node_at (seated seats) place) → line.key.time < end → IsPlaced (seated seats) → taken seats ≡ taken g.seats → g.position + length g.lines < 1000000000000000 → HasRun g end place seats out after line
-has_run g is on end below place first seats out after line has others early placed same_seats fits =
-    record { is = is; on = on; below = below; first = first; has = has; others = others; early = early; placed = placed; same_seats = same_seats; fits = fits }
-
-module _ {g : GroupValue} {end place : ℕ} {seats : Seats} {out after : List (List Stamped)} {line : TraceLine} (e : HasRun g end place seats out after line) where
+module _ {g : GroupValue} {end place : ℕ} {k : Key} {v : Event} (e : HasRun g end place k v) where
   -- what the event does
   abbrev pub effect : Effect
-  effect = eff g e.is e.on end e.below place e.first seats out after line e.has e.others e.early
+  effect = eff g e.is e.on end e.below place e.first k v e.here e.early
 
   -- the state of the run at which it is due
-  abbrev pub due_here : IsDueInRun e.on.edge g.until (group_in g.entries) g.number (state_of g) line.key line.event
-  due_here = in_run g e.on line.key line.event (is_due g e.is e.on end e.below place e.first line.key line.event e.has.is_least e.early)
+  abbrev pub due_here : IsDueInRun e.on.edge g.until (group_in g.entries) g.number (state_of g) k v
+  due_here = in_run g e.on k v (is_due g e.is e.on end e.below place e.first k v e.here e.early)
 
   -- the group afterwards, with these nodes, and this held back
   abbrev pub next : Seats → List WireState → GroupValue
-  next last held = new g e.is e.on end e.below place e.first seats out after line e.has e.others e.early last held
+  next last held = new g e.is e.on end e.below place e.first k v e.here e.early last held
 
   abbrev pub nodes : List NodeState
   nodes = seated g.seats
 
+  -- its nodes once it has run, and the line that tells of it
+  abbrev pub ran : Seats
+  ran = seats g e.is e.on end e.below place e.first k v e.here e.early
+
   abbrev pub ns : List NodeState
-  ns = seated seats
+  ns = seated ran
+
+  abbrev pub told : TraceLine
+  told = line g e.is e.on end e.below place e.first k v e.here e.early
+
+  pub placed : IsPlaced ns
+  placed = placed_ns g e.is e.on end e.below place e.first k v e.here e.early
+
+  pub seats_stay : taken ran ≡ taken g.seats
+  seats_stay = same_seats g e.is e.on end e.below place e.first k v e.here e.early
+
+  pub others_stay : ns ≡ set nodes place (node_at ns place)
+  others_stay = others g e.is e.on end e.below place e.first k v e.here e.early
 
   abbrev pub left : Option Leaving
   left = effect.leaving
@@ -74,28 +83,28 @@ module _ {g : GroupValue} {end place : ℕ} {seats : Seats} {out after : List (L
   group = group_in g.entries
 
   pub links_stay : (i j : ℕ) → IsSameLink (exit_at g i j) (link_at (node_at ns i).part.links j)
-  links_stay = same_link nodes ns place e.first.within e.others (incoming_ns g e.is e.on end e.below place e.first seats out after line e.has e.others e.early) left (links_ns g e.is e.on end e.below place e.first seats out after line e.has e.others e.early)
+  links_stay = same_link nodes ns place e.first.within others_stay (incoming_ns g e.is e.on end e.below place e.first k v e.here e.early) left (links_ns g e.is e.on end e.below place e.first k v e.here e.early)
 
   pub count_stays : (i : ℕ) → length (node_at ns i).part.links ≡ length (member g i).part.links
-  count_stays = same_count nodes ns place e.first.within e.others (incoming_ns g e.is e.on end e.below place e.first seats out after line e.has e.others e.early) left (links_ns g e.is e.on end e.below place e.first seats out after line e.has e.others e.early)
+  count_stays = same_count nodes ns place e.first.within others_stay (incoming_ns g e.is e.on end e.below place e.first k v e.here e.early) left (links_ns g e.is e.on end e.below place e.first k v e.here e.early)
 
   pub sent_stays : (i j : ℕ) → ((l : Leaving) → left ≡ Some l → i ≡ place → j ≢ l.index) → (link_at (node_at ns i).part.links j).port.sent ≡ (exit_at g i j).port.sent
-  sent_stays = same_sent nodes ns place e.first.within e.others (incoming_ns g e.is e.on end e.below place e.first seats out after line e.has e.others e.early) left (links_ns g e.is e.on end e.below place e.first seats out after line e.has e.others e.early)
+  sent_stays = same_sent nodes ns place e.first.within others_stay (incoming_ns g e.is e.on end e.below place e.first k v e.here e.early) left (links_ns g e.is e.on end e.below place e.first k v e.here e.early)
 
   pub comes_same : (i : ℕ) → (node_at ns i).incoming ≡ (member g i).incoming
-  comes_same = coming_ns g e.is e.on end e.below place e.first seats out after line e.has e.others e.early
+  comes_same = coming_ns g e.is e.on end e.below place e.first k v e.here e.early
 
   pub came_same : (link : ℕ) → came_at g.links ns link ≡ came_in g link
-  came_same = came_ns g e.is e.on end e.below place e.first seats out after line e.has e.others e.early
+  came_same = came_ns g e.is e.on end e.below place e.first k v e.here e.early
 
   pub counted : AreCounted g.links ns
-  counted = counted_ns g e.is e.on end e.below place e.first seats out after line e.has e.others e.early
+  counted = counted_ns g e.is e.on end e.below place e.first k v e.here e.early
 
   pub mine : group place ≡ g.number
-  mine = own_place g e.is e.on end e.below place e.first line.key line.event e.has.is_least e.early
+  mine = own_place g e.is e.on end e.below place e.first k v e.here e.early
 
-  pub fits_more : g.position + length (g.lines ++ line ∷ []) ≤ 1000000000000000
-  fits_more = let more = length-append g.lines (line ∷ []) in omega (arith, e.fits, more)
+  pub fits_more : g.position + length (g.lines ++ told ∷ []) ≤ 1000000000000000
+  fits_more = let more = length-append g.lines (told ∷ []) in omega (arith, e.fits, more)
 
   -- NOTHING LEFT
 
@@ -109,16 +118,16 @@ module _ {g : GroupValue} {end place : ℕ} {seats : Seats} {out after : List (L
     unsent : (i j : ℕ) → (link_at (node_at ns i).part.links j).port.sent ≡ (exit_at g i j).port.sent
     unsent i j = sent_stays i j (λ l some. absurd (not_some (sym none ∙ some)))
 
-    pub ends_quiet : IsFiring g end (next seats g.held)
+    pub ends_quiet : IsFiring end g (next ran g.held)
     ends_quiet =
         let pending : net_pending ns ≡ apply (own_of group g.number away) (net_pending ns) = sym (ap (λ (cs : List Change). apply cs (net_pending ns)) none_away) in
         let waits : held_on g.held ≡ apply (others_of group g.number away) (held_on g.held) = sym (ap (λ (cs : List Change). apply cs (held_on g.held)) none_others) in
-        let parts = parts_ns g e.is e.on end e.below place e.first seats out after line e.has e.others e.early in
+        let parts = parts_ns g e.is e.on end e.below place e.first k v e.here e.early in
         record {
-          fires = fires_by g e.is e.on end e.below place e.first seats out after line e.has e.others e.early seats g.held parts pending waits end e.early;
-          is_group = kept g e.is seats g.held (g.lines ++ line ∷ []) record {
-            same_seats = e.same_seats;
-            placed = e.placed;
+          fires = fires_by g e.is e.on end e.below place e.first k v e.here e.early ran g.held parts pending waits end e.early;
+          is_group = kept g e.is ran g.held (g.lines ++ told ∷ []) record {
+            same_seats = seats_stay;
+            placed = placed;
             count = count_stays;
             same = links_stay;
             balanced = λ i j under. record {
@@ -135,12 +144,12 @@ module _ {g : GroupValue} {end place : ℕ} {seats : Seats} {out after : List (L
             there = λ link. refl;
             fits = fits_more;
           };
-          on_run = on_run_new g e.is e.on end e.below place e.first seats out after line e.has e.others e.early seats g.held parts pending waits;
+          on_run = on_run_new g e.is e.on end e.below place e.first k v e.here e.early ran g.held parts pending waits;
           after = record {
             times = 1;
-            state = one_firing g e.is e.on end e.below place e.first seats out after line e.has e.others e.early seats g.held parts pending waits;
+            state = one_firing g e.is e.on end e.below place e.first k v e.here e.early ran g.held parts pending waits;
             rest = refl;
-            seats_stay = e.same_seats;
+            seats_stay = seats_stay;
             from_others = λ link under apart. came_same link;
             wires_stay = refl;
           };

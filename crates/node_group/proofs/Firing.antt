@@ -1,5 +1,5 @@
 -- A group's firing: its least event can be run, and once its node has run it.
-use Rattle.std.proofs.Common.{◌≡◌, ◌≢◌, ℕ, ◌+◌, ◌<◌, ◌≤◌, cond, List, [], ◌∷◌, ◌++◌, length, set, refl, sym, ap, subst, ◌∙◌, Some, None, Option, ⊎_elim, arith}
+use Rattle.std.proofs.Common.{◌≡◌, ◌≢◌, ℕ, ◌+◌, ◌<◌, ◌≤◌, cond, List, [], ◌∷◌, ◌++◌, length, set, get_or, refl, sym, ap, subst, ◌∙◌, Some, None, Option, ⊎_elim, arith}
 use Rattle.std.proofs.lemmas.Bool.{lt-ltb}
 use Rattle.std.proofs.lemmas.List.{get_or-set_same, length-set, map-set}
 use Rattle.std.proofs.Math.ListN.{get_or-map}
@@ -11,38 +11,40 @@ use Rattle.scenario_image.specs.declared.parts.ScenarioParts.{ScenarioParts}
 use Rattle.scenario_image.specs.declared.parts.LinkPart.{LinkPart}
 use Rattle.scenario_image.specs.Scenario.{IsScenario}
 use Rattle.scenario_image.proofs.Courses.{all_at}
-use Rattle.packet_chain.specs.Stamped.{Stamped}
 use Rattle.ranking.specs.Keyed.{apply, changed, least, next_key, EachKey}
-use Rattle.ranking.proofs.Maps.{same_some, each_apply, least_is}
+use Rattle.ranking.proofs.Maps.{not_some, same_some, each_apply, least_is}
 use Rattle.node_core.specs.declared.event.Event.{Event}
 use Rattle.node_core.specs.Pending.{Events, Change}
 use Rattle.node_core.specs.Part.{PartState}
 use Rattle.node_core.specs.Row.{Effect, Leaving, row, home_changes, sent_away, changes_of}
 use Rattle.node_core.specs.Ready.{IsRunnable}
 use Rattle.node_core.specs.TraceLine.{TraceLine}
-use Rattle.node_core.specs.Node.{NodeState, HasFired}
+use Rattle.node_core.specs.Node.{NodeState}
 use Rattle.node_core.specs.WireState.{WireState}
 use Rattle.table_run.specs.State.{part_at, below as below_end, due, effect_of, line_of}
 use Rattle.table_run.specs.Laws.{IsMadeAt, ComesOver}
 use Rattle.table_run.proofs.Lists.{all_left, all_map}
 use Rattle.table_run.proofs.Ready.{LinksStay, IsDelivery}
 use Rattle.table_run.proofs.RunLaws.{effects_are_local}
-use Rattle.net_machine.specs.Nodes.{no_node, node_at, net_pending, parts_of, IsFirst}
+use Rattle.net_machine.specs.Nodes.{no_node, node_at, net_pending, parts_of, IsPlaced, IsFirst}
+use Rattle.net_machine.specs.Region.{effect_at, node_after}
 use Rattle.net_machine.proofs.AtNodes.{node_key}
-use Rattle.net_machine.proofs.Home.{its_node, fired_pending}
+use Rattle.net_machine.proofs.Home.{its_node, fired_placed, fired_pending}
 use Rattle.net_partition.specs.Partition.{group_in}
-use Rattle.node_group.specs.Seats.{Seats, seated}
+use Rattle.node_group.specs.Seats.{Seats, seated, taken}
 use Rattle.node_group.specs.Held.{held_on}
 use Rattle.window_law.specs.Groups.{GroupState, group_at, own_of, others_of, up_to, fire, fire_on, fired}
 use Rattle.window_law.specs.Windows.{setting_of}
 use Rattle.window_law.specs.Calls.{IsOpenFrom}
-use Rattle.node_group.specs.Group.{GroupValue, state_of, member, IsGroup, IsOnRun, AfterFirings}
+use Rattle.node_group.specs.Group.{GroupValue, state_of, member, IsGroup, IsOnRun}
 use Rattle.window_law.proofs.Calls.{fire_keeps}
 use Rattle.table_run.proofs.AtHome.{home_at}
 use Rattle.node_group.proofs.Made.{own_all, others_none, own_both, others_both}
 use Rattle.node_group.proofs.DueHere.{in_run, comes, effect_is, part_links, ready, stay, leaves}
 use Rattle.node_group.proofs.AfterEvent.{same_coming}
 use Rattle.node_group.proofs.Come.{came_at, AreCounted}
+use Rattle.node_group.proofs.Seated.{length-seated, seated_set, taken_set, is_seated}
+use Rattle.node_group.proofs.AtSeats.{with_event, set_at, set_others}
 
 pub apply_both : (cs ds : List Change) (m : Events) → apply (cs ++ ds) m ≡ apply ds (apply cs m)
 apply_both [] ds m = refl
@@ -59,13 +61,6 @@ alarms p is_scenario k (c ∷ cs) made here = (
       made.0,
   alarms p is_scenario k cs made.1 here.1,
 )
-
--- a firing of a group
-pub record IsFiring (g : GroupValue) (end : ℕ) (new : GroupValue) : Type 0 where
-  pub fires : fire (group_in g.entries) g.number end (state_of g) ≡ Some (state_of new)
-  pub is_group : IsGroup new
-  pub on_run : IsOnRun new
-  pub after : AfterFirings end g new
 
 module _ (g : GroupValue) (is : IsGroup g) (on : IsOnRun g) (end : ℕ) (below : end ≤ g.until) (place : ℕ) (first : IsFirst (seated g.seats) place) where
   -- the least key is the first node's
@@ -108,28 +103,48 @@ module _ (g : GroupValue) (is : IsGroup g) (on : IsOnRun g) (end : ℕ) (below :
         (subst (λ (e : Effect). AllByRecursion (IsMadeAt on.scenario k) (changes_of k.node e)) effect made))
         (home_at (member g place).part k v)
 
-  -- the node has run it
-  module _ (seats : Seats) (out after : List (List Stamped)) (line : TraceLine) (has : HasFired (member g place) (node_at (seated seats) place) out after line) (others : seated seats ≡ set (seated g.seats) place (node_at (seated seats) place)) (early : line.key.time < end) where
     abbrev pub eff : Effect
-    eff = row (member g place).part line.key line.event
+    eff = effect_at (seated g.seats) place k v
 
-    line_is : line ≡ line_of (line.key, line.event) eff
-    line_is = λ i. record { key = line.key; event = line.event; after = has.shows i; acts = has.did i }
+    abbrev pub line : TraceLine
+    line = line_of (k, v) eff
+
+    -- the node once it has run it, and all nodes
+    abbrev pub node : NodeState
+    node = node_after (seated g.seats) place k v
+
+    abbrev pub seats : Seats
+    seats = set g.seats place (Some node)
+
+    inside : place < length g.seats
+    inside = let size = length-seated g.seats in let within = first.within in omega (arith, size, within)
+
+    pub others : seated seats ≡ set (seated g.seats) place (node_at (seated seats) place)
+    others = set_others g.seats place inside node
+
+    pub node_ns : node_at (seated seats) place ≡ node
+    node_ns = set_at g.seats place inside node
+
+    pub placed_ns : IsPlaced (seated seats)
+    placed_ns = subst IsPlaced (sym (seated_set g.seats place node)) (fired_placed (seated g.seats) is.placed place first.within k v here node refl)
+
+    pub same_seats : taken seats ≡ taken g.seats
+    same_seats = taken_set g.seats place node (there.0) there.1.0
+      where
+        there : (x : NodeState) × ((get_or g.seats place None ≡ Some x) × (node_at (seated g.seats) place ≡ x))
+        there = is_seated g.seats place inside (with_event g.seats place inside (λ none. not_some (sym none ∙ ap (option_map (λ (entry : Key × Event). entry.0)) here)))
 
     pub links_ns : LinksStay (member g place).part.links (node_at (seated seats) place).part.links eff.leaving
-    links_ns = subst (λ (n : NodeState). LinksStay (member g place).part.links n.part.links eff.leaving) (sym has.node) (stay_here line.key line.event has.is_least early)
+    links_ns = subst (λ (n : NodeState). LinksStay (member g place).part.links n.part.links eff.leaving) (sym node_ns) stay_here
 
     pub incoming_ns : (node_at (seated seats) place).incoming ≡ (member g place).incoming
-    incoming_ns = ap (λ (n : NodeState). n.incoming) has.node
+    incoming_ns = ap (λ (n : NodeState). n.incoming) node_ns
 
-    pub parts_ns : parts_of (seated seats) ≡ set (parts_of (seated g.seats)) line.key.node eff.part
-    parts_ns =
-        ap parts_of others
-        ∙ map-set (λ (n : NodeState). n.part) (seated g.seats) place (node_at (seated seats) place) ∙ ap (λ (n : NodeState). set (parts_of (seated g.seats)) place n.part) has.node
-        ∙ ap (λ i. set (parts_of (seated g.seats)) i eff.part) (sym (node_is line.key line.event has.is_least early))
+    pub parts_ns : parts_of (seated seats) ≡ set (parts_of (seated g.seats)) k.node eff.part
+    parts_ns = ap parts_of (seated_set g.seats place node) ∙ map-set (λ (n : NodeState). n.part) (seated g.seats) place node ∙ ap (λ i. set (parts_of (seated g.seats)) i eff.part) (sym node_is)
 
-    pub pending_ns : net_pending (seated seats) ≡ apply (home_changes line.key.node eff) (fin.remove (net_pending (seated g.seats)) line.key)
-    pending_ns = ap net_pending others ∙ fired_pending (seated g.seats) is.placed place first.within line.key line.event has.is_least (node_at (seated seats) place) has.node
+    pub pending_ns : net_pending (seated seats) ≡ apply (home_changes k.node eff) (fin.remove (net_pending (seated g.seats)) k)
+    pending_ns = ap net_pending (seated_set g.seats place node) ∙ fired_pending (seated g.seats) is.placed place first.within k v here node refl
 
     pub coming_ns : (node : ℕ) → (node_at (seated seats) node).incoming ≡ (member g node).incoming
     coming_ns = same_coming (seated g.seats) (seated seats) place first.within others incoming_ns eff.leaving links_ns
@@ -140,10 +155,10 @@ module _ (g : GroupValue) (is : IsGroup g) (on : IsOnRun g) (end : ℕ) (below :
     pub counted_ns : AreCounted g.links (seated seats)
     counted_ns link under =
         subst (EachKey (λ k. k.source ≡ link + 1 → k.number ≤ came_at g.links (seated seats) link)) (sym pending_ns)
-        (subst (λ n. EachKey (λ k. k.source ≡ link + 1 → k.number ≤ n) (apply (home_changes line.key.node eff) (fin.remove (net_pending (seated g.seats)) line.key))) (sym (came_ns link))
-        (each_apply (λ k. k.source ≡ link + 1 → k.number ≤ came_at g.links (seated g.seats) link) ((line.key, None) ∷ home_changes line.key.node eff) (net_pending (seated g.seats)) (
-          is.counted link under line.key line.event (node_key (seated g.seats) is.placed place line.key line.event (least_is (member g place).pending line.key line.event has.is_least).pending),
-          all_map (λ (c : Change). c.0.source ≡ 0) (λ (c : Change). c.0.source ≡ link + 1 → c.0.number ≤ came_at g.links (seated g.seats) link) (λ c alarm source. absurd (let no : ⊥ = omega (arith, alarm, source) in no)) (home_changes line.key.node eff) (alarms_here line.key line.event has.is_least early),
+        (subst (λ n. EachKey (λ k. k.source ≡ link + 1 → k.number ≤ n) (apply (home_changes k.node eff) (fin.remove (net_pending (seated g.seats)) k))) (sym (came_ns link))
+        (each_apply (λ k. k.source ≡ link + 1 → k.number ≤ came_at g.links (seated g.seats) link) ((k, None) ∷ home_changes k.node eff) (net_pending (seated g.seats)) (
+          is.counted link under k v (node_key (seated g.seats) is.placed place k v (least_is (member g place).pending k v here).pending),
+          all_map (λ (c : Change). c.0.source ≡ 0) (λ (c : Change). c.0.source ≡ link + 1 → c.0.number ≤ came_at g.links (seated g.seats) link) (λ c alarm source. absurd (let no : ⊥ = omega (arith, alarm, source) in no)) (home_changes k.node eff) (alarms_here),
         )
         (is.counted link under)))
 
@@ -152,48 +167,48 @@ module _ (g : GroupValue) (is : IsGroup g) (on : IsOnRun g) (end : ℕ) (below :
       abbrev pub new : GroupValue
       new = record g { seats = last; held = held; lines = g.lines ++ line ∷ [] }
 
-      module _ (parts : parts_of (seated last) ≡ set (parts_of (seated g.seats)) line.key.node eff.part) (pending : net_pending (seated last) ≡ apply (own_of (group_in g.entries) g.number (sent_away eff.part.links eff.leaving)) (net_pending (seated seats)))
+      module _ (parts : parts_of (seated last) ≡ set (parts_of (seated g.seats)) k.node eff.part) (pending : net_pending (seated last) ≡ apply (own_of (group_in g.entries) g.number (sent_away eff.part.links eff.leaving)) (net_pending (seated seats)))
           (waits : held_on held ≡ apply (others_of (group_in g.entries) g.number (sent_away eff.part.links eff.leaving)) (held_on g.held)) where
-        home_own : AllByRecursion (λ (c : Change). group_in g.entries c.0.node ≡ g.number) (home_changes line.key.node eff)
-        home_own = all_map (λ (c : Change). c.0.node ≡ line.key.node) (λ (c : Change). group_in g.entries c.0.node ≡ g.number)
-            (λ c at. ap (group_in g.entries) (at ∙ node_is line.key line.event has.is_least early) ∙ own_place line.key line.event has.is_least early) (home_changes line.key.node eff) (home_at (member g place).part line.key line.event)
+        home_own : AllByRecursion (λ (c : Change). group_in g.entries c.0.node ≡ g.number) (home_changes k.node eff)
+        home_own = all_map (λ (c : Change). c.0.node ≡ k.node) (λ (c : Change). group_in g.entries c.0.node ≡ g.number)
+            (λ c at. ap (group_in g.entries) (at ∙ node_is) ∙ own_place) (home_changes k.node eff) (home_at (member g place).part k v)
 
-        mine : own_of (group_in g.entries) g.number (changes_of line.key.node eff) ≡ home_changes line.key.node eff ++ own_of (group_in g.entries) g.number (sent_away eff.part.links eff.leaving)
-        mine = own_both (group_in g.entries) g.number (home_changes line.key.node eff) (sent_away eff.part.links eff.leaving)
-            ∙ ap (λ (cs : List Change). cs ++ own_of (group_in g.entries) g.number (sent_away eff.part.links eff.leaving)) (own_all (group_in g.entries) g.number (home_changes line.key.node eff) home_own)
+        mine : own_of (group_in g.entries) g.number (changes_of k.node eff) ≡ home_changes k.node eff ++ own_of (group_in g.entries) g.number (sent_away eff.part.links eff.leaving)
+        mine = own_both (group_in g.entries) g.number (home_changes k.node eff) (sent_away eff.part.links eff.leaving)
+            ∙ ap (λ (cs : List Change). cs ++ own_of (group_in g.entries) g.number (sent_away eff.part.links eff.leaving)) (own_all (group_in g.entries) g.number (home_changes k.node eff) home_own)
 
-        theirs : others_of (group_in g.entries) g.number (changes_of line.key.node eff) ≡ others_of (group_in g.entries) g.number (sent_away eff.part.links eff.leaving)
-        theirs = others_both (group_in g.entries) g.number (home_changes line.key.node eff) (sent_away eff.part.links eff.leaving)
-            ∙ ap (λ (cs : List Change). cs ++ others_of (group_in g.entries) g.number (sent_away eff.part.links eff.leaving)) (others_none (group_in g.entries) g.number (home_changes line.key.node eff) home_own)
+        theirs : others_of (group_in g.entries) g.number (changes_of k.node eff) ≡ others_of (group_in g.entries) g.number (sent_away eff.part.links eff.leaving)
+        theirs = others_both (group_in g.entries) g.number (home_changes k.node eff) (sent_away eff.part.links eff.leaving)
+            ∙ ap (λ (cs : List Change). cs ++ others_of (group_in g.entries) g.number (sent_away eff.part.links eff.leaving)) (others_none (group_in g.entries) g.number (home_changes k.node eff) home_own)
 
-        pending_all : apply (own_of (group_in g.entries) g.number (changes_of line.key.node eff)) (fin.remove (net_pending (seated g.seats)) line.key) ≡ net_pending (seated last)
+        pending_all : apply (own_of (group_in g.entries) g.number (changes_of k.node eff)) (fin.remove (net_pending (seated g.seats)) k) ≡ net_pending (seated last)
         pending_all =
-            ap (λ (cs : List Change). apply cs (fin.remove (net_pending (seated g.seats)) line.key)) mine
-            ∙ apply_both (home_changes line.key.node eff) (own_of (group_in g.entries) g.number (sent_away eff.part.links eff.leaving)) (fin.remove (net_pending (seated g.seats)) line.key)
+            ap (λ (cs : List Change). apply cs (fin.remove (net_pending (seated g.seats)) k)) mine
+            ∙ apply_both (home_changes k.node eff) (own_of (group_in g.entries) g.number (sent_away eff.part.links eff.leaving)) (fin.remove (net_pending (seated g.seats)) k)
             ∙ ap (apply (own_of (group_in g.entries) g.number (sent_away eff.part.links eff.leaving))) (sym pending_ns)
             ∙ sym pending
 
-        held_all : apply (others_of (group_in g.entries) g.number (changes_of line.key.node eff)) (held_on g.held) ≡ held_on held
+        held_all : apply (others_of (group_in g.entries) g.number (changes_of k.node eff)) (held_on g.held) ≡ held_on held
         held_all = ap (λ (cs : List Change). apply cs (held_on g.held)) theirs ∙ sym waits
 
-        effect_here : (moment : ℕ) → effect_of (up_to moment (state_of g)) (line.key, line.event) ≡ eff
-        effect_here moment = ap (λ (p : PartState). row p line.key line.event) (get_or-map (λ (n : NodeState). n.part) (seated g.seats) line.key.node no_node ∙ ap (λ n. (member g n).part) (node_is line.key line.event has.is_least early))
+        effect_here : (moment : ℕ) → effect_of (up_to moment (state_of g)) (k, v) ≡ eff
+        effect_here moment = ap (λ (p : PartState). row p k v) (get_or-map (λ (n : NodeState). n.part) (seated g.seats) k.node no_node ∙ ap (λ n. (member g n).part) (node_is))
 
-        fired_is : fired (group_in g.entries) g.number (state_of g) (line.key, line.event) eff ≡ state_of new
-        fired_is = λ i. record { parts = sym parts i; pending = pending_all i; held = held_all i; lines = g.lines ++ sym line_is i ∷ [] }
+        fired_is : fired (group_in g.entries) g.number (state_of g) (k, v) eff ≡ state_of new
+        fired_is = λ i. record { parts = sym parts i; pending = pending_all i; held = held_all i; lines = g.lines ++ line ∷ [] }
 
-        fire_on_is : (moment : ℕ) → fire_on (group_in g.entries) g.number moment (state_of g) (line.key, line.event) ≡ state_of new
-        fire_on_is moment = ap (fired (group_in g.entries) g.number (state_of g) (line.key, line.event)) (effect_here moment) ∙ fired_is
+        fire_on_is : (moment : ℕ) → fire_on (group_in g.entries) g.number moment (state_of g) (k, v) ≡ state_of new
+        fire_on_is moment = ap (fired (group_in g.entries) g.number (state_of g) (k, v)) (effect_here moment) ∙ fired_is
 
-        pub fires_by : (moment : ℕ) → line.key.time < moment → fire (group_in g.entries) g.number moment (state_of g) ≡ Some (state_of new)
-        fires_by moment l = ap (option_map (fire_on (group_in g.entries) g.number moment (state_of g))) (due_by line.key line.event has.is_least early moment l) ∙ ap (λ (s : GroupState). Some s) (fire_on_is moment)
+        pub fires_by : (moment : ℕ) → k.time < moment → fire (group_in g.entries) g.number moment (state_of g) ≡ Some (state_of new)
+        fires_by moment l = ap (option_map (fire_on (group_in g.entries) g.number moment (state_of g))) (due_by moment l) ∙ ap (λ (s : GroupState). Some s) (fire_on_is moment)
 
         -- it is still on the run
-        there : due (up_to on.window.until (group_at on.window.groups g.number)) ≡ Some (line.key, line.event)
-        there = (λ i. due (up_to (on.is_group.same_end i) (on.is_group.is_it i))) ∙ is_due line.key line.event has.is_least early
+        there : due (up_to on.window.until (group_at on.window.groups g.number)) ≡ Some (k, v)
+        there = (λ i. due (up_to (on.is_group.same_end i) (on.is_group.is_it i))) ∙ is_due
 
-        becomes : fire_on (group_in g.entries) g.number on.window.until (group_at on.window.groups g.number) (line.key, line.event) ≡ state_of new
-        becomes = ap (λ (s : GroupState). fire_on (group_in g.entries) g.number on.window.until s (line.key, line.event)) on.is_group.is_it ∙ fire_on_is on.window.until
+        becomes : fire_on (group_in g.entries) g.number on.window.until (group_at on.window.groups g.number) (k, v) ≡ state_of new
+        becomes = ap (λ (s : GroupState). fire_on (group_in g.entries) g.number on.window.until s (k, v)) on.is_group.is_it ∙ fire_on_is on.window.until
 
         pub on_run_new : IsOnRun new
         on_run_new = record {
@@ -206,7 +221,7 @@ module _ (g : GroupValue) (is : IsGroup g) (on : IsOnRun g) (end : ℕ) (below :
               is_scenario = on.is_group.in_run.is_scenario;
               comes = on.is_group.in_run.comes;
               is_open = subst (λ (s : GroupState). IsOpenFrom (setting_of (group_in g.entries) on.scenario) on.edge record { groups = set on.window.groups g.number s; until = on.window.until }) becomes
-                  (fire_keeps (setting_of (group_in g.entries) on.scenario) on.edge on.window on.is_group.in_run.is_open g.number (line.key, line.event) there);
+                  (fire_keeps (setting_of (group_in g.entries) on.scenario) on.edge on.window on.is_group.in_run.is_open g.number (k, v) there);
             };
             within = subst (λ n. g.number < n) (sym (length-set on.window.groups g.number (state_of new))) on.is_group.within;
             is_it = get_or-set_same on.window.groups g.number (state_of new) Rattle.window_law.specs.Groups.no_group on.is_group.within;

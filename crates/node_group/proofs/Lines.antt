@@ -1,13 +1,23 @@
--- The lines of a group among those that it has memory for; and a group after no firing.
-use Rattle.std.proofs.Common.{◌≡◌, ℕ, ◌+◌, ◌<◌, ◌≤◌, List, [], ◌∷◌, ◌++◌, length, map, take, set, refl, sym, ap, subst, ◌∙◌, Result, Ok, Err, false, true≢false}
+-- The lines of a group among those that it has memory for: after no firing, and after one.
+use Rattle.std.proofs.Common.{◌≡◌, ℕ, ◌+◌, ◌<◌, ◌≤◌, List, [], ◌∷◌, ◌++◌, length, map, take, set, refl, sym, ap, subst, ◌∙◌, Some, Result, Ok, Err, false, true≢false, arith}
+use Rattle.std.specs.Option.{option_map}
 use Rattle.std.specs.Result.{OnOk, is_err}
 use Rattle.std.proofs.lemmas.List.{length-map, length-take-le, map-append, take_more_set, take-set}
+use Rattle.sim_time.specs.declared.key.Key.{Key}
+use Rattle.ranking.specs.Keyed.{next_key}
+use Rattle.ranking.proofs.Maps.{not_some}
+use Rattle.node_core.specs.declared.event.Event.{Event}
 use Rattle.node_core.specs.declared.line.Line.{Line}
-use Rattle.node_core.specs.TraceLine.{TraceLine, shown}
-use Rattle.node_core.specs.WireState.{WireState}
-use Rattle.node_group.specs.Seats.{Seats}
-use Rattle.node_group.specs.Group.{GroupValue, AfterFirings}
-use Rattle.node_group.proofs.Firing.{IsFiring}
+use Rattle.node_core.specs.TraceLine.{shown}
+use Rattle.net_machine.specs.Nodes.{net_pending, IsFirst}
+use Rattle.net_machine.specs.Region.{HasHappened}
+use Rattle.node_group.specs.declared.area.Area.{Area}
+use Rattle.node_group.specs.declared.share.Share.TheInside.{Inside}
+use Rattle.node_group.specs.Group.{GroupValue, IsOnRun, AfterFirings, IsFiring, IsDueBelow}
+use Rattle.node_group.specs.Passing.{nodes_of, with_node, HasPassed}
+use Rattle.node_group.specs.ShareOf.{group_of, IsShare}
+use Rattle.node_group.proofs.Firing.{its_key}
+use Rattle.node_group.proofs.Endings.{has_fired}
 
 pub told_count : (lines : List Line) (count : ℕ) → count ≤ length lines → length (map shown (take count lines)) ≡ count
 told_count lines count within = length-map (take count lines) shown ∙ length-take-le count lines within
@@ -20,10 +30,7 @@ told_more old lines count line within kept =
 pub told_same : (old lines : List Line) (count : ℕ) (line : Line) → take count lines ≡ take count old → map shown (take count (set lines count line)) ≡ map shown (take count old)
 told_same old lines count line kept = ap (map shown) (take-set lines count line ∙ kept)
 
--- a group after a firing, whose lines are told in other words
-pub firing_as : (g : GroupValue) (end : ℕ) (seats : Seats) (held : List WireState) (lines ls : List TraceLine) → ls ≡ lines → IsFiring g end (record g { seats = seats; held = held; lines = lines }) → IsFiring g end (record g { seats = seats; held = held; lines = ls })
-firing_as g end seats held lines ls same f = subst (λ (all : List TraceLine). IsFiring g end (record g { seats = seats; held = held; lines = all })) (sym same) f
-
+-- a group after no firing
 pub no_firing : (end : ℕ) (g : GroupValue) → AfterFirings end g g
 no_firing end g = record { times = 0; state = refl; rest = refl; seats_stay = refl; from_others = λ link under off. refl; wires_stay = refl }
 
@@ -31,3 +38,24 @@ no_firing end g = record { times = 0; state = refl; rest = refl; seats_stay = re
 pub on_ok : {T E P : Type 0} (r : Result T E) → OnOk r P → is_err r ≡ false → P
 on_ok (Ok x) h e = h
 on_ok (Err x) h e = absurd (true≢false e)
+
+-- a share's group has fired: with a line more among those that there is memory for
+pub has_fired_into : (s : Inside) (end place : ℕ) → s.count ≤ length s.lines.items → IsDueBelow end (group_of s) place → (made : List Line) → s.count < length made → take s.count made ≡ take s.count s.lines.items → (line : Line) (new : Area)
+    → HasHappened nodes_of with_node (HasPassed s.links.items) s.area new place (shown line) → IsFiring end (group_of s) (record (group_of s) { seats = new.members; held = new.exits; lines = map shown (take (s.count + 1) (set made s.count line)) })
+has_fired_into s end place within d made room kept line new has = has_fired d (shown line) new has (map shown (take (s.count + 1) (set made s.count line))) (told_more s.lines.items made s.count line room kept)
+
+-- the least event of a share is below a moment
+pub due_below : (s : Inside) → IsShare s → (g : GroupValue) → group_of s ≡ g → IsOnRun g → (end : ℕ) → end ≤ g.until → (place : ℕ) (key : Key) → IsFirst (nodes_of s.area) place → Some key ≡ next_key (net_pending (nodes_of s.area)) → key.time < end → s.position + s.count < 1000000000000000 → IsDueBelow end (group_of s) place
+due_below s is g same on end below place key first next soon few =
+    let on_here : IsOnRun (group_of s) = subst IsOnRun (sym same) on in
+    let below_here : end ≤ (group_of s).until = subst (λ (v : GroupValue). end ≤ v.until) (sym same) below in
+    let told = told_count s.lines.items s.count is.count in
+    record {
+      is = is.is_group;
+      on = on_here;
+      below = below_here;
+      first = first;
+      fits = omega (arith, told, few);
+      soon = λ k v here. subst (λ (q : Key). q.time < end) (its_key (group_of s) is.is_group on_here end below_here place first key next k v here) soon;
+      pending = λ none. not_some (sym (next ∙ ap (option_map (λ (entry : Key × Event). entry.0)) first.same ∙ none));
+    }

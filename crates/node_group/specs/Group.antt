@@ -1,7 +1,9 @@
 -- A group of nodes on its way through a window: what it is, what it keeps, and what its firings leave.
 use Rattle.std.specs.Prelude.{◌≡◌, ◌≢◌, ◌<◌, ◌≤◌, ◌+◌, ◌==◌, ℕ, Bool, true, false, List, [], map as each, length, Some, None}
 use Rattle.scenario_image.specs.declared.parts.ScenarioParts.{ScenarioParts}
-use Rattle.ranking.specs.Keyed.{EachKey}
+use Rattle.sim_time.specs.declared.key.Key.{Key}
+use Rattle.ranking.specs.Keyed.{least, next_key, EachKey}
+use Rattle.node_core.specs.declared.event.Event.{Event}
 use Rattle.node_core.specs.AgendaState.{Incoming, incoming_at}
 use Rattle.node_core.specs.Node.{NodeState}
 use Rattle.node_core.specs.Part.{LinkState, link_at}
@@ -9,7 +11,7 @@ use Rattle.node_core.specs.TraceLine.{TraceLine}
 use Rattle.node_core.specs.WireState.{WireState, came_over}
 use Rattle.table_run.specs.State.{State, due}
 use Rattle.net_machine.specs.declared.places.LinkEnds.{LinkEnds}
-use Rattle.net_machine.specs.Nodes.{node_at, net_pending, parts_of, IsPlaced}
+use Rattle.net_machine.specs.Nodes.{node_at, net_pending, parts_of, IsPlaced, IsFirst}
 use Rattle.net_machine.specs.Wiring.{AreEnds, ends_at, place_at}
 use Rattle.net_partition.specs.Partition.{group_in}
 use Rattle.node_group.specs.Seats.{Seats, seated, taken}
@@ -116,3 +118,20 @@ pub record AfterFirings (end : ℕ) (old new : GroupValue) : Type 0 where
 abbrev pub Fired : ℕ → GroupValue → Bool → GroupValue → Type 0
 Fired end old false new = (due (up_to end (state_of old)) ≡ None) × (new ≡ old)
 Fired end old true new = fire (group_in old.entries) old.number end (state_of old) ≡ Some (state_of new)
+
+-- a group whose node's least event, the least of all, is below a moment, where one more may be run
+pub record IsDueBelow (end : ℕ) (g : GroupValue) (place : ℕ) : Type 0 where
+  pub is : IsGroup g
+  pub on : IsOnRun g
+  pub below : end ≤ g.until
+  pub first : IsFirst (seated g.seats) place
+  pub fits : g.position + length g.lines < 1000000000000000
+  pub soon : (k : Key) (v : Event) → least (member g place).pending ≡ Some (k, v) → k.time < end
+  pub pending : next_key (member g place).pending ≢ None
+
+-- a firing of a group
+pub record IsFiring (end : ℕ) (g new : GroupValue) : Type 0 where
+  pub fires : fire (group_in g.entries) g.number end (state_of g) ≡ Some (state_of new)
+  pub is_group : IsGroup new
+  pub on_run : IsOnRun new
+  pub after : AfterFirings end g new

@@ -2,11 +2,11 @@
 //! them.
 #![tactic(auto)]
 
+mod area;
 mod exits;
 pub mod group;
 mod held;
 mod members;
-mod passing;
 mod share;
 mod sharing;
 

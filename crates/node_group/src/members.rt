@@ -111,12 +111,11 @@ impl Members {
         requires chains { length (node_at (seated self.old) place).part.links ≤ length out.old }
         requires room { All (λ chain. length chain < 1000000000000000) out.old }
         ensures fired { OnOk result (HasFired (node_at (seated self.old) place) (node_at (seated self.new) place) out.old out.new (shown line.new)) }
-        ensures others { OnOk result (seated self.new ≡ slice_set (seated self.old) place (node_at (seated self.new) place)) }
-        ensures placed { OnOk result (IsPlaced (seated self.new)) }
+        ensures put { OnOk result (self.new ≡ slice_set self.old place (Some (node_at (seated self.new) place))) }
+        ensures count { OnOk result (length (seated self.new) ≡ length (seated self.old)) }
         ensures leaving { IfOk result (λ index. index ≡ option_map (λ (leaving : Leaving). leaving.index) (row (node_at (seated self.old) place).part line.new.key line.new.event).leaving) }
         ensures same { OnErr result (self.new ≡ self.old) }
         ensures same_out { OnErr result (out.new ≡ out.old) }
-        ensures taken { taken self.new ≡ taken self.old }
     {
         let node = self.seats[place].as_mut().unwrap();
         let leaving = node.fire_into(out, line)?;

@@ -14,13 +14,13 @@ ghost use Rattle.window_law.specs.Groups.{up_to};
 ghost use Rattle.window_law.specs.Windows.{first_time};
 ghost use Rattle.node_group.specs.Held.{HoldsNothing, IsReleased};
 ghost use Rattle.node_group.specs.Seats.{seated, taken};
-ghost use Rattle.node_group.specs.Group.{GroupValue, state_of, group_from, group_to, member, came_in, IsGroup, IsOnRun, AfterFirings, Fired};
+ghost use Rattle.node_group.specs.Group.{GroupValue, state_of, group_from, group_to, member, came_in, IsGroup, IsOnRun, AfterFirings, Fired, IsDueBelow, IsFiring};
 
+use crate::area::Area;
 use crate::exits::Exits;
 use crate::group::GroupFault;
 use crate::members::Members;
-use crate::passing::pass_on;
-use net_machine::LinkEnds;
+use net_machine::{LinkEnds, run_event};
 use net_partition::Partition;
 use node_core::{Line, Node, Outbox};
 use packet_chain::PacketChain;
@@ -41,10 +41,8 @@ pub struct Share {
     partition: Snapshot<Partition>,
     /// Where each link of the net leaves and ends, by its number.
     links: Vec<LinkEnds>,
-    /// The nodes.
-    members: Members,
-    /// What left over each link for other groups since the last turn.
-    exits: Exits,
+    /// The nodes, and what left them for other groups since the last turn.
+    area: Area,
     /// A chain for each outgoing link that a node can have, empty between events.
     out: Outbox,
     /// Lines, of which the first `count` were told since the last turn; the others are memory for
@@ -118,8 +116,10 @@ impl Share {
             number,
             partition: Snapshot::of(partition),
             links: parts.links,
-            members: parts.members,
-            exits: parts.exits,
+            area: Area {
+                members: parts.members,
+                exits: parts.exits,
+            },
             out: parts.out,
             lines: Vec::new(alloc),
             count: 0,
@@ -148,7 +148,7 @@ impl Share {
     pub fn next(&self) -> Option<Time>
         ensures { result ≡ first_time (state_of self.now) }
     {
-        match self.members.first() {
+        match self.area.members.first() {
             Some((_, key)) => Some(key.time),
             None => None,
         }
@@ -159,7 +159,7 @@ impl Share {
         requires { place < length self.now.seats }
         ensures { option_copied result ≡ slice_index_or self.now.seats place None }
     {
-        self.members.node(place)
+        self.area.members.node(place)
     }
 
     /// Names the moment before which events may be run.
@@ -193,7 +193,7 @@ impl Share {
     pub fn holds_nothing(&self) -> bool
         ensures { result ≡ true → HoldsNothing self.now.held }
     {
-        self.exits.holds_nothing()
+        self.area.exits.holds_nothing()
     }
 
     /// Has memory for lines in exchange for its own, where it has told none.
@@ -213,7 +213,7 @@ impl Share {
         ensures some { IfSome result (λ link. IsReleased self.old.held self.new.held link packets.new) }
         ensures none { result ≡ None → HoldsNothing self.old.held × (self.new ≡ self.old) × (packets.new ≡ []) }
     {
-        self.exits.release_next(packets)
+        self.area.exits.release_next(packets)
     }
 
     /// Packets come from another group over a link that ends at a node of this one, after all that
@@ -231,8 +231,23 @@ impl Share {
         ensures emptied { packets.new ≡ [] }
     {
         let end = self.links[link].to;
-        self.members
+        self.area
+            .members
             .deliver(usize::from(end.node), usize::from(end.index), packets);
+    }
+
+    // Runs the event of the least key of a node, the least of all, which is below a moment.
+    #[inline(always)]
+    fn fire_at(&mut self, place: usize, _end: Time) -> Result<(), AllocError>
+        requires { IsDueBelow _end self.old place }
+        ensures ok { OnOk result (IsFiring _end self.old self.new) }
+        ensures err { OnErr result (self.new ≡ self.old) }
+    {
+        make_room(&mut self.lines, self.count, self.alloc)?;
+        let line = &mut self.lines[self.count];
+        run_event(&mut self.area, &mut self.out, &self.links, place, line)?;
+        self.count += 1;
+        Ok(())
     }
 
     /// Runs the least event below a moment, where there is one. The answer is whether there was.
@@ -247,7 +262,7 @@ impl Share {
         ensures memory { IfErr result (λ fault. fault ≡ GroupFault.NoMemory → (due (up_to end (state_of self.old)) ≢ None) × (self.old.position + length self.old.lines < 1000000000000000)) }
         ensures err { OnErr result (self.new ≡ self.old) }
     {
-        let Some((place, key)) = self.members.first() else {
+        let Some((place, key)) = self.area.members.first() else {
             return Ok(false);
         };
         if key.time >= end {
@@ -256,27 +271,8 @@ impl Share {
         if self.position + self.count as u64 == MOST_EVENTS {
             return Err(GroupFault::CountFull);
         }
-        if make_room(&mut self.lines, self.count, self.alloc).is_err() {
-            return Err(GroupFault::NoMemory);
-        }
-        let line = &mut self.lines[self.count];
-        match self.members.fire_into(place, &mut self.out, line) {
-            Ok(Some(index)) => {
-                self.count += 1;
-                pass_on(
-                    &mut self.members,
-                    &mut self.exits,
-                    &mut self.out,
-                    &self.links,
-                    place,
-                    usize::from(index),
-                );
-                Ok(true)
-            }
-            Ok(None) => {
-                self.count += 1;
-                Ok(true)
-            }
+        match self.fire_at(place, end) {
+            Ok(()) => Ok(true),
             Err(_) => Err(GroupFault::NoMemory),
         }
     }

@@ -1,5 +1,5 @@
 use Rattle.std.proofs.Common.{◌≡◌, ◌<◌, ◌≤◌, length, set, get_or, sym, ap, subst, ◌∙◌, Some, None, is_some}
-use Rattle.std.proofs.lemmas.List.{get_or_read}
+use Rattle.std.proofs.lemmas.List.{get_or_read, length-set}
 use Rattle.std.specs.Option.{option_map, option_copied_mut}
 use Rattle.sim_time.specs.declared.key.Key.{Key}
 use Rattle.ranking.specs.Keyed.{least, next_key}
@@ -8,10 +8,10 @@ use Rattle.node_core.specs.Row.{Leaving, row}
 use Rattle.node_core.specs.Ready.{IsRunnable}
 use Rattle.node_core.specs.TraceLine.{shown}
 use Rattle.node_core.specs.Node.{NodeState, HasFired}
-use Rattle.net_machine.specs.Nodes.{node_at, IsPlaced, IsRanked}
-use Rattle.node_group.specs.Seats.{Seats, seated, taken}
-use Rattle.node_group.proofs.Seated.{seated_set, taken_set}
-use Rattle.node_group.proofs.AtSeats.{with_event, is_there, seat_is, set_others, ranks_within, ranked_at, placed_fired, has_fired}
+use Rattle.net_machine.specs.Nodes.{node_at, IsRanked}
+use Rattle.node_group.specs.Seats.{Seats, seated}
+use Rattle.node_group.proofs.Seated.{seated_set}
+use Rattle.node_group.proofs.AtSeats.{with_event, is_there, seat_is, set_at, ranks_within, ranked_at, placed_fired, has_fired}
 use Rattle.node_group.proofs.members.Members.fire_into.Goals as goal
 
 pub unwrap-node-requires : goal.unwrap-node-requires
@@ -80,23 +80,6 @@ returns-clause-fired c =
     subst (λ (s : Seats). HasFired (node_at (seated s) c.args.place) (node_at (seated (set seats c.args.place (Some c.fire_into.new.self))) c.args.place) c.args.out.now c.fire_into.new.out (shown c.fire_into.new.line)) c.self.view_is
     (has_fired seats c.args.place within c.self.inside.ranking c.self.invariant c.unwrap-node.result.now c.fire_into.new.self node_is c.args.out.now c.fire_into.new.out (shown c.fire_into.new.line) c.in_ok-leaving.ensures.fired)
 
-pub returns-clause-others : goal.returns-clause-others
-returns-clause-others c =
-    let seats = c.self.inside.seats.items in
-    let within : c.args.place < length seats = subst (λ (s : Seats). c.args.place < length s) (sym c.self.view_is) c.requires.within in
-    let read : c.index_mut.result.now ≡ get_or seats c.args.place None = get_or_read seats c.args.place c.index_mut.result.now within c.index_mut.ensures.value None in
-    subst (λ (s : Seats). seated (set seats c.args.place (Some c.fire_into.new.self)) ≡ set (seated s) c.args.place (node_at (seated (set seats c.args.place (Some c.fire_into.new.self))) c.args.place)) c.self.view_is (set_others seats c.args.place within c.fire_into.new.self)
-
-pub returns-clause-placed : goal.returns-clause-placed
-returns-clause-placed c =
-    let seats = c.self.inside.seats.items in
-    let within : c.args.place < length seats = subst (λ (s : Seats). c.args.place < length s) (sym c.self.view_is) c.requires.within in
-    let read : c.index_mut.result.now ≡ get_or seats c.args.place None = get_or_read seats c.args.place c.index_mut.result.now within c.index_mut.ensures.value None in
-    let seat : get_or seats c.args.place None ≡ Some c.unwrap-node.result.now = sym read ∙ sym c.as_mut.ensures.value ∙ ap option_copied_mut c.unwrap-node.ensures in
-    let node_is = seat_is seats c.args.place within c.unwrap-node.result.now seat in
-    let here : c.unwrap-node.result.now ≡ node_at (seated c.args.self.now) c.args.place = node_is ∙ ap (λ (s : Seats). node_at (seated s) c.args.place) c.self.view_is in
-    subst IsPlaced (sym (seated_set seats c.args.place c.fire_into.new.self)) (placed_fired seats c.args.place within c.self.inside.ranking c.self.invariant c.unwrap-node.result.now c.fire_into.new.self node_is c.args.out.now c.fire_into.new.out (shown c.fire_into.new.line) c.in_ok-leaving.ensures.fired)
-
 pub returns-clause-leaving : goal.returns-clause-leaving
 returns-clause-leaving c =
     let seats = c.self.inside.seats.items in
@@ -107,12 +90,14 @@ returns-clause-leaving c =
     let here : c.unwrap-node.result.now ≡ node_at (seated c.args.self.now) c.args.place = node_is ∙ ap (λ (s : Seats). node_at (seated s) c.args.place) c.self.view_is in
     c.in_ok-leaving.ensures.leaving ∙ ap (λ (n : NodeState). option_map (λ (leaving : Leaving). leaving.index) (row n.part c.fire_into.new.line.key c.fire_into.new.line.event).leaving) here
 
-pub returns-clause-taken : goal.returns-clause-taken
-returns-clause-taken c =
+pub returns-clause-put : goal.returns-clause-put
+returns-clause-put c =
     let seats = c.self.inside.seats.items in
     let within : c.args.place < length seats = subst (λ (s : Seats). c.args.place < length s) (sym c.self.view_is) c.requires.within in
-    let read : c.index_mut.result.now ≡ get_or seats c.args.place None = get_or_read seats c.args.place c.index_mut.result.now within c.index_mut.ensures.value None in
-    let seat : get_or seats c.args.place None ≡ Some c.unwrap-node.result.now = sym read ∙ sym c.as_mut.ensures.value ∙ ap option_copied_mut c.unwrap-node.ensures in
-    let node_is = seat_is seats c.args.place within c.unwrap-node.result.now seat in
-    let here : c.unwrap-node.result.now ≡ node_at (seated c.args.self.now) c.args.place = node_is ∙ ap (λ (s : Seats). node_at (seated s) c.args.place) c.self.view_is in
-    taken_set seats c.args.place c.fire_into.new.self c.unwrap-node.result.now seat ∙ ap taken c.self.view_is
+    subst (λ (s : Seats). set seats c.args.place (Some c.fire_into.new.self) ≡ set s c.args.place (Some (node_at (seated (set seats c.args.place (Some c.fire_into.new.self))) c.args.place))) c.self.view_is
+    (ap (λ (n : NodeState). set seats c.args.place (Some n)) (sym (set_at seats c.args.place within c.fire_into.new.self)))
+
+pub returns-clause-count : goal.returns-clause-count
+returns-clause-count c =
+    let seats = c.self.inside.seats.items in
+    ap length (seated_set seats c.args.place c.fire_into.new.self) ∙ length-set (seated seats) c.args.place c.fire_into.new.self ∙ ap (λ (s : Seats). length (seated s)) c.self.view_is

@@ -1,0 +1,55 @@
+//! A group's nodes, with what leaves them for other groups' nodes.
+
+use crate::exits::Exits;
+use crate::members::Members;
+use net_machine::{LinkEnds, Region};
+use node_core::{Line, Outbox};
+use packet_chain::PacketChain;
+use std::alloc::AllocError;
+
+/// The nodes of a group, and what it holds back for others: a region of its net.
+#[derive(Drop)]
+pub struct Area {
+    /// The nodes.
+    pub members: Members,
+    /// What left over each link for other groups since the last turn.
+    pub exits: Exits,
+}
+
+impl Region for Area {
+    ghost use Rattle.node_group.specs.Passing.{nodes_of, with_node, CanPass, HasPassed};
+
+    ghost nodes = { λ a. nodes_of a };
+
+    ghost put = { λ a place node. with_node a place node };
+
+    ghost can_take = { λ links a link packets. CanPass links a link packets };
+
+    ghost takes = { λ links a link packets new. HasPassed links a link packets new };
+
+    #[inline(always)]
+    fn run_at(
+        &mut self,
+        place: usize,
+        out: &mut Outbox,
+        line: &mut Line,
+    ) -> Result<Option<u16>, AllocError> {
+        self.members.fire_into(place, out, line)
+    }
+
+    #[inline(always)]
+    fn link_of(&self, place: usize, index: usize) -> u16 {
+        self.members.link_number(place, index)
+    }
+
+    #[inline(always)]
+    fn pass_on(&mut self, links: &[LinkEnds], link: usize, packets: &mut PacketChain) {
+        let end = links[link].to;
+        let node = usize::from(end.node);
+        if self.members.has(node) {
+            self.members.deliver(node, usize::from(end.index), packets);
+        } else {
+            self.exits.hold(link, packets);
+        }
+    }
+}
