@@ -15,3 +15,4 @@ pub mod OneFlow
 pub mod AtFirst
 pub mod InOrder
 pub mod Entries
+pub mod Copies

@@ -1,10 +1,26 @@
-use Rattle.std.proofs.Common.{◌==◌, ◌++◌, drop, sym, ap, ◌∙◌, ◌+◌}
+use Rattle.std.proofs.Common.{◌==◌, ◌++◌, ◌<◌, List, length, get_or, drop, sym, ap, subst, ◌∙◌, ◌+◌, arith}
 use Rattle.std.proofs.lemmas.Bool.{eq-eqb, ne_eqb}
 use Rattle.scenario_image.specs.declared.parts.LinkPart.{LinkPart}
+use Rattle.scenario_image.specs.LinkLimits.{IsLinkInLimits}
 use Rattle.node_core.specs.Opening.{opening_link, opening_links}
 use Rattle.node_core.proofs.Numbered.{picked, pick_yes, pick_no, picked_all}
 use Rattle.node_core.proofs.opening.opening_links.Goals.{then-part-node+in_ok-link+in_ok-push, else-part-node}
 use Rattle.node_core.proofs.opening.opening_links.Goals as goal
+
+pub overflow_cast-number : goal.overflow_cast-number
+overflow_cast-number c = omega (arith, c.loop-number-test.true, ap length c.as_slice-part-items.ensures.value, c.requires.counts.link_count.1)
+
+pub opening_link-requires-clause-number : goal.opening_link-requires-clause-number
+opening_link-requires-clause-number c = omega (arith, c.loop-number-test.true, ap length c.as_slice-part-items.ensures.value, c.requires.counts.link_count.1)
+
+pub opening_link-requires-clause-limits : goal.opening_link-requires-clause-limits
+opening_link-requires-clause-limits c =
+    let i = c.loop-number.number in
+    let nodes = length c.args.parts.now.nodes in
+    let part = c.part-item.result in
+    let same = c.as_slice-part-items.ensures.value in
+    let within : i < length c.args.parts.now.links = subst (λ (links : List LinkPart). i < length links) same c.loop-number-test.true in
+    (nodes, subst (IsLinkInLimits nodes) (sym c.part-item.is) (subst (λ (links : List LinkPart). IsLinkInLimits nodes (get_or links i part)) (sym same) (c.requires.each_link i part within)))
 
 pub loop-number-preserved : goal.loop-number-preserved
 loop-number-preserved c =
