@@ -39,15 +39,18 @@ returns-in-None-clause-value c =
     let a = c.self.inside in
     sym (none_first (owner_of a) a.alarms.items a.wires.items a.ranking c.self.invariant c.in-None.ensures) ∙ ap (λ (s : AgendaState). least s.pending) c.self.view_is
 
+-- what is due of the event that is the least is due of the one that is told
+told : (s now : AgendaState) → s ≡ now → (key : Key) (event : Event) → IsDue s key event → least s.pending ≡ Some (key, event) → (k : Key) (v : Event) → least now.pending ≡ Some (k, v) → IsDue now k v
+told s now same key event due first k v e =
+    subst (λ (t : AgendaState). IsDue t k v) same
+    (subst (λ (entry : Key × Event). IsDue s entry.0 entry.1) (same_some {A = Key × Event} (key, event) (k, v) (sym first ∙ ap (λ (t : AgendaState). least t.pending) same ∙ e)) due)
+
 pub returns-then-slot-alarms-clause-due : goal.returns-then-slot-alarms-clause-due
 returns-then-slot-alarms-clause-due c = λ k v e.
     let a = c.self.inside in
-    let slot = c.in-Some.slot in
-    let within : slot < length a.alarms.items = omega (arith, c.if-slot-alarms.true, c.len-alarms.ensures, a.alarms.ok.0) in
-    let first = first_alarm (owner_of a) a.alarms.items a.wires.items a.ranking c.self.invariant slot c.in-Some.key c.in-Some.ensures within in
-    let same : ◌≡◌ {A = Key × Event} (c.in-Some.key, alarm_event (owner_of a) slot) (k, v) = same_some {A = Key × Event} (c.in-Some.key, alarm_event (owner_of a) slot) (k, v) (sym first.least_is ∙ ap (λ (s : AgendaState). least s.pending) c.self.view_is ∙ e) in
-    subst (λ (s : AgendaState). IsDue s k v) c.self.view_is
-    (subst (λ (entry : Key × Event). IsDue (agenda_of a) entry.0 entry.1) same (alarm_is_due (owner_of a) a.alarms.items a.wires.items slot c.in-Some.key within first))
+    let within : c.in-Some.slot < length a.alarms.items = omega (arith, c.if-slot-alarms.true, c.len-alarms.ensures, a.alarms.ok.0) in
+    let first = first_alarm (owner_of a) a.alarms.items a.wires.items a.ranking c.self.invariant c.in-Some.slot c.in-Some.key c.in-Some.ensures within in
+    told (agenda_of a) c.args.self.now c.self.view_is c.in-Some.key (alarm_event (owner_of a) c.in-Some.slot) (alarm_is_due (owner_of a) a.alarms.items a.wires.items c.in-Some.slot c.in-Some.key within first) first.least_is k v e
 
 pub returns-else-slot-alarms-clause-due : goal.returns-else-slot-alarms-clause-due
 returns-else-slot-alarms-clause-due c = λ k v e.
@@ -55,9 +58,7 @@ returns-else-slot-alarms-clause-due c = λ k v e.
     let j = c.in-Some.slot - c.len-alarms.result in
     let at : length a.alarms.items + j ≡ c.in-Some.slot = omega (arith, c.if-slot-alarms.false, c.len-alarms.ensures, a.alarms.ok.0) in
     let first = first_wire (owner_of a) a.alarms.items a.wires.items a.ranking c.self.invariant c.in-Some.slot c.in-Some.key c.in-Some.ensures j at in
-    let same : ◌≡◌ {A = Key × Event} (c.in-Some.key, first.event) (k, v) = same_some {A = Key × Event} (c.in-Some.key, first.event) (k, v) (sym first.entry ∙ sym first.least_is ∙ ap (λ (s : AgendaState). least s.pending) c.self.view_is ∙ e) in
-    subst (λ (s : AgendaState). IsDue s k v) c.self.view_is
-    (subst (λ (entry : Key × Event). IsDue (agenda_of a) entry.0 entry.1) same (wire_is_due (owner_of a) a.alarms.items a.wires.items j c.in-Some.key first))
+    told (agenda_of a) c.args.self.now c.self.view_is c.in-Some.key first.event (wire_is_due (owner_of a) a.alarms.items a.wires.items j c.in-Some.key first) (first.least_is ∙ first.entry) k v e
 
 pub returns-in-None-clause-due : goal.returns-in-None-clause-due
 returns-in-None-clause-due c = λ k v e.
