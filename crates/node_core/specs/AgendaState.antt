@@ -1,5 +1,5 @@
 -- A node's agenda: what is pending at it, kept in slots, one for each alarm and one for each incoming link.
-use Rattle.std.specs.Prelude.{◌≡◌, ◌≢◌, ◌<◌, ◌≤◌, ◌+◌, ◌-◌, ◌==◌, ◌^◌, if◌then◌else◌, ℕ, All, List, [], ◌∷◌, ◌++◌, map, length, replicate, slice_index, slice_index_or, slice_set, Option, None, Some}
+use Rattle.std.specs.Prelude.{◌≡◌, ◌≢◌, ◌<◌, ◌≤◌, ◌+◌, ◌-◌, ◌==◌, ◌^◌, if◌then◌else◌, ℕ, Bool, true, All, EachIndex, List, [], ◌∷◌, ◌++◌, map, length, replicate, slice_index, slice_index_or, slice_set, Option, None, Some}
 use Rattle.std.specs.List.{position_or_len}
 use Rattle.std.specs.List.Sorted.{IsStrictlyIncreasing}
 use Rattle.sim_time.specs.declared.key.Key.{Key}
@@ -118,6 +118,18 @@ come_over agenda index packets =
 -- each link stands once
 abbrev pub AreApart : List ℕ → Type 0
 AreApart links = (j : ℕ) → j < length links → index_of links (slice_index links j) ≡ j
+
+-- links that can end at a node that has so many others: not too many, each with a number that fits, and each once
+pub record CanComeIn (exits : ℕ) (links : List ℕ) : Type 0 where
+  pub few : exits + length links ≤ 2 ^ 20
+  pub fit : EachIndex links (λ j. slice_index links j < 65535)
+  pub apart : AreApart links
+
+-- packets have come over an incoming link, none is left of them; where others were under way before them, the least key is the one that was
+pub record HasCome (old new : AgendaState) (index : ℕ) (sent left : List Stamped) (behind : Bool) : Type 0 where
+  pub state : new ≡ come_over old index sent
+  pub emptied : left ≡ []
+  pub stays : behind ≡ true → next_key new.pending ≡ next_key old.pending
 
 -- a link over which nothing has come
 abbrev pub fresh_wire : ℕ → ℕ → WireState

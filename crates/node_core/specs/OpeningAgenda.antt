@@ -1,10 +1,12 @@
 -- What is pending at a node of a scenario, before anything is sent.
-use Rattle.std.specs.Prelude.{◌==◌, ℕ, List, ◌∷◌, map, length, find, replicate, Option, None}
+use Rattle.std.specs.Prelude.{◌≡◌, ◌==◌, ◌<◌, ◌≤◌, ℕ, List, ◌∷◌, map, length, find, replicate, Option, None}
 use Rattle.std.specs.List.{enumerate_from}
 use Rattle.std.specs.Option.{option_map}
 use Rattle.scenario_image.specs.declared.parts.LinkPart.{LinkPart}
 use Rattle.scenario_image.specs.declared.parts.FlowPart.{FlowPart}
 use Rattle.scenario_image.specs.declared.parts.ScenarioParts.{ScenarioParts}
+use Rattle.scenario_image.specs.Scenario.{IsScenario}
+use Rattle.scenario_image.specs.LinkLimits.{IsLinkInLimits}
 use Rattle.ranking.specs.Keyed.{apply, nothing_due}
 use Rattle.node_core.specs.declared.event.Event.{Event}
 use Rattle.node_core.specs.InStep.{flow_of}
@@ -14,6 +16,18 @@ use Rattle.node_core.specs.Opening.{node_kind, leaving_links, coming_links, open
 -- the numbers of links
 abbrev pub numbers_of : List (ℕ × LinkPart) → List ℕ
 numbers_of = map (λ (x : ℕ × LinkPart). x.0)
+
+-- a link of some scenario, and its number
+pub record IsLinkOf (number : ℕ) (part : LinkPart) : Type 0 where
+  pub number_fits : number < 1024
+  pub limits : (nodes : ℕ) × IsLinkInLimits nodes part
+
+-- a node of a scenario, and the numbers of the links that leave it
+pub record IsNodeOf (p : ScenarioParts) (node : ℕ) (leaving : List ℕ) : Type 0 where
+  pub scenario : IsScenario p
+  pub within : node < length p.nodes
+  pub few : length leaving ≤ 1024
+  pub leave_it : leaving ≡ numbers_of (leaving_links p.links node)
 
 -- the flow that a node sends, or receives, with its number, if there is one
 abbrev pub flow_sent : List FlowPart → ℕ → Option (ℕ × FlowPart)

@@ -1,11 +1,11 @@
 //! What is pending at a node: its alarms and what comes over its links, ranked by their next keys.
-ghost use Rattle.std.specs.Prelude.{◌≡◌, ◌≢◌, ◌+◌, ◌<◌, ◌≤◌, ◌^◌, [], EachIndex, IfOk, Option, Some, None, length, map as each, replicate, slice_index, true, vec_len};
+ghost use Rattle.std.specs.Prelude.{◌≡◌, ◌≢◌, ◌<◌, EachIndex, IfOk, Option, Some, None, length, map as each, replicate, slice_index, vec_len};
 ghost use Rattle.std.specs.Option.{option_map};
 ghost use Rattle.std.specs.FinMap as map;
 ghost use Rattle.sim_time.specs.declared.key.Key.{Key};
 ghost use Rattle.ranking.specs.Keyed.{least, next_key};
 ghost use Rattle.node_core.specs.Alarms.{alarm_number, numbered_key};
-ghost use Rattle.node_core.specs.AgendaState.{alarm_event, cleared, incoming_at, entry_of, come_over, CanCome, AreApart, fresh_wire, fresh_agenda, IsAlarm, IsDue};
+ghost use Rattle.node_core.specs.AgendaState.{alarm_event, cleared, incoming_at, entry_of, CanCome, HasCome, CanComeIn, fresh_wire, fresh_agenda, IsAlarm, IsDue};
 ghost use Rattle.node_core.specs.Passing.{after_take, moved_to};
 ghost use Rattle.packet_chain.specs.declared.packet.Packet.{Packet};
 ghost use Rattle.node_core.specs.declared.event.Event.{Event};
@@ -115,9 +115,7 @@ impl Agenda {
         exits: Vec<u16>,
         links: &[u16],
     ) -> Result<Agenda, AllocError>
-        requires few { vec_len exits + length links.now ≤ 2 ^ 20 }
-        requires links { EachIndex links.now (λ j. slice_index links.now j < 65535) }
-        requires apart { AreApart links.now }
+        requires { CanComeIn (vec_len exits) links.now }
         ensures { IfOk result (λ agenda. agenda ≡ fresh_agenda (record { node = node; flow = flow; exits = exits.items }) links.now) }
     {
         let alarms = FIRST_FREE + exits.len();
@@ -226,8 +224,7 @@ impl Agenda {
 
     /// The event of the least key.
     pub fn least(&self) -> Option<(Key, Event)>
-        ensures value { result ≡ least self.now.pending }
-        ensures due { (k : Key) (v : Event) → least self.now.pending ≡ Some (k, v) → IsDue self.now k v }
+        ensures { result ≡ least self.now.pending }
     {
         match self.ranking.first() {
             Some((slot, key)) => {
@@ -295,20 +292,10 @@ impl Agenda {
     }
 
     /// Packets come over an incoming link, after all that came over it before. It takes no memory.
-    pub fn append(&mut self, index: usize, sent: &mut PacketChain)
-        requires { CanCome self.old.pending self.old.incoming index sent.old }
-        ensures state { self.new ≡ come_over self.old index sent.old }
-        ensures sent { sent.new ≡ [] }
-    {
-        let _behind = self.append_behind(index, sent);
-    }
-
-    /// The same. The answer is whether others are under way before them: then the least key stays.
+    /// The answer is whether others are under way before them: then the least key stays.
     pub fn append_behind(&mut self, index: usize, sent: &mut PacketChain) -> bool
         requires { CanCome self.old.pending self.old.incoming index sent.old }
-        ensures state { self.new ≡ come_over self.old index sent.old }
-        ensures sent { sent.new ≡ [] }
-        ensures stays { result ≡ true → next_key self.new.pending ≡ next_key self.old.pending }
+        ensures { HasCome self.old self.new index sent.old sent.new result }
     {
         let wire = &mut self.wires[index];
         let waiting = wire.next_key().is_some();

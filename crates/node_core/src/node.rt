@@ -203,7 +203,7 @@ impl Node {
         ensures node { self.new ≡ delivered self.old index chain.old }
         ensures emptied { chain.new ≡ [] }
     {
-        self.agenda.append(index, chain);
+        let _behind = self.agenda.append_behind(index, chain);
     }
 
     /// The same. The answer is whether others are under way before them: then the least key stays.

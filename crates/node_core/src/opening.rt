@@ -1,14 +1,13 @@
 //! What a node of a scenario is made of, before anything is sent.
-ghost use Rattle.std.specs.Prelude.{◌≡◌, ◌==◌, ◌<◌, ◌≤◌, ℕ, IfOk, length, map};
+ghost use Rattle.std.specs.Prelude.{◌≡◌, ◌==◌, ◌<◌, ◌≤◌, IfOk, length, map};
 ghost use Rattle.std.specs.List.{position};
 ghost use Rattle.std.specs.Option.{option_and_then};
 ghost use Rattle.scenario_image.specs.Limits.{IsInLimits};
-ghost use Rattle.scenario_image.specs.LinkLimits.{IsLinkInLimits};
 ghost use Rattle.scenario_image.specs.Scenario.{IsScenario};
 ghost use Rattle.scenario_image.specs.Ways.{route_link as link_of_route};
 ghost use Rattle.node_core.specs.InStep.{flow_of};
 ghost use Rattle.node_core.specs.Opening.{node_kind, opening_link as link_at_first, leaving_links, coming_links, opening_links as links_at_first, exits_of, opening_role as role_at_first};
-ghost use Rattle.node_core.specs.OpeningAgenda.{numbers_of, flow_sent, flow_received, start_at as start_of_flow, opening_agenda as agenda_at_first};
+ghost use Rattle.node_core.specs.OpeningAgenda.{IsLinkOf, IsNodeOf, numbers_of, flow_sent, flow_received, start_at as start_of_flow, opening_agenda as agenda_at_first};
 
 use crate::agenda::Agenda;
 use crate::alarm::Alarm;
@@ -25,8 +24,7 @@ use std::alloc::{AllocError, Global};
 
 // The link of a number, before anything was offered to it.
 fn opening_link(alloc: Global, number: u16, part: &LinkPart) -> Result<Link, AllocError>
-    requires number { number < 1024 }
-    requires limits { (nodes : ℕ) × IsLinkInLimits nodes part.now }
+    requires { IsLinkOf number part.now }
     ensures { IfOk result (λ link. link ≡ link_at_first (number, part.now)) }
 {
     let rate = Rate::new(part.rate).unwrap();
@@ -85,8 +83,7 @@ fn coming_numbers(alloc: Global, links: &[LinkPart], node: u16) -> Result<Vec<u1
 
 // Which of a node's links, whose numbers are given, goes to a destination by the node's route.
 fn opening_exit(parts: &ScenarioParts, leaving: &[u16], node: u16, destination: u16) -> Option<u16>
-    requires limits { IsInLimits parts.now }
-    requires few { length leaving.now ≤ 1024 }
+    requires { IsNodeOf parts.now node leaving.now }
     ensures { result ≡ option_and_then (λ number. position (λ n. n == number) leaving.now) (link_of_route parts.now.routes node destination) }
 {
     let number = route_link(parts, node, destination)?;
@@ -101,9 +98,7 @@ fn opening_exits(
     leaving: &[u16],
     node: u16,
 ) -> Result<RouteTable, AllocError>
-    requires limits { IsInLimits parts.now }
-    requires few { length leaving.now ≤ 1024 }
-    requires leaving { leaving.now ≡ numbers_of (leaving_links parts.now.links node) }
+    requires { IsNodeOf parts.now node leaving.now }
     ensures { IfOk result (λ table. table ≡ map (exits_of parts.now node) parts.now.flows) }
 {
     let mut exits = Vec::new(alloc);
@@ -180,10 +175,7 @@ pub(crate) fn opening_agenda(
     flow: u16,
     leaving: Vec<u16>,
 ) -> Result<Agenda, AllocError>
-    requires scenario { IsScenario parts.now }
-    requires within { node < length parts.now.nodes }
-    requires few { length leaving.items ≤ 1024 }
-    requires leaving { leaving.items ≡ numbers_of (leaving_links parts.now.links node) }
+    requires at { IsNodeOf parts.now node leaving.items }
     requires flow { flow ≡ flow_of (role_at_first parts.now node (node_kind parts.now node)) }
     ensures { IfOk result (λ agenda. agenda ≡ agenda_at_first parts.now node) }
 {

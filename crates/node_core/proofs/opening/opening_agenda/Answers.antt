@@ -24,29 +24,23 @@ few_come links node =
     let count = passing_count (λ (link : LinkPart). link.to == node) 0 links in
     omega (arith, length-map (coming_links links node) (λ (x : ℕ × LinkPart). x.0), count, count_by-le-length (λ (link : LinkPart). link.to == node) links)
 
-pub new-requires-clause-few : goal.new-requires-clause-few
-new-requires-clause-few c =
+pub new-requires : goal.new-requires
+new-requires c =
     let all = c.args.parts.now.links in
-    let numbers = ap length (come c.as_slice.result.now all c.args.node _ _ c.deref.ensures.value c.in_ok-coming.ensures c.as_slice.ensures.value) in
-    omega (arith, numbers, few_come all c.args.node, c.requires.scenario.in_limits.counts.link_count.1, c.requires.few, c.args.leaving.ok.0)
-
-pub new-requires-clause-links : goal.new-requires-clause-links
-new-requires-clause-links c =
-    let all = c.args.parts.now.links in
-    subst (λ (ns : List ℕ). (i : ℕ) → i < length ns → get_or ns i 0 < 65535) (sym (come c.as_slice.result.now all c.args.node _ _ c.deref.ensures.value c.in_ok-coming.ensures c.as_slice.ensures.value))
-    (within all c.args.node c.requires.scenario.in_limits.counts.link_count.1)
-
-pub new-requires-clause-apart : goal.new-requires-clause-apart
-new-requires-clause-apart c =
-    let all = c.args.parts.now.links in
-    subst AreApart (sym (come c.as_slice.result.now all c.args.node _ _ c.deref.ensures.value c.in_ok-coming.ensures c.as_slice.ensures.value)) (numbers_apart (λ (link : LinkPart). link.to == c.args.node) 0 all)
+    let links = c.requires.at.scenario.in_limits.counts.link_count.1 in
+    let same = come c.as_slice.result.now all c.args.node _ _ c.deref.ensures.value c.in_ok-coming.ensures c.as_slice.ensures.value in
+    record {
+      few = (let numbers = ap length same in omega (arith, numbers, few_come all c.args.node, links, c.requires.at.few, c.args.leaving.ok.0));
+      fit = subst (λ (ns : List ℕ). (i : ℕ) → i < length ns → get_or ns i 0 < 65535) (sym same) (within all c.args.node links);
+      apart = subst AreApart (sym same) (numbers_apart (λ (link : LinkPart). link.to == c.args.node) 0 all);
+    }
 
 pub returns : goal.returns
 returns c =
     let all = c.args.parts.now.links in
     let coming = c.deref.result.now in
     c.set_alarm.ensures
-    ∙ ap (λ (agenda : AgendaState). with_start agenda c.start_at.result) (c.in_ok-agenda.ensures ∙ ap (λ o. fresh_agenda o coming) (same_owner c.requires.flow c.requires.leaving))
-    ∙ opened_agenda c.args.parts.now c.requires.scenario c.args.node c.requires.within coming c.start_at.result
+    ∙ ap (λ (agenda : AgendaState). with_start agenda c.start_at.result) (c.in_ok-agenda.ensures ∙ ap (λ o. fresh_agenda o coming) (same_owner c.requires.flow c.requires.at.leave_it))
+    ∙ opened_agenda c.args.parts.now c.requires.at.scenario c.args.node c.requires.at.within coming c.start_at.result
     (come c.as_slice.result.now all c.args.node _ _ c.deref.ensures.value c.in_ok-coming.ensures c.as_slice.ensures.value)
     (c.start_at.ensures ∙ ap (λ (flows : List FlowPart). start_at flows c.args.node) c.as_slice-2.ensures.value)

@@ -17,7 +17,7 @@ no_flow = record { sender = 0; receiver = 0; mss = 0; segments = 0; start = 0; r
 -- the exit of an end of a flow, by the router's routes
 exit : (c : goal.In_ok-push) (destination : ℕ) (found : Option ℕ)
     → found ≡ option_and_then (λ number. position (λ n. n == number) c.args.leaving.now) (route_link c.args.parts.now.routes c.args.node destination) → found ≡ exit_to c.args.parts.now c.args.node destination
-exit c destination found is = is ∙ exit_is c.args.parts.now c.args.node destination c.args.leaving.now c.requires.leaving
+exit c destination found is = is ∙ exit_is c.args.parts.now c.args.node destination c.args.leaving.now c.requires.leave_it
 
 same_exits : {d d' a a' : Option ℕ} → d ≡ d' → a ≡ a' → ◌≡◌ {A = FlowExits} (record { for_data = d; for_acks = a }) (record { for_data = d'; for_acks = a' })
 same_exits e f i = record { for_data = e i; for_acks = f i }

@@ -10,17 +10,17 @@ use Rattle.node_core.proofs.opening.opening_links.Goals as goal
 pub overflow_cast-number : goal.overflow_cast-number
 overflow_cast-number c = omega (arith, c.loop-number-test.true, ap length c.as_slice-part-items.ensures.value, c.requires.counts.link_count.1)
 
-pub opening_link-requires-clause-number : goal.opening_link-requires-clause-number
-opening_link-requires-clause-number c = omega (arith, c.loop-number-test.true, ap length c.as_slice-part-items.ensures.value, c.requires.counts.link_count.1)
-
-pub opening_link-requires-clause-limits : goal.opening_link-requires-clause-limits
-opening_link-requires-clause-limits c =
+pub opening_link-requires : goal.opening_link-requires
+opening_link-requires c =
     let i = c.loop-number.number in
     let nodes = length c.args.parts.now.nodes in
     let part = c.part-item.result in
     let same = c.as_slice-part-items.ensures.value in
     let within : i < length c.args.parts.now.links = subst (λ (links : List LinkPart). i < length links) same c.loop-number-test.true in
-    (nodes, subst (IsLinkInLimits nodes) (sym c.part-item.is) (subst (λ (links : List LinkPart). IsLinkInLimits nodes (get_or links i part)) (sym same) (c.requires.each_link i part within)))
+    record {
+      number_fits = omega (arith, within, c.requires.counts.link_count.1);
+      limits = (nodes, subst (IsLinkInLimits nodes) (sym c.part-item.is) (subst (λ (links : List LinkPart). IsLinkInLimits nodes (get_or links i part)) (sym same) (c.requires.each_link i part within)));
+    }
 
 pub loop-number-preserved : goal.loop-number-preserved
 loop-number-preserved c =

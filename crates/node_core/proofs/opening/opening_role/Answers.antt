@@ -16,14 +16,8 @@ use Rattle.node_core.proofs.opening.opening_role.Goals as goal
 pub bounds : goal.bounds
 bounds c = omega (arith, c.from.ensures, ap length c.as_slice.ensures.value, c.requires.within)
 
-pub opening_exits-requires-clause-limits : goal.opening_exits-requires-clause-limits
-opening_exits-requires-clause-limits c = c.requires.scenario.in_limits
-
-pub opening_exits-requires-clause-few : goal.opening_exits-requires-clause-few
-opening_exits-requires-clause-few c = c.requires.few
-
-pub opening_exits-requires-clause-leaving : goal.opening_exits-requires-clause-leaving
-opening_exits-requires-clause-leaving c = c.requires.leaving
+pub opening_exits-requires : goal.opening_exits-requires
+opening_exits-requires c = record { scenario = c.requires.scenario; within = c.requires.within; few = c.requires.few; leave_it = c.requires.leaving }
 
 pub unwrap-number-requires : goal.unwrap-number-requires
 unwrap-number-requires c =

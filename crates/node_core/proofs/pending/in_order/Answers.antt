@@ -10,7 +10,7 @@ use Rattle.node_core.proofs.pending.in_order.Goals as goal
 pub loop-key-smaller-in_ok-push : goal.loop-key-smaller-in_ok-push
 loop-key-smaller-in_ok-push c =
     let rest = c.loop-key.rest.pending in
-    let first : least rest ≡ Some (c.in-Some.key, c.in-Some.event) = sym c.in-Some.ensures.value in
+    let first : least rest ≡ Some (c.in-Some.key, c.in-Some.event) = sym c.in-Some.ensures in
     subst (λ n. n < length (map.entries rest)) (sym (ap (λ (r : AgendaState). length (map.entries r.pending)) c.take-cell.ensures.state)) (fewer rest c.in-Some.key c.in-Some.event first)
 
 pub loop-key-preserved-in_ok-push : goal.loop-key-preserved-in_ok-push
@@ -18,7 +18,7 @@ loop-key-preserved-in_ok-push c =
     let rest = c.loop-key.rest.pending in
     let all = c.loop-key.all.items in
     let entry : Key × Event = (c.in-Some.key, c.in-Some.event) in
-    let first : least rest ≡ Some (c.in-Some.key, c.in-Some.event) = sym c.in-Some.ensures.value in
+    let first : least rest ≡ Some (c.in-Some.key, c.in-Some.event) = sym c.in-Some.ensures in
     ap (λ (es : List (Key × Event)). es ++ map.entries c.take-cell.new.self.pending) c.in_ok-push.ensures.items
     ∙ ap (λ (r : AgendaState). (all ++ entry ∷ []) ++ map.entries r.pending) c.take-cell.ensures.state
     ∙ taken_more all (map.entries c.args.agenda.now.pending) rest c.in-Some.key c.in-Some.event first c.loop-key.invariant
@@ -26,7 +26,7 @@ loop-key-preserved-in_ok-push c =
 pub loop-key-smaller : goal.loop-key-smaller
 loop-key-smaller c =
     let rest = c.loop-key.rest.pending in
-    let first : least rest ≡ Some (c.in-Some.key, c.in-Some.event) = sym c.in-Some.ensures.value in
+    let first : least rest ≡ Some (c.in-Some.key, c.in-Some.event) = sym c.in-Some.ensures in
     subst (λ n. n < length (map.entries rest)) (sym (ap (λ (r : AgendaState). length (map.entries r.pending)) c.take-cell.ensures.state)) (fewer rest c.in-Some.key c.in-Some.event first)
 
 pub loop-key-preserved : goal.loop-key-preserved
@@ -34,7 +34,7 @@ loop-key-preserved c =
     let rest = c.loop-key.rest.pending in
     let all = c.loop-key.all.items in
     let entry : Key × Event = (c.in-Some.key, c.in-Some.event) in
-    let first : least rest ≡ Some (c.in-Some.key, c.in-Some.event) = sym c.in-Some.ensures.value in
+    let first : least rest ≡ Some (c.in-Some.key, c.in-Some.event) = sym c.in-Some.ensures in
     ap (λ (es : List (Key × Event)). es ++ map.entries c.take-cell.new.self.pending) c.in_ok-push.ensures.items
     ∙ ap (λ (r : AgendaState). (all ++ entry ∷ []) ++ map.entries r.pending) c.take-cell.ensures.state
     ∙ taken_more all (map.entries c.args.agenda.now.pending) rest c.in-Some.key c.in-Some.event first c.loop-key.invariant

@@ -31,18 +31,6 @@ append-requires-clause-few c =
     let few = subst (λ (s : AgendaState). (incoming_at s.incoming j).came + length c.args.sent.now ≤ 2 ^ 50) (sym c.self.view_is) c.requires.few in
     subst (λ (w : WireState). came_over w + length c.args.sent.now ≤ 2 ^ 50) (sym is) (subst (λ (over : Incoming). over.came + length c.args.sent.now ≤ 2 ^ 50) (get_or-map incoming_of a.wires.items j no_wire) few)
 
-pub returns-clause-sent : goal.returns-clause-sent
-returns-clause-sent c = c.append.ensures.sent
-
-pub returns-then-waiting-clause-sent : goal.returns-then-waiting-clause-sent
-returns-then-waiting-clause-sent c = c.append.ensures.sent
-
-pub returns-clause-stays : goal.returns-clause-stays
-returns-clause-stays c = λ said. absurd (not_said said)
-  where
-    not_said : false ≡ true → ⊥
-    not_said e = cc
-
 pub append-requires-clause-later : goal.append-requires-clause-later
 append-requires-clause-later c = λ i d under k v there.
     let a = c.self.inside in
@@ -74,17 +62,24 @@ invariant_of-self-2 c =
     subst (IsAgenda (owner_of a) a.alarms.items (set a.wires.items j c.append.new.self)) (ap (λ i. set a.ranking i (next_key (pending_on c.append.new.self))) slot ∙ sym (c.set.ensures ∙ ap (set a.ranking (c.len.result + j)) c.next_key-next.ensures))
     (wire_ranked (owner_of a) a.alarms.items a.wires.items a.ranking c.self.invariant j within c.append.new.self (ap (λ (w : WireState). w.node) new) (ap (λ (w : WireState). w.link) new))
 
-pub returns-clause-state : goal.returns-clause-state
-returns-clause-state c =
+pub returns : goal.returns
+returns c =
     let a = c.self.inside in
     let j = c.args.index in
     let among : j < length (each incoming_of a.wires.items) = subst (λ (s : AgendaState). j < length s.incoming) (sym c.self.view_is) c.requires.within in
     let within : j < length a.wires.items = omega (arith, among, length-map a.wires.items incoming_of) in
     let is : c.index_mut-wire.result.now ≡ wire_at a.wires.items j = get_or_read a.wires.items j c.index_mut-wire.result.now within c.index_mut-wire.ensures.value no_wire in
-    joined_state (owner_of a) a.alarms.items a.wires.items a.ranking c.self.invariant j within c.args.sent.now c.append.new.self
-    (c.append.ensures.state ∙ ap (λ (w : WireState). record w { under_way = w.under_way ++ c.args.sent.now }) is)
-    (c.append.ensures.pending ∙ ap (λ (w : WireState). apply (entering (arrivals w.node w.link (came_over w) c.args.sent.now)) (pending_on w)) is)
-    ∙ ap (λ (s : AgendaState). come_over s j c.args.sent.now) c.self.view_is
+    record {
+      state = joined_state (owner_of a) a.alarms.items a.wires.items a.ranking c.self.invariant j within c.args.sent.now c.append.new.self
+          (c.append.ensures.state ∙ ap (λ (w : WireState). record w { under_way = w.under_way ++ c.args.sent.now }) is)
+          (c.append.ensures.pending ∙ ap (λ (w : WireState). apply (entering (arrivals w.node w.link (came_over w) c.args.sent.now)) (pending_on w)) is)
+          ∙ ap (λ (s : AgendaState). come_over s j c.args.sent.now) c.self.view_is;
+      emptied = c.append.ensures.sent;
+      stays = λ said. absurd (not_said said);
+    }
+  where
+    not_said : false ≡ true → ⊥
+    not_said e = cc
 
 pub invariant_of-self : goal.invariant_of-self
 invariant_of-self c =
@@ -105,20 +100,8 @@ invariant_of-self c =
     made : (o : Option Key) → is_some o ≡ true → IsSome o
     made o e = search rules
 
-pub returns-then-waiting-clause-state : goal.returns-then-waiting-clause-state
-returns-then-waiting-clause-state c =
-    let a = c.self.inside in
-    let j = c.args.index in
-    let among : j < length (each incoming_of a.wires.items) = subst (λ (s : AgendaState). j < length s.incoming) (sym c.self.view_is) c.requires.within in
-    let within : j < length a.wires.items = omega (arith, among, length-map a.wires.items incoming_of) in
-    let is : c.index_mut-wire.result.now ≡ wire_at a.wires.items j = get_or_read a.wires.items j c.index_mut-wire.result.now within c.index_mut-wire.ensures.value no_wire in
-    joined_state (owner_of a) a.alarms.items a.wires.items a.ranking c.self.invariant j within c.args.sent.now c.append.new.self
-    (c.append.ensures.state ∙ ap (λ (w : WireState). record w { under_way = w.under_way ++ c.args.sent.now }) is)
-    (c.append.ensures.pending ∙ ap (λ (w : WireState). apply (entering (arrivals w.node w.link (came_over w) c.args.sent.now)) (pending_on w)) is)
-    ∙ ap (λ (s : AgendaState). come_over s j c.args.sent.now) c.self.view_is
-
-pub returns-then-waiting-clause-stays : goal.returns-then-waiting-clause-stays
-returns-then-waiting-clause-stays c = λ _.
+pub returns-then-waiting : goal.returns-then-waiting
+returns-then-waiting c =
     let a = c.self.inside in
     let owner = owner_of a in
     let alarms = a.alarms.items in
@@ -136,9 +119,16 @@ returns-then-waiting-clause-stays c = λ _.
     let link = ap (λ (x : WireState). x.link) new in
     let again : IsAgenda owner alarms (set wires j w) a.ranking = subst (IsAgenda owner alarms (set wires j w)) (still_ranked owner alarms wires a.ranking c.self.invariant j within w node link stays)
     (wire_ranked owner alarms wires a.ranking c.self.invariant j within w node link) in
-    same_next (home_of alarms wires) (home_of alarms (set wires j w)) (slots owner alarms wires) (slots owner alarms (set wires j w))
-    (slots_home owner alarms wires a.ranking c.self.invariant) (slots_home owner alarms (set wires j w) a.ranking again) (sym c.self.invariant.ranked ∙ again.ranked)
-    ∙ ap (λ (s : AgendaState). next_key s.pending) c.self.view_is
+    record {
+      state = joined_state owner alarms wires a.ranking c.self.invariant j within c.args.sent.now w new
+          (c.append.ensures.pending ∙ ap (λ (x : WireState). apply (entering (arrivals x.node x.link (came_over x) c.args.sent.now)) (pending_on x)) is)
+          ∙ ap (λ (s : AgendaState). come_over s j c.args.sent.now) c.self.view_is;
+      emptied = c.append.ensures.sent;
+      stays = λ _.
+          same_next (home_of alarms wires) (home_of alarms (set wires j w)) (slots owner alarms wires) (slots owner alarms (set wires j w))
+          (slots_home owner alarms wires a.ranking c.self.invariant) (slots_home owner alarms (set wires j w) a.ranking again) (sym c.self.invariant.ranked ∙ again.ranked)
+          ∙ ap (λ (s : AgendaState). next_key s.pending) c.self.view_is;
+    }
   where
     made : (o : Option Key) → is_some o ≡ true → IsSome o
     made o e = search rules

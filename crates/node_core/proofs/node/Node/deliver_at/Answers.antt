@@ -3,7 +3,7 @@ use Rattle.node_core.specs.AgendaState.{CanCome}
 use Rattle.node_core.specs.Node.{NodeState}
 use Rattle.node_core.proofs.node.Node.deliver_at.Goals as goal
 
-pub append-requires : goal.append-requires
-append-requires c =
+pub append_behind-behind-requires : goal.append_behind-behind-requires
+append_behind-behind-requires c =
     subst (λ (s : NodeState). CanCome s.pending s.incoming c.args.index c.args.chain.now) (sym c.self.view_is)
     (record { within = c.requires.within; rising = c.requires.rising; later = c.requires.later; few = c.requires.few })

@@ -28,14 +28,17 @@ opening_role-requires-clause-leaving c = c.deref.ensures.value ∙ c.in_ok-leavi
 pub opening_links-requires : goal.opening_links-requires
 opening_links-requires c = let is = subst IsScenario (sym c.parts-parts.ensures.value) c.parts-parts.ensures.scenario in is.in_limits
 
-pub opening_agenda-requires-clause-scenario : goal.opening_agenda-requires-clause-scenario
-opening_agenda-requires-clause-scenario c = subst IsScenario (sym c.parts-parts.ensures.value) c.parts-parts.ensures.scenario
-
-pub opening_agenda-requires-clause-within : goal.opening_agenda-requires-clause-within
-opening_agenda-requires-clause-within c = subst (λ (p : ScenarioParts). c.args.number < length p.nodes) (sym c.parts-parts.ensures.value) c.requires
-
-pub opening_agenda-requires-clause-leaving : goal.opening_agenda-requires-clause-leaving
-opening_agenda-requires-clause-leaving c = c.in_ok-leaving.ensures ∙ ap (λ (links : List LinkPart). numbers_of (leaving_links links c.args.number)) c.as_slice.ensures.value
+pub opening_agenda-requires-clause-at : goal.opening_agenda-requires-clause-at
+opening_agenda-requires-clause-at c =
+    let p = c.parts-parts in
+    let is = subst IsScenario (sym p.ensures.value) p.ensures.scenario in
+    let under = subst (λ (q : ScenarioParts). c.args.number < length q.nodes) (sym p.ensures.value) c.requires in
+    record {
+      scenario = is;
+      within = under;
+      few = few_numbers p.result.now is c.args.number under c.as_slice.result.now c.in_ok-leaving.leaving.items c.as_slice.ensures.value c.in_ok-leaving.ensures;
+      leave_it = c.in_ok-leaving.ensures ∙ ap (λ (links : List LinkPart). numbers_of (leaving_links links c.args.number)) c.as_slice.ensures.value;
+    }
 
 pub opening_agenda-requires-clause-flow : goal.opening_agenda-requires-clause-flow
 opening_agenda-requires-clause-flow c = c.flow.ensures ∙ ap (λ (role : Role). flow_of role) c.in_ok-role.ensures
@@ -46,12 +49,6 @@ opening_role-requires-clause-few c =
     let under = subst (λ (q : ScenarioParts). c.args.number < length q.nodes) (sym p.ensures.value) c.requires in
     let numbers = few_numbers p.result.now (subst IsScenario (sym p.ensures.value) p.ensures.scenario) c.args.number under c.as_slice.result.now c.in_ok-leaving.leaving.items c.as_slice.ensures.value c.in_ok-leaving.ensures in
     omega (arith, numbers, ap length c.deref.ensures.value)
-
-pub opening_agenda-requires-clause-few : goal.opening_agenda-requires-clause-few
-opening_agenda-requires-clause-few c =
-    let p = c.parts-parts in
-    let under = subst (λ (q : ScenarioParts). c.args.number < length q.nodes) (sym p.ensures.value) c.requires in
-    few_numbers p.result.now (subst IsScenario (sym p.ensures.value) p.ensures.scenario) c.args.number under c.as_slice.result.now c.in_ok-leaving.leaving.items c.as_slice.ensures.value c.in_ok-leaving.ensures
 
 pub invariant_of-result : goal.invariant_of-result
 invariant_of-result c =
