@@ -137,6 +137,7 @@ impl Nodes {
 
     /// Packets come to a node over one of its incoming links, after all that came over it before;
     /// the chain is then empty. It takes no memory.
+    #[inline(always)]
     pub fn deliver(&mut self, place: usize, index: usize, chain: &mut PacketChain)
         requires place { place < length self.old }
         requires within { index < length (node_at self.old place).incoming }

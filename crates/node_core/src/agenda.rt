@@ -293,6 +293,7 @@ impl Agenda {
 
     /// Packets come over an incoming link, after all that came over it before. It takes no memory.
     /// The answer is whether others are under way before them: then the least key stays.
+    #[inline(always)]
     pub fn append_behind(&mut self, index: usize, sent: &mut PacketChain) -> bool
         requires { CanCome self.old.pending self.old.incoming index sent.old }
         ensures { HasCome self.old self.new index sent.old sent.new result }

@@ -123,6 +123,7 @@ impl Wire {
     }
 
     /// Takes the first packet off, in its cell: it arrives.
+    #[inline(always)]
     pub fn pop(&mut self) -> Option<PacketCell>
         ensures given { result ≡ slice_get self.old.under_way 0 }
         ensures packet { (key : Key) (packet : Packet) → least (pending_on self.old) ≡ Some (key, Arrive packet) → option_map (λ cell. cell.0) result ≡ Some packet }

@@ -33,18 +33,9 @@ set-requires c =
 pub set-requires-2 : goal.set-requires-2
 set-requires-2 c =
     let a = c.self.inside in
-    let within : c.in_ok-slot.slot < length a.alarms.items + length a.wires.items = first_within (owner_of a) a.alarms.items a.wires.items a.ranking c.self.invariant c.in_ok-slot.slot c.in_ok-slot.field-0-1 c.in_ok-slot.ensures in
+    let within : c.leader-slot.result.0 < length a.alarms.items + length a.wires.items = first_within (owner_of a) a.alarms.items a.wires.items a.ranking c.self.invariant c.leader-slot.result.0 c.leader-slot.result.1 c.leader-slot.ensures in
     let ranked : length a.ranking ≡ length (slots (owner_of a) a.alarms.items a.wires.items) = ap length c.self.invariant.ranked ∙ length-map (slots (owner_of a) a.alarms.items a.wires.items) next_key in
     omega (arith, within, ranked, length-slots (owner_of a) a.alarms.items a.wires.items)
-
-pub index_mut-requires : goal.index_mut-requires
-index_mut-requires c = omega (arith, c.if-slot-alarms.true, c.len-alarms.ensures, c.self.inside.alarms.ok.0)
-
-pub set-requires : goal.set-requires
-set-requires c =
-    let a = c.self.inside in
-    let ranked : length a.ranking ≡ length (slots (owner_of a) a.alarms.items a.wires.items) = ap length c.self.invariant.ranked ∙ length-map (slots (owner_of a) a.alarms.items a.wires.items) next_key in
-    omega (arith, c.if-slot-alarms.true, c.len-alarms.ensures, a.alarms.ok.0, ranked, length-slots (owner_of a) a.alarms.items a.wires.items)
 
 pub invariant_of-self : goal.invariant_of-self
 invariant_of-self c =
