@@ -34,14 +34,19 @@ class Threads(unittest.TestCase):
     def text_of(self, shape):
         return subprocess.run([sys.executable, NET, *shape], check=True, capture_output=True, text=True).stdout
 
-    def counted(self, text, *words):
-        """What the program writes, and how many threads it started."""
+    def ran(self, text, *words):
+        """What the program writes, and what beside it, and how many threads it started."""
         counts = os.path.join(self.folder.name, 'counts')
         with open(counts, 'wb'):
             pass
         env = {**os.environ, 'LD_PRELOAD': self.library, 'THREADS': counts}
         done = subprocess.run([PROGRAM, *words], input=text, capture_output=True, text=True, env=env, check=True)
-        return done.stdout, os.path.getsize(counts)
+        return done.stdout, done.stderr, os.path.getsize(counts)
+
+    def counted(self, text, *words):
+        """What the program writes, and how many threads it started."""
+        written, _, threads = self.ran(text, *words)
+        return written, threads
 
     def run_of(self, text, *words):
         """How many threads a run starts; its trace is that of a run without options."""
@@ -74,6 +79,17 @@ class Threads(unittest.TestCase):
         for groups in (four, four.replace('1', '0'), four.replace('3', '2').replace('1', '0')):
             for workers in ('2', '3'):
                 self.assertGreater(self.run_of(text, '--groups', groups, '--workers', workers), 0)
+
+    def test_threads_tell_the_progress_of_one_worker(self):
+        """A window ends at each hundredth of a run that is told."""
+        text, words = self.text_of(WIDE), ('run', '--progress', '--groups', self.parts(), '--workers')
+        trace, told, none = self.ran(text, *words, '1')
+        self.assertEqual((none, told.count('% of 2 s simulated')), (0, 100))
+        for workers in ('2', '4'):
+            found, noted, threads = self.ran(text, *words, workers)
+            self.assertGreater(threads, 0)
+            self.assertTrue(found == trace)
+            self.assertEqual(noted, told)
 
     def test_one_worker_or_one_group_starts_none(self):
         text = self.text_of(WIDE)
