@@ -4,14 +4,15 @@ ghost use Rattle.work_board.specs.Seats.{IsOf, HoldsNothing};
 mod laid;
 mod refused;
 
-use self::laid::{groups, pieces, whole};
+use self::laid::{groups, laid, laid_out, whole};
 use std::alloc::{AllocError, Global};
+use std::process::Abort;
 use std::sync::Wait;
 use std::sync::atomic::AtomicU64;
 use std::sync::atomic::Ordering::SeqCst;
-use std::test::Fail;
 use std::thread;
 use std::thread::Threads;
+use window_core::Group;
 use work_board::{Board, Piece, Seat, Slot};
 
 const ROUNDS: usize = 10_000;
@@ -20,35 +21,72 @@ const THREADS: usize = 16;
 
 const TURNS: u64 = 10_000_000;
 
-#[test]
-fn reads_a_finish_back(rt: HostRuntime) -> Result<(), Fail> {
-    let alloc = rt.alloc();
-    let pieces = pieces(&rt, alloc, groups(&rt, alloc, 2));
-    assert_eq!(rt; pieces.len(), 3);
-    let (board, mut seat) = Board::lay(alloc, pieces).ok().expect(&rt, "a board");
-    assert_eq!(rt; board.pieces(), 3);
-    let won = board.try_claim(&mut seat, 0);
+// Claims a piece, runs it and gives it back. Whether it could be claimed.
+fn runs(board: &Board, seat: &mut Seat, i: usize) -> bool
+    requires board { IsOf board.now seat.old }
+    requires idle { HoldsNothing seat.old }
+    requires piece { i < length board.now.pieces }
+    ensures board { IsOf board.now seat.new }
+    ensures idle { HoldsNothing seat.new }
+{
+    if !board.try_claim(seat, i) {
+        return false;
+    }
+    seat.held(board, i).run();
+    board.finish(seat, i);
+    true
+}
+
+// Claims a piece, and holds it.
+fn holds(rt: &impl Abort, board: &Board, seat: &mut Seat, i: usize)
+    requires board { IsOf board.now seat.old }
+    requires idle { HoldsNothing seat.old }
+    requires piece { i < length board.now.pieces }
+{
+    let won = board.try_claim(seat, i);
     assert!(rt; won);
-    seat.held(&board, 0).run();
-    board.finish(&mut seat, 0);
-    let again = board.try_claim(&mut seat, 0);
-    assert!(rt; !again);
-    let (seat, mut other) = board.split(seat);
-    let late = board.try_claim(&mut other, 0);
-    assert!(rt; !late);
-    // It is held as the board ends.
-    let held = board.try_claim(&mut other, 2);
-    assert!(rt; held && board.held(&mut other, 2).fault().is_none());
-    let slots = board.clear(seat).ok().expect(&rt, "slots");
-    let (first, second, third) = (slots.get(0), slots.get(1), slots.get(2));
-    assert!(rt; matches!(first, Some(Slot::Finished(_))));
-    assert!(rt; matches!(second, Some(Slot::Waiting(_))));
-    assert!(rt; matches!(third, Some(Slot::Out)));
-    Ok(())
+    assert!(rt; seat.held(board, i).fault().is_none());
+}
+
+// What became of the pieces of a board.
+fn cleared(rt: &impl Abort, board: Board, seat: Seat) -> Vec<Slot>
+    requires { IsOf board seat }
+{
+    board.clear(seat).ok().expect(rt, "slots")
+}
+
+// What became of a piece, by the letter with which the slot's name begins.
+fn letter(slots: &[Slot], i: usize) -> Option<char> {
+    match slots.get(i) {
+        Some(Slot::Finished(_)) => Some('F'),
+        Some(Slot::Waiting(_)) => Some('W'),
+        Some(Slot::Out) => Some('O'),
+        None => None,
+    }
 }
 
 #[test]
-fn runs_to_the_end_of_its_window(rt: HostRuntime) -> Result<(), Fail> {
+fn reads_a_finish_back(rt: HostRuntime) {
+    let (board, mut seat) = laid(&rt, rt.alloc(), 2);
+    assert!(rt; board.pieces() == 3);
+    let won = runs(&board, &mut seat, 0);
+    let again = runs(&board, &mut seat, 0);
+    let (seat, mut other) = board.split(seat);
+    let late = runs(&board, &mut other, 0);
+    assert!(rt; won && !again && !late);
+    // It is held as the board ends.
+    holds(&rt, &board, &mut other, 2);
+    let slots = cleared(&rt, board, seat);
+    assert_eq!(rt; slots.len(), 3);
+    assert_eq!(rt; letter(&slots, 0), Some('F'));
+    assert_eq!(rt; letter(&slots, 1), Some('W'));
+    assert_eq!(rt; letter(&slots, 2), Some('O'));
+    drop(slots);
+    drop(other);
+}
+
+#[test]
+fn runs_to_the_end_of_its_window(rt: HostRuntime) {
     let (group, end) = whole(&rt, rt.alloc());
     let mut piece = Piece::new(group, end);
     assert!(rt; !piece.is_done());
@@ -56,35 +94,29 @@ fn runs_to_the_end_of_its_window(rt: HostRuntime) -> Result<(), Fail> {
     assert!(rt; piece.is_done() && piece.fault().is_none());
     let left = piece.into_group().next();
     assert!(rt; left.is_none());
-    Ok(())
 }
 
 #[test]
-fn all_wait_at_first(rt: HostRuntime) -> Result<(), Fail> {
-    let alloc = rt.alloc();
-    let pieces = pieces(&rt, alloc, groups(&rt, alloc, 1));
-    assert!(rt; pieces.len() == 2);
-    let (board, seat) = Board::lay(alloc, pieces).ok().expect(&rt, "a board");
-    for slot in board.clear(seat).ok().expect(&rt, "slots") {
-        assert!(rt; matches!(slot, Slot::Waiting(_)));
-    }
-    Ok(())
+fn all_wait_at_first(rt: HostRuntime) {
+    let (board, seat) = laid(&rt, rt.alloc(), 1);
+    let slots = cleared(&rt, board, seat);
+    assert_eq!(rt; slots.len(), 2);
+    assert_eq!(rt; letter(&slots, 0), Some('W'));
+    assert_eq!(rt; letter(&slots, 1), Some('W'));
+    drop(slots);
 }
 
 // Tries the pieces in an order of its own, and answers how many it ran.
 fn work(board: &Board, seat: Seat, start: usize) -> u64
     requires board { IsOf board.now seat }
     requires idle { HoldsNothing seat }
-    ensures { result ≤ 64 }
 {
     let mut seat = seat;
-    let mut won = 0;
+    let mut won = 0u64;
     for turn in 0..64usize {
         let i = (start % 64 + turn * (start % 64 * 2 + 1)) % board.pieces();
-        if board.try_claim(&mut seat, i) {
-            seat.held(board, i).run();
-            board.finish(&mut seat, i);
-            won += 1;
+        if runs(board, &mut seat, i) {
+            won = won.saturating_add(1);
         }
     }
     won
@@ -131,29 +163,6 @@ fn all_work<R: Threads + Wait + Sync>(
             Ok((mine, won))
         },
     )
-}
-
-#[test]
-fn each_piece_is_run_once(rt: HostRuntime) -> Result<(), Fail> {
-    let alloc = rt.alloc();
-    let mut groups = groups(&rt, alloc, 63);
-    for _round in 0..ROUNDS {
-        let pieces = pieces(&rt, alloc, groups);
-        assert!(rt; pieces.len() == 64);
-        let (board, seat) = Board::lay(alloc, pieces).ok().expect(&rt, "a board");
-        let (seat, won) = all_work(&rt, alloc, &board, seat)
-            .ok()
-            .expect(&rt, "threads");
-        assert_eq!(rt; won, 64);
-        groups = Vec::new(alloc);
-        for slot in board.clear(seat).ok().expect(&rt, "slots") {
-            if let Slot::Finished(piece) = slot {
-                groups.push(piece.into_group()).ok().expect(&rt, "room");
-            }
-        }
-        assert_eq!(rt; groups.len(), 64);
-    }
-    Ok(())
 }
 
 // What two threads tell each other.
@@ -216,13 +225,9 @@ fn goes_ahead<G: Signals>(board: &Board, seat: Seat, signals: &G) -> bool
     requires two { 1 < length board.now.pieces }
 {
     let mut seat = seat;
-    if !comes(signals, true) || !board.try_claim(&mut seat, 1) {
-        return false;
-    }
-    seat.held(board, 1).run();
-    board.finish(&mut seat, 1);
+    let went = comes(signals, true) && runs(board, &mut seat, 1);
     signals.raise(false);
-    true
+    went
 }
 
 fn both<R: Threads + Sync, G: Signals>(
@@ -253,12 +258,44 @@ fn both<R: Threads + Sync, G: Signals>(
     )
 }
 
+// The groups of the pieces that were finished.
+fn finished(rt: &impl Abort, alloc: Global, slots: Vec<Slot>) -> Vec<Group> {
+    let mut groups = Vec::new(alloc);
+    for slot in slots {
+        if let Slot::Finished(piece) = slot {
+            groups.push(piece.into_group()).ok().expect(rt, "room");
+        }
+    }
+    groups
+}
+
+// Lays a board of groups, and has threads go over it. How many pieces they ran, and the groups of those
+// that were finished.
+fn round<R: Threads + Wait + Sync + Abort>(
+    rt: &R,
+    alloc: Global,
+    groups: Vec<Group>,
+) -> (u64, Vec<Group>) {
+    let (board, seat) = laid_out(rt, alloc, groups);
+    let (seat, won) = all_work(rt, alloc, &board, seat).ok().expect(rt, "threads");
+    (won, finished(rt, alloc, cleared(rt, board, seat)))
+}
+
 #[test]
-fn a_held_piece_holds_nobody_up(rt: HostRuntime) -> Result<(), Fail> {
+fn each_piece_is_run_once(rt: HostRuntime) {
     let alloc = rt.alloc();
-    let pieces = pieces(&rt, alloc, groups(&rt, alloc, 1));
-    assert!(rt; pieces.len() == 2);
-    let (board, seat) = Board::lay(alloc, pieces).ok().expect(&rt, "a board");
+    let mut groups = groups(&rt, alloc, 63);
+    for _round in 0..ROUNDS {
+        let (won, left) = round(&rt, alloc, groups);
+        assert_eq!(rt; (won, left.len()), (64, 64));
+        groups = left;
+    }
+    drop(groups);
+}
+
+#[test]
+fn a_held_piece_holds_nobody_up(rt: HostRuntime) {
+    let (board, seat) = laid(&rt, rt.alloc(), 1);
     let (seat, one) = board.split(seat);
     let (seat, two) = board.split(seat);
     let signals = Raised {
@@ -267,8 +304,8 @@ fn a_held_piece_holds_nobody_up(rt: HostRuntime) -> Result<(), Fail> {
     };
     let (waited, went) = both(&rt, &board, one, two, &signals);
     assert!(rt; waited && went);
-    for slot in board.clear(seat).ok().expect(&rt, "slots") {
-        assert!(rt; matches!(slot, Slot::Finished(_)));
-    }
-    Ok(())
+    let slots = cleared(&rt, board, seat);
+    assert_eq!(rt; letter(&slots, 0), Some('F'));
+    assert_eq!(rt; letter(&slots, 1), Some('F'));
+    drop(slots);
 }

@@ -2,21 +2,13 @@ mod by_nodes;
 mod copies;
 mod two_flows;
 
+use self::by_nodes::copied;
+use self::two_flows::runs_on;
+use crate::scenarios::net_of;
 use net_machine::{LinkEnds, Net, Place};
-use scenario_asm::assemble;
-use scenario_image::Scenario;
-use sim_time::Key;
+use node_core::Line;
 use std::alloc::Global;
 use std::process::Abort;
-use std::test::Fail;
-
-// The scenario of a text. What is refused memory is asked for again.
-fn scenario(alloc: Global, text: &str) -> Result<Scenario, Fail> {
-    match assemble(alloc, text.as_bytes()) {
-        Ok(scenario) => Ok(scenario),
-        Err(_) => Ok(assemble(alloc, text.as_bytes()).map_err(|_| "a scenario")?),
-    }
-}
 
 // A sender gives a receiver one segment of 1,000 bytes, over a link each way.
 const ONE_SEGMENT: &str = "sim 1000000000
@@ -27,45 +19,21 @@ link b r s 8000000 1000000 droptail 10
 flow f s r 1000 1 0 64000 0
 ";
 
-// The start, the segment's way there, and the acknowledgement's way back.
-const KEYS: [(u64, u16, u16, u64); 5] = [
-    (0, 0, 0, 0),
-    (1_040_000, 0, 0, 3),
-    (2_040_000, 1, 1, 1),
-    (2_080_000, 1, 0, 3),
-    (3_080_000, 0, 2, 1),
-];
+// What comes behind the start and the end of its sending.
+const REST: &str = "3 2040000 1 1 1 data 0 0 next=1000 tx=1:0:1000
+4 2080000 1 0 3 free 1 next=1000
+5 3080000 0 2 1 ack 0 1000 una=1000 nxt=1000 cwnd=5000 ssthresh=64000 phase=ss
+";
 
-// Runs events to the end, and compares their keys.
-fn runs_on(rt: &impl Abort, net: &mut Net, from: usize) -> Result<(), Fail> {
-    for at in from..KEYS.len() {
-        let (time, node, source, number) = KEYS[at];
-        let line = net.step().map_err(|_| "step")?.ok_or("an event is due")?;
-        assert_eq!(rt;
-            line.key,
-            Key {
-                time,
-                node,
-                source,
-                number
-            }
-        );
-    }
-    let none = net.step().map_err(|_| "step")?;
-    assert!(rt; none.is_none());
-    assert_eq!(rt; net.position(), 5);
-    Ok(())
+/// The two lines are the same.
+pub(crate) fn is_same(rt: &impl Abort, line: &Line, other: &Line) {
+    assert_eq!(rt; line.key, other.key);
+    assert!(rt; line.event == other.event && line.after == other.after);
+    assert!(rt; line.acts.as_slice() == other.acts.as_slice());
 }
 
-#[test]
-fn a_copy_and_a_net_of_the_same_parts_go_on(rt: HostRuntime) -> Result<(), Fail> {
-    let scenario = scenario(rt.alloc(), ONE_SEGMENT)?;
-    let mut net = Net::new(rt.alloc(), &scenario)?;
-    assert_eq!(rt; (net.end(), net.nodes().len()), (1_000_000_000, 2));
-    for _event in 0..2 {
-        net.step().map_err(|_| "step")?;
-    }
-    let mut copy = net.copy()?;
+// The net of the parts of a net of that text, of which two events were run.
+fn of_its_parts(rt: &impl Abort, net: Net) -> Net {
     let parts = net.into_parts();
     assert_eq!(rt; parts.position, 2);
     let there = LinkEnds {
@@ -79,7 +47,24 @@ fn a_copy_and_a_net_of_the_same_parts_go_on(rt: HostRuntime) -> Result<(), Fail>
         delay: 1_000_000,
     };
     assert!(rt; parts.links.as_slice() == [there, back].as_slice());
-    let mut again = Net::of_parts(parts);
-    runs_on(&rt, &mut copy, 2)?;
-    runs_on(&rt, &mut again, 2)
+    Net::of_parts(parts)
+}
+
+// The net goes on to its end, after five events.
+fn goes_on(rt: &impl Abort, alloc: Global, mut net: Net) {
+    let mut text = Vec::new(alloc);
+    let left = runs_on(rt, &mut net, 5, &mut text);
+    assert!(rt; !left && text.as_slice() == REST.as_bytes());
+    assert_eq!(rt; net.position(), 5);
+}
+
+#[test]
+fn a_copy_and_a_net_of_the_same_parts_go_on(rt: HostRuntime) {
+    let alloc = rt.alloc();
+    let mut net = net_of(&rt, alloc, &[ONE_SEGMENT]);
+    assert_eq!(rt; (net.end(), net.nodes().len()), (1_000_000_000, 2));
+    let more = runs_on(&rt, &mut net, 2, &mut Vec::new(alloc));
+    assert!(rt; more);
+    goes_on(&rt, alloc, copied(&rt, &net));
+    goes_on(&rt, alloc, of_its_parts(&rt, net));
 }

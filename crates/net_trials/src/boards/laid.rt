@@ -1,11 +1,12 @@
-ghost use Rattle.std.specs.Prelude.{◌≤◌};
+ghost use Rattle.std.specs.Prelude.{◌<◌, ◌≤◌, length};
+ghost use Rattle.work_board.specs.Seats.{IsOf, HoldsNothing};
 
 use crate::windows::nets::{grouped, pair};
 use sim_time::Time;
 use std::alloc::Global;
 use std::process::Abort;
 use window_core::Group;
-use work_board::Piece;
+use work_board::{Board, Piece, Seat};
 
 /// Groups of a net of two nodes, which are in the first and in the last group.
 pub(super) fn groups(rt: &impl Abort, alloc: Global, last: u8) -> Vec<Group> {
@@ -41,4 +42,24 @@ pub(super) fn pieces(rt: &impl Abort, alloc: Global, groups: Vec<Group>) -> Vec<
         pieces.push(Piece::new(group, 0)).expect(rt, "room");
     }
     pieces
+}
+
+/// A board of such a piece for each of the groups, and its first seat.
+pub(super) fn laid_out(rt: &impl Abort, alloc: Global, groups: Vec<Group>) -> (Board, Seat)
+    ensures board { IsOf result.0 result.1 }
+    ensures idle { HoldsNothing result.1 }
+    ensures two { 1 < length result.0.pieces }
+{
+    let pieces = pieces(rt, alloc, groups);
+    assert!(rt; 1 < pieces.len() && pieces.len() <= 64);
+    Board::lay(alloc, pieces).ok().expect(rt, "a board")
+}
+
+/// A board of a piece for each group of a net of two nodes, and its first seat.
+pub(super) fn laid(rt: &impl Abort, alloc: Global, last: u8) -> (Board, Seat)
+    ensures board { IsOf result.0 result.1 }
+    ensures idle { HoldsNothing result.1 }
+    ensures two { 1 < length result.0.pieces }
+{
+    laid_out(rt, alloc, groups(rt, alloc, last))
 }

@@ -6,49 +6,47 @@ ghost use Rattle.ranking.specs.Keyed.{least, next_key};
 ghost use Rattle.node_core.specs.declared.event.Event.{Event};
 ghost use Rattle.node_core.specs.Ready.{IsRunnable};
 
-use super::two_flows::{opened, run_next};
+use super::is_same;
+use super::two_flows::{LOST, SLOW, opened, run_next};
 use net_machine::net::{MOST_EVENTS, Net};
 use net_machine::nodes::Nodes;
 use node_core::{Act, DropReason, Line, Node, Outbox, TakeDrop};
 use ranking::Ranking;
-use std::alloc::{AllocError, Global};
+use std::alloc::Global;
 use std::process::Abort;
-use std::test::Fail;
 
 /// A copy of a net.
-pub(super) fn copied(net: &Net) -> Result<Net, AllocError>
-    ensures { IfOk result (λ copy. copy ≡ net.now) }
-{
+pub(super) fn copied(rt: &impl Abort, net: &Net) -> Net {
     match net.copy() {
-        Ok(copy) => Ok(copy),
-        Err(_) => net.copy(),
+        Ok(copy) => copy,
+        Err(_) => net.copy().expect(rt, "one request is refused"),
     }
 }
 
 // Room to rank so many nodes.
-fn room(alloc: Global, nodes: usize) -> Result<Ranking, AllocError>
+fn room(rt: &impl Abort, alloc: Global, nodes: usize) -> Ranking
     requires { nodes ≤ 2 ^ 31 }
-    ensures { IfOk result (λ ranking. length ranking ≡ nodes) }
+    ensures { length result ≡ nodes }
 {
     match Ranking::new(alloc, nodes) {
-        Ok(ranking) => Ok(ranking),
-        Err(_) => Ranking::new(alloc, nodes),
+        Ok(ranking) => ranking,
+        Err(_) => Ranking::new(alloc, nodes).expect(rt, "one request is refused"),
     }
 }
 
 // A chain for each link that a node can have.
-fn outbox(alloc: Global) -> Result<Outbox, AllocError>
-    ensures { IfOk result (λ out. out ≡ replicate 16 []) }
+fn outbox(rt: &impl Abort, alloc: Global) -> Outbox
+    ensures { result ≡ replicate 16 [] }
 {
     match Outbox::new(alloc, 16) {
-        Ok(out) => Ok(out),
-        Err(_) => Outbox::new(alloc, 16),
+        Ok(out) => out,
+        Err(_) => Outbox::new(alloc, 16).expect(rt, "one request is refused"),
     }
 }
 
 // Runs a node's next event. Where memory is refused, the node and its chains are as they were, and
 // the event is run once more: no router asks for any.
-fn fired(rt: &impl Abort, node: &mut Node, out: &mut Outbox) -> Result<Line, AllocError>
+fn fired(rt: &impl Abort, node: &mut Node, out: &mut Outbox) -> Line
     requires pending { next_key node.old.pending ≢ None }
     requires due { (k : Key) (v : Event) → least node.old.pending ≡ Some (k, v) → IsRunnable node.old.part k v }
     requires chains { length node.old.part.links ≤ length out.old }
@@ -56,46 +54,38 @@ fn fired(rt: &impl Abort, node: &mut Node, out: &mut Outbox) -> Result<Line, All
 {
     let next = node.least();
     match node.fire(out) {
-        Ok(line) => Ok(line),
+        Ok(line) => line,
         Err(_) => {
             assert!(rt; node.sender().is_some() || node.receiver().is_some());
             assert_eq!(rt; node.least(), next);
-            node.fire(out)
+            node.fire(out).expect(rt, "one request is refused")
         }
     }
 }
 
 // Runs the event that is due by its node's own call, at a copy, and then by the net, and compares
 // what both tell. Whether there was one.
-fn runs_by_both(
-    rt: &impl Abort,
-    alloc: Global,
-    net: &mut Net,
-    told: &mut Line,
-) -> Result<bool, Fail> {
-    let parts = copied(net)?.into_parts();
+fn runs_by_both(rt: &impl Abort, alloc: Global, net: &mut Net, told: &mut Line) -> bool {
+    let parts = copied(rt, net).into_parts();
     assert!(rt; parts.nodes.len() <= 256);
-    let ranking = room(alloc, parts.nodes.len())?;
+    let ranking = room(rt, alloc, parts.nodes.len());
     let all = Nodes::of_parts(parts.nodes, ranking);
     let Some((place, key)) = all.first() else {
-        return Ok(false);
+        return false;
     };
     if key.time >= parts.end || parts.position == MOST_EVENTS {
-        return Ok(false);
+        return false;
     }
     let (mut nodes, _ranking) = all.into_parts();
-    let mut out = outbox(alloc)?;
+    let mut out = outbox(rt, alloc);
     let node = &mut nodes[place];
-    let line = fired(rt, node, &mut out)?;
-    assert!(rt; run_next(rt, net, told)?);
-    assert_eq!(rt;
-        (line.key, line.event, line.after),
-        (told.key, told.event, told.after)
-    );
-    assert_eq!(rt; line.acts.as_slice(), told.acts.as_slice());
-    let there = net.nodes().get(place).ok_or("node")?;
+    let line = fired(rt, node, &mut out);
+    let ran = run_next(rt, net, told);
+    assert!(rt; ran);
+    is_same(rt, &line, told);
+    let there = net.nodes().get(place).expect(rt, "the node");
     assert_eq!(rt; node.least(), there.least());
-    Ok(true)
+    true
 }
 
 // Whether CoDel dropped a packet in a line's event.
@@ -108,43 +98,34 @@ fn tells_of_codel(line: &Line) -> bool {
     false
 }
 
-// Runs all events of two flows over a router, of which the second has so many segments, loses the
-// packet of that number, and leaves the router at this rate. How many there were, and whether
-// CoDel dropped a packet.
-fn runs_all(
-    rt: &impl Abort,
-    alloc: Global,
-    segments: u32,
-    lost: u32,
-    rate: u64,
-) -> Result<(u64, bool), Fail> {
-    let mut net = opened(alloc, segments, lost, rate)?;
+// Runs all events. How many there were, and whether CoDel dropped a packet.
+fn runs_all(rt: &impl Abort, alloc: Global, net: &mut Net) -> (u64, bool) {
     let mut told = Line::new(alloc);
     let mut dropped = false;
-    for count in 0..200 {
-        if !runs_by_both(rt, alloc, &mut net, &mut told)? {
-            assert!(rt; net.step().map_err(|_| "step")?.is_none());
-            assert_eq!(rt; net.position(), count);
-            return Ok((count, dropped));
+    for _event in 0..200 {
+        if !runs_by_both(rt, alloc, net, &mut told) {
+            break;
         }
         dropped = dropped || tells_of_codel(&told);
     }
-    Err(Fail::from("no end"))
+    let left = run_next(rt, net, &mut told);
+    assert!(rt; !left);
+    (net.position(), dropped)
 }
 
-// The second packet of two is lost, and comes again after the timer.
 #[test]
-fn nodes_run_their_events_as_the_net_does(rt: HostRuntime) -> Result<(), Fail> {
-    let (count, dropped) = runs_all(&rt, rt.alloc(), 2, 2, 8_000_000)?;
+fn nodes_run_their_events_as_the_net_does(rt: HostRuntime) {
+    let mut net = opened(&rt, rt.alloc(), LOST);
+    let (count, dropped) = runs_all(&rt, rt.alloc(), &mut net);
     assert_eq!(rt; (count, dropped), (28, false));
-    Ok(())
+    drop(net);
 }
 
-// The first packet of five is lost: the receiver holds the others, for which it asks for memory. The
-// router sends them eight times as slowly as they come, and CoDel drops one there.
+// The receiver holds segments, for which it asks for memory, and CoDel drops one at the router.
 #[test]
-fn receivers_hold_segments_and_codel_drops_as_in_the_net(rt: HostRuntime) -> Result<(), Fail> {
-    let (count, dropped) = runs_all(&rt, rt.alloc(), 5, 1, 1_000_000)?;
+fn receivers_hold_segments_and_codel_drops_as_in_the_net(rt: HostRuntime) {
+    let mut net = opened(&rt, rt.alloc(), SLOW);
+    let (count, dropped) = runs_all(&rt, rt.alloc(), &mut net);
     assert!(rt; count > 28 && dropped);
-    Ok(())
+    drop(net);
 }

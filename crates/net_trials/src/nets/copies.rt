@@ -3,72 +3,48 @@
 //! refused is asked for again.
 
 use super::by_nodes::copied;
-use super::two_flows::{opened, run_next};
+use super::two_flows::{SLOW, opened, runs_on};
 use net_machine::Net;
-use node_core::Line;
 use std::alloc::Global;
 use std::process::Abort;
-use std::test::Fail;
 
 // How many events are run between two copies.
 const BETWEEN: u64 = 12;
 
 // Copies a net, which stays as it is.
 fn copies(rt: &impl Abort, net: &Net) {
-    let copy = copied(net).expect(rt, "one request is refused");
+    let copy = copied(rt, net);
     assert_eq!(rt; copy.position(), net.position());
     drop(copy);
 }
 
-// Runs the next event of both nets, which is the same. Whether there was one.
-fn step_alike(
-    rt: &impl Abort,
-    net: &mut Net,
-    line: &mut Line,
-    alone: &mut Net,
-    told: &mut Line,
-) -> Result<bool, Fail> {
-    let fired = run_next(rt, net, line)?;
-    let also = run_next(rt, alone, told)?;
-    assert_eq!(rt; fired, also);
-    assert_eq!(rt;
-        (line.key, line.event, line.after),
-        (told.key, told.event, told.after)
-    );
-    assert_eq!(rt; line.acts.as_slice(), told.acts.as_slice());
-    Ok(fired)
-}
-
-// Runs all events of both nets, of which one is copied again and again.
-fn run_alike(rt: &impl Abort, alloc: Global, net: &mut Net, alone: &mut Net) -> Result<(), Fail> {
-    let mut line = Line::new(alloc);
-    let mut told = Line::new(alloc);
-    for count in 0..200 {
-        if count % BETWEEN == 0 {
-            copies(rt, net);
-        }
-        if !step_alike(rt, net, &mut line, alone, &mut told)? {
-            assert!(rt; count > 28);
-            return Ok(());
+// The trace of a net that is copied again and again.
+fn trace_of(rt: &impl Abort, alloc: Global, mut net: Net) -> Vec<u8> {
+    let mut text = Vec::new(alloc);
+    for _copy in 0..20 {
+        copies(rt, &net);
+        if !runs_on(rt, &mut net, BETWEEN, &mut text) {
+            break;
         }
     }
-    Err(Fail::from("no end"))
+    assert!(rt; net.position() > 28);
+    drop(net);
+    text
 }
 
-// Two flows, of which the second has five segments. The first of them is lost, so that the receiver
-// holds the others, and they wait for the router, which sends them slowly.
-fn slow(alloc: Global) -> Result<Net, Fail> {
-    opened(alloc, 5, 1, 1_000_000)
-}
-
-// Goes on as a net that is not copied.
-fn goes_on(rt: &impl Abort, alloc: Global, net: &mut Net) -> Result<(), Fail> {
-    let mut alone = slow(alloc)?;
-    run_alike(rt, alloc, net, &mut alone)
+// The trace of a net.
+fn trace_alone(rt: &impl Abort, alloc: Global, mut net: Net) -> Vec<u8> {
+    let mut text = Vec::new(alloc);
+    let left = runs_on(rt, &mut net, 200, &mut text);
+    assert!(rt; !left);
+    drop(net);
+    text
 }
 
 #[test]
-fn a_refused_copy_leaves_the_net(rt: HostRuntime) -> Result<(), Fail> {
-    let mut net = slow(rt.alloc())?;
-    goes_on(&rt, rt.alloc(), &mut net)
+fn a_refused_copy_leaves_the_net(rt: HostRuntime) {
+    let alloc = rt.alloc();
+    let text = trace_of(&rt, alloc, opened(&rt, alloc, SLOW));
+    let alone = trace_alone(&rt, alloc, opened(&rt, alloc, SLOW));
+    assert!(rt; text.as_slice() == alone.as_slice());
 }

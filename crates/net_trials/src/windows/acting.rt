@@ -2,9 +2,9 @@
 //! 1,040,000 ns on its way to a link and a millisecond on it, an acknowledgement 40,000 ns.
 ghost use Rattle.std.specs.Prelude.{◌≡◌, false};
 
-use super::nets::{crossed, grouped, opened, pair};
+use super::acts;
+use super::nets::{ONE_EACH, crossed, grouped, opened, pair};
 use std::process::Abort;
-use std::test::Fail;
 use window_core::{Action, Batch, Partition, Window};
 
 // Time, node, source and number of an event.
@@ -38,9 +38,8 @@ fn follows(rt: &impl Abort, window: &mut Window, keys: &[KeyParts], rows: &[Row]
     requires { window.old.out ≡ false }
 {
     for (action, possible, end, before, count) in rows {
-        let done = window.act(*action).ok().expect(rt, "an action");
-        assert_eq!(rt; done, *possible);
-        assert_eq!(rt; window.end(), *end);
+        let done = acts(rt, window, *action);
+        assert!(rt; done == *possible && window.end() == *end);
         is_taken(rt, window.taken(), keys, *before, *count);
     }
 }
@@ -65,7 +64,7 @@ const CROSSED: [KeyParts; 6] = [
 ];
 
 #[test]
-fn two_groups_of_one_node_take_turns(rt: HostRuntime) -> Result<(), Fail> {
+fn two_groups_of_one_node_take_turns(rt: HostRuntime) {
     let mut window = opened(&rt, rt.alloc(), pair(&rt, rt.alloc()), Partition::each(2));
     assert_eq!(rt; window.lookahead(), Some(1_000_000));
     assert_eq!(rt; window.end(), 1_000_000);
@@ -89,11 +88,10 @@ fn two_groups_of_one_node_take_turns(rt: HostRuntime) -> Result<(), Fail> {
     ];
     follows(&rt, &mut window, &PAIR, &rows);
     drop(window);
-    Ok(())
 }
 
 #[test]
-fn one_group_has_one_window(rt: HostRuntime) -> Result<(), Fail> {
+fn one_group_has_one_window(rt: HostRuntime) {
     let mut window = opened(&rt, rt.alloc(), pair(&rt, rt.alloc()), Partition::one(2));
     assert_eq!(rt; window.lookahead(), None);
     let fire = (Action::Fire(0), true, 1_000_000_000, 0, 0);
@@ -108,12 +106,11 @@ fn one_group_has_one_window(rt: HostRuntime) -> Result<(), Fail> {
     ];
     follows(&rt, &mut window, &PAIR, &rows);
     drop(window);
-    Ok(())
 }
 
 #[test]
-fn lines_are_in_the_order_of_keys_whoever_fired_first(rt: HostRuntime) -> Result<(), Fail> {
-    let net = crossed(&rt, rt.alloc(), 2_040_001, 1);
+fn lines_are_in_the_order_of_keys_whoever_fired_first(rt: HostRuntime) {
+    let net = crossed(&rt, rt.alloc(), ONE_EACH);
     let mut window = opened(&rt, rt.alloc(), net, Partition::each(5));
     let rows = [
         (Action::Fire(1), true, 1_000_000, 0, 0),
@@ -123,13 +120,12 @@ fn lines_are_in_the_order_of_keys_whoever_fired_first(rt: HostRuntime) -> Result
     ];
     follows(&rt, &mut window, &CROSSED, &rows);
     drop(window);
-    Ok(())
 }
 
 #[test]
-fn links_between_two_groups_bound_the_window(rt: HostRuntime) -> Result<(), Fail> {
+fn links_between_two_groups_bound_the_window(rt: HostRuntime) {
     let alloc = rt.alloc();
-    let net = crossed(&rt, alloc, 2_040_001, 1);
+    let net = crossed(&rt, alloc, ONE_EACH);
     let mut window = grouped(&rt, alloc, net, &[0, 1, 0, 0, 0]);
     assert_eq!(rt; window.lookahead(), Some(1_000_000));
     let rows = [
@@ -146,5 +142,4 @@ fn links_between_two_groups_bound_the_window(rt: HostRuntime) -> Result<(), Fail
     ];
     follows(&rt, &mut window, &CROSSED, &rows);
     drop(window);
-    Ok(())
 }

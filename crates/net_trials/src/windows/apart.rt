@@ -3,13 +3,12 @@
 ghost use Rattle.std.specs.Prelude.{◌≡◌, ◌≤◌, false, length};
 ghost use Rattle.window_core.specs.Sheaves.{StandsIn};
 
-use super::nets::{crossed, grouped, two_pairs};
-use super::schedules::is_same;
+use super::nets::{SIX_EACH, crossed, grouped, two_pairs};
+use crate::nets::is_same;
 use net_machine::Net;
 use sim_time::Time;
 use std::alloc::Global;
 use std::process::Abort;
-use std::test::Fail;
 use window_core::{Batch, Cursor, Sheaf, Window};
 
 // The index of the first line at a moment or past it; how many lines there are where there is none.
@@ -75,6 +74,32 @@ fn runs_groups(rt: &impl Abort, window: &mut Window)
     }
 }
 
+// Takes a turn, with the lines as a batch.
+fn turned(rt: &impl Abort, whole: &mut Window) -> Batch
+    requires { whole.old.out ≡ false }
+    ensures { whole.new.out ≡ false }
+{
+    whole.turn().ok().expect(rt, "a turn")
+}
+
+// Takes a turn, with the lines group by group.
+fn turns_apart(rt: &impl Abort, apart: &mut Window, sheaf: &mut Sheaf)
+    requires { apart.old.out ≡ false }
+    ensures { apart.new.out ≡ false }
+{
+    apart.turn_apart(sheaf).ok().expect(rt, "a turn");
+}
+
+// The two windows stand at the same place.
+fn stand_alike(rt: &impl Abort, apart: &Window, whole: &Window)
+    requires apart { apart.now.out ≡ false }
+    requires whole { whole.now.out ≡ false }
+{
+    assert_eq!(rt; apart.position(), whole.position());
+    assert_eq!(rt; apart.end(), whole.end());
+    assert_eq!(rt; apart.next(), whole.next());
+}
+
 // Takes the next window of two: of one group by group, of the other as a batch. The answer is
 // whether there were lines.
 fn turns_both(
@@ -91,14 +116,12 @@ fn turns_both(
 {
     runs_groups(rt, apart);
     runs_groups(rt, whole);
-    apart.turn_apart(sheaf).ok().expect(rt, "a turn");
-    let batch = whole.turn().ok().expect(rt, "a turn");
+    turns_apart(rt, apart, sheaf);
+    let batch = turned(rt, whole);
     has_lines(rt, sheaf, cursor, &batch);
     let told = !batch.is_empty();
     drop(batch);
-    assert_eq!(rt; apart.position(), whole.position());
-    assert_eq!(rt; apart.end(), whole.end());
-    assert_eq!(rt; apart.next(), whole.next());
+    stand_alike(rt, apart, whole);
     told
 }
 
@@ -139,26 +162,23 @@ fn windows_with_lines(rt: &impl Abort, alloc: Global, net: Net, entries: &[u8]) 
 }
 
 #[test]
-fn cursors_give_the_lines_of_each_windows_batch(rt: HostRuntime) -> Result<(), Fail> {
+fn cursors_give_the_lines_of_each_windows_batch(rt: HostRuntime) {
     let alloc = rt.alloc();
-    for entries in [[0, 1, 2, 3, 4], [0, 1, 0, 0, 0], [1, 0, 2, 0, 2], [0; 5]] {
-        let net = crossed(&rt, alloc, 3_000_000_000, 6);
-        let windows = windows_with_lines(&rt, alloc, net, &entries);
+    let groups: [[u8; 5]; 4] = [[0, 1, 2, 3, 4], [0, 1, 0, 0, 0], [1, 0, 2, 0, 2], [0; 5]];
+    for entries in &groups {
+        let net = crossed(&rt, alloc, SIX_EACH);
+        let windows = windows_with_lines(&rt, alloc, net, entries);
         assert!(rt; windows > 0);
     }
-    Ok(())
 }
 
 // Two groups with no link between them have one window, in which both have many lines of the same
 // moments.
 #[test]
-fn cursors_begin_amid_the_lines_of_two_groups(rt: HostRuntime) -> Result<(), Fail> {
+fn cursors_begin_amid_the_lines_of_two_groups(rt: HostRuntime) {
     let alloc = rt.alloc();
-    let net = two_pairs(&rt, alloc);
-    let windows = windows_with_lines(&rt, alloc, net, &[0, 0, 1, 1]);
+    let windows = windows_with_lines(&rt, alloc, two_pairs(&rt, alloc), &[0, 0, 1, 1]);
     assert_eq!(rt; windows, 1);
-    let net = two_pairs(&rt, alloc);
-    let windows = windows_with_lines(&rt, alloc, net, &[0, 1, 1, 0]);
+    let windows = windows_with_lines(&rt, alloc, two_pairs(&rt, alloc), &[0, 1, 1, 0]);
     assert!(rt; windows > 1);
-    Ok(())
 }

@@ -3,31 +3,11 @@ ghost use Rattle.std.specs.Prelude.{◌≡◌, false, true};
 ghost use Rattle.window_core.specs.Window.{states_of};
 ghost use Rattle.window_core.specs.Windows.{none_fired};
 
+use crate::scenarios::net_of;
 use net_machine::Net;
-use scenario_asm::assemble;
-use scenario_image::Scenario;
-use std::alloc::{AllocError, Global};
+use std::alloc::Global;
 use std::process::Abort;
 use window_core::{Partition, Window};
-
-// The scenario of a text. Here and below, what is refused memory is asked for once more.
-fn scenario(rt: &impl Abort, alloc: Global, text: &str) -> Scenario {
-    match assemble(alloc, text.as_bytes()) {
-        Ok(scenario) => scenario,
-        Err(_) => assemble(alloc, text.as_bytes())
-            .ok()
-            .expect(rt, "one request is refused"),
-    }
-}
-
-// The net of a text.
-fn net_of(rt: &impl Abort, alloc: Global, text: &str) -> Net {
-    let scenario = scenario(rt, alloc, text);
-    match Net::new(alloc, &scenario) {
-        Ok(net) => net,
-        Err(_) => Net::new(alloc, &scenario).expect(rt, "one request is refused"),
-    }
-}
 
 // A sender gives a receiver one segment, over a link each way.
 const PAIR: &str = "sim 1000000000
@@ -40,7 +20,7 @@ flow f s r 1000 1 0 64000 0
 
 /// The net of one segment.
 pub fn pair(rt: &impl Abort, alloc: Global) -> Net {
-    net_of(rt, alloc, PAIR)
+    net_of(rt, alloc, &[PAIR])
 }
 
 // Twice a sender and a receiver, with no link between the two; the third packet of one is lost.
@@ -60,7 +40,7 @@ lose a 3
 
 /// Twice a sender that gives a receiver twelve segments, with no link between the two.
 pub fn two_pairs(rt: &impl Abort, alloc: Global) -> Net {
-    net_of(rt, alloc, TWO_PAIRS)
+    net_of(rt, alloc, &[TWO_PAIRS])
 }
 
 // Two senders and two receivers about a router; the third packet of the first sender is lost.
@@ -84,19 +64,25 @@ route q v e
 lose a 3
 ";
 
-// Each sender gives its receiver so many segments, up to this end.
-fn crossed_text(alloc: Global, end: u64, segments: u32) -> Result<String, AllocError> {
-    let first = format!(in alloc; "flow x s u 1000 {segments} 0 64000 0\n")?;
-    format!(in alloc; "sim {end}\n{CROSS}{first}flow y t v 1000 {segments} 0 64000 0\n")
-}
+/// The end, and two flows of one segment, of two and of six: from node 0 to 3, and from 1 to 4.
+pub const ONE_EACH: (&str, &str) = (
+    "sim 2040001\n",
+    "flow x s u 1000 1 0 64000 0\nflow y t v 1000 1 0 64000 0\n",
+);
 
-/// Two flows of so many segments over one router: from node 0 to 3, and from 1 to 4.
-pub fn crossed(rt: &impl Abort, alloc: Global, end: u64, segments: u32) -> Net {
-    let text = match crossed_text(alloc, end, segments) {
-        Ok(text) => text,
-        Err(_) => crossed_text(alloc, end, segments).expect(rt, "one request is refused"),
-    };
-    net_of(rt, alloc, text.as_str())
+pub const TWO_EACH: (&str, &str) = (
+    "sim 3000000000\n",
+    "flow x s u 1000 2 0 64000 0\nflow y t v 1000 2 0 64000 0\n",
+);
+
+pub const SIX_EACH: (&str, &str) = (
+    "sim 3000000000\n",
+    "flow x s u 1000 6 0 64000 0\nflow y t v 1000 6 0 64000 0\n",
+);
+
+/// The net of such flows over one router.
+pub fn crossed(rt: &impl Abort, alloc: Global, flows: (&str, &str)) -> Net {
+    net_of(rt, alloc, &[flows.0, CROSS, flows.1])
 }
 
 /// The first window.

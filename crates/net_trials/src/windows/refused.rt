@@ -2,13 +2,12 @@
 //! scripts/refuse_tests.sh tries: what is refused is asked for once more.
 ghost use Rattle.std.specs.Prelude.{◌≡◌, ◌<◌, false, length};
 
-use super::nets::{crossed, opened, pair};
+use super::nets::{TWO_EACH, crossed, opened, pair};
 use super::schedules::{stepped, steps_as};
 use net_machine::Net;
 use sim_time::Time;
 use std::alloc::Global;
 use std::process::Abort;
-use std::test::Fail;
 use window_core::{Action, Partition, Window};
 
 // Runs a group up to the window's end. Where memory was refused, one more of its events is due
@@ -106,7 +105,7 @@ fn windows_with_lines(
 
 // The net and the partition come back, and open the window.
 #[test]
-fn a_refused_window_gives_the_net_back(rt: HostRuntime) -> Result<(), Fail> {
+fn a_refused_window_gives_the_net_back(rt: HostRuntime) {
     let alloc = rt.alloc();
     let mut net = pair(&rt, alloc);
     drop(stepped(&rt, &mut net));
@@ -114,26 +113,23 @@ fn a_refused_window_gives_the_net_back(rt: HostRuntime) -> Result<(), Fail> {
     drop(stepped(&rt, &mut alike));
     let windows = windows_with_lines(&rt, alloc, net, alike, Partition::each(2));
     assert_eq!(rt; windows, 3);
-    Ok(())
 }
 
 #[test]
-fn a_refused_turn_leaves_the_window(rt: HostRuntime) -> Result<(), Fail> {
+fn a_refused_turn_leaves_the_window(rt: HostRuntime) {
     let alloc = rt.alloc();
-    let net = crossed(&rt, alloc, 3_000_000_000, 2);
-    let alike = crossed(&rt, alloc, 3_000_000_000, 2);
+    let net = crossed(&rt, alloc, TWO_EACH);
+    let alike = crossed(&rt, alloc, TWO_EACH);
     let windows = windows_with_lines(&rt, alloc, net, alike, Partition::each(5));
     assert!(rt; windows > 1);
-    Ok(())
 }
 
 // All nodes are in one group, which has all events in one window.
 #[test]
-fn a_refused_group_stands_after_whole_events(rt: HostRuntime) -> Result<(), Fail> {
+fn a_refused_group_stands_after_whole_events(rt: HostRuntime) {
     let alloc = rt.alloc();
-    let net = crossed(&rt, alloc, 3_000_000_000, 2);
-    let alike = crossed(&rt, alloc, 3_000_000_000, 2);
+    let net = crossed(&rt, alloc, TWO_EACH);
+    let alike = crossed(&rt, alloc, TWO_EACH);
     let windows = windows_with_lines(&rt, alloc, net, alike, Partition::one(5));
     assert_eq!(rt; windows, 1);
-    Ok(())
 }

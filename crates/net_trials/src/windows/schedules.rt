@@ -2,13 +2,14 @@
 //! event, and at each turn the net is that one.
 ghost use Rattle.std.specs.Prelude.{◌≡◌, ◌<◌, ◌≤◌, false};
 
-use super::nets::{crossed, opened};
+use super::acts;
+use super::nets::{SIX_EACH, crossed, grouped};
+use crate::nets::is_same;
 use net_machine::Net;
 use node_core::Line;
 use std::alloc::Global;
 use std::process::Abort;
-use std::test::Fail;
-use window_core::{Action, Batch, Partition, Window};
+use window_core::{Action, Batch, Window};
 
 // Numbers that look drawn (a linear congruential generator).
 #[derive(Drop)]
@@ -27,13 +28,6 @@ impl Draws {
             .wrapping_add(1_442_695_040_888_963_407);
         (self.state >> 33) % bound
     }
-}
-
-/// The two lines are the same.
-pub fn is_same(rt: &impl Abort, line: &Line, other: &Line) {
-    assert_eq!(rt; line.key, other.key);
-    assert!(rt; line.event == other.event && line.after == other.after);
-    assert!(rt; line.acts.as_slice() == other.acts.as_slice());
 }
 
 /// The next event's line, where one is due. What is refused memory is asked for once more.
@@ -102,7 +96,7 @@ fn acts_as_drawn(rt: &impl Abort, window: &mut Window, net: &mut Net, groups: us
     for _action in 0..3_000 {
         let drawn = draws.below(groups as u64 + 1) as usize;
         if drawn < groups {
-            let _ = window.act(Action::Fire(drawn)).ok().expect(rt, "an action");
+            let _ = acts(rt, window, Action::Fire(drawn));
         } else {
             let bound = draws.below(1_500_000);
             turns(rt, window, net, bound);
@@ -110,29 +104,23 @@ fn acts_as_drawn(rt: &impl Abort, window: &mut Window, net: &mut Net, groups: us
     }
 }
 
-// A window that acts as drawn tells what the net does, up to the end. Whether no event is left.
-fn runs_as_stepped(
-    rt: &impl Abort,
-    alloc: Global,
-    net: Net,
-    partition: Partition,
-    seed: u64,
-) -> bool {
-    let groups = partition.groups();
-    let mut net = net;
+// A window of these groups that acts as drawn tells what the net does, up to the end.
+fn runs_as_stepped(rt: &impl Abort, alloc: Global, mut net: Net, entries: &[u8], seed: u64) {
     let copied = net.copy().expect(rt, "a copy");
-    let mut window = opened(rt, alloc, copied, partition);
+    let mut window = grouped(rt, alloc, copied, entries);
+    let groups = window.groups();
+    assert!(rt; groups <= 64);
     acts_as_drawn(rt, &mut window, &mut net, groups, seed);
     drop(window);
     let left = stepped(rt, &mut net);
+    assert!(rt; left.is_none());
     drop(net);
-    left.is_none()
 }
 
 #[test]
-fn any_order_of_actions_tells_what_stepping_does(rt: HostRuntime) -> Result<(), Fail> {
+fn any_order_of_actions_tells_what_stepping_does(rt: HostRuntime) {
     let alloc = rt.alloc();
-    let tables = [
+    let tables: [[u8; 5]; 5] = [
         [0, 1, 2, 3, 4],
         [0, 1, 0, 0, 0],
         [0, 0, 0, 0, 0],
@@ -141,12 +129,8 @@ fn any_order_of_actions_tells_what_stepping_does(rt: HostRuntime) -> Result<(), 
     ];
     for (number, entries) in tables.iter().enumerate() {
         for seed in 1..4 {
-            let entries = Vec::from_slice(alloc, entries).expect(&rt, "entries");
-            let partition = Partition::new(entries).expect(&rt, "a partition");
-            let net = crossed(&rt, alloc, 3_000_000_000, 6);
-            let over = runs_as_stepped(&rt, alloc, net, partition, seed * 100 + number as u64);
-            assert!(rt; over);
+            let net = crossed(&rt, alloc, SIX_EACH);
+            runs_as_stepped(&rt, alloc, net, entries, seed * 100 + number as u64);
         }
     }
-    Ok(())
 }

@@ -14,8 +14,8 @@ use Rattle.net_trials.proofs.nets.by_nodes.runs_by_both.Goals as goal
 abbrev empty : List (List Stamped)
 empty = replicate 16 []
 
-pub fired-requires-clause-due : goal.fired-requires-clause-due
-fired-requires-clause-due g c = λ k v here.
+pub fired-line-requires-clause-due : goal.fired-line-requires-clause-due
+fired-line-requires-clause-due g c = λ k v here.
     let p = c.into_parts-parts.result in
     let place = c.in-Some.place in
     let net : IsNet p.nodes.items p.links.items empty p.end p.position = net_of p.nodes.items p.links.items p.end p.position c.into_parts-parts.ensures.parts empty refl in
@@ -32,8 +32,8 @@ fired-requires-clause-due g c = λ k v here.
     (ready p.nodes.items p.links.items empty p.end p.position net place first k v there
     (subst (λ (q : Key). q.time < p.end) (its_key p.nodes.items p.links.items empty p.end p.position net place first c.in-Some.key its k v there) soon) fits)
 
-pub fired-requires-clause-chains : goal.fired-requires-clause-chains
-fired-requires-clause-chains g c =
+pub fired-line-requires-clause-chains : goal.fired-line-requires-clause-chains
+fired-line-requires-clause-chains g c =
     let p = c.into_parts-parts.result in
     let place = c.in-Some.place in
     let net : IsNet p.nodes.items p.links.items empty p.end p.position = net_of p.nodes.items p.links.items p.end p.position c.into_parts-parts.ensures.parts empty refl in
@@ -42,6 +42,6 @@ fired-requires-clause-chains g c =
     let within : place < length c.into_parts-nodes.result.0.items = subst (λ (all : List NodeState). place < length all) (sym same) first.within in
     let is : c.index_mut-node.result.now ≡ node_at p.nodes.items place =
     get_or_read c.into_parts-nodes.result.0.items place c.index_mut-node.result.now within c.index_mut-node.ensures.value no_node ∙ ap (λ (all : List NodeState). node_at all place) same in
-    let room : length c.in_ok-out.out ≡ 16 = search rules in
+    let room : length c.outbox-out.result ≡ 16 = search rules in
     let few : length c.index_mut-node.result.now.part.links ≤ 16 = subst (λ (n : NodeState). length n.part.links ≤ 16) (sym is) (net.wired.few place) in
     omega (arith, few, room)
