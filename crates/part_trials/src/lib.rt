@@ -1,6 +1,6 @@
-//! Tests of the parts of a node, from times to whole nodes, by public calls alone, so that no library is
+//! Tests of the parts of a node, from times to wires and routes, by public calls alone, so that no library is
 //! proved a second time with its tests. Those of sim_time and ranking are in `times` and `rankings`: a module
-//! has no library's name.
+//! has no library's name. Whole nodes are tried on the built program, by scripts/test_whole.py.
 #![tactic(auto)]
 
 #[cfg(test)]
@@ -8,9 +8,9 @@ mod chains;
 #[cfg(test)]
 mod links;
 #[cfg(test)]
-mod nodes;
-#[cfg(test)]
 mod rankings;
+#[cfg(test)]
+mod routes;
 #[cfg(test)]
 mod times;
 #[cfg(test)]

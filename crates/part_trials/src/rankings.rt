@@ -2,6 +2,7 @@
 
 use ranking::Ranking;
 use sim_time::{Key, Time};
+use std::process::Abort;
 use std::test::Fail;
 
 // A key that is due then.
@@ -14,59 +15,61 @@ fn due(time: Time) -> Key {
     }
 }
 
+// Sets a place's time, or takes it away, and reads which place then leads with which time.
+fn expect_first(
+    rt: &impl Abort,
+    ranking: &mut Ranking,
+    place: usize,
+    time: Option<Time>,
+    first: Option<(usize, Time)>,
+) {
+    assert!(rt; place < ranking.places());
+    ranking.set(place, time.map(due));
+    assert_eq!(rt;
+        ranking.first(),
+        first.map(|(place, time)| (place, due(time)))
+    );
+}
+
 #[test]
 fn the_lowest_place_of_the_least_key_leads(rt: HostRuntime) -> Result<(), Fail> {
     let mut ranking = Ranking::new(rt.alloc(), 5)?;
     assert_eq!(rt; ranking.places(), 5);
     assert!(rt; ranking.first().is_none());
-    let sets = [
-        (2, Some(70), Some((2, 70))),
-        (4, Some(50), Some((4, 50))),
-        (0, Some(50), Some((0, 50))),
-        (4, Some(40), Some((4, 40))),
-        (4, None, Some((0, 50))),
-        (0, Some(90), Some((2, 70))),
-        (3, Some(70), Some((2, 70))),
-        (1, Some(70), Some((1, 70))),
-        (1, None, Some((2, 70))),
-        (2, Some(71), Some((3, 70))),
-        (3, None, Some((2, 71))),
-        (2, None, Some((0, 90))),
-        (0, None, None),
-    ];
-    for (place, time, first) in sets {
-        assert!(rt; place < ranking.places());
-        ranking.set(place, time.map(due));
-        assert_eq!(rt;
-            ranking.first(),
-            first.map(|(place, time)| (place, due(time)))
-        );
-    }
+    expect_first(&rt, &mut ranking, 2, Some(70), Some((2, 70)));
+    expect_first(&rt, &mut ranking, 4, Some(50), Some((4, 50)));
+    expect_first(&rt, &mut ranking, 0, Some(50), Some((0, 50)));
+    expect_first(&rt, &mut ranking, 4, Some(40), Some((4, 40)));
+    expect_first(&rt, &mut ranking, 4, None, Some((0, 50)));
+    expect_first(&rt, &mut ranking, 0, Some(90), Some((2, 70)));
+    expect_first(&rt, &mut ranking, 3, Some(70), Some((2, 70)));
+    expect_first(&rt, &mut ranking, 1, Some(70), Some((1, 70)));
+    expect_first(&rt, &mut ranking, 1, None, Some((2, 70)));
+    expect_first(&rt, &mut ranking, 2, Some(71), Some((3, 70)));
+    expect_first(&rt, &mut ranking, 3, None, Some((2, 71)));
+    expect_first(&rt, &mut ranking, 2, None, Some((0, 90)));
+    expect_first(&rt, &mut ranking, 0, None, None);
     Ok(())
 }
 
 #[test]
 fn a_copy_changes_alone(rt: HostRuntime) -> Result<(), Fail> {
     let mut ranking = Ranking::new(rt.alloc(), 3)?;
-    ranking.set(1, Some(due(20)));
+    expect_first(&rt, &mut ranking, 1, Some(20), Some((1, 20)));
     let copy = ranking.copy()?;
-    ranking.set(2, Some(due(10)));
+    expect_first(&rt, &mut ranking, 2, Some(10), Some((2, 10)));
     assert_eq!(rt; copy.places(), 3);
     assert_eq!(rt; copy.first(), Some((1, due(20))));
-    assert_eq!(rt; ranking.first(), Some((2, due(10))));
     Ok(())
 }
 
 #[test]
 fn the_greatest_times_are_told_apart(rt: HostRuntime) -> Result<(), Fail> {
     let mut ranking = Ranking::new(rt.alloc(), 4)?;
-    assert_eq!(rt; ranking.places(), 4);
-    ranking.set(3, Some(due(u64::MAX)));
-    assert_eq!(rt; ranking.first(), Some((3, due(u64::MAX))));
-    ranking.set(1, Some(due(u64::MAX)));
-    assert_eq!(rt; ranking.first(), Some((1, due(u64::MAX))));
-    ranking.set(2, Some(due(u64::MAX - 1)));
-    assert_eq!(rt; ranking.first(), Some((2, due(u64::MAX - 1))));
+    let most = u64::MAX;
+    expect_first(&rt, &mut ranking, 3, Some(most), Some((3, most)));
+    expect_first(&rt, &mut ranking, 1, Some(most), Some((1, most)));
+    expect_first(&rt, &mut ranking, 2, Some(most - 1), Some((2, most - 1)));
     Ok(())
 }
 
