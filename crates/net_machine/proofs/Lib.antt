@@ -3,6 +3,7 @@ pub mod First
 pub mod Home
 pub mod Wired
 pub mod Steps
+pub mod Regions
 pub mod NetEvent
 pub mod Counting
 pub mod Opened
