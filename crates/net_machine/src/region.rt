@@ -73,35 +73,6 @@ pub trait Region {
         ensures emptied { packets.new ≡ [] };
 }
 
-/// Runs the event of the least key of a node of a region, and tells of it in `line`: what leaves the
-/// node goes on. Where memory is refused, the region is as it was. `out` is empty before and after.
-#[inline(always)]
-pub fn run_event<R: Region>(
-    region: &mut R,
-    out: &mut Outbox,
-    links: &[LinkEnds],
-    place: usize,
-    line: &mut Line,
-) -> Result<(), AllocError>
-    requires can_run { CanRun links.now (R.nodes region.old) place }
-    requires can_go_on { CanGoOn R.nodes R.put (R.can_take links.now) region.old place }
-    requires empty { out.old ≡ replicate 16 [] }
-    ensures ok { OnOk result (HasHappened R.nodes R.put (R.takes links.now) region.old region.new place (shown line.new)) }
-    ensures err { OnErr result (region.new ≡ region.old) }
-    ensures empty { out.new ≡ replicate 16 [] }
-{
-    match region.run_at(place, out, line)? {
-        Some(index) => {
-            let index = usize::from(index);
-            let link = usize::from(region.link_of(place, index));
-            let packets = out.chain(index);
-            region.pass_on(links, link, packets);
-            Ok(())
-        }
-        None => Ok(()),
-    }
-}
-
 impl Region for Nodes {
     ghost use Rattle.std.specs.Prelude.{◌≡◌, slice_set};
     ghost use Rattle.net_machine.specs.Region.{CanCome, come_over};
@@ -133,5 +104,34 @@ impl Region for Nodes {
     fn pass_on(&mut self, links: &[LinkEnds], link: usize, packets: &mut PacketChain) {
         let end = links[link].to;
         self.deliver(usize::from(end.node), usize::from(end.index), packets);
+    }
+}
+
+/// Runs the event of the least key of a node of a region, and tells of it in `line`: what leaves the
+/// node goes on. Where memory is refused, the region is as it was. `out` is empty before and after.
+#[inline(always)]
+pub fn run_event<R: Region>(
+    region: &mut R,
+    out: &mut Outbox,
+    links: &[LinkEnds],
+    place: usize,
+    line: &mut Line,
+) -> Result<(), AllocError>
+    requires can_run { CanRun links.now (R.nodes region.old) place }
+    requires can_go_on { CanGoOn R.nodes R.put (R.can_take links.now) region.old place }
+    requires empty { out.old ≡ replicate 16 [] }
+    ensures ok { OnOk result (HasHappened R.nodes R.put (R.takes links.now) region.old region.new place (shown line.new)) }
+    ensures err { OnErr result (region.new ≡ region.old) }
+    ensures empty { out.new ≡ replicate 16 [] }
+{
+    match region.run_at(place, out, line)? {
+        Some(index) => {
+            let index = usize::from(index);
+            let link = usize::from(region.link_of(place, index));
+            let packets = out.chain(index);
+            region.pass_on(links, link, packets);
+            Ok(())
+        }
+        None => Ok(()),
     }
 }
