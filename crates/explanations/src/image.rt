@@ -85,14 +85,19 @@ fn read_node(left: &mut Left<'_>) -> Option<NodeKind> {
 
 /// The next link, without how its queue drops and which packets it loses.
 fn read_link(alloc: Global, left: &mut Left<'_>) -> Option<LinkPart> {
-    let mut part = plain_link(alloc, left.short()?, left.short()?);
-    part.rate = left.long()?;
-    part.delay = left.long()?;
+    let from = left.short()?;
+    let to = left.short()?;
+    let rate = left.long()?;
+    let delay = left.long()?;
     let _queue = left.byte()?;
-    part.capacity = left.short()?;
+    let capacity = left.short()?;
     let _codel = left.take(CODEL)?;
     let lost = left.byte()?;
     let _lose = left.take(LOST * usize::from(lost))?;
+    let mut part = plain_link(alloc, from, to);
+    part.rate = rate;
+    part.delay = delay;
+    part.capacity = capacity;
     Some(part)
 }
 

@@ -1,7 +1,7 @@
 //! The texts.
 
 /// What each code means.
-pub(crate) const TEXTS: [&str; 26] = [
+const TEXTS: [&str; 26] = [
     "E1: a byte of the line is outside 0x20 to 0x7E, also one in its comment
 
 A text has the bytes from 0x20 (space) to 0x7E (~), and line feeds between its lines. A tab, a
@@ -501,3 +501,8 @@ Right is:
     $ tcpsim run --groups 0,1 one.txt
 ",
 ];
+
+/// What each code means, in the order of docs/FORMATS.md.
+pub(crate) fn all_texts() -> &'static [&'static str] {
+    &TEXTS
+}

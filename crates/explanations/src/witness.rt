@@ -14,7 +14,7 @@ use scenario_image::{LoadFault, NodeKind, ScenarioParts};
 use std::alloc::{AllocError, Global};
 
 /// What goes a way.
-#[derive(Clone, Copy, Debug, PartialEq, Eq)]
+#[derive(Clone, Copy)]
 pub enum Packets {
     /// Data, from a flow's sender to its receiver.
     Data,
@@ -23,7 +23,7 @@ pub enum Packets {
 }
 
 /// Where a way comes to a node that it may not come to.
-#[derive(Clone, Copy, Debug, PartialEq, Eq)]
+#[derive(Clone, Copy)]
 pub struct Stop {
     /// The node before.
     pub from: u16,
@@ -36,7 +36,7 @@ pub struct Stop {
 }
 
 /// What a scenario has of which it can have too few.
-#[derive(Clone, Copy, Debug, PartialEq, Eq)]
+#[derive(Clone, Copy)]
 pub enum Sort {
     /// Nodes, of which it has two at least.
     Nodes,
@@ -47,7 +47,7 @@ pub enum Sort {
 }
 
 /// What shows that parts are no scenario.
-#[derive(Clone, Copy, Debug, PartialEq, Eq)]
+#[derive(Clone, Copy)]
 pub enum Witness {
     /// Too few of a sort (L3).
     Few {
