@@ -1,5 +1,5 @@
 -- The nearest name of a command to a word.
-use Rattle.std.specs.Prelude.{◌≡◌, ◌<◌, ◌≤◌, ℕ, nat_eq, nat_lt, List, [], ◌∷◌, ◌++◌, if◌then◌else◌, codes, length, Option, None, Some}
+use Rattle.std.specs.Prelude.{◌≡◌, ◌<◌, ◌≤◌, ℕ, nat_eq, nat_lt, List, ◌∷◌, ◌++◌, if◌then◌else◌, codes, length, Option, None, Some}
 use Rattle.std.specs.List.{All}
 use Rattle.strsim.specs.Edits.{levenshtein_row}
 use Rattle.debug_session.specs.declared.name.Name.{Name}

@@ -1,10 +1,10 @@
 //! The words of the command line.
-ghost use Rattle.std.specs.Prelude.{◌≡◌, false, map, IfOk, IfSome};
-ghost use Rattle.clap.specs.Simple.{Shape, app_of, shape_of, new_shape, with_subcommand};
+ghost use Rattle.std.specs.Prelude.{◌≡◌, ◌++◌, ◌∷◌, [], false, map, IfOk, IfSome};
+ghost use Rattle.clap.specs.Simple.{App, Shape, app_of, shape_of, new_shape, with_subcommand};
 ghost use Rattle.clap.specs.declared.builder.command.Command.TheViews.{out-Command as fields_of};
 ghost use Rattle.clap.specs.Kinds.{FailsBy};
 ghost use Rattle.clap.specs.Matches.{found_of};
-ghost use Rattle.clap.specs.Walk.{first_of, rule_of, rows_of};
+ghost use Rattle.clap.specs.Walk.{Rule, first_of, rule_of, rows_of};
 ghost use Rattle.sessions.specs.CommandLine.{program, top_program, workers_rule, groups_rule, file_rule, progress_rule, explain_rule, code_rule, file_shape, sharing_shape, debug_shape, run_shape, told_shape, code_shape, IsBelow, word_faults, AskFor, WordsAskForOne, WordsHaveOneAnswer, WordsOfSubcommands, WordsOfText, WordsOfMistake};
 ghost use Rattle.sessions.specs.Given.{AreOptions, AreOfTask, AreOfSubcommand, AreOfAsked, IsSharing};
 ghost use Rattle.sessions.specs.Wishes.{is_true, wishes_in};
@@ -116,6 +116,16 @@ fn explain_flag<'a>(alloc: Global) -> Arg<'a>
         .help("Show on standard error why an input is refused")
 }
 
+/// A subcommand with one more argument, where there was memory for it.
+fn with_arg<'a>(
+    command: Result<Command<'a>, AllocError>,
+    arg: Arg<'a>,
+) -> Result<Command<'a>, AllocError>
+    ensures { (shape : Shape) (rule : Rule) → IfOk command.entry (IsBelow shape) → rule_of arg.entry ≡ rule → arg.entry.global ≡ false → IfOk result (IsBelow (record shape { rules = shape.rules ++ rule ∷ [] })) }
+{
+    command?.arg(arg)
+}
+
 /// A subcommand that takes a scenario's file and a flag.
 fn file_subcommand<'a>(
     alloc: Global,
@@ -124,9 +134,9 @@ fn file_subcommand<'a>(
 ) -> Result<Command<'a>, AllocError>
     ensures { IfOk result (IsBelow (file_shape name.entry.now)) }
 {
-    plain_subcommand(alloc, name, about)
-        .arg(file_word(alloc))?
-        .arg(explain_flag(alloc))
+    let plain = Ok(plain_subcommand(alloc, name, about));
+    let with_file = with_arg(plain, file_word(alloc));
+    with_arg(with_file, explain_flag(alloc))
 }
 
 /// A subcommand that takes a scenario's file and two flags.
@@ -137,10 +147,10 @@ fn told_subcommand<'a>(
 ) -> Result<Command<'a>, AllocError>
     ensures { IfOk result (IsBelow (told_shape name.entry.now)) }
 {
-    plain_subcommand(alloc, name, about)
-        .arg(file_word(alloc))?
-        .arg(progress_flag(alloc))?
-        .arg(explain_flag(alloc))
+    let plain = Ok(plain_subcommand(alloc, name, about));
+    let with_file = with_arg(plain, file_word(alloc));
+    let with_progress = with_arg(with_file, progress_flag(alloc));
+    with_arg(with_progress, explain_flag(alloc))
 }
 
 /// A subcommand that takes the options on how a run is shared out.
@@ -151,9 +161,9 @@ fn sharing_subcommand<'a>(
 ) -> Result<Command<'a>, AllocError>
     ensures { IfOk result (IsBelow (sharing_shape name.entry.now)) }
 {
-    plain_subcommand(alloc, name, about)
-        .arg(workers_option(alloc))?
-        .arg(groups_option(alloc))
+    let plain = Ok(plain_subcommand(alloc, name, about));
+    let with_workers = with_arg(plain, workers_option(alloc));
+    with_arg(with_workers, groups_option(alloc))
 }
 
 /// A subcommand that takes these options, a scenario's file and the flag of why.
@@ -164,9 +174,9 @@ fn debug_subcommand<'a>(
 ) -> Result<Command<'a>, AllocError>
     ensures { IfOk result (IsBelow (debug_shape name.entry.now)) }
 {
-    sharing_subcommand(alloc, name, about)?
-        .arg(session_file_word(alloc))?
-        .arg(explain_flag(alloc))
+    let shared = sharing_subcommand(alloc, name, about);
+    let with_file = with_arg(shared, session_file_word(alloc));
+    with_arg(with_file, explain_flag(alloc))
 }
 
 /// A subcommand that takes these options, a scenario's file and two flags.
@@ -177,10 +187,10 @@ fn run_subcommand<'a>(
 ) -> Result<Command<'a>, AllocError>
     ensures { IfOk result (IsBelow (run_shape name.entry.now)) }
 {
-    sharing_subcommand(alloc, name, about)?
-        .arg(file_word(alloc))?
-        .arg(progress_flag(alloc))?
-        .arg(explain_flag(alloc))
+    let shared = sharing_subcommand(alloc, name, about);
+    let with_file = with_arg(shared, file_word(alloc));
+    let with_progress = with_arg(with_file, progress_flag(alloc));
+    with_arg(with_progress, explain_flag(alloc))
 }
 
 /// A subcommand that takes a code.
@@ -191,16 +201,17 @@ fn code_subcommand<'a>(
 ) -> Result<Command<'a>, AllocError>
     ensures { IfOk result (IsBelow (code_shape name.entry.now)) }
 {
-    plain_subcommand(alloc, name, about).arg(code_word(alloc))
+    with_arg(Ok(plain_subcommand(alloc, name, about)), code_word(alloc))
 }
 
-/// A command with one more subcommand, where there was memory for it.
+/// A command with one more subcommand, where there was memory for both.
 fn with_below<'a>(
-    above: Command<'a>,
+    above: Result<Command<'a>, AllocError>,
     below: Result<Command<'a>, AllocError>,
 ) -> Result<Command<'a>, AllocError>
-    ensures { (shape : Shape) → IfOk below.entry (IsBelow shape) → IfOk result (λ command. app_of command ≡ with_subcommand (app_of above.entry) shape) }
+    ensures { (app : App) (shape : Shape) → IfOk above.entry (λ command. app_of command ≡ app) → IfOk below.entry (IsBelow shape) → IfOk result (λ command. app_of command ≡ with_subcommand app shape) }
 {
+    let above = above?;
     above.subcommand(below?)
 }
 
@@ -209,15 +220,15 @@ fn commands<'a>(alloc: Global) -> Result<Command<'a>, AllocError>
     ensures { IfOk result (λ command. app_of command ≡ program) }
 {
     let asm = "Write the image of a scenario";
-    let with_asm = with_below(top_command(alloc), file_subcommand(alloc, "asm", asm))?;
+    let with_asm = with_below(Ok(top_command(alloc)), file_subcommand(alloc, "asm", asm));
     let dis = "Write the canonical text of a scenario";
-    let with_dis = with_below(with_asm, file_subcommand(alloc, "dis", dis))?;
+    let with_dis = with_below(with_asm, file_subcommand(alloc, "dis", dis));
     let run = "Run a scenario and print its trace";
-    let with_run = with_below(with_dis, run_subcommand(alloc, "run", run))?;
+    let with_run = with_below(with_dis, run_subcommand(alloc, "run", run));
     let figures = "Run a scenario and print its figures, as comma-separated values";
-    let with_figures = with_below(with_run, told_subcommand(alloc, "figures", figures))?;
+    let with_figures = with_below(with_run, told_subcommand(alloc, "figures", figures));
     let debug = "Walk through a run by commands, forwards and backwards";
-    let with_debug = with_below(with_figures, debug_subcommand(alloc, "debug", debug))?;
+    let with_debug = with_below(with_figures, debug_subcommand(alloc, "debug", debug));
     let explain = "Say what a code means, with an example, or list all codes";
     with_below(with_debug, code_subcommand(alloc, "explain", explain))
 }

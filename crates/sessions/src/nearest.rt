@@ -52,7 +52,7 @@ fn spelling(name: Name) -> &'static str
 }
 
 /// A name, and how many edits lead to it from a word.
-#[derive(Clone, Copy, Debug)]
+#[derive(Clone, Copy)]
 struct Near {
     name: Name,
     edits: usize,

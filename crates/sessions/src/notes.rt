@@ -8,7 +8,7 @@ const SECOND: u64 = 1_000_000_000;
 
 /// How far a run is. Its `Display` is `NN % of D s simulated, E events`, with D in seconds and no
 /// more decimals than it has.
-#[derive(Clone, Copy, Debug, Drop)]
+#[derive(Clone, Copy, Drop)]
 pub struct HowFar {
     /// So many hundredths of its time are simulated.
     pub percent: u64,

@@ -3,7 +3,7 @@
 use crate::fault::SessionFault;
 
 /// How a session ended.
-#[derive(Debug, Drop)]
+#[derive(Drop)]
 pub struct Outcome {
     /// The status with which the program ends: 0 done, 1 input refused, 2 command line refused,
     /// 3 reading or writing failed, 4 no room to go on.

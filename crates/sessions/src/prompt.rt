@@ -36,7 +36,7 @@ use window_core::Partition;
 use window_engine::{Gate, Sink, SinkFail};
 
 /// What came of asking for a line.
-#[derive(Clone, Copy, Debug, PartialEq, Eq)]
+#[derive(Clone, Copy)]
 pub(crate) enum Turn {
     /// It was answered.
     Answered,

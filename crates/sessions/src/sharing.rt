@@ -4,7 +4,7 @@ ghost use Rattle.std.specs.Prelude.{◌≡◌, ◌<◌, ◌≤◌};
 use std::marker::Model;
 
 /// How a run is shared out: among how many workers, and by which groups.
-#[derive(Debug, Drop)]
+#[derive(Drop)]
 pub struct Sharing<'a> {
     /// How many workers run the groups.
     workers: usize,

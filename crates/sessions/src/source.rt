@@ -9,7 +9,7 @@ use std::io::Read;
 use window_engine::Sink;
 
 /// A source did not give what it was asked for.
-#[derive(Clone, Copy, Debug, Drop)]
+#[derive(Clone, Copy, Drop)]
 pub struct SourceFail;
 
 /// Where bytes come from. It counts its failures, in 64 bits; at its greatest value the count

@@ -7,7 +7,7 @@ use crate::sharing::Sharing;
 use std::marker::Model;
 
 /// A subcommand that makes something of a scenario, which it reads from an image or a text.
-#[derive(Debug, Drop)]
+#[derive(Drop)]
 pub enum Subcommand<'a> {
     /// Writes the scenario's image.
     Asm,
@@ -20,7 +20,7 @@ pub enum Subcommand<'a> {
 }
 
 /// What a session over an input does.
-#[derive(Debug, Drop)]
+#[derive(Drop)]
 pub enum Task<'a> {
     /// To make something of a scenario.
     Scenario(Subcommand<'a>),
@@ -29,7 +29,7 @@ pub enum Task<'a> {
 }
 
 /// A word of the command line that may be left out.
-#[derive(Debug, Drop)]
+#[derive(Drop)]
 pub struct OptionalWord<'a> {
     word: Option<&'a str>,
 }
@@ -60,7 +60,7 @@ impl<'a> OptionalWord<'a> {
 }
 
 /// What is wished beside the output.
-#[derive(Clone, Copy, Debug, Drop)]
+#[derive(Clone, Copy, Drop)]
 pub struct Wishes {
     /// To be told how far a run is.
     pub progress: bool,
@@ -77,7 +77,7 @@ impl Wishes {
 }
 
 /// What the words of the command line ask for.
-#[derive(Debug, Drop)]
+#[derive(Drop)]
 pub enum Asked<'a> {
     /// A session over an input: that of the file that is named, or the standard input where none is,
     /// or `-`.
