@@ -15,12 +15,16 @@ use Rattle.node_core.specs.declared.event.Event.{Event}
 use Rattle.node_core.specs.Alarms.{alarm_number}
 use Rattle.node_core.specs.AgendaState.{AgendaState, IsDueAs, alarm_at}
 use Rattle.node_core.specs.Decided.{arriving, sent_by}
-use Rattle.node_core.specs.InStep.{frees_of, numbers_of}
+use Rattle.node_core.specs.InStep.{IsInStep, frees_of, numbers_of}
+use Rattle.node_core.specs.declared.line.Line.{Line}
+use Rattle.node_core.specs.declared.role.Role.{Role}
 use Rattle.node_core.specs.Node.{put_out}
 use Rattle.node_core.specs.Part.{LinkState, link_at}
 use Rattle.node_core.specs.Passing.{passed, after_take, moved_to}
-use Rattle.node_core.specs.Ready.{LinkCan}
-use Rattle.node_core.specs.Row.{Leaving, leaving_over}
+use Rattle.node_core.specs.Ready.{CanRun, LinkCan}
+use Rattle.node_core.specs.Row.{Leaving, leaving_over, row}
+use Rattle.node_core.specs.Running.{HasRun, part}
+use Rattle.node_core.specs.TraceLine.{IsSameEvent}
 
 -- the event of a key is the next, the agenda is in step with the links, sums stay in their types, and what leaves has a chain with room
 pub record IsNext (key : Key) (event : Event) (links : List LinkState) (agenda : AgendaState) (chains : List (List Stamped)) : Type 0 where
@@ -61,3 +65,16 @@ IsCarriedOut key event (TakeNext index) links new agenda after chains filled bef
     HasPassed index (taken key.time (link_at links index).port) links new (after_take agenda key) after chains filled before done left
 IsCarriedOut key event (Send sending) links new agenda after chains filled before done left =
     HasPassed 0 (offered_all key.time (link_at links 0).port (sent_by sending)) links new (moved_to (after_take agenda key) (alarm_number sending.alarm) sending.time) after chains filled before done left
+
+-- the event of a key is the next at a node, and can be run
+pub record CanFire (role : Role) (links : List LinkState) (agenda : AgendaState) (key : Key) (event : Event) (chains : List (List Stamped)) : Type 0 where
+  pub in_step : IsInStep role links agenda
+  pub next : IsNext key event links agenda chains
+  pub runs : CanRun (part role links) key.time event
+
+-- the event of a line has been run: what is left of its node and of the chains, what the line tells, and over which link a packet left
+pub record IsRun (role new : Role) (links all : List LinkState) (before after : AgendaState) (chains filled : List (List Stamped)) (line told : Line) (left : Option ℕ) : Type 0 where
+  pub has_run : HasRun line.key (row (part role links) line.key line.event) new all before after chains filled
+  pub did : told.acts.acts ≡ line.acts.acts ++ (row (part role links) line.key line.event).acts
+  pub leaves : left ≡ option_map (λ (leaving : Leaving). leaving.index) (row (part role links) line.key line.event).leaving
+  pub same_event : IsSameEvent line.key told.key line.event told.event

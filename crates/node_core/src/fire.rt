@@ -1,13 +1,8 @@
 //! Running the event of a node's least key: it is decided, and then carried out.
-ghost use Rattle.std.specs.Prelude.{◌≡◌, ℕ, ◌++◌, OnOk, OnErr, IfOk};
-ghost use Rattle.std.specs.Option.{option_map};
-ghost use Rattle.node_core.specs.CarriedOut.{IsNext, IsCarriedOut};
-ghost use Rattle.node_core.specs.declared.event.Event.TheVariants.{Free};
-ghost use Rattle.node_core.specs.Decided.{CanDo, IsRouted};
-ghost use Rattle.node_core.specs.InStep.{IsInStep};
-ghost use Rattle.node_core.specs.Ready.{CanRun};
-ghost use Rattle.node_core.specs.Running.{HasRun, IsAsBefore, part};
-ghost use Rattle.node_core.specs.Row.{Leaving, row};
+ghost use Rattle.std.specs.Prelude.{OnErr, IfOk};
+ghost use Rattle.node_core.specs.CarriedOut.{CanFire, IsNext, IsCarriedOut, IsRun};
+ghost use Rattle.node_core.specs.Decided.{CanDo};
+ghost use Rattle.node_core.specs.Running.{IsAsBefore};
 ghost use Rattle.node_core.specs.TraceLine.{IsSameEvent};
 
 use crate::agenda::Agenda;
@@ -49,53 +44,6 @@ pub(crate) fn carry_out(
     }
 }
 
-// The event of a link, which has sent a packet whole.
-#[inline(always)]
-fn run_free(
-    role: &mut Role,
-    links: &mut Vec<Link>,
-    agenda: &mut Agenda,
-    line: &mut Line,
-    out: &mut Outbox,
-) -> Result<Option<u16>, AllocError>
-    requires in_step { IsInStep role.old links.old.items agenda.old }
-    requires next { IsNext line.old.key line.old.event links.old.items agenda.old out.old }
-    requires runs { CanRun (part role.old links.old.items) line.old.key.time line.old.event }
-    requires frees { (link : ℕ) × (line.old.event ≡ Free link) }
-    ensures ran { OnOk result (HasRun line.old.key (row (part role.old links.old.items) line.old.key line.old.event) role.new links.new.items agenda.old agenda.new out.old out.new) }
-    ensures acts { OnOk result (line.new.acts.acts ≡ line.old.acts.acts ++ (row (part role.old links.old.items) line.old.key line.old.event).acts) }
-    ensures leaving { IfOk result (λ index. index ≡ option_map (λ (leaving : Leaving). leaving.index) (row (part role.old links.old.items) line.old.key line.old.event).leaving) }
-    ensures same_event { IsSameEvent line.old.key line.new.key line.old.event line.new.event }
-    ensures same { OnErr result (IsAsBefore role.old role.new links.old.items links.new.items agenda.old agenda.new out.old out.new) }
-{
-    let index = free_link(links, line.key, &mut line.acts)?;
-    Ok(take_next(index, links, agenda, line, out))
-}
-
-// The arrival at a router whose link for the packet has this index.
-#[inline(always)]
-fn run_through(
-    role: &mut Role,
-    index: u16,
-    links: &mut Vec<Link>,
-    agenda: &mut Agenda,
-    line: &mut Line,
-    out: &mut Outbox,
-) -> Result<Option<u16>, AllocError>
-    requires in_step { IsInStep role.old links.old.items agenda.old }
-    requires next { IsNext line.old.key line.old.event links.old.items agenda.old out.old }
-    requires runs { CanRun (part role.old links.old.items) line.old.key.time line.old.event }
-    requires routed { IsRouted role.old line.old.event index }
-    ensures ran { OnOk result (HasRun line.old.key (row (part role.old links.old.items) line.old.key line.old.event) role.new links.new.items agenda.old agenda.new out.old out.new) }
-    ensures acts { OnOk result (line.new.acts.acts ≡ line.old.acts.acts ++ (row (part role.old links.old.items) line.old.key line.old.event).acts) }
-    ensures leaving { IfOk result (λ index. index ≡ option_map (λ (leaving : Leaving). leaving.index) (row (part role.old links.old.items) line.old.key line.old.event).leaving) }
-    ensures same_event { IsSameEvent line.old.key line.new.key line.old.event line.new.event }
-    ensures same { OnErr result (IsAsBefore role.old role.new links.old.items links.new.items agenda.old agenda.new out.old out.new) }
-{
-    line.acts.reserve(2)?;
-    Ok(pass_on(index, links, agenda, line, out))
-}
-
 // An event that is decided first, and then carried out.
 #[inline(always)]
 fn run_decided(
@@ -105,13 +53,8 @@ fn run_decided(
     line: &mut Line,
     out: &mut Outbox,
 ) -> Result<Option<u16>, AllocError>
-    requires in_step { IsInStep role.old links.old.items agenda.old }
-    requires next { IsNext line.old.key line.old.event links.old.items agenda.old out.old }
-    requires runs { CanRun (part role.old links.old.items) line.old.key.time line.old.event }
-    ensures ran { OnOk result (HasRun line.old.key (row (part role.old links.old.items) line.old.key line.old.event) role.new links.new.items agenda.old agenda.new out.old out.new) }
-    ensures acts { OnOk result (line.new.acts.acts ≡ line.old.acts.acts ++ (row (part role.old links.old.items) line.old.key line.old.event).acts) }
-    ensures leaving { IfOk result (λ index. index ≡ option_map (λ (leaving : Leaving). leaving.index) (row (part role.old links.old.items) line.old.key line.old.event).leaving) }
-    ensures same_event { IsSameEvent line.old.key line.new.key line.old.event line.new.event }
+    requires can { CanFire role.old links.old.items agenda.old line.old.key line.old.event out.old }
+    ensures ran { IfOk result (IsRun role.old role.new links.old.items links.new.items agenda.old agenda.new out.old out.new line.old line.new) }
     ensures same { OnErr result (IsAsBefore role.old role.new links.old.items links.new.items agenda.old agenda.new out.old out.new) }
 {
     let decision = decide(agenda.alloc(), role, links, line)?;
@@ -128,13 +71,8 @@ fn run_apart(
     line: &mut Line,
     out: &mut Outbox,
 ) -> Result<Option<u16>, AllocError>
-    requires in_step { IsInStep role.old links.old.items agenda.old }
-    requires next { IsNext line.old.key line.old.event links.old.items agenda.old out.old }
-    requires runs { CanRun (part role.old links.old.items) line.old.key.time line.old.event }
-    ensures ran { OnOk result (HasRun line.old.key (row (part role.old links.old.items) line.old.key line.old.event) role.new links.new.items agenda.old agenda.new out.old out.new) }
-    ensures acts { OnOk result (line.new.acts.acts ≡ line.old.acts.acts ++ (row (part role.old links.old.items) line.old.key line.old.event).acts) }
-    ensures leaving { IfOk result (λ index. index ≡ option_map (λ (leaving : Leaving). leaving.index) (row (part role.old links.old.items) line.old.key line.old.event).leaving) }
-    ensures same_event { IsSameEvent line.old.key line.new.key line.old.event line.new.event }
+    requires can { CanFire role.old links.old.items agenda.old line.old.key line.old.event out.old }
+    ensures ran { IfOk result (IsRun role.old role.new links.old.items links.new.items agenda.old agenda.new out.old out.new line.old line.new) }
     ensures same { OnErr result (IsAsBefore role.old role.new links.old.items links.new.items agenda.old agenda.new out.old out.new) }
 {
     run_decided(role, links, agenda, line, out)
@@ -149,13 +87,8 @@ fn run_data(
     line: &mut Line,
     out: &mut Outbox,
 ) -> Result<Option<u16>, AllocError>
-    requires in_step { IsInStep role.old links.old.items agenda.old }
-    requires next { IsNext line.old.key line.old.event links.old.items agenda.old out.old }
-    requires runs { CanRun (part role.old links.old.items) line.old.key.time line.old.event }
-    ensures ran { OnOk result (HasRun line.old.key (row (part role.old links.old.items) line.old.key line.old.event) role.new links.new.items agenda.old agenda.new out.old out.new) }
-    ensures acts { OnOk result (line.new.acts.acts ≡ line.old.acts.acts ++ (row (part role.old links.old.items) line.old.key line.old.event).acts) }
-    ensures leaving { IfOk result (λ index. index ≡ option_map (λ (leaving : Leaving). leaving.index) (row (part role.old links.old.items) line.old.key line.old.event).leaving) }
-    ensures same_event { IsSameEvent line.old.key line.new.key line.old.event line.new.event }
+    requires can { CanFire role.old links.old.items agenda.old line.old.key line.old.event out.old }
+    ensures ran { IfOk result (IsRun role.old role.new links.old.items links.new.items agenda.old agenda.new out.old out.new line.old line.new) }
     ensures same { OnErr result (IsAsBefore role.old role.new links.old.items links.new.items agenda.old agenda.new out.old out.new) }
 {
     if role.answers(&line.event) {
@@ -174,13 +107,8 @@ fn run_ack(
     line: &mut Line,
     out: &mut Outbox,
 ) -> Result<Option<u16>, AllocError>
-    requires in_step { IsInStep role.old links.old.items agenda.old }
-    requires next { IsNext line.old.key line.old.event links.old.items agenda.old out.old }
-    requires runs { CanRun (part role.old links.old.items) line.old.key.time line.old.event }
-    ensures ran { OnOk result (HasRun line.old.key (row (part role.old links.old.items) line.old.key line.old.event) role.new links.new.items agenda.old agenda.new out.old out.new) }
-    ensures acts { OnOk result (line.new.acts.acts ≡ line.old.acts.acts ++ (row (part role.old links.old.items) line.old.key line.old.event).acts) }
-    ensures leaving { IfOk result (λ index. index ≡ option_map (λ (leaving : Leaving). leaving.index) (row (part role.old links.old.items) line.old.key line.old.event).leaving) }
-    ensures same_event { IsSameEvent line.old.key line.new.key line.old.event line.new.event }
+    requires can { CanFire role.old links.old.items agenda.old line.old.key line.old.event out.old }
+    ensures ran { IfOk result (IsRun role.old role.new links.old.items links.new.items agenda.old agenda.new out.old out.new line.old line.new) }
     ensures same { OnErr result (IsAsBefore role.old role.new links.old.items links.new.items agenda.old agenda.new out.old out.new) }
 {
     if role.is_answered(&line.event) {
@@ -198,19 +126,20 @@ pub(crate) fn run(
     line: &mut Line,
     out: &mut Outbox,
 ) -> Result<Option<u16>, AllocError>
-    requires in_step { IsInStep role.old links.old.items agenda.old }
-    requires next { IsNext line.old.key line.old.event links.old.items agenda.old out.old }
-    requires runs { CanRun (part role.old links.old.items) line.old.key.time line.old.event }
-    ensures ran { OnOk result (HasRun line.old.key (row (part role.old links.old.items) line.old.key line.old.event) role.new links.new.items agenda.old agenda.new out.old out.new) }
-    ensures acts { OnOk result (line.new.acts.acts ≡ line.old.acts.acts ++ (row (part role.old links.old.items) line.old.key line.old.event).acts) }
-    ensures leaving { IfOk result (λ index. index ≡ option_map (λ (leaving : Leaving). leaving.index) (row (part role.old links.old.items) line.old.key line.old.event).leaving) }
-    ensures same_event { IsSameEvent line.old.key line.new.key line.old.event line.new.event }
+    requires can { CanFire role.old links.old.items agenda.old line.old.key line.old.event out.old }
+    ensures ran { IfOk result (IsRun role.old role.new links.old.items links.new.items agenda.old agenda.new out.old out.new line.old line.new) }
     ensures same { OnErr result (IsAsBefore role.old role.new links.old.items links.new.items agenda.old agenda.new out.old out.new) }
 {
     match &line.event {
-        Event::Free(_) => run_free(role, links, agenda, line, out),
+        Event::Free(_) => {
+            let index = free_link(links, line.key, &mut line.acts)?;
+            Ok(take_next(index, links, agenda, line, out))
+        }
         Event::Arrive(packet) => match role.route(packet) {
-            Some(index) => run_through(role, index, links, agenda, line, out),
+            Some(index) => {
+                line.acts.reserve(2)?;
+                Ok(pass_on(index, links, agenda, line, out))
+            }
             None => match packet.kind {
                 Kind::Data => run_data(role, links, agenda, line, out),
                 Kind::Ack => run_ack(role, links, agenda, line, out),

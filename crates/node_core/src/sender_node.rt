@@ -1,7 +1,6 @@
 //! The rows of the sender's table at a sender's node.
 ghost use Rattle.std.specs.Prelude.{◌≡◌, IfOk, OnOk, OnErr, map, true, false};
 ghost use Rattle.sim_time.specs.Moment.{IsMoment};
-ghost use Rattle.reno_sender.specs.AckRun.{IsAckRun};
 ghost use Rattle.reno_sender.specs.Laws.{IsAckFor};
 ghost use Rattle.reno_sender.specs.PlanView.{IsPlanOf, sent_of};
 ghost use Rattle.reno_sender.specs.Table.{acknowledged};
@@ -13,7 +12,7 @@ use crate::alarm::Alarm;
 use crate::cells::{Origin, but_last, run_but_last, segments};
 use crate::decision::{Decision, Sending};
 use port::Acts;
-use reno_sender::{AckRun, Plan, Sender};
+use reno_sender::{Plan, Sender};
 use sim_time::Time;
 use std::alloc::AllocError;
 
@@ -67,56 +66,6 @@ fn send_behind(
     }))
 }
 
-// An acknowledgement that is planned. Out of line, as few are.
-#[inline(never)]
-fn send_planned(
-    origin: Origin,
-    sender: &mut Sender,
-    number: u64,
-    now: Time,
-    acts: &mut Acts,
-) -> Result<Decision, AllocError>
-    requires moment { IsMoment now }
-    requires ack { IsAckFor sender.old number now }
-    ensures sends { IfOk result (OnSend (IsSent true (map (data_packet origin.flow (acknowledged sender.old number now).fields.mss) (acknowledged sender.old number now).sent) Retransmission (acknowledged sender.old number now).fields.deadline acts.new.room)) }
-    ensures sender { OnOk result (sender.new ≡ (acknowledged sender.old number now).fields) }
-    ensures same { OnErr result (sender.new ≡ sender.old) }
-    ensures acts { acts.new.acts ≡ acts.old.acts }
-{
-    let plan = sender.on_ack(number, now);
-    send_behind(origin, sender, &plan, acts)
-}
-
-// A new acknowledgement, which lets a run of segments go: the last takes its cell.
-#[inline(always)]
-fn send_run(
-    origin: Origin,
-    sender: &mut Sender,
-    run: AckRun,
-    number: u64,
-    now: Time,
-    acts: &mut Acts,
-) -> Result<Decision, AllocError>
-    requires moment { IsMoment now }
-    requires ack { IsAckFor sender.old number now }
-    requires run { IsAckRun sender.old number run }
-    ensures sends { IfOk result (OnSend (IsSent true (map (data_packet origin.flow (acknowledged sender.old number now).fields.mss) (acknowledged sender.old number now).sent) Retransmission (acknowledged sender.old number now).fields.deadline acts.new.room)) }
-    ensures sender { OnOk result (sender.new ≡ (acknowledged sender.old number now).fields) }
-    ensures same { OnErr result (sender.new ≡ sender.old) }
-    ensures acts { acts.new.acts ≡ acts.old.acts }
-{
-    let mss = sender.as_fields().mss;
-    acts.reserve(run.count as usize + 2)?;
-    let (cells, last) = run_but_last(origin, mss, run)?;
-    sender.take_run(number, now, run);
-    Ok(Decision::Send(Sending {
-        cells,
-        last,
-        alarm: Alarm::Retransmission,
-        time: sender.deadline(),
-    }))
-}
-
 /// An acknowledgement has come: the last segment that it lets go takes its cell.
 #[inline(always)]
 pub(crate) fn send_for_ack(
@@ -133,8 +82,18 @@ pub(crate) fn send_for_ack(
     ensures same { OnErr result (sender.new ≡ sender.old) }
     ensures acts { acts.new.acts ≡ acts.old.acts }
 {
-    match sender.run_for(number) {
-        Some(run) => send_run(origin, sender, run, number, now, acts),
-        None => send_planned(origin, sender, number, now, acts),
-    }
+    let Some(run) = sender.run_for(number) else {
+        let plan = sender.on_ack(number, now);
+        return send_behind(origin, sender, &plan, acts);
+    };
+    let mss = sender.as_fields().mss;
+    acts.reserve(run.count as usize + 2)?;
+    let (cells, last) = run_but_last(origin, mss, run)?;
+    sender.take_run(number, now, run);
+    Ok(Decision::Send(Sending {
+        cells,
+        last,
+        alarm: Alarm::Retransmission,
+        time: sender.deadline(),
+    }))
 }

@@ -1,4 +1,4 @@
-use Rattle.std.proofs.Common.{subst, sym}
+use Rattle.std.proofs.Common.{subst, sym, ◌∙◌}
 use Rattle.sim_time.specs.declared.key.Key.{Key}
 use Rattle.node_core.specs.declared.event.Event.{Event}
 use Rattle.node_core.specs.CarriedOut.{IsNext}
@@ -9,18 +9,18 @@ use Rattle.node_core.proofs.fire.run_decided.Goals as goal
 
 pub decide-requires : goal.decide-requires
 decide-requires c = record {
-  moment = c.requires.next.moment;
-  set = set_by c.args.role.now c.args.links.now.items c.args.agenda.now c.args.line.now.key c.args.line.now.event c.requires.in_step c.requires.next.due;
-  own = of_link c.args.role.now c.args.links.now.items c.args.agenda.now c.args.line.now.key c.args.line.now.event c.requires.in_step c.requires.next.due;
-  takes = c.requires.runs;
-  linked = c.requires.in_step.linked;
-  few = c.requires.in_step.few;
+  moment = c.requires.can.next.moment;
+  set = set_by c.args.role.now c.args.links.now.items c.args.agenda.now c.args.line.now.key c.args.line.now.event c.requires.can.in_step c.requires.can.next.due;
+  own = of_link c.args.role.now c.args.links.now.items c.args.agenda.now c.args.line.now.key c.args.line.now.event c.requires.can.in_step c.requires.can.next.due;
+  takes = c.requires.can.runs;
+  linked = c.requires.can.in_step.linked;
+  few = c.requires.can.in_step.few;
 }
 
 pub carry_out-requires-clause-next : goal.carry_out-requires-clause-next
 carry_out-requires-clause-next c =
     subst (λ (k : Key). IsNext k c.decide.new.line.event c.args.links.now.items c.args.agenda.now c.args.out.now) (sym c.decide.ensures.same_event.key_is)
-    (subst (λ (e : Event). IsNext c.args.line.now.key e c.args.links.now.items c.args.agenda.now c.args.out.now) (sym c.decide.ensures.same_event.event_is) c.requires.next)
+    (subst (λ (e : Event). IsNext c.args.line.now.key e c.args.links.now.items c.args.agenda.now c.args.out.now) (sym c.decide.ensures.same_event.event_is) c.requires.can.next)
 
 pub carry_out-requires-clause-can : goal.carry_out-requires-clause-can
 carry_out-requires-clause-can c =
@@ -29,18 +29,8 @@ carry_out-requires-clause-can c =
 
 pub returns-clause-ran : goal.returns-clause-ran
 returns-clause-ran c =
-    (ran c.args.role.now c.decide.new.role c.args.links.now.items c.carry_out.new.links.items c.args.agenda.now c.carry_out.new.agenda c.args.out.now c.carry_out.new.out c.args.line.now.acts.acts c.carry_out.new.line.acts.acts c.carry_out.result
-    c.args.line.now.key c.args.line.now.event c.decide.new.line.acts.room c.requires.in_step c.requires.next c.in_ok-decision.decision c.in_ok-decision.ensures.decided
-    c.decide.new.line.key c.decide.new.line.event c.decide.new.line.acts.acts c.decide.ensures.same_event.key_is c.decide.ensures.same_event.event_is c.decide.ensures.acts c.carry_out.ensures.done).has_run
-
-pub returns-clause-acts : goal.returns-clause-acts
-returns-clause-acts c =
-    (ran c.args.role.now c.decide.new.role c.args.links.now.items c.carry_out.new.links.items c.args.agenda.now c.carry_out.new.agenda c.args.out.now c.carry_out.new.out c.args.line.now.acts.acts c.carry_out.new.line.acts.acts c.carry_out.result
-    c.args.line.now.key c.args.line.now.event c.decide.new.line.acts.room c.requires.in_step c.requires.next c.in_ok-decision.decision c.in_ok-decision.ensures.decided
-    c.decide.new.line.key c.decide.new.line.event c.decide.new.line.acts.acts c.decide.ensures.same_event.key_is c.decide.ensures.same_event.event_is c.decide.ensures.acts c.carry_out.ensures.done).did
-
-pub returns-clause-leaving : goal.returns-clause-leaving
-returns-clause-leaving c =
-    (ran c.args.role.now c.decide.new.role c.args.links.now.items c.carry_out.new.links.items c.args.agenda.now c.carry_out.new.agenda c.args.out.now c.carry_out.new.out c.args.line.now.acts.acts c.carry_out.new.line.acts.acts c.carry_out.result
-    c.args.line.now.key c.args.line.now.event c.decide.new.line.acts.room c.requires.in_step c.requires.next c.in_ok-decision.decision c.in_ok-decision.ensures.decided
-    c.decide.new.line.key c.decide.new.line.event c.decide.new.line.acts.acts c.decide.ensures.same_event.key_is c.decide.ensures.same_event.event_is c.decide.ensures.acts c.carry_out.ensures.done).leaves
+    let r = ran c.args.role.now c.decide.new.role c.args.links.now.items c.carry_out.new.links.items c.args.agenda.now c.carry_out.new.agenda c.args.out.now c.carry_out.new.out c.args.line.now.acts.acts c.carry_out.new.line.acts.acts c.carry_out.result
+    c.args.line.now.key c.args.line.now.event c.decide.new.line.acts.room c.requires.can.in_step c.requires.can.next (c.in_ok-decision.decision) (c.in_ok-decision.ensures.decided)
+    c.decide.new.line.key c.decide.new.line.event c.decide.new.line.acts.acts c.decide.ensures.same_event.key_is c.decide.ensures.same_event.event_is c.decide.ensures.acts c.carry_out.ensures.done in
+    let same = c.carry_out.ensures.same_event in
+    record { has_run = r.has_run; did = r.did; leaves = r.leaves; same_event = record { key_is = same.key_is ∙ c.decide.ensures.same_event.key_is; event_is = same.event_is ∙ c.decide.ensures.same_event.event_is } }

@@ -10,10 +10,17 @@ use Rattle.node_core.proofs.node.Node.fire_into.Goals as goal
 abbrev Due : NodeState → Type 0
 Due s = (k : Key) (v : Event) → least s.pending ≡ Some (k, v) → IsRunnable s.part k v
 
-pub run-requires-clause-next : goal.run-requires-clause-next
-run-requires-clause-next c =
+pub run-requires : goal.run-requires
+run-requires c =
     let key = c.tell_least.new.key in
     let event = c.tell_least.new.event in
     let is_least = c.tell_least.ensures.value in
-    is_next c.self.inside.role c.self.inside.links.items c.self.inside.agenda c.args.out.now key event c.self.invariant c.tell_least.ensures.due (subst Due (sym c.self.view_is) c.requires.due key event is_least) is_least
-    (subst (λ (s : NodeState). length s.part.links ≤ length c.args.out.now) (sym c.self.view_is) c.requires.chains) c.requires.room
+    let runnable = subst Due (sym c.self.view_is) c.requires.due key event is_least in
+    record {
+      can = record {
+        in_step = c.self.invariant;
+        next = is_next c.self.inside.role c.self.inside.links.items c.self.inside.agenda c.args.out.now key event c.self.invariant c.tell_least.ensures.due runnable is_least
+            (subst (λ (s : NodeState). length s.part.links ≤ length c.args.out.now) (sym c.self.view_is) c.requires.chains) c.requires.room;
+        runs = runnable.can;
+      };
+    }
