@@ -1,6 +1,7 @@
 pub mod AtNodes
 pub mod First
 pub mod Home
+pub mod AfterEvent
 pub mod Wired
 pub mod Steps
 pub mod Regions

@@ -1,25 +1,18 @@
 -- The links join the nodes also after an event, and after its packet has come to the end of its link.
 use Rattle.std.proofs.Common.{◌≡◌, ◌≢◌, ℕ, ◌+◌, ◌<◌, ◌≤◌, List, length, set, refl, sym, ap, subst, ◌∙◌, Some, None, Option, ⊎_elim}
 use Rattle.std.proofs.lemmas.Bool.{cases_eq}
-use Rattle.std.proofs.lemmas.List.{get_or-set_same, get_or-set_other, length-set}
+use Rattle.std.proofs.lemmas.List.{get_or-set_same, length-set}
 use Rattle.scenario_image.specs.declared.parts.LinkPart.{LinkPart}
 use Rattle.packet_chain.specs.Stamped.{Stamped}
 use Rattle.ranking.proofs.Maps.{not_some, same_some}
-use Rattle.node_core.specs.AgendaState.{Incoming, incoming_at, no_incoming}
+use Rattle.node_core.specs.AgendaState.{Incoming, incoming_at}
 use Rattle.node_core.specs.Part.{LinkState, PartState, link_at}
 use Rattle.node_core.specs.Row.{Leaving}
 use Rattle.node_core.specs.Node.{NodeState, delivered}
 use Rattle.net_machine.specs.Nodes.{no_node, node_at}
+use Rattle.net_machine.proofs.AfterEvent.{same_link as link_after, same_count as count_after, same_coming as coming_after, same_sent as sent_after, same_part as part_come, coming_count, coming_link, coming_others, coming_here}
 use Rattle.net_machine.specs.Wiring.{from_of, exit_of, to_of, entry_of, leaving_at, coming_at, IsWire, IsExit, IsWired}
 use Rattle.table_run.proofs.Ready.{IsSameLink, LinksStay}
-
--- what holds of a node that is put in place, and of the others
-pub at_each : (nodes : List NodeState) (i : ℕ) (x : NodeState) → i < length nodes → (P : ℕ → NodeState → Type 0) → P i x → ((j : ℕ) → j ≢ i → P j (node_at nodes j)) → (j : ℕ) → P j (node_at (set nodes i x) j)
-at_each nodes i x within P here there j =
-    ⊎_elim
-    (λ (at : j ≡ i). subst (λ n. P n (node_at (set nodes i x) n)) (sym at) (subst (P i) (sym (get_or-set_same nodes i x no_node within)) here))
-    (λ (apart : j ≢ i). subst (P j) (sym (get_or-set_other nodes i j x no_node apart)) (there j apart))
-    (cases_eq j i)
 
 module _ (links : List LinkPart) (nodes : List NodeState) (wired : IsWired links nodes) where
   -- a link's number tells where it leaves
@@ -41,15 +34,13 @@ module _ (links : List LinkPart) (nodes : List NodeState) (wired : IsWired links
   -- an event changes the links of its node
   module _ (place : ℕ) (inside : place < length nodes) (x : NodeState) (same_in : x.incoming ≡ (node_at nodes place).incoming) (leaving : Option Leaving) (stay : LinksStay (node_at nodes place).part.links x.part.links leaving) where
     same_link : (i j : ℕ) → IsSameLink (link_at (node_at nodes i).part.links j) (link_at (node_at (set nodes place x) i).part.links j)
-    same_link i j =
-        at_each nodes place x inside (λ n (y : NodeState). IsSameLink (link_at (node_at nodes n).part.links j) (link_at y.part.links j)) (stay.same_links j)
-        (λ n apart. record { same_to = refl; same_number = refl; same_rate = refl; same_delay = refl }) i
+    same_link = link_after nodes (set nodes place x) place inside x refl same_in leaving stay
 
     same_count : (i : ℕ) → length (node_at (set nodes place x) i).part.links ≡ length (node_at nodes i).part.links
-    same_count i = at_each nodes place x inside (λ n (y : NodeState). length y.part.links ≡ length (node_at nodes n).part.links) stay.same_length (λ n apart. refl) i
+    same_count = count_after nodes (set nodes place x) place inside x refl same_in leaving stay
 
     same_coming : (i : ℕ) → (node_at (set nodes place x) i).incoming ≡ (node_at nodes i).incoming
-    same_coming i = at_each nodes place x inside (λ n (y : NodeState). y.incoming ≡ (node_at nodes n).incoming) same_in (λ n apart. refl) i
+    same_coming = coming_after nodes (set nodes place x) place inside x refl same_in leaving stay
 
     few_stay : (i : ℕ) → length (node_at (set nodes place x) i).part.links ≤ 16
     few_stay i = subst (λ n. n ≤ 16) (sym (same_count i)) (wired.few i)
@@ -67,9 +58,7 @@ module _ (links : List LinkPart) (nodes : List NodeState) (wired : IsWired links
     -- a link over which nothing left has sent no more
     sent_stays : (number : ℕ) → ((l : Leaving) → leaving ≡ Some l → from_of links number ≡ place → exit_of links number ≢ l.index)
         → (leaving_at links (set nodes place x) number).port.sent ≡ (leaving_at links nodes number).port.sent
-    sent_stays number other =
-        at_each nodes place x inside (λ n (y : NodeState). n ≡ from_of links number → (link_at y.part.links (exit_of links number)).port.sent ≡ (link_at (node_at nodes n).part.links (exit_of links number)).port.sent)
-        (λ at. stay.others_sent (exit_of links number) (λ l is. other l is (sym at))) (λ n apart at. refl) (from_of links number) refl
+    sent_stays number other = sent_after nodes (set nodes place x) place inside x refl same_in leaving stay (from_of links number) (exit_of links number) other
 
     wire_stays : (number : ℕ) → number < length links → (leaving_at links (set nodes place x) number).port.sent ≡ (leaving_at links nodes number).port.sent → IsWire links (set nodes place x) number
     wire_stays number under sent =
@@ -104,48 +93,33 @@ module _ (links : List LinkPart) (nodes : List NodeState) (wired : IsWired links
         its_entry : entry_of links number < length (node_at (set nodes place x) (to_of links number)).incoming
         its_entry = subst (λ (all : List Incoming). entry_of links number < length all) (sym (same_coming (to_of links number))) (wired.wires number known).entry
 
-        same_part : (i : ℕ) → (node_at (set (set nodes place x) (to_of links number) y) i).part ≡ (node_at (set nodes place x) i).part
-        same_part i = at_each (set nodes place x) (to_of links number) y there (λ n (z : NodeState). z.part ≡ (node_at (set nodes place x) n).part) (ap (λ (z : NodeState). z.part) is) (λ n apart. refl) i
+        abbrev ran : List NodeState
+        ran = set nodes place x
 
-        -- the incoming links there
-        all_in : y.incoming ≡ set (node_at (set nodes place x) (to_of links number)).incoming (entry_of links number)
-            (record (incoming_at (node_at (set nodes place x) (to_of links number)).incoming (entry_of links number)) { came = (incoming_at (node_at (set nodes place x) (to_of links number)).incoming (entry_of links number)).came + length packets })
-        all_in = ap (λ (z : NodeState). z.incoming) is
+        abbrev last : List NodeState
+        last = set ran (to_of links number) y
 
-        link_stays : (all : List Incoming) (e came j : ℕ) → e < length all → (incoming_at (set all e (record (incoming_at all e) { came = came })) j).link ≡ (incoming_at all j).link
-        link_stays all e came j under =
-            ⊎_elim
-            (λ (at : j ≡ e). ap (λ n. (incoming_at (set all e (record (incoming_at all e) { came = came })) n).link) at ∙ ap (λ (i : Incoming). i.link) (get_or-set_same all e (record (incoming_at all e) { came = came }) no_incoming under) ∙ ap (λ n. (incoming_at all n).link) (sym at))
-            (λ (apart : j ≢ e). ap (λ (i : Incoming). i.link) (get_or-set_other all e j (record (incoming_at all e) { came = came }) no_incoming apart))
-            (cases_eq j e)
+        come : last ≡ set ran (to_of links number) (delivered (node_at ran (to_of links number)) (entry_of links number) packets)
+        come = ap (set ran (to_of links number)) is
 
-        in_count : (i : ℕ) → length (node_at (set (set nodes place x) (to_of links number) y) i).incoming ≡ length (node_at nodes i).incoming
-        in_count i =
-            at_each (set nodes place x) (to_of links number) y there (λ n (z : NodeState). length z.incoming ≡ length (node_at (set nodes place x) n).incoming)
-            (ap length all_in ∙ length-set (node_at (set nodes place x) (to_of links number)).incoming (entry_of links number) _) (λ n apart. refl) i
-            ∙ ap length (same_coming i)
+        same_part : (i : ℕ) → (node_at last i).part ≡ (node_at ran i).part
+        same_part = part_come ran last (to_of links number) (entry_of links number) packets there its_entry come
 
-        in_link : (i j : ℕ) → (incoming_at (node_at (set (set nodes place x) (to_of links number) y) i).incoming j).link ≡ (incoming_at (node_at nodes i).incoming j).link
-        in_link i j =
-            at_each (set nodes place x) (to_of links number) y there (λ n (z : NodeState). (incoming_at z.incoming j).link ≡ (incoming_at (node_at (set nodes place x) n).incoming j).link)
-            (ap (λ (all : List Incoming). (incoming_at all j).link) all_in ∙ link_stays (node_at (set nodes place x) (to_of links number)).incoming (entry_of links number) _ j its_entry) (λ n apart. refl) i
-            ∙ ap (λ (all : List Incoming). (incoming_at all j).link) (same_coming i)
+        in_count : (i : ℕ) → length (node_at last i).incoming ≡ length (node_at nodes i).incoming
+        in_count i = coming_count ran last (to_of links number) (entry_of links number) packets there its_entry come i ∙ ap length (same_coming i)
 
-        came_others : (other : ℕ) → other < length links → other ≢ number → (coming_at links (set (set nodes place x) (to_of links number) y) other).came ≡ (coming_at links nodes other).came
+        in_link : (i j : ℕ) → (incoming_at (node_at last i).incoming j).link ≡ (incoming_at (node_at nodes i).incoming j).link
+        in_link i j = coming_link ran last (to_of links number) (entry_of links number) packets there its_entry come i j ∙ ap (λ (all : List Incoming). (incoming_at all j).link) (same_coming i)
+
+        came_others : (other : ℕ) → other < length links → other ≢ number → (coming_at links last other).came ≡ (coming_at links nodes other).came
         came_others other under apart =
-            at_each (set nodes place x) (to_of links number) y there
-            (λ n (z : NodeState). n ≡ to_of links other → (incoming_at z.incoming (entry_of links other)).came ≡ (incoming_at (node_at (set nodes place x) n).incoming (entry_of links other)).came)
-            (λ at. ap (λ (all : List Incoming). (incoming_at all (entry_of links other)).came) all_in
-            ∙ ap (λ (i : Incoming). i.came) (get_or-set_other (node_at (set nodes place x) (to_of links number)).incoming (entry_of links number) (entry_of links other) _ no_incoming (λ same. apart (same_entry other number under known (sym at) same))))
-            (λ n elsewhere at. refl) (to_of links other) refl
+            coming_others ran last (to_of links number) (entry_of links number) packets there its_entry come (to_of links other) (entry_of links other) (λ both. apart (same_entry other number under known both.0 both.1))
             ∙ ap (λ (all : List Incoming). (incoming_at all (entry_of links other)).came) (same_coming (to_of links other))
 
-        came_here : (coming_at links (set (set nodes place x) (to_of links number) y) number).came ≡ (coming_at links nodes number).came + 1
+        came_here : (coming_at links last number).came ≡ (coming_at links nodes number).came + 1
         came_here =
-            ap (λ (z : NodeState). (incoming_at z.incoming (entry_of links number)).came) (get_or-set_same (set nodes place x) (to_of links number) y no_node there)
-            ∙ ap (λ (all : List Incoming). (incoming_at all (entry_of links number)).came) all_in
-            ∙ ap (λ (i : Incoming). i.came) (get_or-set_same (node_at (set nodes place x) (to_of links number)).incoming (entry_of links number) _ no_incoming its_entry)
-            ∙ ap (λ n. (incoming_at (node_at (set nodes place x) (to_of links number)).incoming (entry_of links number)).came + n) one
+            coming_here ran last (to_of links number) (entry_of links number) packets there its_entry come
+            ∙ ap (λ n. (incoming_at (node_at ran (to_of links number)).incoming (entry_of links number)).came + n) one
             ∙ ap (λ (all : List Incoming). (incoming_at all (entry_of links number)).came + 1) (same_coming (to_of links number))
 
         sent_here : (leaving_at links (set nodes place x) number).port.sent ≡ (leaving_at links nodes number).port.sent + 1

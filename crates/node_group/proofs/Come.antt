@@ -19,7 +19,7 @@ use Rattle.net_machine.proofs.Home.{come_pending}
 use Rattle.net_partition.specs.Partition.{group_in}
 use Rattle.node_group.specs.Seats.{Seats, seated, taken}
 use Rattle.node_group.specs.Group.{GroupValue, group_from, group_to, member, exit_at, IsGroup}
-use Rattle.node_group.proofs.AfterEvent.{same_itself, same_part, coming_count, coming_link, coming_others, coming_here, coming_more}
+use Rattle.net_machine.proofs.AfterEvent.{same_itself, same_part, coming_count, coming_link, coming_others, coming_here, coming_more}
 use Rattle.node_group.proofs.Seated.{length-seated}
 use Rattle.node_group.proofs.GroupKept.{seat_count, own_exit, same_entry, kept}
 

@@ -20,7 +20,7 @@ use Rattle.window_law.specs.Groups.{own_of, others_of}
 use Rattle.node_group.specs.Passing.{is_seated, HasCome}
 use Rattle.node_group.specs.Group.{GroupValue, group_from, group_to, member, exit_at, came_in, IsFiring}
 use Rattle.node_group.proofs.Made.{own_all, others_none}
-use Rattle.node_group.proofs.AfterEvent.{same_part, coming_count, coming_link, coming_others, coming_here}
+use Rattle.net_machine.proofs.AfterEvent.{same_part, coming_count, coming_link, coming_others, coming_here}
 use Rattle.node_group.proofs.GroupKept.{same_entry, IsBalanced, kept}
 use Rattle.node_group.proofs.Come.{came_at, pending_come, counted_come, end_seated}
 use Rattle.node_group.proofs.Firing.{parts_ns, fires_by, on_run_new, one_firing}

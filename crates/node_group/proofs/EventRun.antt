@@ -14,16 +14,18 @@ use Rattle.node_core.specs.WireState.{WireState}
 use Rattle.table_run.proofs.Ready.{IsSameLink}
 use Rattle.net_machine.specs.Nodes.{node_at, net_pending, IsPlaced, IsFirst}
 use Rattle.net_machine.specs.Wiring.{place_at}
+use Rattle.net_machine.specs.Region.{node_after}
+use Rattle.node_group.proofs.Seated.{seated_set}
 use Rattle.net_partition.specs.Partition.{group_in}
 use Rattle.node_group.specs.Seats.{Seats, seated, taken}
 use Rattle.node_group.specs.Held.{held_on}
 use Rattle.window_law.specs.Groups.{own_of, others_of}
 use Rattle.node_group.specs.Group.{GroupValue, member, exit_at, came_in, IsGroup, IsOnRun, IsFiring}
 use Rattle.node_group.proofs.DueHere.{in_run}
-use Rattle.node_group.proofs.AfterEvent.{same_link, same_count, same_sent}
+use Rattle.net_machine.proofs.AfterEvent.{same_link, same_count, same_sent}
 use Rattle.node_group.proofs.GroupKept.{kept}
 use Rattle.node_group.proofs.Come.{came_at, AreCounted}
-use Rattle.node_group.proofs.Firing.{is_due, own_place, eff, line, seats, others, placed_ns, same_seats, links_ns, incoming_ns, parts_ns, coming_ns, came_ns, counted_ns, new, fires_by, on_run_new, one_firing}
+use Rattle.node_group.proofs.Firing.{is_due, own_place, eff, line, seats, others, placed_ns, same_seats, stay_here, parts_ns, coming_ns, came_ns, counted_ns, new, fires_by, on_run_new, one_firing}
 use Rattle.node_core.specs.Row.{Effect}
 use Rattle.window_law.specs.Calls.{IsDueInRun}
 use Rattle.node_group.specs.Group.{state_of}
@@ -61,6 +63,9 @@ module _ {g : GroupValue} {end place : ℕ} {k : Key} {v : Event} (e : HasRun g 
   abbrev pub ns : List NodeState
   ns = seated ran
 
+  abbrev pub after : NodeState
+  after = node_after nodes place k v
+
   abbrev pub told : TraceLine
   told = line g e.is e.on end e.below place e.first k v e.here e.early
 
@@ -83,13 +88,13 @@ module _ {g : GroupValue} {end place : ℕ} {k : Key} {v : Event} (e : HasRun g 
   group = group_in g.entries
 
   pub links_stay : (i j : ℕ) → IsSameLink (exit_at g i j) (link_at (node_at ns i).part.links j)
-  links_stay = same_link nodes ns place e.first.within others_stay (incoming_ns g e.is e.on end e.below place e.first k v e.here e.early) left (links_ns g e.is e.on end e.below place e.first k v e.here e.early)
+  links_stay = same_link nodes ns place e.first.within after (seated_set g.seats place after) refl left (stay_here g e.is e.on end e.below place e.first k v e.here e.early)
 
   pub count_stays : (i : ℕ) → length (node_at ns i).part.links ≡ length (member g i).part.links
-  count_stays = same_count nodes ns place e.first.within others_stay (incoming_ns g e.is e.on end e.below place e.first k v e.here e.early) left (links_ns g e.is e.on end e.below place e.first k v e.here e.early)
+  count_stays = same_count nodes ns place e.first.within after (seated_set g.seats place after) refl left (stay_here g e.is e.on end e.below place e.first k v e.here e.early)
 
   pub sent_stays : (i j : ℕ) → ((l : Leaving) → left ≡ Some l → i ≡ place → j ≢ l.index) → (link_at (node_at ns i).part.links j).port.sent ≡ (exit_at g i j).port.sent
-  sent_stays = same_sent nodes ns place e.first.within others_stay (incoming_ns g e.is e.on end e.below place e.first k v e.here e.early) left (links_ns g e.is e.on end e.below place e.first k v e.here e.early)
+  sent_stays = same_sent nodes ns place e.first.within after (seated_set g.seats place after) refl left (stay_here g e.is e.on end e.below place e.first k v e.here e.early)
 
   pub comes_same : (i : ℕ) → (node_at ns i).incoming ≡ (member g i).incoming
   comes_same = coming_ns g e.is e.on end e.below place e.first k v e.here e.early

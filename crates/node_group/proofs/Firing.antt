@@ -41,7 +41,7 @@ use Rattle.window_law.proofs.Calls.{fire_keeps}
 use Rattle.table_run.proofs.AtHome.{home_at}
 use Rattle.node_group.proofs.Made.{own_all, others_none, own_both, others_both}
 use Rattle.node_group.proofs.DueHere.{in_run, comes, effect_is, part_links, ready, stay, leaves}
-use Rattle.node_group.proofs.AfterEvent.{same_coming}
+use Rattle.net_machine.proofs.AfterEvent.{same_coming}
 use Rattle.node_group.proofs.Come.{came_at, AreCounted}
 use Rattle.node_group.proofs.Seated.{length-seated, seated_set, taken_set, is_seated}
 use Rattle.node_group.proofs.AtSeats.{with_event, set_at, set_others}
@@ -134,12 +134,6 @@ module _ (g : GroupValue) (is : IsGroup g) (on : IsOnRun g) (end : ℕ) (below :
         there : (x : NodeState) × ((get_or g.seats place None ≡ Some x) × (node_at (seated g.seats) place ≡ x))
         there = is_seated g.seats place inside (with_event g.seats place inside (λ none. not_some (sym none ∙ ap (option_map (λ (entry : Key × Event). entry.0)) here)))
 
-    pub links_ns : LinksStay (member g place).part.links (node_at (seated seats) place).part.links eff.leaving
-    links_ns = subst (λ (n : NodeState). LinksStay (member g place).part.links n.part.links eff.leaving) (sym node_ns) stay_here
-
-    pub incoming_ns : (node_at (seated seats) place).incoming ≡ (member g place).incoming
-    incoming_ns = ap (λ (n : NodeState). n.incoming) node_ns
-
     pub parts_ns : parts_of (seated seats) ≡ set (parts_of (seated g.seats)) k.node eff.part
     parts_ns = ap parts_of (seated_set g.seats place node) ∙ map-set (λ (n : NodeState). n.part) (seated g.seats) place node ∙ ap (λ i. set (parts_of (seated g.seats)) i eff.part) (sym node_is)
 
@@ -147,7 +141,7 @@ module _ (g : GroupValue) (is : IsGroup g) (on : IsOnRun g) (end : ℕ) (below :
     pending_ns = ap net_pending (seated_set g.seats place node) ∙ fired_pending (seated g.seats) is.placed place first.within k v here node refl
 
     pub coming_ns : (node : ℕ) → (node_at (seated seats) node).incoming ≡ (member g node).incoming
-    coming_ns = same_coming (seated g.seats) (seated seats) place first.within others incoming_ns eff.leaving links_ns
+    coming_ns = same_coming (seated g.seats) (seated seats) place first.within node (seated_set g.seats place node) refl eff.leaving stay_here
 
     pub came_ns : (link : ℕ) → came_at g.links (seated seats) link ≡ came_at g.links (seated g.seats) link
     came_ns link = ap (λ (all : List Rattle.node_core.specs.AgendaState.Incoming). (Rattle.node_core.specs.AgendaState.incoming_at all (Rattle.net_machine.specs.Wiring.place_at g.links link).index).came) (coming_ns (Rattle.net_machine.specs.Wiring.place_at g.links link).node)

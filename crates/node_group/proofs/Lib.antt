@@ -4,7 +4,6 @@ pub mod HeldBack
 pub mod Listed
 pub mod Made
 pub mod DueHere
-pub mod AfterEvent
 pub mod GroupKept
 pub mod Come
 pub mod Firing

@@ -1,5 +1,5 @@
 -- A packet that leaves a node of a group by an event: by which link, and what the link has sent then.
-use Rattle.std.proofs.Common.{◌≡◌, ◌≢◌, ℕ, ◌+◌, ◌<◌, ◌≤◌, ◌^◌, Bool, true, false, List, [], ◌∷◌, length, get_or, map, sym, ap, subst, ◌∙◌, Some, None, Option, is_some, ⊎_elim, ◌⊎◌, inl, inr, arith, eqb-true, ◌==◌}
+use Rattle.std.proofs.Common.{◌≡◌, ◌≢◌, ℕ, ◌+◌, ◌<◌, ◌≤◌, ◌^◌, Bool, true, false, List, [], ◌∷◌, length, get_or, map, refl, sym, ap, subst, ◌∙◌, Some, None, Option, is_some, ⊎_elim, ◌⊎◌, inl, inr, arith, eqb-true, ◌==◌}
 use Rattle.std.proofs.lemmas.Bool.{cases_eq, eqb-false}
 use Rattle.std.proofs.lemmas.List.{length-set}
 use Rattle.std.proofs.Math.ListN.{get_or-map}
@@ -32,10 +32,11 @@ use Rattle.node_group.specs.Group.{GroupValue, group_to, member, exit_at, IsOwnE
 use Rattle.window_law.proofs.Matches.{the_value}
 use Rattle.node_group.proofs.HeldBack.{over_link, wire_map, held_home}
 use Rattle.node_group.proofs.Come.{end_seated}
-use Rattle.node_group.proofs.AfterEvent.{same_elsewhere}
+use Rattle.node_group.proofs.Seated.{seated_set}
+use Rattle.net_machine.proofs.AfterEvent.{same_elsewhere}
 use Rattle.node_group.proofs.GroupKept.{seat_count, seat_taken, same_exit}
-use Rattle.node_group.proofs.Firing.{node_is, part_here, stay_here, leaves_here, node_ns, links_ns, incoming_ns}
-use Rattle.node_group.proofs.EventRun.{HasRun, effect, due_here, nodes, ran, ns, seats_stay, others_stay, left, away, sent_stays, came_same}
+use Rattle.node_group.proofs.Firing.{node_is, part_here, stay_here, leaves_here, node_ns}
+use Rattle.node_group.proofs.EventRun.{HasRun, effect, due_here, nodes, ran, ns, after, seats_stay, others_stay, left, away, sent_stays, came_same}
 
 -- a packet leaves the node
 pub record IsSending {g : GroupValue} {end place : ℕ} {k : Key} {v : Event} (e : HasRun g end place k v) (l : Leaving) : Type 0 where
@@ -78,7 +79,7 @@ module _ {g : GroupValue} {end place : ℕ} {k : Key} {v : Event} {e : HasRun g 
   elsewhere same = gone.elsewhere (used_to ∙ same ∙ sym (node_is g e.is e.on end e.below place e.first k v e.here e.early))
 
   pub same_there : node_at (ns e) (place_at g.links link).node ≡ member g (place_at g.links link).node
-  same_there = same_elsewhere (nodes e) (ns e) place e.first.within (others_stay e) (incoming_ns g e.is e.on end e.below place e.first k v e.here e.early) (left e) (links_ns g e.is e.on end e.below place e.first k v e.here e.early) (place_at g.links link).node elsewhere
+  same_there = same_elsewhere (nodes e) (ns e) place e.first.within (after e) (seated_set g.seats place (after e)) refl (left e) stay (place_at g.links link).node elsewhere
 
   pub sent_next : used.port.sent ≡ exit.port.sent + 1
   sent_next = gone.is_next ∙ ap (λ (p : PartState). (link_at p.links l.index).port.sent + 1) (part_here g e.is e.on end e.below place e.first k v e.here e.early)

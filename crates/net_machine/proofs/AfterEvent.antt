@@ -8,17 +8,23 @@ use Rattle.node_core.specs.Part.{LinkState, link_at}
 use Rattle.node_core.specs.Row.{Leaving}
 use Rattle.node_core.specs.Node.{NodeState, delivered}
 use Rattle.net_machine.specs.Nodes.{no_node, node_at}
-use Rattle.net_machine.proofs.Wired.{at_each}
 use Rattle.table_run.proofs.Ready.{IsSameLink, LinksStay}
+
+-- what holds of a node that is put in place, and of the others
+pub at_each : (nodes : List NodeState) (i : ℕ) (x : NodeState) → i < length nodes → (P : ℕ → NodeState → Type 0) → P i x → ((j : ℕ) → j ≢ i → P j (node_at nodes j)) → (j : ℕ) → P j (node_at (set nodes i x) j)
+at_each nodes i x within P here there j =
+    ⊎_elim
+    (λ (at : j ≡ i). subst (λ n. P n (node_at (set nodes i x) n)) (sym at) (subst (P i) (sym (get_or-set_same nodes i x no_node within)) here))
+    (λ (apart : j ≢ i). subst (P j) (sym (get_or-set_other nodes i j x no_node apart)) (there j apart))
+    (cases_eq j i)
 
 pub same_itself : (l : LinkState) → IsSameLink l l
 same_itself l = record { same_to = refl; same_number = refl; same_rate = refl; same_delay = refl }
 
 -- a node has run its event
-module _ (nodes after : List NodeState) (place : ℕ) (inside : place < length nodes) (others : after ≡ set nodes place (node_at after place)) (same_in : (node_at after place).incoming ≡ (node_at nodes place).incoming) (leaving : Option Leaving)
-    (stay : LinksStay (node_at nodes place).part.links (node_at after place).part.links leaving) where
-  at_nodes : (P : ℕ → NodeState → Type 0) → P place (node_at after place) → ((i : ℕ) → i ≢ place → P i (node_at nodes i)) → (i : ℕ) → P i (node_at after i)
-  at_nodes P here there i = subst (λ (all : List NodeState). P i (node_at all i)) (sym others) (at_each nodes place (node_at after place) inside P here there i)
+module _ (nodes after : List NodeState) (place : ℕ) (inside : place < length nodes) (x : NodeState) (others : after ≡ set nodes place x) (same_in : x.incoming ≡ (node_at nodes place).incoming) (leaving : Option Leaving) (stay : LinksStay (node_at nodes place).part.links x.part.links leaving) where
+  at_nodes : (P : ℕ → NodeState → Type 0) → P place x → ((i : ℕ) → i ≢ place → P i (node_at nodes i)) → (i : ℕ) → P i (node_at after i)
+  at_nodes P here there i = subst (λ (all : List NodeState). P i (node_at all i)) (sym others) (at_each nodes place x inside P here there i)
 
   pub same_link : (i j : ℕ) → IsSameLink (link_at (node_at nodes i).part.links j) (link_at (node_at after i).part.links j)
   same_link i j = at_nodes (λ n (y : NodeState). IsSameLink (link_at (node_at nodes n).part.links j) (link_at y.part.links j)) (stay.same_links j) (λ n apart. same_itself (link_at (node_at nodes n).part.links j)) i
@@ -36,7 +42,7 @@ module _ (nodes after : List NodeState) (place : ℕ) (inside : place < length n
       (λ at. stay.others_sent j (λ l is. other l is (sym at))) (λ n apart at. refl) i refl
 
   pub same_elsewhere : (i : ℕ) → i ≢ place → node_at after i ≡ node_at nodes i
-  same_elsewhere i apart = ap (λ (all : List NodeState). node_at all i) others ∙ get_or-set_other nodes place i (node_at after place) no_node apart
+  same_elsewhere i apart = ap (λ (all : List NodeState). node_at all i) others ∙ get_or-set_other nodes place i x no_node apart
 
 -- packets have come to a node over one of its incoming links
 module _ (nodes after : List NodeState) (place index : ℕ) (packets : List Stamped) (inside : place < length nodes) (within : index < length (node_at nodes place).incoming) (come : after ≡ set nodes place (delivered (node_at nodes place) index packets)) where
