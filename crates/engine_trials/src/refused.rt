@@ -69,26 +69,40 @@ fn is_refusal(fault: EngineFault, workers: usize) -> bool {
     fault == EngineFault::NoMemory || workers > 1 && fault == EngineFault::NoWorker
 }
 
-/// Runs windows to the run's end, unless one is refused: the engine has failed then, and stands
-/// where it stood. Whether one was.
+/// Runs a window. Whether it was refused: the engine has failed then, and stands where it stood. None where
+/// it has lines.
+fn is_window_refused<R: Threads + Wait + Abort + Sync>(
+    rt: &R,
+    engine: &mut Engine,
+    workers: usize,
+) -> Option<bool> {
+    let position = engine.position();
+    match window(rt, engine, workers, &AllHands, u64::MAX) {
+        Ok((_, 0)) => {
+            assert_eq!(rt; position, EVENTS);
+            Some(false)
+        }
+        Ok(_) => {
+            assert!(rt; !engine.failed());
+            None
+        }
+        Err(fault) => {
+            assert!(rt; is_refusal(fault, workers) && engine.failed());
+            assert_eq!(rt; engine.position(), position);
+            Some(true)
+        }
+    }
+}
+
+/// Runs windows to the run's end, unless one is refused. Whether one was.
 fn is_refused<R: Threads + Wait + Abort + Sync>(
     rt: &R,
     engine: &mut Engine,
     workers: usize,
 ) -> bool {
     for _window in 0..EVENTS + 1 {
-        let position = engine.position();
-        match window(rt, engine, workers, &AllHands, u64::MAX) {
-            Ok((_, 0)) => {
-                assert_eq!(rt; position, EVENTS);
-                return false;
-            }
-            Ok(_) => assert!(rt; !engine.failed()),
-            Err(fault) => {
-                assert!(rt; is_refusal(fault, workers) && engine.failed());
-                assert_eq!(rt; engine.position(), position);
-                return true;
-            }
+        if let Some(refused) = is_window_refused(rt, engine, workers) {
+            return refused;
         }
     }
     assert!(rt; false, "a window for each event at most");
@@ -171,25 +185,42 @@ fn expect_edge<R: Threads + Wait + Abort + Sync>(
     drop(engine);
 }
 
-/// Runs the whole by so many workers: the lines up to the engine's position are put out, and no
-/// other byte. Whether it was refused, which is at a window's edge.
+/// Runs the whole by so many workers into a room. How it ended, and how many events are committed.
+fn run_whole<R: Threads + Wait + Abort + Sync>(
+    rt: &R,
+    alloc: Global,
+    scenario: &Scenario,
+    workers: usize,
+    room: &mut [u8],
+) -> (Result<Stop, EngineFault>, u64) {
+    let mut engine = engine_of(rt, alloc, scenario);
+    let mut sink = OverWrite::new(room);
+    let ended = run_to(rt, &mut engine, workers, &AllHands, u64::MAX, &mut sink);
+    let position = engine.position();
+    assert!(rt; engine.failed() == ended.is_err());
+    drop(engine);
+    (ended, position)
+}
+
+/// The lines of so many events are in a room, and no other byte.
+fn expect_lines(rt: &impl Abort, room: &[u8], position: u64) {
+    let trace = DELAYED_TRACE.as_bytes();
+    let size = size_of_lines(trace, position);
+    assert!(rt; room.get(..size) == trace.get(..size));
+    assert!(rt; room.get(size) == Some(&0));
+}
+
+/// Runs the whole by so many workers: the lines of what is committed are put out, and no other byte.
+/// Whether it was refused, which is at a window's edge.
 fn stops_at_an_edge<R: Threads + Wait + Abort + Sync>(
     rt: &R,
     alloc: Global,
     scenario: &Scenario,
     workers: usize,
 ) -> bool {
-    let mut engine = engine_of(rt, alloc, scenario);
     let mut room = [0u8; 1_000];
-    let mut sink = OverWrite::new(room.as_mut_slice());
-    let ended = run_to(rt, &mut engine, workers, &AllHands, u64::MAX, &mut sink);
-    let position = engine.position();
-    assert!(rt; engine.failed() == ended.is_err());
-    drop(engine);
-    let trace = DELAYED_TRACE.as_bytes();
-    let size = size_of_lines(trace, position);
-    assert_eq!(rt; room.get(..size), trace.get(..size));
-    assert_eq!(rt; room.get(size), Some(&0));
+    let (ended, position) = run_whole(rt, alloc, scenario, workers, room.as_mut_slice());
+    expect_lines(rt, room.as_slice(), position);
     match ended {
         Ok(stop) => {
             assert!(rt; stop == Stop::End && position == EVENTS);

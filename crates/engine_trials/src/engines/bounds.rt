@@ -8,20 +8,6 @@ use std::sync::Wait;
 use std::thread::Threads;
 use window_engine::{Engine, OverWrite, Stop};
 
-// Moments, and how many of one segment's events are before each: they are at 0, 1.04, 2.04, 2.08 and
-// 3.08 milliseconds.
-const BEFORE: [(u64, usize); 9] = [
-    (0, 0),
-    (1, 1),
-    (1_040_000, 1),
-    (1_040_001, 2),
-    (2_040_000, 2),
-    (2_040_001, 3),
-    (2_080_000, 3),
-    (2_080_001, 4),
-    (3_080_000, 4),
-];
-
 // Runs an engine up to a moment. The answer is its text.
 fn part_of(
     rt: &(impl Threads + Wait + Abort + AllocGlobal + Sync),
@@ -62,35 +48,57 @@ fn expect_parted(
     assert!(rt; text.as_slice() == ONE_SEGMENT.as_bytes());
 }
 
-#[test]
-fn a_run_commits_the_events_before_its_bound(rt: HostRuntime) {
-    for (until, count) in BEFORE {
-        for workers in [1, 2] {
-            expect_parted(&rt, workers, until, count);
-        }
-    }
+// The same by one worker and by two.
+fn expect_before(
+    rt: &(impl Threads + Wait + Abort + AllocGlobal + Sync),
+    until: u64,
+    count: usize,
+) {
+    expect_parted(rt, 1, until, count);
+    expect_parted(rt, 2, until, count);
 }
 
-// Moments, one after another, and how many lines the next window has that ends by each.
-const WINDOWS: [(u64, usize); 5] = [
-    (0, 0),
-    (1, 1),
-    (1_040_000, 0),
-    (1_040_001, 1),
-    (2_040_001, 1),
-];
+// One segment's events are at 0, 1.04, 2.04, 2.08 and 3.08 milliseconds.
+#[test]
+fn a_run_commits_the_events_before_its_bound(rt: HostRuntime) {
+    expect_before(&rt, 0, 0);
+    expect_before(&rt, 1, 1);
+    expect_before(&rt, 1_040_000, 1);
+    expect_before(&rt, 1_040_001, 2);
+    expect_before(&rt, 2_040_000, 2);
+    expect_before(&rt, 2_040_001, 3);
+    expect_before(&rt, 2_080_000, 3);
+    expect_before(&rt, 2_080_001, 4);
+    expect_before(&rt, 3_080_000, 4);
+}
+
+// The next window that ends by a moment has so many lines.
+fn expect_window(
+    rt: &(impl Threads + Wait + Abort + Sync),
+    engine: &mut Engine,
+    workers: usize,
+    until: u64,
+    lines: usize,
+) {
+    let first = engine.position().saturating_add(1);
+    let told = window(rt, engine, workers, &AllHands, until);
+    assert!(rt; told == Ok((first, lines)), "{until}");
+}
+
+// The windows of one segment's run, one after another.
+fn expect_windows(rt: &(impl Threads + Wait + Abort + AllocGlobal + Sync), workers: usize) {
+    let mut engine = engine_of(rt, &one_flow(rt, 1), &[0, 1]);
+    expect_window(rt, &mut engine, workers, 0, 0);
+    expect_window(rt, &mut engine, workers, 1, 1);
+    expect_window(rt, &mut engine, workers, 1_040_000, 0);
+    expect_window(rt, &mut engine, workers, 1_040_001, 1);
+    expect_window(rt, &mut engine, workers, 2_040_001, 1);
+    assert_eq!(rt; engine.position(), 3);
+    drop(engine);
+}
 
 #[test]
 fn a_window_has_the_events_before_its_bound(rt: HostRuntime) {
-    let scenario = one_flow(&rt, 1);
-    for workers in [1, 2] {
-        let mut engine = engine_of(&rt, &scenario, &[0, 1]);
-        for (until, lines) in WINDOWS {
-            let first = engine.position().saturating_add(1);
-            let told = window(&rt, &mut engine, workers, &AllHands, until);
-            assert!(rt; told == Ok((first, lines)), "{until}");
-        }
-        assert_eq!(rt; engine.position(), 3);
-        drop(engine);
-    }
+    expect_windows(&rt, 1);
+    expect_windows(&rt, 2);
 }

@@ -3,8 +3,12 @@
 use super::nets::steady_flows;
 use super::{engine_of, run_to, text_of, whole_text, window};
 use crate::hands::AllHands;
+use scenario_image::Scenario;
+use std::process::Abort;
+use std::sync::Wait;
 use std::sync::atomic::AtomicU64;
 use std::sync::atomic::Ordering::SeqCst;
+use std::thread::Threads;
 use window_engine::{Gate, Load, OverWrite, Stop, WORTH, load_of, next_stretch};
 
 // Four groups, so that each window of theirs has four pieces.
@@ -44,24 +48,33 @@ impl Gate for Count {
     }
 }
 
+// How many pieces are entered in a run by so many workers where so many events are worth a thread. Its text
+// is this.
+fn entered(
+    rt: &(impl Threads + Wait + Abort + AllocGlobal + Sync),
+    scenario: &Scenario,
+    workers: usize,
+    worth: usize,
+    text: &[u8],
+) -> u64 {
+    let gate = Count::worth(worth);
+    let found = text_of(rt, scenario, &GROUPS, workers, &gate);
+    assert!(rt; found.as_slice() == text);
+    gate.entered()
+}
+
 // A window between two links of a millisecond holds some eight events.
 #[test]
 fn nodes_of_small_windows_go_into_one_group(rt: HostRuntime) {
     let scenario = steady_flows(&rt, 2_000);
-    let plain = text_of(&rt, &scenario, &[0; 4], 1, &AllHands);
-    let mut windows = 0u64;
-    for (workers, worth) in [(1, 0), (1, WORTH), (4, WORTH)] {
-        let gate = Count::worth(worth);
-        let text = text_of(&rt, &scenario, &GROUPS, workers, &gate);
-        assert!(rt; text.as_slice() == plain.as_slice());
-        let entered = gate.entered();
-        if worth == 0 {
-            windows = entered / 4;
-            assert!(rt; windows > 500);
-        } else {
-            assert!(rt; entered < windows, "{entered} {windows}");
-        }
-    }
+    let text = text_of(&rt, &scenario, &[0, 0, 0, 0], 1, &AllHands);
+    let windows = entered(&rt, &scenario, 1, 0, text.as_slice()) / 4;
+    let alone = entered(&rt, &scenario, 1, WORTH, text.as_slice());
+    let several = entered(&rt, &scenario, 4, WORTH, text.as_slice());
+    assert!(rt;
+        windows > 500 && alone < windows && several < windows,
+        "{windows}"
+    );
 }
 
 // Half a run, then a window, and then the rest: for the window the nodes are in their own groups.
@@ -81,31 +94,33 @@ fn a_window_has_its_groups_after_one_group_ran(rt: HostRuntime) {
     drop(engine);
 }
 
+// What windows of so many groups held.
+fn expect_load(rt: &impl Abort, (windows, events): (u64, u64), groups: usize, load: Load) {
+    assert_eq!(rt; load_of(windows, events, groups), load);
+}
+
 #[test]
 fn what_windows_hold_goes_by_how_many_groups_there_are(rt: HostRuntime) {
-    for (windows, events, groups, load) in [
-        (31, 100, 4, Load::Unknown),
-        (32, 100, 4, Load::Few),
-        (32, 511, 4, Load::Few),
-        (32, 512, 4, Load::Many),
-        (1, 512, 4, Load::Many),
-        (32, 512, 5, Load::Few),
-        (0, 0, 64, Load::Unknown),
-    ] {
-        assert_eq!(rt; load_of(windows, events, groups), load);
-    }
+    expect_load(&rt, (31, 100), 4, Load::Unknown);
+    expect_load(&rt, (32, 100), 4, Load::Few);
+    expect_load(&rt, (32, 511), 4, Load::Few);
+    expect_load(&rt, (32, 512), 4, Load::Many);
+    expect_load(&rt, (1, 512), 4, Load::Many);
+    expect_load(&rt, (32, 512), 5, Load::Few);
+    expect_load(&rt, (0, 0), 64, Load::Unknown);
+}
+
+// For how many events so many nodes are in one group, where it was for so many the last time.
+fn expect_stretch(rt: &impl Abort, last: u64, (nodes, groups): (usize, usize), stretch: u64) {
+    assert_eq!(rt; next_stretch(last, nodes, groups), stretch);
 }
 
 #[test]
 fn one_group_lasts_twice_as_long_each_time(rt: HostRuntime) {
-    for (last, nodes, groups, stretch) in [
-        (0, 4, 4, 16_384),
-        (16_384, 4, 4, 32_768),
-        (0, 256, 64, 524_288),
-        (524_288, 256, 64, 1_048_576),
-        (1_048_576, 4, 4, 1_048_576),
-        (u64::MAX, 256, 64, 1_048_576),
-    ] {
-        assert_eq!(rt; next_stretch(last, nodes, groups), stretch);
-    }
+    expect_stretch(&rt, 0, (4, 4), 16_384);
+    expect_stretch(&rt, 16_384, (4, 4), 32_768);
+    expect_stretch(&rt, 0, (256, 64), 524_288);
+    expect_stretch(&rt, 524_288, (256, 64), 1_048_576);
+    expect_stretch(&rt, 1_048_576, (4, 4), 1_048_576);
+    expect_stretch(&rt, u64::MAX, (256, 64), 1_048_576);
 }

@@ -77,20 +77,28 @@ fn a_full_room_has_the_first_bytes(rt: HostRuntime) {
     }
 }
 
+// A long run into a room of so many bytes ends with a whole window, the same by any workers.
+fn expect_full(
+    rt: &(impl Threads + Wait + Abort + AllocGlobal + Sync),
+    run: (&Scenario, &[u8]),
+    text: &[u8],
+    size: usize,
+) {
+    let one = run_into_room(rt, run, 1, &OpenGate, text, size);
+    let written = size as u128;
+    assert!(rt; one.0 == Err(EngineFault::Sink { written }));
+    for workers in [2, 3] {
+        let ended = run_into_room(rt, run, workers, &OpenGate, text, size);
+        assert!(rt; ended == one);
+    }
+}
+
 // The first room is full in the midst of the run, the second in the last window's text.
 #[test]
 fn a_full_room_ends_a_long_run_after_whole_windows(rt: HostRuntime) {
     let scenario = two_flows(&rt, 2_000);
+    let text = text_of(&rt, &scenario, &[0, 0, 0, 0], 1, &OpenGate);
     let run = (&scenario, [0, 0, 1, 1].as_slice());
-    let text = text_of(&rt, &scenario, &[0; 4], 1, &OpenGate);
-    let text = text.as_slice();
-    for size in [text.len() / 2, text.len().saturating_sub(1)] {
-        let written = size as u128;
-        let one = run_into_room(&rt, run, 1, &OpenGate, text, size);
-        assert!(rt; one.0 == Err(EngineFault::Sink { written }));
-        for workers in [2, 3] {
-            let ended = run_into_room(&rt, run, workers, &OpenGate, text, size);
-            assert!(rt; ended == one);
-        }
-    }
+    expect_full(&rt, run, text.as_slice(), text.len() / 2);
+    expect_full(&rt, run, text.as_slice(), text.len().saturating_sub(1));
 }

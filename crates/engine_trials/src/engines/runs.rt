@@ -3,27 +3,47 @@
 use super::nets::{EQUAL_TIMES, ONE_SEGMENT, equal_times, one_flow, two_flows};
 use super::text_of;
 use crate::hands::AllHands;
+use scenario_image::Scenario;
+use std::process::Abort;
+use std::sync::Wait;
+use std::thread::Threads;
+
+// A scenario's run in these groups, by so many workers, writes this text.
+fn expect_run(
+    rt: &(impl Threads + Wait + Abort + AllocGlobal + Sync),
+    scenario: &Scenario,
+    groups: &[u8],
+    workers: usize,
+    text: &[u8],
+) {
+    let found = text_of(rt, scenario, groups, workers, &AllHands);
+    assert!(rt; found.as_slice() == text, "{workers}");
+}
+
+// The same by 1, 2 and 64 workers.
+fn expect_runs(
+    rt: &(impl Threads + Wait + Abort + AllocGlobal + Sync),
+    scenario: &Scenario,
+    groups: &[u8],
+    text: &str,
+) {
+    for workers in [1, 2, 64] {
+        expect_run(rt, scenario, groups, workers, text.as_bytes());
+    }
+}
 
 #[test]
 fn one_segment_gives_the_stored_lines(rt: HostRuntime) {
     let scenario = one_flow(&rt, 1);
-    for workers in [1, 2, 64] {
-        for groups in [[0, 0], [0, 1]] {
-            let text = text_of(&rt, &scenario, &groups, workers, &AllHands);
-            assert!(rt; text.as_slice() == ONE_SEGMENT.as_bytes());
-        }
-    }
+    expect_runs(&rt, &scenario, &[0, 0], ONE_SEGMENT);
+    expect_runs(&rt, &scenario, &[0, 1], ONE_SEGMENT);
 }
 
 #[test]
 fn equal_times_give_the_stored_lines(rt: HostRuntime) {
     let scenario = equal_times(&rt);
-    for workers in [1, 2, 64] {
-        for groups in [[0; 5], [0, 1, 2, 3, 4]] {
-            let text = text_of(&rt, &scenario, &groups, workers, &AllHands);
-            assert!(rt; text.as_slice() == EQUAL_TIMES.as_bytes());
-        }
-    }
+    expect_runs(&rt, &scenario, &[0, 0, 0, 0, 0], EQUAL_TIMES);
+    expect_runs(&rt, &scenario, &[0, 1, 2, 3, 4], EQUAL_TIMES);
 }
 
 // In the last groups windows have lines enough for a part of their text by each worker, and each part is
@@ -31,9 +51,7 @@ fn equal_times_give_the_stored_lines(rt: HostRuntime) {
 #[test]
 fn threads_make_the_text_of_one_worker(rt: HostRuntime) {
     let scenario = two_flows(&rt, 2_000);
-    let plain = text_of(&rt, &scenario, &[0; 4], 1, &AllHands);
-    for (groups, workers) in [([0, 1, 2, 3], 2), ([0, 0, 1, 1], 3)] {
-        let text = text_of(&rt, &scenario, &groups, workers, &AllHands);
-        assert!(rt; text.as_slice() == plain.as_slice());
-    }
+    let plain = text_of(&rt, &scenario, &[0, 0, 0, 0], 1, &AllHands);
+    expect_run(&rt, &scenario, &[0, 1, 2, 3], 2, plain.as_slice());
+    expect_run(&rt, &scenario, &[0, 0, 1, 1], 3, plain.as_slice());
 }
