@@ -4,6 +4,7 @@ ghost use Rattle.std.specs.Io.KnownBytes.{Appends};
 ghost use Rattle.sessions.specs.Written.{Writes, WritesBefore, IsBeginningOf};
 ghost use Rattle.window_engine.specs.Failures.{failures_after};
 
+use trace_text::Page;
 use window_engine::{Sink, SinkFail};
 
 /// The room for lines that wait to be written, in bytes.
@@ -25,10 +26,10 @@ pub(crate) fn put_all<W: Sink>(writer: &mut W, bytes: &[u8]) -> Result<(), SinkF
 }
 
 /// Writes a page of whole lines, and empties it.
-pub(crate) fn put_page<W: Sink>(page: &mut Vec<u8>, writer: &mut W) -> Result<(), SinkFail>
-    ensures ok { OnOk result (Appends (W.contents writer.old) (W.contents writer.new) page.old.items) }
-    ensures emptied { OnOk result (page.new.items ≡ []) }
-    ensures err { OnErr result (Writes (IsBeginningOf (λ all. all ≡ page.old.items)) (W.contents writer.old) (W.contents writer.new)) }
+pub(crate) fn put_page<W: Sink>(page: &mut Page, writer: &mut W) -> Result<(), SinkFail>
+    ensures ok { OnOk result (Appends (W.contents writer.old) (W.contents writer.new) page.old) }
+    ensures emptied { OnOk result (page.new ≡ []) }
+    ensures err { OnErr result (Writes (IsBeginningOf (λ all. all ≡ page.old)) (W.contents writer.old) (W.contents writer.new)) }
     ensures failures { W.failures writer.new ≡ failures_after result (W.failures writer.old) }
 {
     put_all(writer, page.as_slice())?;
@@ -37,10 +38,10 @@ pub(crate) fn put_page<W: Sink>(page: &mut Vec<u8>, writer: &mut W) -> Result<()
 }
 
 /// Writes a page that is full. What waits then is less than a full page.
-pub(crate) fn put_full_page<W: Sink>(page: &mut Vec<u8>, writer: &mut W) -> Result<(), SinkFail>
-    ensures ok { OnOk result (WritesBefore page.new.items (λ all. all ≡ page.old.items) (W.contents writer.old) (W.contents writer.new)) }
-    ensures short { OnOk result (length page.new.items < FULL) }
-    ensures err { OnErr result (Writes (IsBeginningOf (λ all. all ≡ page.old.items)) (W.contents writer.old) (W.contents writer.new)) }
+pub(crate) fn put_full_page<W: Sink>(page: &mut Page, writer: &mut W) -> Result<(), SinkFail>
+    ensures ok { OnOk result (WritesBefore page.new (λ all. all ≡ page.old) (W.contents writer.old) (W.contents writer.new)) }
+    ensures short { OnOk result (length page.new < FULL) }
+    ensures err { OnErr result (Writes (IsBeginningOf (λ all. all ≡ page.old)) (W.contents writer.old) (W.contents writer.new)) }
     ensures failures { W.failures writer.new ≡ failures_after result (W.failures writer.old) }
 {
     if page.len() < FULL {

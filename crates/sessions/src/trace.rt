@@ -15,7 +15,7 @@ use node_core::{Acts, After, Event, Line};
 use scenario_image::Scenario;
 use sim_time::Key;
 use std::alloc::Global;
-use trace_text::{LINE_ROOM, end_text, line_text_in};
+use trace_text::Page;
 use window_engine::Sink;
 
 /// Runs a scenario to its end, writes its trace, and tells how far it is where that is wished.
@@ -30,7 +30,7 @@ pub fn run_scenario<W: Sink, N: Notes>(
     ensures output { Writes (IsRunOutput (opening scenario.now) result) (W.contents writer.old) (W.contents writer.new) }
     ensures failures { W.failures writer.new ≡ writes_after result (W.failures writer.old) }
 {
-    let mut page = Vec::with_capacity(alloc, PAGE)?;
+    let mut page = Page::new(alloc, PAGE)?;
     let mut net = Net::new(alloc, scenario)?;
     let mut line = unused_line(alloc);
     let mut progress = Progress::new(wishes.progress, net.end());
@@ -56,13 +56,13 @@ fn unused_line(alloc: Global) -> Line {
 fn run_net<W: Sink, N: Notes>(
     net: &mut Net,
     line: &mut Line,
-    page: &mut Vec<u8>,
+    page: &mut Page,
     writer: &mut W,
     progress: &mut Progress,
     notes: &mut N,
 ) -> Result<(), SessionFault>
     requires opening { net.old.position ≡ 0 }
-    requires empty { page.old.items ≡ [] }
+    requires empty { page.old ≡ [] }
     ensures output { Writes (IsRunOutput net.old.state result) (W.contents writer.old) (W.contents writer.new) }
     ensures failures { W.failures writer.new ≡ writes_after result (W.failures writer.old) }
 {
@@ -88,23 +88,22 @@ fn writer_failed(ended: &Result<(), SessionFault>) -> bool
 fn put_lines<W: Sink, N: Notes>(
     net: &mut Net,
     line: &mut Line,
-    page: &mut Vec<u8>,
+    page: &mut Page,
     writer: &mut W,
     progress: &mut Progress,
     notes: &mut N,
 ) -> Result<(), SessionFault>
     requires opening { net.old.position ≡ 0 }
-    requires empty { page.old.items ≡ [] }
-    ensures made { result ≢ Err SessionFault.WriteFailed → WritesBefore page.new.items (IsRunOutput net.old.state result) (W.contents writer.old) (W.contents writer.new) }
+    requires empty { page.old ≡ [] }
+    ensures made { result ≢ Err SessionFault.WriteFailed → WritesBefore page.new (IsRunOutput net.old.state result) (W.contents writer.old) (W.contents writer.new) }
     ensures failed { result ≡ Err SessionFault.WriteFailed → Writes (IsBeginningOf (IsTraceOrStart net.old.state)) (W.contents writer.old) (W.contents writer.new) }
     ensures failures { W.failures writer.new ≡ writes_after result (W.failures writer.old) }
 {
-    let mut room = [0; LINE_ROOM];
     while net.step_into(line)? {
-        line_text_in(&mut room, net.position(), line, page)?;
+        page.put_line(net.position(), line)?;
         put_full_page(page, writer)?;
         progress.pass(line.key.time, net.position(), notes);
     }
-    end_text(net.position(), page)?;
+    page.put_end(net.position())?;
     Ok(())
 }

@@ -1,4 +1,5 @@
 mod Lines
+mod Written
 mod ByThousands
 pub mod DumpLines
 mod AllLines

@@ -15,11 +15,15 @@ use Rattle.node_core.specs.declared.event.Event.TheVariants.{Start, Rto, DelAck,
 use Rattle.node_core.specs.declared.line.After.{After}
 use Rattle.node_core.specs.declared.line.After.TheVariants.{AtSender, AtReceiver, AtRouter}
 use Rattle.node_core.specs.TraceLine.{TraceLine}
-use Rattle.trace_text.specs.Words.{line_of}
+use Rattle.trace_text.specs.Words.{line_of, spaced}
 
 -- the four numbers that order the event
 abbrev pub key_words : Key → List (List ℕ)
 key_words k = decimal k.time ∷ decimal k.node ∷ decimal k.source ∷ decimal k.number ∷ []
+
+-- those behind the time, each after a space
+abbrev pub place_text : Key → List ℕ
+place_text k = spaced (decimal k.node ∷ decimal k.source ∷ decimal k.number ∷ [])
 
 -- what a packet carries
 abbrev pub kind_name : Kind → List ℕ

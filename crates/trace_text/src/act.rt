@@ -1,15 +1,15 @@
 //! The words that say what an event did to packets.
-ghost use Rattle.std.specs.Prelude.{◌≡◌, ◌+◌, ◌≤◌, ◌++◌, map, take, drop, codes, length, vec_len, OnOk, OnErr};
+ghost use Rattle.std.specs.Prelude.{◌≡◌, ◌+◌, ◌≤◌, ◌++◌, map, take, codes, length, vec_len, OnOk, OnErr};
 ghost use Rattle.trace_text.specs.Words.{spaced};
 ghost use Rattle.trace_text.specs.Line.{act_word, packet_name, reason_name};
 
-use crate::backward::{put_number, put_small, put_text};
+use crate::forward::{write_field, write_named, write_text};
 use node_core::{Act, DropReason, TakeDrop};
 use packet_chain::Packet;
 use std::alloc::AllocError;
 
-/// The greatest length of an act's words, with the space before them.
-const ROOM: usize = 38;
+/// No less than the greatest length of an act's words, with the space before them, and what may be written behind.
+const ROOM: usize = 40;
 
 /// Appends acts in their order. Where memory is refused, some may have been appended.
 pub(crate) fn append_acts(acts: &[Act], out: &mut Vec<u8>) -> Result<(), AllocError>
@@ -28,76 +28,68 @@ fn append_act(act: &Act, out: &mut Vec<u8>) -> Result<(), AllocError>
     ensures err { OnErr result (out.new.items ≡ out.old.items) }
 {
     let mut bytes = [0; ROOM];
-    let start = put_act(&mut bytes, ROOM, act);
-    out.extend_from_slice(&bytes[start..])
+    let end = write_act(&mut bytes, 0, act);
+    out.extend_from_slice(&bytes[..end])
 }
 
-/// Writes one act or none before `end`, after a space, and answers where it starts.
+/// Writes one act or none, after a space.
 #[inline(always)]
-pub(crate) fn put_acts(bytes: &mut [u8], end: usize, acts: &[Act]) -> usize
+pub(crate) fn write_acts(bytes: &mut [u8], at: usize, acts: &[Act]) -> usize
     requires few { length acts.now ≤ 1 }
-    requires within { end ≤ length bytes.old }
-    requires room { ROOM ≤ end }
-    ensures written { drop result bytes.new ≡ spaced (map act_word acts.now) ++ drop end bytes.old }
-    ensures below { result ≤ end }
-    ensures short { end ≤ result + ROOM }
+    requires room { at + ROOM ≤ length bytes.old }
+    ensures written { take result bytes.new ≡ take at bytes.old ++ spaced (map act_word acts.now) }
+    ensures above { at ≤ result }
+    ensures short { result ≤ at + 38 }
 {
     match acts.first() {
-        Some(act) => put_act(bytes, end, act),
-        None => end,
+        Some(act) => write_act(bytes, at, act),
+        None => at,
     }
 }
 
-/// Writes an act before `end`, and answers where it starts.
+/// Writes an act.
 #[inline(always)]
-fn put_act(bytes: &mut [u8], end: usize, act: &Act) -> usize
-    requires within { end ≤ length bytes.old }
-    requires room { ROOM ≤ end }
-    ensures written { drop result bytes.new ≡ codes " " ++ act_word act.now ++ drop end bytes.old }
-    ensures below { result ≤ end }
-    ensures short { end ≤ result + ROOM }
+fn write_act(bytes: &mut [u8], at: usize, act: &Act) -> usize
+    requires room { at + ROOM ≤ length bytes.old }
+    ensures written { take result bytes.new ≡ take at bytes.old ++ (codes " " ++ act_word act.now) }
+    ensures above { at ≤ result }
+    ensures short { result ≤ at + 38 }
 {
     match act {
         Act::Tx(link, packet) => {
-            let at = put_packet(bytes, end, packet);
-            let at = put_small(bytes, at, *link);
-            put_text(bytes, at, b" tx=")
+            let at = write_named(bytes, at, b" tx=", *link);
+            write_packet(bytes, at, packet)
         }
         Act::Dropped(_, reason, packet) => {
-            let at = put_packet(bytes, end, packet);
-            put_drop(bytes, at, *reason)
+            let at = write_drop(bytes, at, *reason);
+            write_packet(bytes, at, packet)
         }
     }
 }
 
 /// Writes the flow and the number of a packet, each after a colon.
 #[inline(always)]
-fn put_packet(bytes: &mut [u8], end: usize, packet: &Packet) -> usize
-    requires within { end ≤ length bytes.old }
-    requires room { 27 ≤ end }
-    ensures written { drop result bytes.new ≡ packet_name packet.now ++ drop end bytes.old }
-    ensures below { result ≤ end }
-    ensures short { end ≤ result + 27 }
+fn write_packet(bytes: &mut [u8], at: usize, packet: &Packet) -> usize
+    requires room { at + 28 ≤ length bytes.old }
+    ensures written { take result bytes.new ≡ take at bytes.old ++ packet_name packet.now }
+    ensures above { at ≤ result }
+    ensures short { result ≤ at + 27 }
 {
-    let at = put_number(bytes, end, packet.number);
-    let at = put_text(bytes, at, b":");
-    let at = put_small(bytes, at, packet.flow);
-    put_text(bytes, at, b":")
+    let at = write_named(bytes, at, b":", packet.flow);
+    write_field(bytes, at, b":", packet.number)
 }
 
 /// Writes that a packet was dropped, and why.
 #[inline(always)]
-fn put_drop(bytes: &mut [u8], end: usize, reason: DropReason) -> usize
-    requires within { end ≤ length bytes.old }
-    requires room { 11 ≤ end }
-    ensures written { drop result bytes.new
-        ≡ codes " drop=" ++ reason_name reason ++ drop end bytes.old }
-    ensures below { result ≤ end }
-    ensures short { end ≤ result + 11 }
+fn write_drop(bytes: &mut [u8], at: usize, reason: DropReason) -> usize
+    requires room { at + 11 ≤ length bytes.old }
+    ensures written { take result bytes.new ≡ take at bytes.old ++ (codes " drop=" ++ reason_name reason) }
+    ensures above { at ≤ result }
+    ensures short { result ≤ at + 11 }
 {
     match reason {
-        DropReason::Lost => put_text(bytes, end, b" drop=lost"),
-        DropReason::Full => put_text(bytes, end, b" drop=full"),
-        DropReason::Take(TakeDrop::Codel) => put_text(bytes, end, b" drop=codel"),
+        DropReason::Lost => write_text(bytes, at, b" drop=lost"),
+        DropReason::Full => write_text(bytes, at, b" drop=full"),
+        DropReason::Take(TakeDrop::Codel) => write_text(bytes, at, b" drop=codel"),
     }
 }

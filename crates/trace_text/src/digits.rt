@@ -1,92 +1,91 @@
-//! A number's decimal digits, three at a time, from the last to the first. As in the rest of a line each
-//! function writes before `end` and answers where what it wrote starts.
-ghost use Rattle.std.specs.Prelude.{◌≡◌, ◌+◌, ◌/◌, ◌%◌, ◌<◌, ◌≤◌, ◌++◌, ◌^◌, length, drop, decimal};
+//! A number's decimal digits, three at a time, from the first to the last. As in the rest of a line each
+//! function writes from `at` on and answers where what it wrote ends; bytes behind that may be written too.
+ghost use Rattle.std.specs.Prelude.{◌≡◌, ◌+◌, ◌/◌, ◌%◌, ◌<◌, ◌≤◌, ◌++◌, ◌^◌, length, take, decimal};
 ghost use Rattle.trace_text.specs.Digits.{three_digits};
 
-use crate::backward::put_text;
-use crate::groups::GROUPS;
+use crate::forward::{LONG, write_text};
+use crate::groups::{FIRSTS, GROUPS};
 
-/// Writes the digits of a number of ten to 18.
+/// The code of the digit zero.
+const ZERO: usize = 48;
+
+/// Writes the digits of a number of ten or more.
 #[inline(never)]
-pub(crate) fn put_eighteen(bytes: &mut [u8], end: usize, n: u64) -> usize
+pub(crate) fn write_long(bytes: &mut [u8], at: usize, n: u64) -> usize
     requires long { 10 ^ 9 ≤ n }
-    requires number { n < 10 ^ 18 }
-    requires within { end ≤ length bytes.old }
-    requires room { length (decimal n) + 2 ≤ end }
-    ensures written { drop result bytes.new ≡ decimal n ++ drop end bytes.old }
-    ensures start { result + length (decimal n) ≡ end }
+    requires room { at + length (decimal n) + 1 ≤ length bytes.old }
+    ensures written { take result bytes.new ≡ take at bytes.old ++ decimal n }
+    ensures end { result ≡ at + length (decimal n) }
 {
-    let high = n / 1_000_000_000;
-    let at = put_all_nine(bytes, end, (n - high * 1_000_000_000) as u32);
-    put_nine(bytes, at, high as u32)
+    let high = n / LONG;
+    let at = write_eighteen(bytes, at, high);
+    write_all_nine(bytes, at, (n - high * LONG) as u32)
 }
 
-/// Writes the digits of a number of ten to twelve.
+/// Writes the digits of a number of at most 18.
 #[inline(always)]
-pub(crate) fn put_twelve(bytes: &mut [u8], end: usize, n: u64) -> usize
-    requires long { 10 ^ 9 ≤ n }
-    requires number { n < 10 ^ 12 }
-    requires within { end ≤ length bytes.old }
-    requires room { length (decimal n) + 2 ≤ end }
-    ensures written { drop result bytes.new ≡ decimal n ++ drop end bytes.old }
-    ensures start { result + length (decimal n) ≡ end }
+fn write_eighteen(bytes: &mut [u8], at: usize, n: u64) -> usize
+    requires number { n < 10 ^ 18 }
+    requires room { at + length (decimal n) + 3 ≤ length bytes.old }
+    ensures written { take result bytes.new ≡ take at bytes.old ++ decimal n }
+    ensures end { result ≡ at + length (decimal n) }
 {
-    let high = n / 1_000_000_000;
-    let at = put_all_nine(bytes, end, (n - high * 1_000_000_000) as u32);
-    put_first(bytes, at, high as u32)
+    if n < LONG {
+        return write_nine(bytes, at, n as u32);
+    }
+    let high = n / LONG;
+    let at = write_nine(bytes, at, high as u32);
+    write_all_nine(bytes, at, (n - high * LONG) as u32)
 }
 
 /// Writes nine digits, zeros before the number's own among them.
 #[inline(always)]
-fn put_all_nine(bytes: &mut [u8], end: usize, n: u32) -> usize
+fn write_all_nine(bytes: &mut [u8], at: usize, n: u32) -> usize
     requires number { n < 10 ^ 9 }
-    requires within { end ≤ length bytes.old }
-    requires room { 10 ≤ end }
-    ensures written { drop result bytes.new ≡ three_digits (n / 1000 / 1000)
-        ++ three_digits (n / 1000 % 1000) ++ three_digits (n % 1000) ++ drop end bytes.old }
-    ensures start { result + 9 ≡ end }
+    requires room { at + 10 ≤ length bytes.old }
+    ensures written { take result bytes.new ≡ take at bytes.old ++ (three_digits (n / 1000 / 1000)
+        ++ three_digits (n / 1000 % 1000) ++ three_digits (n % 1000)) }
+    ensures end { result ≡ at + 9 }
 {
     let (thousands, ones) = split(n);
     let (millions, thousands) = split(thousands);
-    let at = put_group(bytes, end, ones);
-    let at = put_group(bytes, at, thousands);
-    put_group(bytes, at, millions)
+    let at = write_group(bytes, at, millions);
+    let at = write_group(bytes, at, thousands);
+    write_group(bytes, at, ones)
 }
 
 /// Writes the digits of a number of at most nine.
 #[inline(always)]
-pub(crate) fn put_nine(bytes: &mut [u8], end: usize, n: u32) -> usize
+pub(crate) fn write_nine(bytes: &mut [u8], at: usize, n: u32) -> usize
     requires number { n < 10 ^ 9 }
-    requires within { end ≤ length bytes.old }
-    requires room { length (decimal n) + 2 ≤ end }
-    ensures written { drop result bytes.new ≡ decimal n ++ drop end bytes.old }
-    ensures start { result + length (decimal n) ≡ end }
+    requires room { at + length (decimal n) + 3 ≤ length bytes.old }
+    ensures written { take result bytes.new ≡ take at bytes.old ++ decimal n }
+    ensures end { result ≡ at + length (decimal n) }
 {
     if n < 1_000_000 {
-        return put_six(bytes, end, n);
+        return write_six(bytes, at, n);
     }
     let (thousands, ones) = split(n);
     let (millions, thousands) = split(thousands);
-    let at = put_group(bytes, end, ones);
-    let at = put_group(bytes, at, thousands);
-    put_first(bytes, at, millions)
+    let at = write_first(bytes, at, millions);
+    let at = write_group(bytes, at, thousands);
+    write_group(bytes, at, ones)
 }
 
 /// Writes the digits of a number of at most six.
 #[inline(always)]
-fn put_six(bytes: &mut [u8], end: usize, n: u32) -> usize
+pub(crate) fn write_six(bytes: &mut [u8], at: usize, n: u32) -> usize
     requires number { n < 10 ^ 6 }
-    requires within { end ≤ length bytes.old }
-    requires room { length (decimal n) + 2 ≤ end }
-    ensures written { drop result bytes.new ≡ decimal n ++ drop end bytes.old }
-    ensures start { result + length (decimal n) ≡ end }
+    requires room { at + length (decimal n) + 3 ≤ length bytes.old }
+    ensures written { take result bytes.new ≡ take at bytes.old ++ decimal n }
+    ensures end { result ≡ at + length (decimal n) }
 {
     if n < 1000 {
-        return put_first(bytes, end, n);
+        return write_first(bytes, at, n);
     }
     let (thousands, ones) = split(n);
-    let at = put_group(bytes, end, ones);
-    put_first(bytes, at, thousands)
+    let at = write_first(bytes, at, thousands);
+    write_group(bytes, at, ones)
 }
 
 /// How many thousands a number has, and what is left. A product costs less here than `%`.
@@ -99,44 +98,40 @@ fn split(n: u32) -> (u32, u32)
     (thousands, n - thousands * 1000)
 }
 
-/// Writes the digits of a number below 1,000.
+/// Writes the digits of a number below 1,000, whose row of the table tells how many they are.
 #[inline(always)]
-pub(crate) fn put_first(bytes: &mut [u8], end: usize, n: u32) -> usize
+pub(crate) fn write_first(bytes: &mut [u8], at: usize, n: u32) -> usize
     requires number { n < 1000 }
-    requires within { end ≤ length bytes.old }
-    requires room { length (decimal n) + 2 ≤ end }
-    ensures written { drop result bytes.new ≡ decimal n ++ drop end bytes.old }
-    ensures start { result + length (decimal n) ≡ end }
+    requires room { at + 4 ≤ length bytes.old }
+    ensures written { take result bytes.new ≡ take at bytes.old ++ decimal n }
+    ensures end { result ≡ at + length (decimal n) }
 {
-    if n < 10 {
-        return put_digit(bytes, end, n as u8);
-    }
-    let at = put_group(bytes, end, n);
-    if n < 100 { at + 1 } else { at }
+    let row = FIRSTS[n as usize];
+    write_text(bytes, at, &row);
+    at + usize::from(row[3]) - ZERO
 }
 
-/// Writes three digits, and in the byte before them what is to be written over.
+/// Writes six digits, zeros before the number's own among them.
 #[inline(always)]
-fn put_group(bytes: &mut [u8], end: usize, n: u32) -> usize
-    requires number { n < 1000 }
-    requires within { end ≤ length bytes.old }
-    requires room { 4 ≤ end }
-    ensures written { drop result bytes.new ≡ three_digits n ++ drop end bytes.old }
-    ensures start { result + 3 ≡ end }
+pub(crate) fn write_two_groups(bytes: &mut [u8], at: usize, n: u32) -> usize
+    requires number { n < 10 ^ 6 }
+    requires room { at + 7 ≤ length bytes.old }
+    ensures written { take result bytes.new ≡ take at bytes.old
+        ++ (three_digits (n / 1000) ++ three_digits (n % 1000)) }
+    ensures end { result ≡ at + 6 }
 {
-    put_text(bytes, end, &GROUPS[n as usize]) + 1
+    let (thousands, ones) = split(n);
+    let at = write_group(bytes, at, thousands);
+    write_group(bytes, at, ones)
 }
 
-/// Writes one digit. Most nodes, flows and links have one.
+/// Writes three digits.
 #[inline(always)]
-pub(crate) fn put_digit(bytes: &mut [u8], end: usize, n: u8) -> usize
-    requires within { end ≤ length bytes.old }
-    requires room { 1 ≤ end }
-    requires digit { n < 10 }
-    ensures written { drop result bytes.new ≡ decimal n ++ drop end bytes.old }
-    ensures place { result + 1 ≡ end }
+pub(crate) fn write_group(bytes: &mut [u8], at: usize, n: u32) -> usize
+    requires number { n < 1000 }
+    requires room { at + 4 ≤ length bytes.old }
+    ensures written { take result bytes.new ≡ take at bytes.old ++ three_digits n }
+    ensures end { result ≡ at + 3 }
 {
-    let at = end - 1;
-    bytes[at] = b'0' + n;
-    at
+    write_text(bytes, at, &GROUPS[n as usize]) - 1
 }

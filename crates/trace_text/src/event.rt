@@ -1,77 +1,65 @@
 //! The words that say when and where an event was, and what it was.
-ghost use Rattle.std.specs.Prelude.{◌≡◌, ◌+◌, ◌≤◌, ◌++◌, length, drop, decimal};
+ghost use Rattle.std.specs.Prelude.{◌≡◌, ◌+◌, ◌≤◌, ◌++◌, length, take, codes, decimal};
 ghost use Rattle.trace_text.specs.Words.{spaced};
-ghost use Rattle.trace_text.specs.Line.{key_words, event_words};
+ghost use Rattle.trace_text.specs.Line.{key_words, place_text, event_words};
 
-use crate::backward::{put_number, put_small, put_text, put_time};
+use crate::forward::{write_field, write_named};
 use node_core::Event;
 use packet_chain::{Kind, Packet};
 use sim_time::Key;
 
-/// Writes the four numbers of a key before `end`, and answers where they start.
-#[inline(always)]
-pub(crate) fn put_key(bytes: &mut [u8], end: usize, key: &Key) -> usize
-    requires within { end ≤ length bytes.old }
-    requires room { 54 ≤ end }
-    ensures written { drop result bytes.new ≡ spaced (key_words key.now) ++ drop end bytes.old }
-    ensures below { result ≤ end }
-    ensures short { end ≤ result + 54 }
+/// Writes the four numbers of a key.
+pub(crate) fn write_key(bytes: &mut [u8], at: usize, key: &Key) -> usize
+    requires room { at + 60 ≤ length bytes.old }
+    ensures written { take result bytes.new ≡ take at bytes.old ++ spaced (key_words key.now) }
+    ensures above { at ≤ result }
+    ensures short { result ≤ at + 54 }
 {
-    let at = put_number(bytes, end, key.number);
-    let at = put_text(bytes, at, b" ");
-    let at = put_small(bytes, at, key.source);
-    let at = put_text(bytes, at, b" ");
-    let at = put_small(bytes, at, key.node);
-    let at = put_text(bytes, at, b" ");
-    let at = put_time(bytes, at, key.time);
-    put_text(bytes, at, b" ")
+    let at = write_field(bytes, at, b" ", key.time);
+    write_place(bytes, at, key)
 }
 
-/// Writes what an event was before `end`, and answers where it starts.
+/// Writes the numbers of a key behind its time.
 #[inline(always)]
-pub(crate) fn put_event(bytes: &mut [u8], end: usize, event: &Event) -> usize
-    requires within { end ≤ length bytes.old }
-    requires room { 32 ≤ end }
-    ensures written { drop result bytes.new ≡ spaced (event_words event.now) ++ drop end bytes.old }
-    ensures below { result ≤ end }
-    ensures short { end ≤ result + 32 }
+pub(crate) fn write_place(bytes: &mut [u8], at: usize, key: &Key) -> usize
+    requires room { at + 39 ≤ length bytes.old }
+    ensures written { take result bytes.new ≡ take at bytes.old ++ place_text key.now }
+    ensures above { at ≤ result }
+    ensures short { result ≤ at + 33 }
+{
+    let at = write_named(bytes, at, b" ", key.node);
+    let at = write_named(bytes, at, b" ", key.source);
+    write_field(bytes, at, b" ", key.number)
+}
+
+/// Writes what an event was.
+#[inline(always)]
+pub(crate) fn write_event(bytes: &mut [u8], at: usize, event: &Event) -> usize
+    requires room { at + 34 ≤ length bytes.old }
+    ensures written { take result bytes.new ≡ take at bytes.old ++ spaced (event_words event.now) }
+    ensures above { at ≤ result }
+    ensures short { result ≤ at + 32 }
 {
     match event {
-        Event::Start(flow) => put_named(bytes, end, b" start ", *flow),
-        Event::Rto(flow) => put_named(bytes, end, b" rto ", *flow),
-        Event::DelAck(flow) => put_named(bytes, end, b" delack ", *flow),
-        Event::Free(link) => put_named(bytes, end, b" free ", *link),
-        Event::Arrive(packet) => put_arrival(bytes, end, packet),
+        Event::Start(flow) => write_named(bytes, at, b" start ", *flow),
+        Event::Rto(flow) => write_named(bytes, at, b" rto ", *flow),
+        Event::DelAck(flow) => write_named(bytes, at, b" delack ", *flow),
+        Event::Free(link) => write_named(bytes, at, b" free ", *link),
+        Event::Arrive(packet) => write_arrival(bytes, at, packet),
     }
 }
 
 /// Writes which packet arrived.
 #[inline(always)]
-fn put_arrival(bytes: &mut [u8], end: usize, packet: &Packet) -> usize
-    requires within { end ≤ length bytes.old }
-    requires room { 32 ≤ end }
-    ensures written { drop result bytes.new
-        ≡ spaced (event_words (Event.Arrive packet.now)) ++ drop end bytes.old }
-    ensures below { result ≤ end }
-    ensures short { end ≤ result + 32 }
+fn write_arrival(bytes: &mut [u8], at: usize, packet: &Packet) -> usize
+    requires room { at + 34 ≤ length bytes.old }
+    ensures written { take result bytes.new ≡ take at bytes.old ++ spaced (event_words (Event.Arrive packet.now)) }
+    ensures above { at ≤ result }
+    ensures short { result ≤ at + 32 }
 {
-    let at = put_number(bytes, end, packet.number);
-    let at = put_text(bytes, at, b" ");
-    match packet.kind {
-        Kind::Data => put_named(bytes, at, b" data ", packet.flow),
-        Kind::Ack => put_named(bytes, at, b" ack ", packet.flow),
-    }
-}
-
-/// Writes a name and the number of a flow or a link.
-#[inline(always)]
-fn put_named<const N: usize>(bytes: &mut [u8], end: usize, name: &[u8; N], n: u16) -> usize
-    requires within { end ≤ length bytes.old }
-    requires room { N + 5 ≤ end }
-    ensures written { drop result bytes.new ≡ name.now ++ decimal n ++ drop end bytes.old }
-    ensures below { result ≤ end }
-    ensures short { end ≤ result + N + 5 }
-{
-    let at = put_small(bytes, end, n);
-    put_text(bytes, at, name)
+    let at = match packet.kind {
+        Kind::Data => write_named(bytes, at, b" data ", packet.flow),
+        Kind::Ack => write_named(bytes, at, b" ack ", packet.flow),
+    };
+    write_field(bytes, at, b" ", packet.number)
 }

@@ -8,9 +8,13 @@ mod digits;
 mod dump;
 mod end;
 mod event;
+mod forward;
 mod groups;
+mod kept;
 mod line;
+mod page;
 
 pub use dump::{DumpPart, dump_text, part_text, pending_events};
 pub use end::end_text;
-pub use line::{LINE_ROOM, line_text, line_text_in};
+pub use line::line_text;
+pub use page::Page;

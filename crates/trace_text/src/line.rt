@@ -1,25 +1,19 @@
 //! A whole line of the trace.
-ghost use Rattle.std.specs.Prelude.{◌≡◌, ◌<◌, ◌≤◌, ◌++◌, take, drop, decimal, codes, length, map, vec_len, OnOk, OnErr};
+ghost use Rattle.std.specs.Prelude.{◌≡◌, ◌+◌, ◌≤◌, ◌++◌, take, decimal, codes, length, map, vec_len, OnOk, OnErr};
 ghost use Rattle.node_core.specs.TraceLine.{shown};
 ghost use Rattle.trace_text.specs.Words.{spaced};
-ghost use Rattle.trace_text.specs.Line.{act_word, line_bytes, key_words, event_words, after_words};
+ghost use Rattle.trace_text.specs.Line.{act_word, line_bytes, place_text, key_words, event_words, after_words};
 
-use crate::act::{append_acts, put_acts};
-use crate::after::put_after;
-use crate::backward::{LONG, put_number, put_text};
-use crate::digits::{put_eighteen, put_nine};
-use crate::event::{put_event, put_key};
+use crate::act::{append_acts, write_acts};
+use crate::after::write_after;
+use crate::event::{write_event, write_key, write_place};
+use crate::forward::{write_field, write_number, write_text};
+use crate::kept::Kept;
 use node_core::Line;
 use std::alloc::AllocError;
 
-/// No less than the greatest length of what stands before the acts.
-const ROOM: usize = 224;
-
-/// The greatest length of a line of one act whose number is less than `MANY`.
-pub const LINE_ROOM: usize = 256;
-
-/// The least number of 15 digits.
-const MANY: u64 = 100_000_000_000_000;
+/// No less than the greatest length of a line of one act.
+pub(crate) const LINE_ROOM: usize = 272;
 
 /// Appends the line of the trace for the `n`-th event, with its LF, or nothing.
 #[inline(always)]
@@ -35,58 +29,61 @@ pub fn line_text(n: u64, line: &Line, out: &mut Vec<u8>) -> Result<(), AllocErro
     appended
 }
 
-/// The same, where room is lent for a line of at most one act: whatever it holds is not cleared for each line.
-#[inline(always)]
-pub fn line_text_in(
-    room: &mut [u8; LINE_ROOM],
-    n: u64,
-    line: &Line,
-    out: &mut Vec<u8>,
-) -> Result<(), AllocError>
-    ensures ok { OnOk result (out.new.items ≡ out.old.items ++ line_bytes n (shown line.now)) }
-    ensures err { OnErr result (out.new.items ≡ out.old.items) }
-{
-    if n < MANY && line.acts.as_slice().len() <= 1 {
-        return append_short(room, n, line, out);
-    }
-    line_text(n, line, out)
-}
-
 /// Appends the line. Where memory is refused, a part of it may have been appended.
 #[inline(always)]
 fn append_line(n: u64, line: &Line, out: &mut Vec<u8>) -> Result<(), AllocError>
     ensures ok { OnOk result (out.new.items ≡ out.old.items ++ line_bytes n (shown line.now)) }
     ensures err { OnErr result (take (vec_len out.old) out.new.items ≡ out.old.items) }
 {
-    if n < MANY && line.acts.as_slice().len() <= 1 {
-        return append_short(&mut [0; LINE_ROOM], n, line, out);
+    if line.acts.as_slice().len() <= 1 {
+        return append_short(n, line, out);
     }
     append_long(n, line, out)
 }
 
-/// Appends a line of at most one act, as nearly all are, or nothing. It is written into `bytes` first.
+/// Appends a line of at most one act, as nearly all are, or nothing.
 #[inline(always)]
-fn append_short(
-    bytes: &mut [u8; LINE_ROOM],
-    n: u64,
-    line: &Line,
-    out: &mut Vec<u8>,
-) -> Result<(), AllocError>
-    requires count { n < MANY }
+fn append_short(n: u64, line: &Line, out: &mut Vec<u8>) -> Result<(), AllocError>
     requires few { length line.now.acts.acts ≤ 1 }
-    ensures ok { OnOk result (out.new.items ≡ out.old.items ++ (decimal n
-        ++ spaced (key_words line.now.key) ++ spaced (event_words line.now.event)
-        ++ spaced (after_words line.now.after) ++ spaced (map act_word line.now.acts.acts)
-        ++ codes "\n")) }
+    ensures ok { OnOk result (out.new.items ≡ out.old.items ++ line_bytes n (shown line.now)) }
     ensures err { OnErr result (out.new.items ≡ out.old.items) }
 {
-    let at = put_text(bytes, LINE_ROOM, b"\n");
-    let at = put_acts(bytes, at, line.acts.as_slice());
-    let at = put_after(bytes, at, &line.after);
-    let at = put_event(bytes, at, &line.event);
-    let at = put_key(bytes, at, &line.key);
-    let start = put_count(bytes, at, n);
-    out.extend_from_slice(&bytes[start..])
+    let mut bytes = [0; LINE_ROOM];
+    let at = write_number(&mut bytes, 0, n);
+    let at = write_field(&mut bytes, at, b" ", line.key.time);
+    let end = write_behind_time(&mut bytes, at, line);
+    out.extend_from_slice(&bytes[..end])
+}
+
+/// Writes a line of at most one act, with its LF.
+#[inline(always)]
+pub(crate) fn write_line(kept: &mut Kept, bytes: &mut [u8], at: usize, n: u64, line: &Line) -> usize
+    requires few { length line.now.acts.acts ≤ 1 }
+    requires room { at + LINE_ROOM ≤ length bytes.old }
+    ensures written { take result bytes.new ≡ take at bytes.old ++ line_bytes n (shown line.now) }
+    ensures short { result ≤ at + LINE_ROOM }
+{
+    let at = kept.count.write(bytes, at, n);
+    let at = write_text(bytes, at, b" ");
+    let at = kept.time.write(bytes, at, line.key.time);
+    write_behind_time(bytes, at, line)
+}
+
+/// Writes what stands behind the time in a line of at most one act.
+#[inline(always)]
+fn write_behind_time(bytes: &mut [u8], at: usize, line: &Line) -> usize
+    requires few { length line.now.acts.acts ≤ 1 }
+    requires room { at + 224 ≤ length bytes.old }
+    ensures written { take result bytes.new ≡ take at bytes.old ++ (place_text line.now.key
+        ++ spaced (event_words line.now.event) ++ spaced (after_words line.now.after)
+        ++ spaced (map act_word line.now.acts.acts) ++ codes "\n") }
+    ensures short { result ≤ at + 224 }
+{
+    let at = write_place(bytes, at, &line.key);
+    let at = write_event(bytes, at, &line.event);
+    let at = write_after(bytes, at, &line.after);
+    let at = write_acts(bytes, at, line.acts.as_slice());
+    write_text(bytes, at, b"\n")
 }
 
 /// Appends a line of any length. Where memory is refused, a part of it may have been appended.
@@ -101,21 +98,6 @@ fn append_long(n: u64, line: &Line, out: &mut Vec<u8>) -> Result<(), AllocError>
     Ok(())
 }
 
-/// Writes the number of an event before `end`, and answers where it starts.
-#[inline(always)]
-fn put_count(bytes: &mut [u8], end: usize, n: u64) -> usize
-    requires count { n < MANY }
-    requires within { end ≤ length bytes.old }
-    requires room { 16 ≤ end }
-    ensures written { drop result bytes.new ≡ decimal n ++ drop end bytes.old }
-    ensures below { result ≤ end }
-{
-    if n < LONG {
-        return put_nine(bytes, end, n as u32);
-    }
-    put_eighteen(bytes, end, n)
-}
-
 /// Appends what stands before the acts, or nothing.
 #[inline(always)]
 fn append_head(n: u64, line: &Line, out: &mut Vec<u8>) -> Result<(), AllocError>
@@ -124,10 +106,10 @@ fn append_head(n: u64, line: &Line, out: &mut Vec<u8>) -> Result<(), AllocError>
         ++ spaced (after_words line.now.after))) }
     ensures err { OnErr result (out.new.items ≡ out.old.items) }
 {
-    let mut bytes = [0; ROOM];
-    let at = put_after(&mut bytes, ROOM, &line.after);
-    let at = put_event(&mut bytes, at, &line.event);
-    let at = put_key(&mut bytes, at, &line.key);
-    let start = put_number(&mut bytes, at, n);
-    out.extend_from_slice(&bytes[start..])
+    let mut bytes = [0; LINE_ROOM];
+    let at = write_number(&mut bytes, 0, n);
+    let at = write_key(&mut bytes, at, &line.key);
+    let at = write_event(&mut bytes, at, &line.event);
+    let end = write_after(&mut bytes, at, &line.after);
+    out.extend_from_slice(&bytes[..end])
 }

@@ -8,8 +8,8 @@ ghost use Rattle.trace_text.specs.Chosen.{chosen_event};
 ghost use Rattle.trace_text.specs.Dump.{event_line};
 ghost use Rattle.trace_text.specs.DumpParts.{is_event_of};
 
-use crate::backward::put_text;
-use crate::event::{put_event, put_key};
+use crate::event::{write_event, write_key};
+use crate::forward::write_text;
 use net_machine::Net;
 use node_core::{Event, Node};
 use sim_time::Key;
@@ -93,10 +93,10 @@ fn node_by_node(alloc: Global, nodes: &[Node]) -> Result<Vec<(Key, Event)>, Allo
 fn append_event(key: &Key, event: &Event, out: &mut Vec<u8>) -> Result<(), AllocError>
     ensures { OnOk result (out.new.items ≡ out.old.items ++ event_line (key.now, event.now)) }
 {
-    let mut bytes = [0; 96];
-    let at = put_text(&mut bytes, 96, b"\n");
-    let at = put_event(&mut bytes, at, event);
-    let at = put_key(&mut bytes, at, key);
-    let start = put_text(&mut bytes, at, b"event");
-    out.extend_from_slice(&bytes[start..])
+    let mut bytes = [0; 104];
+    let at = write_text(&mut bytes, 0, b"event");
+    let at = write_key(&mut bytes, at, key);
+    let at = write_event(&mut bytes, at, event);
+    let end = write_text(&mut bytes, at, b"\n");
+    out.extend_from_slice(&bytes[..end])
 }

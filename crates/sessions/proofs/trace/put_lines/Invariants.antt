@@ -3,9 +3,9 @@ use Rattle.std.proofs.Common.{◌≡◌, ◌-◌}
 use Rattle.sessions.proofs.Lines.{Made}
 use Rattle.sessions.proofs.trace.put_lines.Given as goal
 
-abbrev pub invariant-loop-room : goal.invariant-loop-room
-invariant-loop-room g l =
-    Made l.fn.net.state l.net l.page.items (g.W.Sink.contents l.fn.writer) (g.W.Sink.contents l.writer) × (g.W.Sink.failures l.writer ≡ g.W.Sink.failures l.fn.writer)
+abbrev pub invariant-loop-page : goal.invariant-loop-page
+invariant-loop-page g l =
+    Made l.fn.net.state l.net l.page (g.W.Sink.contents l.fn.writer) (g.W.Sink.contents l.writer) × (g.W.Sink.failures l.writer ≡ g.W.Sink.failures l.fn.writer)
 
-abbrev pub decreases-loop-room : goal.decreases-loop-room
-decreases-loop-room g l = 1000000000000000 - l.net.position
+abbrev pub decreases-loop-page : goal.decreases-loop-page
+decreases-loop-page g l = 1000000000000000 - l.net.position

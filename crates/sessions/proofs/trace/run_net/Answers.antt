@@ -13,11 +13,11 @@ returns-in_err-put_page-clause-output g c =
     let is : c.from_residual.result ≡ Err WriteFailed = search rules in
     let P : Ended → Type 0 = λ ended. Writes (IsRunOutput s ended) (contents c.args.writer.now) (contents c.put_page.new.writer) in
     subst P (sym is)
-    (page_failed c.put_lines-ended.result s c.put_lines-ended.new.page.items (contents c.args.writer.now) (contents c.put_lines-ended.new.writer) (contents c.put_page.new.writer)
+    (page_failed c.put_lines-ended.result s c.put_lines-ended.new.page (contents c.args.writer.now) (contents c.put_lines-ended.new.writer) (contents c.put_page.new.writer)
     other (c.put_lines-ended.ensures.made other) c.in_err-put_page.ensures.err)
 
 pub returns-clause-output : goal.returns-clause-output
 returns-clause-output g c =
     let contents = g.W.Sink.contents in
-    written (IsRunOutput c.args.net.now.state c.put_lines-ended.result) c.put_lines-ended.new.page.items (contents c.args.writer.now) (contents c.put_lines-ended.new.writer) (contents c.put_page.new.writer)
+    written (IsRunOutput c.args.net.now.state c.put_lines-ended.result) c.put_lines-ended.new.page (contents c.args.writer.now) (contents c.put_lines-ended.new.writer) (contents c.put_page.new.writer)
     (c.put_lines-ended.ensures.made (c.writer_failed-failed.ensures.other c.if-failed.false)) c.in_ok-put_page.ensures.ok

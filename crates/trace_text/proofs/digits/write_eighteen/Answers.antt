@@ -1,0 +1,25 @@
+-- The digits before the last nine, and these.
+use Rattle.std.proofs.Common.{◌≡◌, ◌-◌, ◌*◌, ◌/◌, ◌%◌, arith}
+use Rattle.trace_text.proofs.ByThousands.{decimal_nine, length_nine}
+use Rattle.trace_text.proofs.Written.{both_written}
+use Rattle.trace_text.proofs.digits.write_eighteen.Goals as goal
+
+pub write_nine-at-requires-clause-room : goal.write_nine-at-requires-clause-room
+write_nine-at-requires-clause-room c =
+    let long = length_nine c.args.n c.if-n-lt-LONG.false (omega (arith, c.requires.number)) in omega (arith, c.requires.room)
+
+pub write_all_nine-requires-clause-room : goal.write_all_nine-requires-clause-room
+write_all_nine-requires-clause-room c =
+    let long = length_nine c.args.n c.if-n-lt-LONG.false (omega (arith, c.requires.number)) in
+    omega (arith, c.requires.room, c.write_nine-at.ensures.end)
+
+pub returns-clause-written : goal.returns-clause-written
+returns-clause-written c =
+    let low : c.args.n - c.args.n / 1000000000 * 1000000000 ≡ c.args.n % 1000000000 = omega arith in
+    rw (decimal_nine c.args.n c.if-n-lt-LONG.false (omega (arith, c.requires.number)), ← low)
+    (both_written _ _ _ _ _ c.write_nine-at.ensures.written c.write_all_nine.ensures.written)
+
+pub returns-clause-end : goal.returns-clause-end
+returns-clause-end c =
+    let long = length_nine c.args.n c.if-n-lt-LONG.false (omega (arith, c.requires.number)) in
+    omega (arith, c.write_nine-at.ensures.end, c.write_all_nine.ensures.end)
