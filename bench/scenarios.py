@@ -159,6 +159,19 @@ def busy(flows, crossing, segments, window):
     return net.scenario(EVER)
 
 
+def access_line(segments):
+    """Three flows over an asymmetric access line, 1 Mbit/s up and 8 Mbit/s down, into a local net with links of 0.1 ms."""
+    net = Net()
+    home, far = net.node(ROUTER), net.node(ROUTER)
+    net.link(home, far, MBIT, 10 * MS, droptail(30))
+    net.link(far, home, 8 * MBIT, 10 * MS, droptail(60))
+    for n in range(3):
+        cable, wide = (GBIT, 100 * US, droptail(1000)), (GBIT, (5 + 7 * n) * MS, droptail(1000))
+        ends = (home, far, cable, wide) if n == 2 else (far, home, wide, cable)
+        net.ends(*ends, MSS, segments // (8 if n == 2 else 1), n * 200 * MS, 64 * MSS, 40 * MS * (n == 1))
+    return net.scenario(EVER)
+
+
 def rate_jump(segments):
     """A flow over 1,000 bit/s, and one over 10^12 bit/s that starts 1,000 s later; each over a router."""
     net = Net()
@@ -201,6 +214,8 @@ SCENARIOS = {
     'ring': lambda: ring(14, 10_000),
     'busy_islands': lambda: busy(24, 4, 8_000, 40),
     'busy_ring': lambda: busy(24, 24, 6_000, 100),
+    'long_chain': lambda: chain(58, 4_000),
+    'access_line': lambda: access_line(20_000),
     'rate_jump': lambda: rate_jump(2_000_000),
     'largest': lambda: largest(100),
 }

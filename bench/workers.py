@@ -22,13 +22,18 @@ from scenarios import SCENARIOS, chain, disassemble, four_groups, one_flow, star
 HEAD = '## Workers and groups\n'
 SPED_UP = 'busy_islands', 'busy_ring', 'islands', 'ring'
 # With a group for each node their windows hold some tens of events at most.
-SMALL = 'one_flow', 'dumbbell_codel', 'tree', 'chain', 'islands', 'ring'
+SMALL = 'one_flow', 'access_line', 'dumbbell_codel', 'tree', 'chain', 'long_chain', 'islands', 'ring'
+# Those of them, and those of wide windows, that are measured beside busy loops too.
+LOADED, LOADED_WIDE = ('one_flow', 'access_line', 'tree', 'long_chain'), ('busy_islands', 'ring')
+LOOPS = 4
 CREWS = 1, 2, 4, 64
 # Shorter than in the table of events, since valgrind is slow.
 COUNTED = {'tree': lambda: tree(100, 200), 'chain': lambda: chain(16, 4_000)}
 ONE, EACH = 1.1, 1.6                    # at most so many times the instructions of a run without options
-LEAST, MOST = 2.5, 64                   # four workers to one; megabytes of memory
-SMALL_MOST = 1.5                        # small windows to a run without options
+LEAST, MOST = 3, 40                     # a run without options to four workers, wide windows; megabytes of memory
+ALONE_MOST = 1.15                       # one worker to a run without options, wide windows
+SMALL_MOST, USED_MOST = 1.5, 2          # small windows to a run without options: seconds, and those of all processors
+LOADED_MOST = 3                         # the seconds to those of a run without options beside busy loops
 FOUND_LEAST, FOUND_MOST = 0.9, 1.15     # a run without options to groups that are found; these to groups by hand
 BY_HAND = {'rate_jump': lambda _: '0,1,0,1,0,1', **{name: four_groups for name in SPED_UP}}
 CORES = os.cpu_count()
@@ -95,15 +100,42 @@ def sped_up(program, rounds, before):
         yield name, events_of(program, path), threads(program, path, groups), seconds(kinds, rounds, before)
 
 
+def processor_seconds(program, path, words, rounds):
+    """The least seconds of all processors of a run."""
+    return min(sum(map(float, ran(program, path, words, ('/usr/bin/time', '-f', '%U %S')).split())) for _ in range(rounds))
+
+
 def small(program, rounds, before):
-    """Seconds of runs with a group for each node, by crew, and the processor seconds of the largest crew."""
+    """Seconds of runs with a group for each node, by crew, and the processor seconds of the largest crew to those of a
+    run without options."""
     for name in SMALL:
         path = path_of(name, SCENARIOS[name]())
         cores = f'0-{min(CORES, 4) - 1}'
         kinds = [(program, path, (), '0')] + [(program, path, ('--workers', str(n), '--groups', 'each'), cores) for n in CREWS]
-        used = ran(program, path, ('--workers', str(CREWS[-1]), '--groups', 'each'), ('/usr/bin/time', '-f', '%U %S'))
+        used, plain = (processor_seconds(program, path, words, rounds)
+                       for words in (('--workers', str(CREWS[-1]), '--groups', 'each'), ()))
         yield (name, events_of(program, path), windows(program, path, ('--groups', 'each')),
-               threads(program, path, ('--groups', 'each')), seconds(kinds, rounds, before), sum(map(float, used.split())))
+               threads(program, path, ('--groups', 'each')), seconds(kinds, rounds, before), used / max(plain, 0.01))
+
+
+def loaded(program, rounds):
+    """Seconds beside busy loops, of no priority: of `run`, and of four workers."""
+    loops = [subprocess.Popen(['sh', '-c', 'while :; do :; done']) for _ in range(LOOPS)]
+    try:
+        for name in LOADED + LOADED_WIDE:
+            scenario = SCENARIOS[name]()
+            path, groups = path_of(name, scenario), four_groups(scenario) if name in LOADED_WIDE else 'each'
+            kinds = [(program, path, words, f'0-{CORES - 1}') for words in ((), ('--workers', '4', '--groups', groups))]
+            yield name, 'each' if groups == 'each' else 'four', seconds(kinds, rounds, ())
+    finally:
+        for loop in loops:
+            loop.kill()
+
+
+def said(rows, kind):
+    """How many of the rows hold what is asked of them."""
+    hold = sum(rows)
+    return f'{hold} of {len(rows)} {kind}.\n'
 
 
 Found = namedtuple('Found', 'name events groups a_window threads plain auto by_hand')
@@ -175,18 +207,31 @@ def section(program, rounds, before):
     yield (f'Seconds of whole runs on {processor()}, {os.cpu_count()} cores, pinned to as many cores as workers'
            + (', with real-time priority beside other work' if before else '') + f', the least of {rounds} rounds; the four '
            'groups are the four parts of each scenario (bench/scenarios.py), joined by links of 10 ms and more. Four workers '
-           f'are to be {LEAST} times as fast as one.\n')
-    yield from table(('Scenario', 'Events', 'Threads of 4 workers', '`run`', '1 worker', '2 workers', '4 workers', 'four to one', 'four to `run`'),
+           f'are to be at least {LEAST} times as fast as `run`, and one worker is to take at most {ALONE_MOST} times as long.\n')
+    wide = list(sped_up(program, rounds, before))
+    yield from table(('Scenario', 'Events', 'Threads of 4 workers', '`run`', '1 worker', '2 workers', '4 workers', 'four to one',
+                      '`run` to four', 'one to `run`'),
                      [(f'`{name}`', f'{events:,}', f'{many:,}', *(f'{s:.3f}' for s in took),
-                       f'{took[1] / took[3]:.2f}', f'{took[0] / took[3]:.2f}')
-                      for name, events, many, took in sped_up(program, rounds, before)])
+                       f'{took[1] / took[3]:.2f}', f'{took[0] / took[3]:.2f}', f'{took[1] / took[0]:.2f}')
+                      for name, events, many, took in wide])
+    yield said([took[0] / took[3] >= LEAST for _, _, _, took in wide], 'have four workers as fast as they are to be')
+    yield said([took[1] / took[0] <= ALONE_MOST for _, _, _, took in wide], 'have one worker within its bound')
     yield (f'The same with a group for each node, so that windows are small: the calling thread runs all of those that would '
-           f'not pay for threads. No crew is to take more than {SMALL_MOST} times as long as `run`.\n')
+           f'not pay for threads. No crew is to take more than {SMALL_MOST} times as long as `run`, nor more than {USED_MOST} times its '
+           'processor time.\n')
+    few = list(small(program, rounds, before))
     yield from table(('Scenario', 'Events', 'Events a window', 'Threads of 4 workers', '`run`', *(f'{n} worker{"s" * (n > 1)}' for n in CREWS),
-                      'most to `run`', f'processor, {CREWS[-1]} workers'),
+                      'most to `run`', f'processor time of {CREWS[-1]} to that of `run`'),
                      [(f'`{name}`', f'{events:,}', f'{events / many:,.0f}', f'{started_:,}', *(f'{s:.3f}' for s in took),
                        f'{max(took[1:]) / took[0]:.2f}', f'{used:.2f}')
-                      for name, events, many, started_, took, used in small(program, rounds, before)])
+                      for name, events, many, started_, took, used in few])
+    yield said([max(took[1:]) <= SMALL_MOST * took[0] and used <= USED_MOST for *_, took, used in few], 'hold both')
+    yield (f'Seconds beside {LOOPS} busy loops, on all cores and with no priority, the least of {rounds} rounds: four workers are to take at '
+           f'most {LOADED_MOST} times as long as `run` does there.\n')
+    under = list(loaded(program, rounds))
+    yield from table(('Scenario', 'Groups', '`run`', '4 workers', 'to `run`'),
+                     [(f'`{name}`', groups, *(f'{s:.3f}' for s in took), f'{took[1] / took[0]:.2f}') for name, groups, took in under])
+    yield said([took[1] <= LOADED_MOST * took[0] for *_, took in under], 'hold it')
     yield from found_table(found(program, rounds, before))
     yield f'The most resident memory of a run (GNU time), at most {MOST} MB:\n'
     yield from table(('Scenario', 'Run', 'MB'), [(name, shown(words), f'{most:.1f}') for name, _, words, most in memory(program)])
