@@ -31,10 +31,10 @@ impl Default for Act {
     }
 }
 
-/// What one event did, in the order done. Eight acts need no memory of their own.
+/// What one event did, in the order done. Two acts need no memory of their own.
 #[derive(Debug, Drop)]
 pub struct Acts {
-    items: SmallVec<Act, 8>,
+    items: SmallVec<Act, 2>,
 }
 
 impl Model for Acts {
@@ -52,7 +52,7 @@ impl Model for Acts {
 impl Acts {
     /// None yet.
     pub fn new(alloc: Global) -> Acts
-        ensures { result ≡ record { acts = []; room = 8 } }
+        ensures { result ≡ record { acts = []; room = 2 } }
     {
         Acts {
             items: SmallVec::new(alloc),

@@ -123,21 +123,21 @@ impl Port {
     /// For how many acts there is to be room, whatever is called and whenever.
     pub fn room(&self) -> usize
         ensures value { result ≡ length (waiting_in self.now.queue) + 2 }
-        ensures sends { (now : ℕ) (packet : Packet) → drops_at_offer now self.now packet + 2 ≤ result }
-        ensures frees { (now : ℕ) → drops_at now self.now + 2 ≤ result }
+        ensures sends { (now : ℕ) (packet : Packet) → drops_at_offer now self.now packet + 1 ≤ result }
+        ensures frees { (now : ℕ) → drops_at now self.now + 1 ≤ result }
     {
         self.queue.len() + 2
     }
 
-    /// For how many acts there is to be room at `now`: two, and one for each packet that the queue
+    /// For how many acts there is to be room at `now`: one, and one for each packet that the queue
     /// drops where the link takes. The cost doesn't grow with what stays in the queue.
     pub fn room_at(&self, now: Time) -> usize
         requires { IsMoment now }
-        ensures value { result ≡ drops_at now self.now + 2 }
-        ensures sends { NothingWaitsWhereIdle self.now → (packet : Packet) → drops_at_offer now self.now packet + 2 ≤ result }
-        ensures least { 2 ≤ result }
+        ensures value { result ≡ drops_at now self.now + 1 }
+        ensures sends { NothingWaitsWhereIdle self.now → (packet : Packet) → drops_at_offer now self.now packet + 1 ≤ result }
+        ensures least { 1 ≤ result }
     {
-        self.queue.drops_at(now) + 2
+        self.queue.drops_at(now) + 1
     }
 
     /// Offers a packet to the link: it is lost, or dropped as the queue is full, or it enters the
@@ -145,7 +145,7 @@ impl Port {
     /// the end of `out`, with the time of its arrival as its stamp.
     pub fn send(&mut self, cell: PacketCell, now: Time, acts: &mut Acts, out: &mut PacketChain)
         requires moment { IsMoment now }
-        requires room { drops_at_offer now self.old cell.0 + 2 ≤ acts.old.room }
+        requires room { drops_at_offer now self.old cell.0 + 1 ≤ acts.old.room }
         requires sent { self.old.next_free ≡ None → self.old.sent < 1000000000000000 }
         requires offered { self.old.offered < 2 ^ 100 }
         requires chain { self.old.next_free ≡ None → length out.old < 1000000000000000 }
@@ -183,7 +183,7 @@ impl Port {
     pub fn free(&mut self, now: Time, acts: &mut Acts, out: &mut PacketChain)
         requires moment { IsMoment now }
         requires due { self.old.next_free ≡ Some now }
-        requires room { drops_at now self.old + 2 ≤ acts.old.room }
+        requires room { drops_at now self.old + 1 ≤ acts.old.room }
         requires sent { self.old.sent < 1000000000000000 }
         requires chain { length out.old < 1000000000000000 }
         ensures state { self.new ≡ (taken now self.old).port }
