@@ -1,6 +1,6 @@
 //! Numbers of each length in lines, which no run comes to. Lines of each form, as a run has them, are in the
 //! traces beside the texts of scripts/whole/, which scripts/test_whole.py compares on the built program.
-use node_core::{Act, Acts, After, Event, Line};
+use node_core::{Act, Acts, After, Event, Line, SenderShown};
 use packet_chain::{Kind, Packet, PacketBytes};
 use reno_sender::SenderFields;
 use scenario_image::RENO;
@@ -20,7 +20,7 @@ fn key(time: u64, node: u16, source: u16, number: u64) -> Key {
 
 // A sender with these windows, that is in recovery where nothing is above the greatest number.
 fn sender(una: u64, nxt: u64, cwnd: u64, ssthresh: u64) -> After {
-    After::AtSender(SenderFields {
+    After::AtSender(SenderShown::of(&SenderFields {
         mss: 1000,
         segments: 10,
         rwnd: 64000,
@@ -41,7 +41,7 @@ fn sender(una: u64, nxt: u64, cwnd: u64, ssthresh: u64) -> After {
         variant: RENO,
         recover: None,
         partial: false,
-    })
+    }))
 }
 
 fn packet(rt: &impl Abort, kind: Kind, flow: u16, number: u64) -> Packet {

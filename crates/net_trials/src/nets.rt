@@ -6,7 +6,7 @@ use self::by_nodes::copied;
 use self::two_flows::runs_on;
 use crate::scenarios::net_of;
 use net_machine::{LinkEnds, Net, Place};
-use node_core::Line;
+use node_core::{After, Line, SenderShown};
 use std::alloc::Global;
 use std::process::Abort;
 
@@ -25,10 +25,29 @@ const REST: &str = "3 2040000 1 1 1 data 0 0 next=1000 tx=1:0:1000
 5 3080000 0 2 1 ack 0 1000 una=1000 nxt=1000 cwnd=5000 ssthresh=64000 phase=ss
 ";
 
+// What is written of the two senders is the same.
+fn is_same_sender(sender: &SenderShown, other: &SenderShown) -> bool {
+    sender.una() == other.una()
+        && sender.nxt() == other.nxt()
+        && sender.cwnd() == other.cwnd()
+        && sender.ssthresh() == other.ssthresh()
+        && sender.recovers() == other.recovers()
+}
+
+// The two nodes are in the same state.
+fn is_same_after(after: &After, other: &After) -> bool {
+    match (after, other) {
+        (After::AtSender(sender), After::AtSender(other)) => is_same_sender(sender, other),
+        (After::AtReceiver(next), After::AtReceiver(other)) => next == other,
+        (After::AtRouter, After::AtRouter) => true,
+        _ => false,
+    }
+}
+
 /// The two lines are the same.
 pub(crate) fn is_same(rt: &impl Abort, line: &Line, other: &Line) {
     assert_eq!(rt; line.key, other.key);
-    assert!(rt; line.event == other.event && line.after == other.after);
+    assert!(rt; line.event == other.event && is_same_after(&line.after, &other.after));
     assert!(rt; line.acts.as_slice() == other.acts.as_slice());
 }
 

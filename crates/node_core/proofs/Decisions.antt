@@ -95,7 +95,7 @@ receiver_decides flow state new answered arrives links key event room (Send send
     }
 
 -- a router has a route for the packet
-pub route_decides : (table : List FlowExits) (links : List LinkState) (key : Key) (packet : Packet) (room index : ℕ) → exit_for table packet ≡ Some index → index < length links → 2 ≤ room
+pub route_decides : (table : List FlowExits) (links : List LinkState) (key : Key) (packet : Packet) (room index : ℕ) → exit_for table packet ≡ Some index → index < length links → 1 ≤ room
     → IsDecided (Routes table) (Routes table) links key (Arrive packet) room (PassOn index)
 route_decides table links key packet room index exit within enough = record {
   row_is = ap (passed_on (part (Routes table) links) key packet) exit ∙ ap (with_step (part (Routes table) links) (Routes table) [] index) (sym (one_alone key.time (link_at links index).port packet));
@@ -115,4 +115,4 @@ through_decides role links key event room index routed runs enough =
     passes : (role : Role) → route_of role routed.packet ≡ Some index → CanRun (part role links) key.time (Arrive routed.packet) → IsDecided role role links key (Arrive routed.packet) room (PassOn index)
     passes (Sends flow fields) route can = absurd (cc)
     passes (Receives flow state) route can = absurd (cc)
-    passes (Routes table) route can = route_decides table links key routed.packet room index route (can index route) enough
+    passes (Routes table) route can = route_decides table links key routed.packet room index route (can index route) (omega (arith, enough))

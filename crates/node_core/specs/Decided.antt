@@ -95,19 +95,19 @@ IsArrival event = (packet : Packet) × (event ≡ Arrive packet)
 pub record CanPass (event : Event) (links : List LinkState) (room index : ℕ) : Type 0 where
   pub arrives : IsArrival event
   pub within : index < length links
-  pub room_for : 2 ≤ room
+  pub room_for : 1 ≤ room
 
 -- the event is the link's, and there is room for what its queue drops and what it sends
 pub record CanTake (key : Key) (event : Event) (links : List LinkState) (room index : ℕ) : Type 0 where
   pub frees : (link : ℕ) × (event ≡ Free link)
   pub number : key.number ≡ alarm_number (BecomesFree index)
   pub within : index < length links
-  pub room_for : drops_at key.time (link_at links index).port + 2 ≤ room
+  pub room_for : drops_at key.time (link_at links index).port + 1 ≤ room
 
 -- the end has its link, there is room for what happens to its packets, and a packet without a cell finds the arriving packet's
 pub record CanSend (event : Event) (links : List LinkState) (room : ℕ) (sending : Sending) : Type 0 where
   pub linked : 0 < length links
-  pub room_for : length (sent_by sending) + 1 ≤ room
+  pub room_for : length (sent_by sending) ≤ room
   pub few : length sending.cells ≤ 2 ^ 40
   pub timer : alarm_number sending.alarm < first_free
   pub moves : CanMove sending.alarm event
@@ -159,6 +159,6 @@ pub record IsSent (arrives : Bool) (packets : List Packet) (alarm : Alarm) (time
   pub sent : sent_by sending ≡ packets
   pub alarm_is : sending.alarm ≡ alarm
   pub time_is : sending.time ≡ time
-  pub room_for : length packets + 1 ≤ room
+  pub room_for : length packets ≤ room
   pub few : length sending.cells ≤ 2 ^ 40
   pub in_cells : arrives ≡ false → sending.last ≡ None

@@ -4,6 +4,7 @@ pub mod RouteTable
 pub mod Part
 pub mod Links
 pub mod Lending
+pub mod Shown
 pub mod Row
 pub mod TraceLine
 pub mod Opening

@@ -21,6 +21,7 @@ pub mod role;
 mod router_node;
 pub mod routes;
 mod sender_node;
+pub mod shown;
 pub mod wire;
 
 pub use alarm::Alarm;
@@ -29,4 +30,5 @@ pub use line::{After, Line};
 pub use node::Node;
 pub use outbox::Outbox;
 pub use port::{Act, Acts, DropReason, TakeDrop};
+pub use shown::SenderShown;
 pub use wire::Wire;

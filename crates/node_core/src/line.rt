@@ -3,16 +3,16 @@ ghost use Rattle.std.specs.Prelude.{◌≡◌};
 ghost use Rattle.node_core.specs.TraceLine.{shown, blank};
 
 use crate::event::Event;
+use crate::shown::SenderShown;
 use port::Acts;
-use reno_sender::SenderFields;
 use sim_time::Key;
 use std::alloc::Global;
 
 /// The state of the event's node after the event.
-#[derive(Clone, Copy, Debug, PartialEq, Eq)]
+#[derive(Drop)]
 pub enum After {
-    /// All that the sender keeps.
-    AtSender(SenderFields),
+    /// The sender.
+    AtSender(SenderShown),
     /// The next byte that the receiver waits for.
     AtReceiver(u64),
     /// A router keeps nothing that is shown.
@@ -20,7 +20,7 @@ pub enum After {
 }
 
 /// What one event was and did.
-#[derive(Debug, Drop)]
+#[derive(Drop)]
 pub struct Line {
     /// When and where it was due.
     pub key: Key,
@@ -51,3 +51,6 @@ impl Line {
         }
     }
 }
+
+// Windows keep thousands of lines, so that their bytes are what windows cost.
+const _: () = prove!(size_of::<Line>() == 160);

@@ -75,7 +75,7 @@ impl Link {
         out: &mut PacketChain,
     )
         requires can { CanOffer now self.old out.old }
-        requires room { 2 ≤ acts.old.room }
+        requires room { 1 ≤ acts.old.room }
         ensures { HasStepped (offered_one now self.old.port cell.0) self.old self.new out.old out.new acts.old.acts acts.new.acts }
     {
         self.port.send(cell, now, acts, out);
@@ -91,7 +91,7 @@ impl Link {
         out: &mut PacketChain,
     )
         requires moment { IsMoment now }
-        requires room { length cells + 1 ≤ acts.old.room }
+        requires room { length cells ≤ acts.old.room }
         requires sent { self.old.port.sent < 1000000000000000 }
         requires offered { self.old.port.offered + length cells ≤ 2 ^ 99 }
         requires chain { length out.old < 1000000000000000 }
@@ -115,7 +115,7 @@ impl Link {
         out: &mut PacketChain,
     )
         requires can { CanOffer now self.old out.old }
-        requires room { length (all_of cells last) + 1 ≤ acts.old.room }
+        requires room { length (all_of cells last) ≤ acts.old.room }
         requires few { length cells ≤ 2 ^ 40 }
         ensures { HasStepped (offered_all now self.old.port (all_of cells last)) self.old self.new out.old out.new acts.old.acts acts.new.acts }
     {
@@ -136,7 +136,7 @@ impl Link {
     pub fn free(&mut self, now: Time, acts: &mut Acts, out: &mut PacketChain)
         requires moment { IsMoment now }
         requires due { self.old.port.next_free ≡ Some now }
-        requires room { drops_at now self.old.port + 2 ≤ acts.old.room }
+        requires room { drops_at now self.old.port + 1 ≤ acts.old.room }
         requires sent { self.old.port.sent < 1000000000000000 }
         requires chain { length out.old < 1000000000000000 }
         ensures state { self.new ≡ record self.old { port = (taken now self.old.port).port } }

@@ -42,7 +42,7 @@ pub(crate) fn answer_data(
     ensures same { OnErr result (receiver.new ≡ receiver.old) }
     ensures acts { acts.new.acts ≡ acts.old.acts }
 {
-    acts.reserve(2)?;
+    acts.reserve(1)?;
     let reply = receiver.on_data(number, now)?;
     Ok(Decision::Send(Sending {
         cells: PacketChain::new(origin.alloc),
@@ -63,7 +63,7 @@ pub(crate) fn answer_delayed(
     ensures same { OnErr result (receiver.new ≡ receiver.old) }
     ensures acts { acts.new.acts ≡ acts.old.acts }
 {
-    acts.reserve(2)?;
+    acts.reserve(1)?;
     let cell = PacketCell::new(origin.alloc, acknowledgement(origin.flow, receiver.next()))?;
     let mut cells = PacketChain::new(origin.alloc);
     cells.push_back(cell);

@@ -4,35 +4,11 @@ ghost use Rattle.std.specs.Prelude.{◌≡◌, IfOk};
 use crate::event::Event;
 use crate::line::After;
 use crate::routes::RouteTable;
+use crate::shown::SenderShown;
 use packet_chain::{Kind, Packet};
 use reno_receiver::Receiver;
-use reno_sender::{Sender, SenderFields};
-use sim_time::RENO;
+use reno_sender::Sender;
 use std::alloc::AllocError;
-
-/// What stands where a sender's fields are shown until they are written: zeros.
-const NO_FIELDS: SenderFields = SenderFields {
-    mss: 0,
-    segments: 0,
-    rwnd: 0,
-    variant: RENO,
-    una: 0,
-    nxt: 0,
-    high: 0,
-    cwnd: 0,
-    ssthresh: 0,
-    dups: 0,
-    lt: 0,
-    recovery: false,
-    recover: None,
-    partial: false,
-    timing: None,
-    srtt: None,
-    rttvar: 0,
-    rto: 0,
-    deadline: None,
-    resent: false,
-};
 
 /// What a node does, with all that it keeps for it.
 #[derive(Debug, Drop)]
@@ -105,13 +81,9 @@ impl Role {
         // Two states of one kind share their place, so that nothing else is written.
         match self {
             Role::Sends(_, sender) => match after {
-                After::AtSender(fields) => *fields = *sender.as_fields(),
+                After::AtSender(shown) => shown.set(sender.as_fields()),
                 After::AtReceiver(_) | After::AtRouter => {
-                    // The fields are then copied once, straight to their place.
-                    *after = After::AtSender(NO_FIELDS);
-                    if let After::AtSender(fields) = after {
-                        *fields = *sender.as_fields();
-                    }
+                    *after = After::AtSender(SenderShown::of(sender.as_fields()));
                 }
             },
             Role::Receives(_, receiver) => match after {

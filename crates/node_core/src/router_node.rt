@@ -32,7 +32,7 @@ pub(crate) fn pass_packet(
     let Some(index) = table.exit(&packet) else {
         return Ok(Decision::Leave);
     };
-    acts.reserve(2)?;
+    acts.reserve(1)?;
     Ok(Decision::PassOn(index))
 }
 

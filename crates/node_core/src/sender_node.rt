@@ -30,7 +30,7 @@ pub(crate) fn send_plan(
     ensures same { OnErr result (sender.new ≡ sender.old) }
     ensures acts { acts.new.acts ≡ acts.old.acts }
 {
-    acts.reserve(plan.count() as usize + 2)?;
+    acts.reserve(plan.count() as usize + 1)?;
     let mss = plan.as_fields().mss;
     let cells = segments(origin, mss, plan.resent(), plan.first(), plan.count())?;
     sender.commit_lent(plan);
@@ -55,7 +55,7 @@ fn send_behind(
     ensures same { OnErr result (sender.new ≡ sender.old) }
     ensures acts { acts.new.acts ≡ acts.old.acts }
 {
-    acts.reserve(plan.count() as usize + 2)?;
+    acts.reserve(plan.count() as usize + 1)?;
     let (cells, last) = but_last(origin, plan)?;
     sender.commit_lent(plan);
     Ok(Decision::Send(Sending {
@@ -87,7 +87,7 @@ pub(crate) fn send_for_ack(
         return send_behind(origin, sender, &plan, acts);
     };
     let mss = sender.as_fields().mss;
-    acts.reserve(run.count as usize + 2)?;
+    acts.reserve(run.count as usize)?;
     let (cells, last) = run_but_last(origin, mss, run)?;
     sender.take_run(number, now, run);
     Ok(Decision::Send(Sending {

@@ -59,7 +59,7 @@ pub(super) fn run_next(rt: &impl Abort, net: &mut Net, line: &mut Line) -> bool 
                 .step_into(line)
                 .ok()
                 .expect(rt, "one request is refused");
-            assert!(rt; fired && line.after != After::AtRouter);
+            assert!(rt; fired && !matches!(line.after, After::AtRouter));
             fired
         }
     }

@@ -11,10 +11,6 @@ use Rattle.node_core.specs.Row.{data_packet}
 use Rattle.node_core.proofs.Runs.{few_in_cells, few_run, flow_fits}
 use Rattle.node_core.proofs.sender_node.send_for_ack.Goals as goal
 
-pub overflow_add-run : goal.overflow_add-run
-overflow_add-run c =
-    omega (arith, run_few c.args.sender.now c.args.number c.args.now c.in-Some.run' c.as_fields.ensures.sound c.requires.moment c.requires.ack c.in-Some.ensures)
-
 pub run_but_last-requires-clause-numbers : goal.run_but_last-requires-clause-numbers
 run_but_last-requires-clause-numbers c =
     let f = c.args.sender.now in

@@ -13,7 +13,7 @@ invariant-loop-cell l =
       left : IsLeft l.now l.self-inside.port l.out l.acts.acts (packets_of l.cells) all.port (l.fn.out ++ departed all.departure) (l.fn.acts.acts ++ all.acts);
       idle : NothingWaitsWhereIdle l.self-inside.port;
       fits : Fits l.self-inside.port (length l.out);
-      room : length l.cells + 1 ≤ l.acts.room;
+      room : length l.cells ≤ l.acts.room;
       counted : l.self-inside.port.offered + length l.cells ≤ 2 ^ 99;
       same : l.self-inside.to ≡ l.fn.self.to;
     }
