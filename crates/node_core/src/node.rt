@@ -238,7 +238,7 @@ impl Node {
         ensures same_out { OnErr result (out.new ≡ out.old) }
     {
         self.agenda.tell_least(&mut line.key, &mut line.event);
-        line.acts.clear();
+        line.acts.reset();
         let left = run(&mut self.role, &mut self.links, &mut self.agenda, line, out)?;
         self.role.show(&mut line.after);
         Ok(left)

@@ -102,10 +102,25 @@ impl Acts {
         self.items.push_reserved(act);
     }
 
-    /// Forgets the acts, and keeps their memory for the next.
-    pub fn clear(&mut self)
-        ensures { self.new ≡ record { acts = []; room = self.old.room + length self.old.acts } }
+    /// Forgets the acts. Memory of their own goes back, since few events need any, and the next one's acts are to
+    /// lie beside the rest of its line.
+    #[inline(always)]
+    pub fn reset(&mut self)
+        ensures { self.new ≡ record { acts = []; room = 2 } }
     {
         self.items.clear();
+        if self.items.spilled() {
+            self.give_back();
+        }
+    }
+
+    // Gives the memory of no acts back.
+    #[cold]
+    #[inline(never)]
+    fn give_back(&mut self)
+        requires { self.old.acts ≡ [] }
+        ensures { self.new ≡ record { acts = []; room = 2 } }
+    {
+        self.items.shrink_to_fit();
     }
 }

@@ -122,11 +122,11 @@ impl Port {
 
     /// For how many acts there is to be room, whatever is called and whenever.
     pub fn room(&self) -> usize
-        ensures value { result ≡ length (waiting_in self.now.queue) + 2 }
+        ensures value { result ≡ length (waiting_in self.now.queue) + 1 }
         ensures sends { (now : ℕ) (packet : Packet) → drops_at_offer now self.now packet + 1 ≤ result }
         ensures frees { (now : ℕ) → drops_at now self.now + 1 ≤ result }
     {
-        self.queue.len() + 2
+        self.queue.len() + 1
     }
 
     /// For how many acts there is to be room at `now`: one, and one for each packet that the queue
