@@ -1,3 +1,4 @@
 pub mod Sheaves
 pub mod Cuts
 pub mod Rests
+pub mod Sent

@@ -16,3 +16,4 @@ pub mod AtFirst
 pub mod InOrder
 pub mod Entries
 pub mod Copies
+pub mod Sent

@@ -25,8 +25,8 @@ use Rattle.node_group.specs.contracts.share.Share.TheInside as InsideShare
 use Rattle.net_partition.specs.contracts.partition.Partition as Partition
 use Rattle.node_group.proofs.area.Area.TheSendSync as area
 use Rattle.net_machine.proofs.places.LinkEnds.TheSendSync as ends
+use Rattle.node_core.proofs.Sent.{line_send}
 use Rattle.node_core.proofs.outbox.Outbox.TheSendSync as outbox
-use Rattle.node_core.proofs.line.Line.TheSendSync as line
 use Rattle.atomic_table.proofs.shared.Seat.TheSendSync as seat
 use Rattle.atomic_table.proofs.owned.Table.TheSendSync as table
 use Rattle.std.proofs.alloc.Global.TheSendSync as global
@@ -36,7 +36,7 @@ share_partition : IsSend (Snapshot.the_row Partition.the_row)
 share_partition = search sendable depth 20
 
 inside_share_send : IsSend InsideShare.the_row
-inside_share_send = declared_send InsideShare.the_type (search sendable, (share_partition, (heap.Vec-send _ ends.the_send, (area.the_send, (outbox.the_send, (heap.Vec-send _ line.the_send, (search sendable, (search sendable, (search sendable, (global.the_send, tt))))))))))
+inside_share_send = declared_send InsideShare.the_type (search sendable, (share_partition, (heap.Vec-send _ ends.the_send, (area.the_send, (outbox.the_send, (heap.Vec-send _ line_send, (search sendable, (search sendable, (search sendable, (global.the_send, tt))))))))))
 
 share_send : IsSend Share.the_row
 share_send = view_send _ _ _ _ _ inside_share_send

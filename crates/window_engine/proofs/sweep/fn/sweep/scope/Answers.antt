@@ -4,8 +4,7 @@ use denote.Param.Send.{IsSend, IsSync, sendable}
 use denote.Param.SendFields.{declared_send, declared_sync}
 use Rattle.std.specs.declared.thread.PromisedHandle.{PromisedHandle}
 use Rattle.work_board.proofs.Sent.{seat_send, board_sync}
-use Rattle.line_merge.proofs.sheaf.Sheaf.TheSendSync as sheaf
-use Rattle.line_merge.specs.contracts.sheaf.Sheaf as Sheaf
+use Rattle.line_merge.proofs.Sent.{sheaf_sync}
 use Rattle.window_engine.specs.contracts.sweep.Shift as Shift
 use Rattle.window_engine.specs.contracts.sweep.Tasks as Tasks
 use Rattle.window_engine.specs.declared.sweep.Shift.{Shift as ShiftValue}
@@ -14,9 +13,6 @@ use Rattle.window_engine.proofs.scribe.Parts.TheSendSync as parts
 use Rattle.window_engine.proofs.scribe.Scribe.TheSendSync as scribe
 use Rattle.window_engine.proofs.sweep.fn.sweep.scope.Goals as goal
 use Rattle.window_engine.proofs.sweep.fn.sweep.scope.Goals.{in-Ok-spawn_with, in-Err}
-
-sheaf_sync : IsSync Sheaf.the_row
-sheaf_sync = sheaf.the_sync
 
 tasks_sync : IsSync Tasks.the_row
 tasks_sync = declared_sync Tasks.the_type (board_sync, (parts.the_sync, tt))
