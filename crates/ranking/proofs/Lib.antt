@@ -4,3 +4,4 @@ pub mod Maps
 pub mod Moments
 pub mod Replays
 pub mod Winners
+pub mod Rising

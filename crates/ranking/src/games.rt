@@ -1,8 +1,8 @@
 //! A tree of winners over places, flat: node j has the first of what nodes 2j and 2j + 1 have, and
 //! the last half of the nodes have the places themselves.
-ghost use Rattle.std.specs.Prelude.{◌≡◌, ◌≢◌, ℕ, ◌+◌, ◌*◌, ◌/◌, ◌^◌, ◌<◌, ◌≤◌, length, IfOk};
+ghost use Rattle.std.specs.Prelude.{◌≡◌, ◌≢◌, ℕ, ◌+◌, ◌*◌, ◌/◌, ◌^◌, ◌<◌, ◌≤◌, length, IfOk, IfSome, MatchOption};
 ghost use Rattle.ranking.specs.Tournament.{AllWon, AreDated, AreOwn, AreWithin, standing_at, won_below};
-ghost use Rattle.ranking.specs.Replayed.{WonBut};
+ghost use Rattle.ranking.specs.Replayed.{WonBut, IsRising, IsReplayed};
 
 use crate::standing::{Standing, second_leads};
 use std::alloc::{AllocError, Global};
@@ -31,38 +31,6 @@ fn beside(at: usize) -> usize
     at ^ 1
 }
 
-/// Plays the games above a place, whose standing has changed, from the place, of this moment, up to
-/// the root.
-#[inline(always)]
-pub(crate) fn games_above(leaves: &[Standing], winners: &mut [u32], place: u32, mut moment: u64)
-    requires size { length winners.old ≡ 2 * length leaves.now }
-    requires place { place < length leaves.now }
-    requires moment { moment ≡ (standing_at leaves.now place).moment }
-    requires within { AreWithin (length leaves.now) winners.old }
-    requires own { AreOwn (length leaves.now) winners.old }
-    requires dated { AreDated leaves.now }
-    requires won { WonBut leaves.now winners.old ((length leaves.now + place) / 2) }
-    ensures within { AreWithin (length leaves.now) winners.new }
-    ensures own { AreOwn (length leaves.now) winners.new }
-    ensures won { AllWon leaves.now winners.new }
-{
-    let mut first = place;
-    let mut at = leaves.len() + place as usize;
-    while at != 1 {
-        let other = winners[beside(at)];
-        let its = leaves[other as usize].moment;
-        at /= 2;
-        if its == moment {
-            games_from(leaves, winners, at);
-            return;
-        }
-        // Which comes first cannot be guessed, so it is chosen with no branch.
-        first = if its < moment { other } else { first };
-        moment = moment.min(its);
-        winners[at] = first;
-    }
-}
-
 // Plays the games from a node up to the root by whole standings, as the moments of two are equal.
 #[cold]
 #[inline(never)]
@@ -82,6 +50,144 @@ fn games_from(leaves: &[Standing], winners: &mut [u32], node: usize)
         winners[at] = winner(leaves, winners, at);
         at /= 2;
     }
+}
+
+// How far the games above a place are played.
+#[derive(Clone, Copy)]
+struct Climb {
+    // The node whose game was played last.
+    at: usize,
+    // The place that it has.
+    first: u32,
+    // That place's moment.
+    moment: u64,
+}
+
+// The place of the lesser of two moments that differ.
+#[inline(always)]
+fn lesser(climb: Climb, other: u32, its: u64) -> u32
+    ensures other { its < climb.moment → result ≡ other }
+    ensures first { climb.moment ≤ its → result ≡ climb.first }
+{
+    // Which comes first cannot be guessed, so it is chosen with no branch.
+    if its < climb.moment {
+        other
+    } else {
+        climb.first
+    }
+}
+
+// Plays the next game. Where two have the same moment it plays all that are left, and there is nothing to go on
+// with.
+#[inline(always)]
+fn rise(leaves: &[Standing], winners: &mut [u32], climb: Climb) -> Option<Climb>
+    requires inner { 1 < climb.at }
+    requires dated { AreDated leaves.now }
+    requires rising { IsRising leaves.now winners.old climb.at climb.first climb.moment }
+    ensures half { IfSome result (λ next. next.at ≡ climb.at / 2) }
+    ensures rising { MatchOption result (IsReplayed leaves.now winners.new) (λ next. IsRising leaves.now winners.new next.at next.first next.moment) }
+{
+    let other = winners[beside(climb.at)];
+    let its = leaves[other as usize].moment;
+    let node = climb.at / 2;
+    if its == climb.moment {
+        games_from(leaves, winners, node);
+        return None;
+    }
+    let first = lesser(climb, other, its);
+    winners[node] = first;
+    Some(Climb {
+        at: node,
+        first,
+        moment: climb.moment.min(its),
+    })
+}
+
+// Plays the next game where the last node is not below this one.
+#[inline(always)]
+fn rise_below(leaves: &[Standing], winners: &mut [u32], climb: Climb, bound: usize) -> Option<Climb>
+    requires bound { 1 < bound }
+    requires near { climb.at < 2 * bound }
+    requires dated { AreDated leaves.now }
+    requires rising { IsRising leaves.now winners.old climb.at climb.first climb.moment }
+    ensures below { IfSome result (λ next. next.at < bound) }
+    ensures rising { MatchOption result (IsReplayed leaves.now winners.new) (λ next. IsRising leaves.now winners.new next.at next.first next.moment) }
+{
+    if climb.at >= bound {
+        rise(leaves, winners, climb)
+    } else {
+        Some(climb)
+    }
+}
+
+// Plays games until the last node is below 128.
+#[inline(always)]
+fn rise_far(leaves: &[Standing], winners: &mut [u32], start: Climb) -> Option<Climb>
+    requires dated { AreDated leaves.now }
+    requires rising { IsRising leaves.now winners.old start.at start.first start.moment }
+    ensures below { IfSome result (λ next. next.at < 128) }
+    ensures rising { MatchOption result (IsReplayed leaves.now winners.new) (λ next. IsRising leaves.now winners.new next.at next.first next.moment) }
+{
+    let mut climb = start;
+    while climb.at >= 128 {
+        climb = rise(leaves, winners, climb)?;
+    }
+    Some(climb)
+}
+
+// Plays games until the last node is below 16.
+#[inline(always)]
+fn rise_high(leaves: &[Standing], winners: &mut [u32], climb: Climb) -> Option<Climb>
+    requires dated { AreDated leaves.now }
+    requires rising { IsRising leaves.now winners.old climb.at climb.first climb.moment }
+    ensures below { IfSome result (λ next. next.at < 16) }
+    ensures rising { MatchOption result (IsReplayed leaves.now winners.new) (λ next. IsRising leaves.now winners.new next.at next.first next.moment) }
+{
+    if climb.at < 16 {
+        return Some(climb);
+    }
+    let climb = rise_far(leaves, winners, climb)?;
+    let climb = rise_below(leaves, winners, climb, 64)?;
+    let climb = rise_below(leaves, winners, climb, 32)?;
+    rise_below(leaves, winners, climb, 16)
+}
+
+// Plays all games that are left.
+#[inline(always)]
+fn rise_up(leaves: &[Standing], winners: &mut [u32], climb: Climb) -> Option<Climb>
+    requires dated { AreDated leaves.now }
+    requires rising { IsRising leaves.now winners.old climb.at climb.first climb.moment }
+    ensures below { IfSome result (λ next. next.at < 2) }
+    ensures rising { MatchOption result (IsReplayed leaves.now winners.new) (λ next. IsRising leaves.now winners.new next.at next.first next.moment) }
+{
+    let climb = rise_high(leaves, winners, climb)?;
+    let climb = rise_below(leaves, winners, climb, 8)?;
+    let climb = rise_below(leaves, winners, climb, 4)?;
+    rise_below(leaves, winners, climb, 2)
+}
+
+/// Plays the games above a place, whose standing has changed, from the place, of this moment, up to
+/// the root. Each of the last levels has a branch of its own, since how many there are differs from ranking to
+/// ranking, and the end of one loop for all could not be guessed.
+#[inline(always)]
+pub(crate) fn games_above(leaves: &[Standing], winners: &mut [u32], place: u32, moment: u64)
+    requires size { length winners.old ≡ 2 * length leaves.now }
+    requires place { place < length leaves.now }
+    requires moment { moment ≡ (standing_at leaves.now place).moment }
+    requires within { AreWithin (length leaves.now) winners.old }
+    requires own { AreOwn (length leaves.now) winners.old }
+    requires dated { AreDated leaves.now }
+    requires won { WonBut leaves.now winners.old ((length leaves.now + place) / 2) }
+    ensures within { AreWithin (length leaves.now) winners.new }
+    ensures own { AreOwn (length leaves.now) winners.new }
+    ensures won { AllWon leaves.now winners.new }
+{
+    let climb = Climb {
+        at: leaves.len() + place as usize,
+        first: place,
+        moment,
+    };
+    let _root = rise_up(leaves, winners, climb);
 }
 
 /// The tree of these places: each game is played after those below it.

@@ -106,10 +106,6 @@ impl Ranking {
     {
         let time = key.time;
         let leaf = &mut self.leaves[place];
-        // An alarm often stays.
-        if leaf.key.time == time && leaf.held == held && leaf.key == key {
-            return;
-        }
         leaf.key = key;
         let moment = moment_of(time, place as u32, held);
         leaf.moment = moment;

@@ -1,17 +1,10 @@
 use Rattle.std.proofs.Common.{◌≡◌, ◌+◌, ◌/◌, ◌<◌, List, length, set, sym, ap, ◌∙◌, subst, rules, arith}
 use Rattle.std.proofs.lemmas.List.{get_or_read, length-map, length-set, with_items_is}
 use Rattle.ranking.specs.declared.standing.Standing.{Standing}
-use Rattle.ranking.specs.Tournament.{ranks_of, rank_of, moment_of, no_standing, standing_at, AreDated, IsDated, IsTournament}
+use Rattle.ranking.specs.Tournament.{rank_of, moment_of, no_standing, standing_at, AreDated, IsDated, IsTournament}
 use Rattle.ranking.specs.Replayed.{WonBut}
 use Rattle.ranking.proofs.Replays.{changed, dated_anew, tournament_anew, ranks_anew}
 use Rattle.ranking.proofs.ranking.Ranking.put.Goals as goal
-
-pub returns-then-eq : goal.returns-then-eq
-returns-then-eq c =
-    let leaf = c.index_mut-leaf.result.now in
-    let standing : Standing = record { key = c.args.key; moment = leaf.moment; place = leaf.place; held = c.args.held } in
-    let same : leaf ≡ standing = search rules in
-    ranks_anew c.self.inside.leaves.items c.args.place leaf ∙ ap (set (ranks_of c.self.inside.leaves.items) c.args.place) (ap rank_of same) ∙ ap (λ r. set r c.args.place (rank_of standing)) c.self.view_is
 
 pub games_above-requires-clause-dated : goal.games_above-requires-clause-dated
 games_above-requires-clause-dated c =
@@ -33,8 +26,8 @@ games_above-requires-clause-won c =
     (subst (λ w. WonBut (set old place standing) w ((length (set old place standing) + place) / 2)) (sym c.deref_mut.ensures.value)
     (changed old c.self.inside.winners.items place t.size t.own t.won standing ((length (set old place standing) + place) / 2) (ap (λ n. (n + place) / 2) (length-set old place standing))))
 
-pub invariant_of-self-2 : goal.invariant_of-self-2
-invariant_of-self-2 c =
+pub invariant_of-self : goal.invariant_of-self
+invariant_of-self c =
     let old = c.self.inside.leaves.items in
     let within : c.args.place < length old = subst (λ n. c.args.place < n) (ap length (sym c.self.view_is) ∙ length-map old rank_of) c.requires in
     let leaf : c.index_mut-leaf.result.now ≡ standing_at old c.args.place = get_or_read old c.args.place c.index_mut-leaf.result.now within c.index_mut-leaf.ensures.value no_standing in
