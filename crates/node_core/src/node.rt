@@ -237,8 +237,9 @@ impl Node {
         ensures same { OnErr result (self.new ≡ self.old) }
         ensures same_out { OnErr result (out.new ≡ out.old) }
     {
-        self.agenda.tell_least(&mut line.key, &mut line.event);
         line.acts.reset();
+        // Told last, so that what it is need not be asked again to run it.
+        self.agenda.tell_least(&mut line.key, &mut line.event);
         let left = run(&mut self.role, &mut self.links, &mut self.agenda, line, out)?;
         self.role.show(&mut line.after);
         Ok(left)
