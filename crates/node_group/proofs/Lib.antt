@@ -1,5 +1,7 @@
 pub mod Seated
+pub mod Numbered
 pub mod AtSeats
+pub mod AtNumber
 pub mod HeldBack
 pub mod Listed
 pub mod Made

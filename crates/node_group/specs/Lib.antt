@@ -1,4 +1,5 @@
 pub mod Seats
+pub mod Numbered
 pub mod Held
 pub mod Group
 pub mod GroupCode

@@ -1,5 +1,6 @@
 -- The shares of a net that is split into groups.
-use Rattle.std.specs.Prelude.{◌≡◌, ◌<◌, ◌≤◌, ◌==◌, ◌^◌, ℕ, if◌then◌else◌, List, [], length, count_by, take, replicate, slice_index_or, Some, None}
+use Rattle.std.specs.Prelude.{◌≡◌, ◌≢◌, ◌<◌, ◌≤◌, ◌+◌, ◌==◌, ◌^◌, ℕ, if◌then◌else◌, List, [], length, count_by, take, replicate, slice_index_or, vec_capacity, Some, None}
+use Rattle.std.specs.List.{slice_get}
 use Rattle.node_core.specs.Node.{NodeState}
 use Rattle.node_core.specs.AgendaState.{incoming_at}
 use Rattle.node_core.specs.Part.{link_at}
@@ -10,6 +11,7 @@ use Rattle.net_machine.specs.Wiring.{ends_at, place_at}
 use Rattle.node_group.specs.declared.share.ShareParts.{ShareParts}
 use Rattle.net_partition.specs.Partition.{group_in}
 use Rattle.node_group.specs.Seats.{Seats}
+use Rattle.node_group.specs.Numbered.{AreFound}
 use Rattle.node_group.specs.Held.{wire_at}
 use Rattle.node_group.specs.Group.{GroupValue}
 
@@ -41,19 +43,43 @@ pub record AreJoined (links : List LinkEnds) (nodes : List NodeState) : Type 0 w
   pub came : (link : ℕ) → link < length links → (idle_wire links nodes link).taken ≡ sent_over links nodes link
   pub most : (link : ℕ) → link < length links → sent_over links nodes link ≤ 2 ^ 50
 
--- room for a share: no node is seated, and nothing is on its way
-pub record IsRoom (links : List LinkEnds) (nodes : List NodeState) (room : ShareParts) : Type 0 where
+-- where a node is that has not joined
+abbrev pub nowhere : ℕ
+nowhere = 4294967295
+
+-- how many nodes are in a group
+abbrev pub size_of : ℕ → List ℕ → ℕ
+size_of number entries = count_by (λ entry. entry == number) entries
+
+-- room for the share of a group: no node has joined, there is room for all that will, and nothing is on its way
+pub record IsRoom (entries : List ℕ) (links : List LinkEnds) (nodes : List NodeState) (number : ℕ) (room : ShareParts) : Type 0 where
   pub links_are : room.links.items ≡ links
-  pub empty : room.members ≡ replicate (length nodes) None
+  pub empty : room.members.nodes.items ≡ []
+  pub nobody : room.members.index.items ≡ replicate (length entries) nowhere
+  pub size : length room.members.ranking ≡ size_of number entries
+  pub few : length room.members.ranking ≤ 2 ^ 31
+  pub capacity : length room.members.ranking ≤ vec_capacity room.members.nodes
   pub idle : AreIdle links nodes room.exits
   pub out_empty : room.out ≡ replicate 16 []
 
--- a room in which the nodes from a number on have taken their seats
+abbrev pub AreRooms : List ℕ → List LinkEnds → List NodeState → List ShareParts → Type 0
+AreRooms entries links nodes rooms = (number : ℕ) (d : ShareParts) → number < length rooms → IsRoom entries links nodes number (slice_index_or rooms number d)
+
+-- of the nodes of a group those from a number on have joined, and there is room for the others
+pub record HaveJoined (first : ℕ) (entries : List ℕ) (nodes : List NodeState) (number : ℕ) (joined : List NodeState) (index : List ℕ) (room : ℕ) : Type 0 where
+  pub count : length index ≡ length entries
+  pub before : (i : ℕ) → i < length entries → i < first → slice_index_or index i nowhere ≡ nowhere
+  pub others : (i : ℕ) → i < length entries → group_in entries i ≢ number → slice_index_or index i nowhere ≡ nowhere
+  pub behind : (i : ℕ) → i < length entries → first ≤ i → group_in entries i ≡ number → slice_get joined (slice_index_or index i nowhere) ≡ Some (node_at nodes i)
+  pub found : AreFound joined index
+  pub fits : length joined + size_of number (take first entries) ≡ room
+  pub few : room ≤ 2 ^ 31
+
+-- a room in which the nodes from a number on have joined
 pub record IsSeatedFrom (first : ℕ) (entries : List ℕ) (links : List LinkEnds) (nodes : List NodeState) (number : ℕ) (room : ShareParts) : Type 0 where
   pub links_are : room.links.items ≡ links
-  pub count : length room.members ≡ length entries
-  pub before : (i : ℕ) → i < length entries → i < first → slice_index_or room.members i None ≡ None
-  pub behind : (i : ℕ) → i < length entries → first ≤ i → slice_index_or room.members i None ≡ (if group_in entries i == number then Some (node_at nodes i) else None)
+  pub joined : HaveJoined first entries nodes number room.members.nodes.items room.members.index.items (length room.members.ranking)
+  pub capacity : length room.members.ranking ≤ vec_capacity room.members.nodes
   pub idle : AreIdle links nodes room.exits
   pub out_empty : room.out ≡ replicate 16 []
 

@@ -1,5 +1,5 @@
 //! The nodes of a group, ranked by their next keys.
-ghost use Rattle.std.specs.Prelude.{◌≡◌, ◌≢◌, ◌+◌, ◌<◌, ◌≤◌, ◌^◌, [], ℕ, All, IfOk, OnOk, OnErr, MatchOption, Option, Some, None, is_some, length, slice_set, slice_index_or, replicate};
+ghost use Rattle.std.specs.Prelude.{◌≡◌, ◌≢◌, ◌==◌, ◌+◌, ◌<◌, ◌≤◌, ◌^◌, ◌++◌, ◌∷◌, [], ℕ, All, IfOk, OnOk, OnErr, MatchOption, Option, Some, None, is_some, length, map as each, slice_set, slice_index_or, replicate, count_by, vec_capacity};
 ghost use Rattle.std.specs.Option.{option_map, option_copied};
 ghost use Rattle.std.specs.List.Sorted.{IsStrictlyIncreasing};
 ghost use Rattle.sim_time.specs.declared.key.Key.{Key};
@@ -12,9 +12,11 @@ ghost use Rattle.node_core.specs.Row.{Leaving, row};
 ghost use Rattle.node_core.specs.Ready.{IsRunnable};
 ghost use Rattle.node_core.specs.TraceLine.{shown};
 ghost use Rattle.node_core.specs.Node.{NodeState, delivered, HasFired};
-ghost use Rattle.net_machine.specs.Nodes.{node_at, net_pending, IsPlaced, IsFirst};
-ghost use Rattle.node_group.specs.Seats.{Seats, seated, taken};
+ghost use Rattle.net_machine.specs.Nodes.{node_at, pendings, net_pending, IsPlaced, IsFirst};
+ghost use Rattle.node_group.specs.Seats.{seated, taken};
+ghost use Rattle.node_group.specs.Numbered.{seats_of, AreFound};
 
+use net_partition::Partition;
 use node_core::{Line, Node, Outbox};
 use packet_chain::PacketChain;
 use ranking::Ranking;
@@ -22,52 +24,127 @@ use sim_time::Key;
 use std::alloc::{AllocError, Global};
 use std::marker::Model;
 
-/// The nodes of a group, each at its number in the net.
+/// Where a node is that is not among those of a group.
+const NOWHERE: u32 = u32::MAX;
+
+/// What the nodes of a group are made of, while they join one after another.
+#[derive(Drop)]
+pub struct MemberParts {
+    /// The nodes that have joined, in that order.
+    pub nodes: Vec<Node>,
+    /// For each node of the net, by its number, which of these it is; none of them where it has not
+    /// joined.
+    pub index: Vec<u32>,
+    /// A ranking of as many places as nodes are to join, whatever it holds.
+    pub ranking: Ranking,
+}
+
+/// The nodes of a group.
 #[derive(Drop)]
 pub struct Members {
-    /// The node of each number, where it is in the group.
-    seats: Vec<Option<Node>>,
+    /// The nodes, and none of other groups between them.
+    nodes: Vec<Node>,
+    /// For each node of the net, by its number, which of these it is; none of them where it is
+    /// another group's.
+    index: Vec<u32>,
     /// The next key of each node.
     ranking: Ranking,
 }
 
 impl Model for Members {
-    ghost use Rattle.node_group.specs.Seats.{Seats, seats_code, seated};
-    ghost use Rattle.net_machine.specs.Nodes.{IsRanked};
+    ghost use Rattle.node_group.specs.Seats.{Seats, seats_code};
+    ghost use Rattle.node_group.specs.Numbered.{seats_of, AreMembers};
 
     ghost Value = { Seats };
 
     ghost coded = { seats_code };
 
-    ghost view = { λ m. m.seats.items };
+    ghost view = { λ m. seats_of m.nodes.items m.index.items };
 
-    ghost invariant = { λ m. IsRanked (seated m.seats.items) m.ranking };
+    ghost invariant = { λ m. AreMembers m.nodes.items m.index.items m.ranking };
+}
+
+// How many nodes are in a group.
+fn size_of(partition: &Partition, number: usize) -> usize
+    ensures count { result ≡ count_by (λ entry. entry == number) partition.now }
+    ensures most { result ≤ length partition.now }
+{
+    let mut size = 0;
+    for node in 0..partition.nodes() {
+        if partition.group(node) == number {
+            size += 1;
+        }
+    }
+    size
+}
+
+impl MemberParts {
+    /// Room for the nodes of a group, of which none has joined yet.
+    pub(crate) fn new(
+        alloc: Global,
+        partition: &Partition,
+        number: usize,
+    ) -> Result<MemberParts, AllocError>
+        requires { length partition.now ≤ 2 ^ 31 }
+        ensures nodes { IfOk result (λ parts. parts.nodes.items ≡ []) }
+        ensures index { IfOk result (λ parts. parts.index.items ≡ replicate (length partition.now) 4294967295) }
+        ensures size { IfOk result (λ parts. length parts.ranking ≡ count_by (λ entry. entry == number) partition.now) }
+        ensures few { IfOk result (λ parts. length parts.ranking ≤ 2 ^ 31) }
+        ensures capacity { IfOk result (λ parts. length parts.ranking ≤ vec_capacity parts.nodes) }
+    {
+        let size = size_of(partition, number);
+        Ok(MemberParts {
+            nodes: Vec::with_capacity(alloc, size)?,
+            index: vec![in alloc; NOWHERE; partition.nodes()]?,
+            ranking: Ranking::new(alloc, size)?,
+        })
+    }
+
+    /// A node joins, of this number. No memory is taken.
+    pub(crate) fn join(&mut self, number: usize, node: Node)
+        requires within { number < length self.old.index.items }
+        requires room { length self.old.nodes.items < vec_capacity self.old.nodes }
+        requires few { length self.old.nodes.items < 2 ^ 31 }
+        ensures nodes { self.new.nodes.items ≡ self.old.nodes.items ++ node ∷ [] }
+        ensures index { self.new.index.items ≡ slice_set self.old.index.items number (length self.old.nodes.items) }
+        ensures capacity { vec_capacity self.new.nodes ≡ vec_capacity self.old.nodes }
+        ensures ranking { self.new.ranking ≡ self.old.ranking }
+    {
+        self.index[number] = self.nodes.len() as u32;
+        self.nodes.push_reserved(node);
+    }
+}
+
+// Ranks nodes by their next keys.
+fn rank(nodes: &[Node], ranking: &mut Ranking)
+    requires { length ranking.old ≡ length nodes.now }
+    ensures { ranking.new ≡ each next_key (pendings nodes.now) }
+{
+    for at in 0..nodes.len() {
+        let node = &nodes[at];
+        ranking.set(at, node.least());
+    }
 }
 
 impl Members {
-    /// For so many nodes of a net, with none of them yet.
-    pub(crate) fn new(alloc: Global, nodes: usize) -> Result<Members, AllocError>
-        requires { nodes ≤ 2 ^ 31 }
-        ensures { IfOk result (λ members. members ≡ replicate nodes None) }
+    /// The nodes of a group, all of which have joined. No memory is taken.
+    pub(crate) fn of_parts(parts: MemberParts) -> Members
+        requires placed { IsPlaced (seated (seats_of parts.nodes.items parts.index.items)) }
+        requires found { AreFound parts.nodes.items parts.index.items }
+        requires room { length parts.ranking ≡ length parts.nodes.items }
+        ensures { result ≡ seats_of parts.nodes.items parts.index.items }
     {
-        let mut seats: Vec<Option<Node>> = Vec::new(alloc);
-        for _node in 0..nodes {
-            seats.push(None)?;
+        let MemberParts {
+            nodes,
+            index,
+            mut ranking,
+        } = parts;
+        rank(&nodes, &mut ranking);
+        Members {
+            nodes,
+            index,
+            ranking,
         }
-        let ranking = Ranking::new(alloc, nodes)?;
-        Ok(Members { seats, ranking })
-    }
-
-    /// A node joins, at its number.
-    pub(crate) fn join(&mut self, place: usize, node: Node)
-        requires within { place < length self.old }
-        requires number { node.number ≡ place }
-        requires at_home { EachKey (λ k. k.node ≡ place) node.pending }
-        ensures { self.new ≡ slice_set self.old place (Some node) }
-    {
-        let next = node.least();
-        self.seats[place] = Some(node);
-        self.ranking.set(place, next);
     }
 
     /// The node of a number, where it is in the group.
@@ -75,24 +152,26 @@ impl Members {
         requires { place < length self.now }
         ensures { option_copied result ≡ slice_index_or self.now place None }
     {
-        self.seats[place].as_ref()
+        self.nodes.get(self.index[place] as usize)
     }
 
     /// Whether the node of a number is in the group.
+    #[inline(always)]
     pub(crate) fn has(&self, place: usize) -> bool
         requires { place < length self.now }
         ensures { result ≡ is_some (slice_index_or self.now place None) }
     {
-        self.seats[place].is_some()
+        (self.index[place] as usize) < self.nodes.len()
     }
 
     /// The node at which the least key is pending, and the key.
+    #[inline(always)]
     pub(crate) fn first(&self) -> Option<(usize, Key)>
         ensures first { MatchOption result (least (net_pending (seated self.now)) ≡ None) (λ entry. IsFirst (seated self.now) entry.0) }
         ensures key { option_map (λ entry. entry.1) result ≡ next_key (net_pending (seated self.now)) }
     {
         match self.ranking.first() {
-            Some((place, key)) => Some((place, key)),
+            Some((_, key)) => Some((usize::from(key.node), key)),
             None => None,
         }
     }
@@ -117,10 +196,11 @@ impl Members {
         ensures same { OnErr result (self.new ≡ self.old) }
         ensures same_out { OnErr result (out.new ≡ out.old) }
     {
-        let node = self.seats[place].as_mut().unwrap();
+        let at = self.index[place] as usize;
+        let node = &mut self.nodes[at];
         let leaving = node.fire_into(out, line)?;
         let next = node.least();
-        self.ranking.set(place, next);
+        self.ranking.set(at, next);
         Ok(leaving)
     }
 
@@ -130,12 +210,13 @@ impl Members {
         requires index { index < length (node_at (seated self.now) place).part.links }
         ensures { result ≡ (link_at (node_at (seated self.now) place).part.links index).port.link }
     {
-        let node = self.seats[place].as_ref().unwrap();
+        let node = &self.nodes[self.index[place] as usize];
         node.link_number(index)
     }
 
     /// Packets come to a node over one of its incoming links, after all that came over it before;
     /// the chain is then empty. It takes no memory.
+    #[inline(always)]
     pub(crate) fn deliver(&mut self, place: usize, index: usize, chain: &mut PacketChain)
         requires place { place < length self.old }
         requires within { index < length (node_at (seated self.old) place).incoming }
@@ -147,9 +228,13 @@ impl Members {
         ensures taken { taken self.new ≡ taken self.old }
         ensures emptied { chain.new ≡ [] }
     {
-        let node = self.seats[place].as_mut().unwrap();
-        node.deliver_at(index, chain);
+        let at = self.index[place] as usize;
+        let node = &mut self.nodes[at];
+        // Packets that come behind others change nothing of the ranking.
+        if node.deliver_behind(index, chain) {
+            return;
+        }
         let next = node.least();
-        self.ranking.set(place, next);
+        self.ranking.set(at, next);
     }
 }

@@ -14,12 +14,13 @@ ghost use Rattle.window_law.specs.Groups.{up_to};
 ghost use Rattle.window_law.specs.Windows.{first_time};
 ghost use Rattle.node_group.specs.Held.{HoldsNothing, IsReleased};
 ghost use Rattle.node_group.specs.Seats.{seated, taken};
+ghost use Rattle.node_group.specs.Numbered.{seats_of, AreFound};
 ghost use Rattle.node_group.specs.Group.{GroupValue, state_of, group_from, group_to, member, came_in, IsGroup, IsOnRun, AfterFirings, Fired, IsDueBelow, IsFiring};
 
 use crate::area::Area;
 use crate::exits::Exits;
 use crate::group::GroupFault;
-use crate::members::Members;
+use crate::members::{MemberParts, Members};
 use net_machine::{LinkEnds, run_event};
 use net_partition::Partition;
 use node_core::{Line, Node, Outbox};
@@ -91,7 +92,7 @@ pub struct ShareParts {
     /// Where each link of the net leaves and ends, by its number.
     pub links: Vec<LinkEnds>,
     /// The group's nodes.
-    pub members: Members,
+    pub members: MemberParts,
     /// A wire for each link of the net.
     pub exits: Exits,
     /// A chain for each outgoing link that a node can have, empty.
@@ -108,16 +109,18 @@ impl Share {
         until: Time,
         position: u64,
     ) -> Share
-        requires group { IsGroup (record { number = number; entries = partition.now; links = parts.links.items; seats = parts.members; held = parts.exits; lines = []; until = until; position = position }) }
+        requires group { IsGroup (record { number = number; entries = partition.now; links = parts.links.items; seats = seats_of parts.members.nodes.items parts.members.index.items; held = parts.exits; lines = []; until = until; position = position }) }
+        requires found { AreFound parts.members.nodes.items parts.members.index.items }
+        requires room { length parts.members.ranking ≡ length parts.members.nodes.items }
         requires empty { parts.out ≡ replicate 16 [] }
-        ensures { result ≡ record { number = number; entries = partition.now; links = parts.links.items; seats = parts.members; held = parts.exits; lines = []; until = until; position = position } }
+        ensures { result ≡ record { number = number; entries = partition.now; links = parts.links.items; seats = seats_of parts.members.nodes.items parts.members.index.items; held = parts.exits; lines = []; until = until; position = position } }
     {
         Share {
             number,
             partition: Snapshot::of(partition),
             links: parts.links,
             area: Area {
-                members: parts.members,
+                members: Members::of_parts(parts.members),
                 exits: parts.exits,
             },
             out: parts.out,

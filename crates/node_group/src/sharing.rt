@@ -1,15 +1,15 @@
 //! A net is split into the shares of its groups.
-ghost use Rattle.std.specs.Prelude.{◌≡◌, ◌<◌, ◌≤◌, ◌==◌, ◌^◌, [], All, IfOk, length, count_by, vec_capacity};
+ghost use Rattle.std.specs.Prelude.{◌≡◌, ◌<◌, ◌≤◌, ◌==◌, ◌^◌, [], IfOk, length, count_by, vec_capacity};
 ghost use Rattle.node_core.specs.Part.{link_at};
 ghost use Rattle.net_machine.specs.declared.places.LinkEnds.{LinkEnds};
 ghost use Rattle.net_machine.specs.Nodes.{IsPlaced};
 ghost use Rattle.net_machine.specs.NetOf.{AreNetParts};
 ghost use Rattle.net_partition.specs.Partition.{groups_of};
-ghost use Rattle.node_group.specs.Shares.{AreJoined, AreIdle, IsRoom, AreSeatedFrom, AreSharesOf, idle_wire};
+ghost use Rattle.node_group.specs.Shares.{AreJoined, AreIdle, IsRoom, AreRooms, AreSeatedFrom, AreSharesOf, idle_wire};
 
 use crate::exits::Exits;
 use crate::held::Held;
-use crate::members::Members;
+use crate::members::MemberParts;
 use crate::share::{Share, ShareParts};
 use net_machine::LinkEnds;
 use net_partition::Partition;
@@ -77,34 +77,40 @@ fn copied(links: &Vec<LinkEnds>) -> Result<Vec<LinkEnds>, AllocError>
 }
 
 // Room for a share of a group of a net.
-fn room_of(alloc: Global, nodes: &[Node], links: &Vec<LinkEnds>) -> Result<ShareParts, AllocError>
+fn room_of(
+    alloc: Global,
+    nodes: &[Node],
+    links: &Vec<LinkEnds>,
+    partition: &Partition,
+    number: usize,
+) -> Result<ShareParts, AllocError>
     requires joined { AreJoined links.now.items nodes.now }
-    requires few { length nodes.now ≤ 2 ^ 31 }
-    ensures { IfOk result (λ room. IsRoom links.now.items nodes.now room) }
+    requires few { length partition.now ≤ 2 ^ 31 }
+    ensures { IfOk result (λ room. IsRoom partition.now links.now.items nodes.now number room) }
 {
     Ok(ShareParts {
         links: copied(links)?,
-        members: Members::new(alloc, nodes.len())?,
+        members: MemberParts::new(alloc, partition, number)?,
         exits: idle_exits(alloc, nodes, links)?,
         out: Outbox::new(alloc, MOST_LINKS)?,
     })
 }
 
-/// Room for a share of each of so many groups of a net, with no node yet.
+/// Room for a share of each group of a net, with no node yet.
 pub fn rooms_of(
     alloc: Global,
     nodes: &[Node],
     links: &Vec<LinkEnds>,
-    groups: usize,
+    partition: &Partition,
 ) -> Result<Vec<ShareParts>, AllocError>
     requires joined { AreJoined links.now.items nodes.now }
-    requires few { length nodes.now ≤ 2 ^ 31 }
-    ensures count { IfOk result (λ rooms. length rooms.items ≡ groups) }
-    ensures each { IfOk result (λ rooms. All (IsRoom links.now.items nodes.now) rooms.items) }
+    requires few { length partition.now ≤ 2 ^ 31 }
+    ensures count { IfOk result (λ rooms. length rooms.items ≡ groups_of partition.now) }
+    ensures each { IfOk result (λ rooms. AreRooms partition.now links.now.items nodes.now rooms.items) }
 {
     let mut rooms = Vec::new(alloc);
-    for _group in 0..groups {
-        rooms.push(room_of(alloc, nodes, links)?)?;
+    for number in 0..partition.groups() {
+        rooms.push(room_of(alloc, nodes, links, partition, number)?)?;
     }
     Ok(rooms)
 }
@@ -117,7 +123,7 @@ fn seat_all(
     partition: &Partition,
     rooms: &mut [ShareParts],
 )
-    requires rooms { All (IsRoom _links.now nodes.old.items) rooms.old }
+    requires rooms { AreRooms partition.now _links.now nodes.old.items rooms.old }
     requires groups { length rooms.old ≡ groups_of partition.now }
     requires few { length rooms.old ≤ 64 }
     requires size { length partition.now ≡ length nodes.old.items }
@@ -146,7 +152,7 @@ pub fn share_out(
 )
     requires net { AreNetParts nodes.items links.now end position }
     requires size { length partition.now ≡ length nodes.items }
-    requires rooms { All (IsRoom links.now nodes.items) rooms.items }
+    requires rooms { AreRooms partition.now links.now nodes.items rooms.items }
     requires groups { length rooms.items ≡ groups_of partition.now }
     requires few { length rooms.items ≤ 64 }
     requires empty { shares.old.items ≡ [] }

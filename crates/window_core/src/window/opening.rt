@@ -1,5 +1,5 @@
 //! A net is split into groups, and its first window opens.
-ghost use Rattle.std.specs.Prelude.{◌≡◌, ◌≤◌, ◌^◌, [], All, IfErr, IfOk, List, false, true, length, vec_capacity};
+ghost use Rattle.std.specs.Prelude.{◌≡◌, ◌≤◌, ◌^◌, [], IfErr, IfOk, List, false, true, length, vec_capacity};
 ghost use Rattle.scenario_image.specs.declared.parts.ScenarioParts.{ScenarioParts};
 ghost use Rattle.scenario_image.specs.Scenario.{IsScenario};
 ghost use Rattle.node_core.specs.TraceLine.{TraceLine};
@@ -9,7 +9,7 @@ ghost use Rattle.window_core.specs.Acting.{nothing_after};
 ghost use Rattle.window_law.specs.Lookahead.{lookahead};
 ghost use Rattle.window_core.specs.Opening.{IsFirstWindow};
 ghost use Rattle.net_partition.specs.Partition.{group_in, groups_of};
-ghost use Rattle.node_group.specs.Shares.{AreJoined, IsRoom};
+ghost use Rattle.node_group.specs.Shares.{AreJoined, AreRooms};
 ghost use Rattle.window_core.specs.Window.{IsFrom, setting_in, states_of};
 ghost use Rattle.window_law.specs.Windows.{none_fired, window_end};
 
@@ -26,7 +26,7 @@ use ranking::Ranking;
 use sim_time::Time;
 use std::alloc::{AllocError, Global};
 
-// Memory for a window of so many groups.
+// Memory for a window of some groups.
 #[derive(Drop)]
 struct Room {
     rooms: Vec<ShareParts>,
@@ -37,25 +37,25 @@ struct Room {
     ranking: Ranking,
 }
 
-// Takes the memory for a window of so many groups.
+// Takes the memory for a window of the groups of a partition.
 fn room_for(
     alloc: Global,
     nodes: &[Node],
     links: &Vec<LinkEnds>,
-    groups: usize,
+    partition: &Partition,
 ) -> Result<Room, AllocError>
     requires joined { AreJoined links.now.items nodes.now }
-    requires few { length nodes.now ≤ 2 ^ 31 }
-    requires groups { groups ≤ 64 }
-    ensures rooms { IfOk result (λ room. length room.rooms.items ≡ groups) }
-    ensures each { IfOk result (λ room. All (IsRoom links.now.items nodes.now) room.rooms.items) }
-    ensures shares { IfOk result (λ room. (room.shares.items ≡ []) × (groups ≤ vec_capacity room.shares)) }
-    ensures out { IfOk result (λ room. (room.groups.items ≡ []) × (groups ≤ vec_capacity room.groups)) }
-    ensures times { IfOk result (λ room. length room.times.items ≡ groups) }
-    ensures merge { IfOk result (λ room. (length room.nexts.items ≡ groups) × (length room.ranking ≡ groups)) }
+    requires few { length partition.now ≤ 2 ^ 31 }
+    ensures rooms { IfOk result (λ room. length room.rooms.items ≡ groups_of partition.now) }
+    ensures each { IfOk result (λ room. AreRooms partition.now links.now.items nodes.now room.rooms.items) }
+    ensures shares { IfOk result (λ room. (room.shares.items ≡ []) × (groups_of partition.now ≤ vec_capacity room.shares)) }
+    ensures out { IfOk result (λ room. (room.groups.items ≡ []) × (groups_of partition.now ≤ vec_capacity room.groups)) }
+    ensures times { IfOk result (λ room. length room.times.items ≡ groups_of partition.now) }
+    ensures merge { IfOk result (λ room. (length room.nexts.items ≡ groups_of partition.now) × (length room.ranking ≡ groups_of partition.now)) }
 {
+    let groups = partition.groups();
     Ok(Room {
-        rooms: rooms_of(alloc, nodes, links, groups)?,
+        rooms: rooms_of(alloc, nodes, links, partition)?,
         shares: Vec::with_capacity(alloc, groups)?,
         groups: Vec::with_capacity(alloc, groups)?,
         times: vec![in alloc; 0; groups]?,
@@ -69,7 +69,7 @@ fn opened(alloc: Global, parts: NetParts, partition: Partition, room: Room) -> W
     requires parts { AreNetParts parts.nodes.items parts.links.items parts.end parts.position }
     requires size { length partition ≡ length parts.nodes.items }
     requires rooms { length room.rooms.items ≡ groups_of partition }
-    requires each { All (IsRoom parts.links.items parts.nodes.items) room.rooms.items }
+    requires each { AreRooms partition parts.links.items parts.nodes.items room.rooms.items }
     requires shares { (room.shares.items ≡ []) × (groups_of partition ≤ vec_capacity room.shares) }
     requires out { (room.groups.items ≡ []) × (groups_of partition ≤ vec_capacity room.groups) }
     requires times { length room.times.items ≡ groups_of partition }
@@ -146,7 +146,7 @@ impl Window {
         ensures kept { IfErr result (λ back. (back.0 ≡ net) × (back.1 ≡ partition)) }
     {
         let parts = net.into_parts();
-        match room_for(alloc, &parts.nodes, &parts.links, partition.groups()) {
+        match room_for(alloc, &parts.nodes, &parts.links, &partition) {
             Ok(room) => Ok(opened(alloc, parts, partition, room)),
             Err(error) => Err((Net::of_parts(parts), partition, error)),
         }

@@ -1,0 +1,22 @@
+-- The nodes of a group in a row, and for each number of the net which of them it is.
+use Rattle.std.specs.Prelude.{◌≡◌, ◌<◌, ℕ, List, map as each, length, slice_index_or, Option}
+use Rattle.std.specs.List.{slice_get}
+use Rattle.sim_time.specs.declared.key.Key.{Key}
+use Rattle.ranking.specs.Keyed.{next_key}
+use Rattle.node_core.specs.Node.{NodeState}
+use Rattle.net_machine.specs.Nodes.{node_at, pendings, IsPlaced}
+use Rattle.node_group.specs.Seats.{Seats, seated}
+
+-- so the seats: nobody is seated where the number is past the last of the nodes
+abbrev pub seats_of : List NodeState → List ℕ → Seats
+seats_of nodes index = each (λ k. slice_get nodes k) index
+
+-- each of the nodes is found by its number
+abbrev pub AreFound : List NodeState → List ℕ → Type 0
+AreFound nodes index = (k : ℕ) → k < length nodes → slice_index_or index (node_at nodes k).number (length nodes) ≡ k
+
+-- each node sits at its number, each key names its node, and the ranking has each node's next key
+pub record AreMembers (nodes : List NodeState) (index : List ℕ) (ranks : List (Option Key)) : Type 0 where
+  pub placed : IsPlaced (seated (seats_of nodes index))
+  pub found : AreFound nodes index
+  pub ranked : ranks ≡ each next_key (pendings nodes)
