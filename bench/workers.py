@@ -77,7 +77,7 @@ def windows(program, path, groups):
 
 
 def threads(program, path, groups):
-    """How many threads four workers start in a run."""
+    """How many threads four workers start in a run: at most three for a window, since the calling thread is one of the four."""
     return ran(program, path, ('--workers', '4', *groups), ('strace', '-f', '-qq', '-e', 'trace=clone3')).count('clone3(')
 
 

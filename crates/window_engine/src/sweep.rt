@@ -97,15 +97,16 @@ fn serve<G: Gate>(tasks: &Tasks, gate: &G, sheaf: &Sheaf, shift: Shift) -> Shift
 pub(crate) enum SweepFault {
     /// There was no memory. No thread was started.
     NoMemory,
-    /// A thread could not be started. Those that were are joined.
+    /// A thread could not be started. Those that were, and the calling one, have done what there was.
     NoWorker,
 }
 
 /// The threads that were started.
 type Handles = Vec<PromisedHandle<Shift, Sweeps>>;
 
-/// Has so many threads go over the board and then make the text of a sheaf's lines, joins them all,
-/// and gives the seat of one. The scribes are then what each made of the text.
+/// Has so many workers go over the board and then make the text of a sheaf's lines: the calling thread
+/// is one of them, and starts the others before it works. It joins them all, and gives its own seat. The
+/// scribes are then what each made of the text.
 pub(crate) fn sweep<G: Gate, R: Threads + Wait + Sync>(
     rt: &R,
     alloc: Global,
@@ -138,12 +139,13 @@ pub(crate) fn sweep<G: Gate, R: Threads + Wait + Sync>(
             ensures right { AreRight sheaf.entry.now result.1.items }
         {
             let mut scribes = lent;
-            let Ok(mut handles) = Vec::with_capacity(alloc, workers) else {
+            let others = workers.saturating_sub(1);
+            let Ok(mut handles) = Vec::with_capacity(alloc, others) else {
                 return (Err(SweepFault::NoMemory), scribes);
             };
             let mut mine = seat;
             let mut all = true;
-            for _ in 0..workers {
+            for _ in 0..others {
                 let (rest, seat) = tasks.board.split(mine);
                 mine = rest;
                 let scribe = take_scribe(sheaf, alloc, &mut scribes);
@@ -165,9 +167,14 @@ pub(crate) fn sweep<G: Gate, R: Threads + Wait + Sync>(
                     Err(_) => all = false,
                 }
             }
-            match join_all(rt, &tasks.board, sheaf, handles, &mut scribes) {
-                Some(seat) if all => (Ok(seat), scribes),
-                _ => (Err(SweepFault::NoWorker), scribes),
+            let scribe = take_scribe(sheaf, alloc, &mut scribes);
+            let shift = serve(tasks, gate, sheaf, Shift { seat: mine, scribe });
+            join_all(rt, &tasks.board, sheaf, handles, &mut scribes);
+            give_scribe(sheaf, &mut scribes, shift.scribe);
+            if all {
+                (Ok(shift.seat), scribes)
+            } else {
+                (Err(SweepFault::NoWorker), scribes)
             }
         },
     );
@@ -196,26 +203,21 @@ fn give_scribe(sheaf: &Sheaf, scribes: &mut Vec<Scribe>, scribe: Scribe)
     let _ = scribes.push(scribe);
 }
 
-/// Joins them all, and gives the seat of one, and what each made of the text.
+/// Joins them all, and takes what each made of the text.
 fn join_all<R: Threads>(
     rt: &R,
     board: &Board,
     sheaf: &Sheaf,
     handles: Handles,
     scribes: &mut Vec<Scribe>,
-) -> Option<Seat>
+)
     requires handles { All (λ h. (h.promise.0.value ≡ board.now) × (h.promise.1.value ≡ sheaf.now)) handles.items }
     requires right { AreRight sheaf.now scribes.old.items }
-    ensures board { IfSome result (IsOf board.now) }
-    ensures swept { IfSome result IsSwept }
-    ensures right { AreRight sheaf.now scribes.new.items }
+    ensures { AreRight sheaf.now scribes.new.items }
 {
     let mut handles = handles;
-    let mut swept = None;
     while let Some(handle) = handles.pop() {
         let shift = handle.join(rt);
-        swept = Some(shift.seat);
         give_scribe(sheaf, scribes, shift.scribe);
     }
-    swept
 }
