@@ -18,7 +18,7 @@ ROWS = [
     # timer goes on. The segment that it sends again is acknowledged 200 ms after it came.
     (text('1000 5 0 64000 200000000', 3, 4, 5), [
         ('step 0', '''\
-at 0 of the run, time 0 ns
+at 0 of the run, time 0 ns, the beginning
 flow 0 is not started: it starts at 0 ns
 alarms: start at 0 ns
 '''),

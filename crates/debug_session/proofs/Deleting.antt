@@ -11,8 +11,8 @@ use Rattle.debugger.specs.Breaks.{IsTakenOut}
 use Rattle.debugger.specs.Debugging.{Debugging}
 use Rattle.debug_session.specs.declared.command.Command.TheVariants.{State, SetBreak, Clear}
 use Rattle.debug_session.specs.declared.command.Typed.TheVariants.{Plain, Part, Why, Breaks, Delete, Help, HelpOn}
-use Rattle.debug_session.specs.declared.name.Name.{Name}
 use Rattle.debug_session.specs.declared.refusal.Refusal.TheVariants.{B4, B5, M}
+use Rattle.debug_session.specs.declared.topic.Topic.{Topic}
 use Rattle.debug_session.specs.Answers.{Standing, standing, Obeys, refusal_line}
 use Rattle.debug_session.specs.Help.{help_text, help_on}
 use Rattle.debug_session.specs.Numbered.{IsNumber, HasNumber, set_line, deleted_line, listing}
@@ -66,8 +66,8 @@ clear_obeyed start old new out obeys = obeys
 pub help_told : (d : Debugging) (out : List ℕ) → (out ≡ help_text) ⊎ (out ≡ refusal_line M) → ObeysTyped d.start Help (standing d) (standing d) out
 help_told d out told = ⊎_elim (λ (t : out ≡ help_text). inl (record { same = refl; told = t })) (λ (t : out ≡ refusal_line M). inr (tt, record { same = refl; told = t })) told
 
-pub help_on_told : (d : Debugging) (name : Name) (out : List ℕ) → (out ≡ help_on name) ⊎ (out ≡ refusal_line M) → ObeysTyped d.start (HelpOn name) (standing d) (standing d) out
-help_on_told d name out told = ⊎_elim (λ (t : out ≡ help_on name). inl (record { same = refl; told = t })) (λ (t : out ≡ refusal_line M). inr (tt, record { same = refl; told = t })) told
+pub help_on_told : (d : Debugging) (topic : Topic) (out : List ℕ) → (out ≡ help_on topic) ⊎ (out ≡ refusal_line M) → ObeysTyped d.start (HelpOn topic) (standing d) (standing d) out
+help_on_told d topic out told = ⊎_elim (λ (t : out ≡ help_on topic). inl (record { same = refl; told = t })) (λ (t : out ≡ refusal_line M). inr (tt, record { same = refl; told = t })) told
 
 -- what is told of a part of the state
 pub part_told : (d : Debugging) (part : DumpPart) (out : List ℕ) → (out ≡ part_bytes part d.shown) ⊎ (out ≡ refusal_line M) → ObeysTyped d.start (Part part) (standing d) (standing d) out

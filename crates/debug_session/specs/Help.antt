@@ -1,8 +1,10 @@
--- What the commands of a prompt are for.
+-- What the commands of a prompt are for, and what there is to say of other topics.
 use Rattle.std.specs.Prelude.{ℕ, List, [], ◌∷◌, ◌++◌, codes}
 use Rattle.std.specs.List.{flat_map}
 use Rattle.debug_session.specs.declared.name.Name.{Name}
 use Rattle.debug_session.specs.declared.name.Name.TheVariants.{Step, Back, Break, Breaks, Run, Reverse, Until, State, Delete, Clear, Lines, Why, Help, Quit}
+use Rattle.debug_session.specs.declared.topic.Topic.{Topic}
+use Rattle.debug_session.specs.declared.topic.Topic.TheVariants.{Command, Numbers, Trace, Kinds, Stall}
 
 -- how a command is used
 abbrev pub usage : Name → List ℕ
@@ -18,8 +20,36 @@ usage Delete = codes "delete I     take breakpoint I away\n"
 usage Clear = codes "clear        take all breakpoints away\n"
 usage Lines = codes "lines [K]    show the last K lines of the trace (10)\n"
 usage Why = codes "why F        tell what flow F waits for\n"
-usage Help = codes "help [NAME]  show this, or how NAME is used\n"
+usage Help = codes "help [NAME]  show this, or more of NAME: a command, numbers, trace, kinds or stall\n"
 usage Quit = codes "quit         end the session\n"
+
+-- what else there is to say of it
+abbrev pub more : Name → List ℕ
+more Step = codes "It shows the lines of the trace that it passes, ten at most, and where it came to.\n"
+more Back = codes "It shows the lines that it takes back, the latest first, ten at most, and where it came to.\n"
+more Run = codes "It stops after the next event whose line a breakpoint matches, and shows that breakpoint.\n"
+more Reverse = codes "It stops after the last event before this position whose line a breakpoint matches, else at position 0.\n"
+more Until = codes "T is a number of nanoseconds, or has a unit: ns, us, ms or s. It only goes forwards.\n"
+more State =
+    codes "node N and link L show one line each, flow F all that there is of a flow: both of its ends, the links\n"
+    ++ codes "where its packets wait, and its events to come. N, L and F are numbers from 0: help numbers\n"
+more Break =
+    codes "node N       the event happens at node N (N, L and F are numbers from 0: help numbers)\n"
+    ++ codes "flow F       the event is of flow F; a free is of none\n"
+    ++ codes "kind K       start, rto, delack, free, data or ack: help kinds\n"
+    ++ codes "drop         a packet is dropped\n"
+    ++ codes "link L       link L begins to send a packet, or drops one\n"
+    ++ codes "byte B       a segment that begins with byte B arrives, or an acknowledgement of B\n"
+    ++ codes "stall [F]    a flow, or flow F, is stalled from there on: help stall; it stands alone\n"
+more Breaks = codes "They are counted from 1; where one is taken away, those behind it move up by one.\n"
+more Delete = codes "I is its number, as breaks lists it.\n"
+more Clear = codes ""
+more Lines = codes "K is 1000 at most. What stands in a line: help trace\n"
+more Why =
+    codes "F is a number, not a name: the first flow line of the text is flow 0, the next one flow 1.\n"
+    ++ codes "It tells how the flow stands, where its packets are, and when its alarms are due.\n"
+more Help = codes "NAME can be cut short, as a command can. In the shell, tcpsim explain B3 tells more of refused B3.\n"
+more Quit = codes "The end of input (Ctrl-D) does so too.\n"
 
 abbrev pub example : Name → List ℕ
 example Step = codes "step 10\n"
@@ -40,9 +70,54 @@ example Quit = codes "quit\n"
 abbrev pub all_names : List Name
 all_names = Step ∷ Back ∷ Run ∷ Reverse ∷ Until ∷ State ∷ Break ∷ Breaks ∷ Delete ∷ Clear ∷ Lines ∷ Why ∷ Help ∷ Quit ∷ []
 
--- one line a command, and one on the empty line
+-- one line a command, one on numbers, and one on the empty line
 abbrev pub help_text : List ℕ
-help_text = flat_map usage all_names ++ codes "(an empty line does the last move again)\n"
+help_text =
+    flat_map usage all_names
+    ++ (codes "(nodes N, links L and flows F are numbers from 0, in the order of the text: help numbers)\n"
+    ++ codes "(an empty line does the last move again)\n")
 
-abbrev pub help_on : Name → List ℕ
-help_on name = usage name ++ example name
+abbrev pub help_on_command : Name → List ℕ
+help_on_command name = usage name ++ (more name ++ example name)
+
+-- the last line of a topic is one that can be typed
+abbrev pub help_on : Topic → List ℕ
+help_on (Command name) = help_on_command name
+help_on Numbers =
+    codes "Nodes, links and flows go by numbers, not by the names of the text: each sort is counted from 0, in the\n"
+    ++ codes "order of its lines there. So the first flow line is flow 0, the second one flow 1. Lines of the trace and\n"
+    ++ codes "answers have the same numbers. In the shell, tcpsim dis FILE names all by them: n0, l0, f0.\n"
+    ++ codes "Bytes of a flow are counted from 0 too, breakpoints from 1.\n"
+    ++ codes "why 0\n"
+help_on Trace =
+    codes "A line of the trace: n time node source number KIND AFTER ACTS\n"
+    ++ codes "n            which event it is, counted from 1\n"
+    ++ codes "time         when it happens, in nanoseconds\n"
+    ++ codes "node         where\n"
+    ++ codes "source       0: an alarm of the node; L + 1: a packet comes over link L\n"
+    ++ codes "number       which alarm; or which packet of that link, counted from 1\n"
+    ++ codes "KIND         what happens: help kinds\n"
+    ++ codes "AFTER        the node afterwards: of a sender una= (first byte not acknowledged), nxt= (next byte to send),\n"
+    ++ codes "             cwnd=, ssthresh= and phase= ss (slow start), ca (congestion avoidance) or fr (fast recovery);\n"
+    ++ codes "             of a receiver next= (the byte that it waits for); of a router nothing\n"
+    ++ codes "ACTS         tx=L:F:B: link L begins to send a packet of flow F, B its byte or acknowledgement number;\n"
+    ++ codes "             drop=lost:F:B, drop=full:F:B or drop=codel:F:B: it is dropped by its number (lose), before\n"
+    ++ codes "             a full queue, or by CoDel\n"
+    ++ codes "lines 1\n"
+help_on Kinds =
+    codes "The kinds of events, as lines of the trace tell them and as break kind takes them:\n"
+    ++ codes "start F      flow F starts\n"
+    ++ codes "rto F        the retransmission timer of flow F ends\n"
+    ++ codes "delack F     the receiver of flow F sends an acknowledgement that it delayed\n"
+    ++ codes "free L       link L has sent a packet, and is free for the next one\n"
+    ++ codes "data F B     a segment of flow F, from byte B on, comes to a router or to the receiver\n"
+    ++ codes "ack F B      an acknowledgement of flow F, of all bytes before B, comes to a router or to the sender\n"
+    ++ codes "break kind rto\n"
+help_on Stall =
+    codes "A flow is stalled where it has started, some of its bytes are not acknowledged, and none of its packets\n"
+    ++ codes "waits in a queue or is on its way over a link. So only an alarm goes on with it: its retransmission timer,\n"
+    ++ codes "or a delayed acknowledgement.\n"
+    ++ codes "break stall stops after an event that leaves a flow so, break stall F after one that leaves flow F so, once\n"
+    ++ codes "for each stall. lines 1 shows the event, which has the number of that flow, or drops a packet of it. why F\n"
+    ++ codes "tells which alarm is due, and when; break drop and reverse find what was dropped before.\n"
+    ++ codes "break stall\n"

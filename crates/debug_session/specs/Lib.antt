@@ -6,6 +6,7 @@ pub mod Sessions
 pub mod Taking
 pub mod Told
 pub mod Names
+pub mod Topics
 pub mod Times
 pub mod TypedGrammar
 pub mod Numbered

@@ -57,7 +57,7 @@ DoesTyped start Breaks old new out = Stays old new out (listing old.breaks)
 DoesTyped start (Delete i) old new out = Deletes i old new out
 DoesTyped start (Lines count) old new out = Stays old new out (last_lines start old.shown.position count)
 DoesTyped start Help old new out = Stays old new out help_text
-DoesTyped start (HelpOn name) old new out = Stays old new out (help_on name)
+DoesTyped start (HelpOn topic) old new out = Stays old new out (help_on topic)
 
 -- the command can be refused for want of memory or of workers, or as too many events were run
 abbrev pub TypedCanBeRefused : Typed → Standing → Type 0
@@ -69,7 +69,7 @@ TypedCanBeRefused (Delete i) old = ⊥
 TypedCanBeRefused Breaks old = 0 < length old.breaks
 TypedCanBeRefused (Lines count) old = Unit {0}
 TypedCanBeRefused Help old = Unit {0}
-TypedCanBeRefused (HelpOn name) old = Unit {0}
+TypedCanBeRefused (HelpOn topic) old = Unit {0}
 
 -- a command is done, or refused for want of memory or of workers
 abbrev pub ObeysTyped : NetState → Typed → Standing → Standing → List ℕ → Type 0

@@ -12,11 +12,13 @@ use Rattle.debug_session.specs.declared.name.Name.{Name}
 use Rattle.debug_session.specs.declared.name.Name.TheVariants as name
 use Rattle.debug_session.specs.declared.refusal.Refusal.{Refusal}
 use Rattle.debug_session.specs.declared.refusal.Refusal.TheVariants.{B1, B2, B3, B5}
+use Rattle.debug_session.specs.declared.topic.Topic.{Topic}
 use Rattle.debug_session.specs.Conditions.{break_asked}
 use Rattle.debug_session.specs.Grammar.{Word, Reading, number_below, one_number, with_number, alone}
 use Rattle.debug_session.specs.Input.{words_in}
 use Rattle.debug_session.specs.Names.{name_of}
 use Rattle.debug_session.specs.Times.{moment_in}
+use Rattle.debug_session.specs.Topics.{topic_of}
 
 -- the number below a bound that is the only word, or the usual one where there is no word
 abbrev pub number_or : ℕ → ℕ → List Word → Result ℕ Refusal
@@ -87,14 +89,14 @@ abbrev pub typed_alone : Typed → List Word → TypedReading
 typed_alone asked [] = Ok asked
 typed_alone asked (word ∷ words) = Err B2
 
--- the words behind `help`: none, or one that begins a name
-abbrev pub help_named : Option Name → List Word → TypedReading
+-- the words behind `help`: none, or one that begins a name or a topic
+abbrev pub help_named : Option Topic → List Word → TypedReading
 help_named None words = Err B1
-help_named (Some name) words = typed_alone (HelpOn name) words
+help_named (Some topic) words = typed_alone (HelpOn topic) words
 
 abbrev pub help_asked : List Word → TypedReading
 help_asked [] = Ok Help
-help_asked (word ∷ words) = help_named (name_of word) words
+help_asked (word ∷ words) = help_named (topic_of word) words
 
 -- a command by its name and the words behind it: `quit` has none where it ends the session
 abbrev pub command_typed : Limits → Option Name → List Word → TypedReading

@@ -1,5 +1,5 @@
 -- What is answered at a prompt to a move, and to `lines`: lines of the trace, and where the session stands.
-use Rattle.std.specs.Prelude.{◌≡◌, ◌<◌, ◌≤◌, ◌-◌, ℕ, nat_lt, Bool, if◌then◌else◌, List, [], ◌∷◌, ◌++◌, length, take, reverse, codes, decimal, Option, None, Some, is_none}
+use Rattle.std.specs.Prelude.{◌≡◌, ◌<◌, ◌≤◌, ◌-◌, ℕ, nat_eq, nat_lt, Bool, if◌then◌else◌, List, [], ◌∷◌, ◌++◌, length, take, reverse, codes, decimal, Option, None, Some, is_none}
 use Rattle.std.specs.List.{concat}
 use Rattle.node_core.specs.TraceLine.{TraceLine}
 use Rattle.table_run.specs.State.{State as NetState, due}
@@ -29,15 +29,16 @@ abbrev pub last_time : ℕ → List TraceLine → ℕ
 last_time time [] = time
 last_time time (line ∷ lines) = last_time line.key.time lines
 
-abbrev pub end_words : Bool → List ℕ
-end_words at_end = if at_end then codes " ns, the end\n" else codes " ns\n"
+-- whether a position is the run's end, or its beginning
+abbrev pub end_words : ℕ → Bool → List ℕ
+end_words p at_end = if at_end then codes " ns, the end\n" else (if nat_eq p 0 then codes " ns, the beginning\n" else codes " ns\n")
 
-abbrev pub time_words : ℕ → Bool → List ℕ
-time_words time at_end = codes " of the run, time " ++ (decimal time ++ end_words at_end)
+abbrev pub time_words : ℕ → ℕ → Bool → List ℕ
+time_words p time at_end = codes " of the run, time " ++ (decimal time ++ end_words p at_end)
 
--- a position, the moment of the event before it, and whether the run ends there
+-- a position, the moment of the event before it, and whether the run ends or begins there
 abbrev pub place_line : ℕ → ℕ → Bool → List ℕ
-place_line p time at_end = codes "at " ++ (decimal p ++ time_words time at_end)
+place_line p time at_end = codes "at " ++ (decimal p ++ time_words p time at_end)
 
 -- where a session stands: before the first event the time is 0
 abbrev pub where_line : NetState → Reached → List ℕ

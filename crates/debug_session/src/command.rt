@@ -2,7 +2,7 @@
 ghost use Rattle.std.specs.Prelude.{◌≡◌};
 ghost use Rattle.debug_session.specs.Sessions.{limits_of};
 
-use crate::name::Name;
+use crate::topic::Topic;
 use debugger::Break;
 use scenario_image::Scenario;
 use sim_time::Time;
@@ -46,8 +46,8 @@ pub enum Typed {
     Lines(u64),
     /// Nothing but to see what can be typed.
     Help,
-    /// Nothing but to see how a command is used.
-    HelpOn(Name),
+    /// Nothing but to be told of a topic.
+    HelpOn(Topic),
 }
 
 /// The numbers of a scenario's nodes, links and flows are below these.

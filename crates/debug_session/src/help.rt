@@ -1,7 +1,7 @@
 //! What the commands of a prompt are for.
 ghost use Rattle.std.specs.Prelude.{◌≡◌, ◌++◌, OnOk};
 ghost use Rattle.std.specs.List.{flat_map};
-ghost use Rattle.debug_session.specs.Help.{usage, example, all_names, help_text, help_on};
+ghost use Rattle.debug_session.specs.Help.{usage, more, example, all_names, help_text, help_on_command};
 
 use crate::name::Name;
 use std::alloc::AllocError;
@@ -33,9 +33,8 @@ fn usage(name: Name) -> &'static [u8]
         Name::Back => b"back [K]     take the last K events back (1)\n",
         Name::Run => b"run          run until a breakpoint matches, or to the end\n",
         Name::Reverse => b"reverse      go back until a breakpoint matches, or to the beginning\n",
-        Name::Until => {
-            b"until T      run all events before the moment T, as 1.5s, 20ms or 10000ns\n"
-        }
+        Name::Until =>
+            b"until T      run all events before the moment T, as 1.5s, 20ms or 10000ns\n",
         Name::State => b"state [PART] show all of the state, or of it: node N, link L or flow F\n",
         Name::Break =>
             b"break COND.. stop where all match: node N, flow F, kind K, drop, link L, byte B; or stall [F]\n",
@@ -44,8 +43,52 @@ fn usage(name: Name) -> &'static [u8]
         Name::Clear => b"clear        take all breakpoints away\n",
         Name::Lines => b"lines [K]    show the last K lines of the trace (10)\n",
         Name::Why => b"why F        tell what flow F waits for\n",
-        Name::Help => b"help [NAME]  show this, or how NAME is used\n",
+        Name::Help =>
+            b"help [NAME]  show this, or more of NAME: a command, numbers, trace, kinds or stall\n",
         Name::Quit => b"quit         end the session\n",
+    }
+}
+
+/// What else there is to say of a command.
+fn more(name: Name) -> &'static [u8]
+    ensures { result.now ≡ more name }
+{
+    match name {
+        Name::Step =>
+            b"It shows the lines of the trace that it passes, ten at most, and where it came to.\n",
+        Name::Back =>
+            b"It shows the lines that it takes back, the latest first, ten at most, and where it came to.\n",
+        Name::Run =>
+            b"It stops after the next event whose line a breakpoint matches, and shows that breakpoint.\n",
+        Name::Reverse =>
+            b"It stops after the last event before this position whose line a breakpoint matches, else at position 0.\n",
+        Name::Until =>
+            b"T is a number of nanoseconds, or has a unit: ns, us, ms or s. It only goes forwards.\n",
+        Name::State =>
+            b"node N and link L show one line each, flow F all that there is of a flow: both of its ends, the links
+where its packets wait, and its events to come. N, L and F are numbers from 0: help numbers
+",
+        Name::Break =>
+            b"node N       the event happens at node N (N, L and F are numbers from 0: help numbers)
+flow F       the event is of flow F; a free is of none
+kind K       start, rto, delack, free, data or ack: help kinds
+drop         a packet is dropped
+link L       link L begins to send a packet, or drops one
+byte B       a segment that begins with byte B arrives, or an acknowledgement of B
+stall [F]    a flow, or flow F, is stalled from there on: help stall; it stands alone
+",
+        Name::Breaks =>
+            b"They are counted from 1; where one is taken away, those behind it move up by one.\n",
+        Name::Delete => b"I is its number, as breaks lists it.\n",
+        Name::Clear => b"",
+        Name::Lines => b"K is 1000 at most. What stands in a line: help trace\n",
+        Name::Why =>
+            b"F is a number, not a name: the first flow line of the text is flow 0, the next one flow 1.
+It tells how the flow stands, where its packets are, and when its alarms are due.
+",
+        Name::Help =>
+            b"NAME can be cut short, as a command can. In the shell, tcpsim explain B3 tells more of refused B3.\n",
+        Name::Quit => b"The end of input (Ctrl-D) does so too.\n",
     }
 }
 
@@ -86,13 +129,18 @@ pub(crate) fn append_help(out: &mut Vec<u8>) -> Result<(), AllocError>
     ensures { OnOk result (out.new.items ≡ out.old.items ++ help_text) }
 {
     append_usages(out, &ALL_NAMES)?;
-    out.extend_from_slice(b"(an empty line does the last move again)\n")
+    out.extend_from_slice(
+        b"(nodes N, links L and flows F are numbers from 0, in the order of the text: help numbers)
+(an empty line does the last move again)
+",
+    )
 }
 
 /// Appends how a command is used.
-pub(crate) fn append_help_on(out: &mut Vec<u8>, name: Name) -> Result<(), AllocError>
-    ensures { OnOk result (out.new.items ≡ out.old.items ++ help_on name) }
+pub(crate) fn append_help_on_command(out: &mut Vec<u8>, name: Name) -> Result<(), AllocError>
+    ensures { OnOk result (out.new.items ≡ out.old.items ++ help_on_command name) }
 {
     out.extend_from_slice(usage(name))?;
+    out.extend_from_slice(more(name))?;
     out.extend_from_slice(example(name))
 }

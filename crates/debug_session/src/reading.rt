@@ -10,6 +10,7 @@ use crate::grammar::{AMOUNTS, alone, is, is_numeral, number_below, one_number, o
 use crate::moment::moment_in;
 use crate::name::{Name, name_of};
 use crate::refusal::Refusal;
+use crate::topic::topic_of;
 use trace_text::DumpPart;
 
 /// How many lines are shown where no number is given.
@@ -89,9 +90,9 @@ fn help_asked(line: &[u8]) -> Result<Typed, Refusal>
 {
     match next_word(line) {
         None => Ok(Typed::Help),
-        Some((word, rest)) => match name_of(word) {
+        Some((word, rest)) => match topic_of(word) {
             None => Err(Refusal::B1),
-            Some(name) => typed_alone(Typed::HelpOn(name), rest),
+            Some(topic) => typed_alone(Typed::HelpOn(topic), rest),
         },
     }
 }

@@ -9,10 +9,10 @@ ghost use Rattle.debug_session.specs.Help.{help_text, help_on};
 ghost use Rattle.debug_session.specs.Numbered.{set_line, deleted_line, listing};
 ghost use Rattle.debug_session.specs.TypedMoves.{TellsPast, last_lines};
 
-use crate::help::{append_help, append_help_on};
-use crate::name::Name;
+use crate::help::append_help;
 use crate::numbered::{append_listing, put_numbered};
 use crate::refusal::Refusal;
+use crate::topic::{Topic, append_help_on};
 use crate::typed_move::{append_last, append_move};
 use debugger::{Break, Debugger, MoveFault};
 use itoa::write_digits;
@@ -188,13 +188,13 @@ impl Said {
         append_help(&mut self.dump)
     }
 
-    /// Answers how a command is used.
-    pub(crate) fn say_help_on(&mut self, name: Name) -> Result<(), AllocError>
-        ensures { OnOk result (self.new ≡ help_on name) }
+    /// Answers what there is to say of a topic.
+    pub(crate) fn say_help_on(&mut self, topic: Topic) -> Result<(), AllocError>
+        ensures { OnOk result (self.new ≡ help_on topic) }
     {
         self.dump.clear();
         self.is_short = false;
-        append_help_on(&mut self.dump, name)
+        append_help_on(&mut self.dump, topic)
     }
 
     /// Answers a move from a position, with a breakpoint where it came past a bound. On a fault the

@@ -77,23 +77,25 @@ fn append_passed(out: &mut Vec<u8>, debugger: &mut Debugger, from: u64) -> Resul
 // Writes a text at the end of the room of a place, and answers where it starts.
 fn put_last<const N: usize>(line: &mut [u8], text: &[u8; N]) -> usize
     requires room { length line.old ≡ 80 }
-    requires few { N ≤ 13 }
+    requires few { N ≤ 19 }
     ensures written { drop result line.new ≡ text.now }
-    ensures short { 67 ≤ result }
+    ensures short { 61 ≤ result }
     ensures within { result ≤ 80 }
 {
     put_text(line, PLACE_ROOM, text)
 }
 
-// Writes the end of a line, and answers where it starts.
-fn put_end(line: &mut [u8], at_end: bool) -> usize
+// Writes the end of the line of a position, and answers where it starts.
+fn put_end(line: &mut [u8], position: u64, at_end: bool) -> usize
     requires { length line.old ≡ 80 }
-    ensures written { drop result line.new ≡ end_words at_end }
-    ensures short { 67 ≤ result }
+    ensures written { drop result line.new ≡ end_words position at_end }
+    ensures short { 61 ≤ result }
     ensures within { result ≤ 80 }
 {
     if at_end {
         put_last(line, b" ns, the end\n")
+    } else if position == 0 {
+        put_last(line, b" ns, the beginning\n")
     } else {
         put_last(line, b" ns\n")
     }
@@ -110,24 +112,25 @@ fn put_number(bytes: &mut [u8], end: usize, n: usize) -> usize
     put_count(bytes, end, n)
 }
 
-// Writes the moment of an event, and whether the run ends there, and answers where that starts.
-fn put_time(line: &mut [u8], time: u64, at_end: bool) -> usize
+// Writes the moment of an event, and whether the run ends or begins at a position, and answers where
+// that starts.
+fn put_time(line: &mut [u8], position: u64, time: u64, at_end: bool) -> usize
     requires { length line.old ≡ 80 }
-    ensures written { drop result line.new ≡ time_words time at_end }
-    ensures short { 29 ≤ result }
+    ensures written { drop result line.new ≡ time_words position time at_end }
+    ensures short { 23 ≤ result }
     ensures within { result ≤ 80 }
 {
-    let at = put_end(line, at_end);
+    let at = put_end(line, position, at_end);
     let at = put_number(line, at, time as usize);
     put_text(line, at, b" of the run, time ")
 }
 
-// Appends a position, the moment of the event before it, and whether the run ends there.
+// Appends a position, the moment of the event before it, and whether the run ends or begins there.
 fn append_place(out: &mut Vec<u8>, position: u64, time: u64, at_end: bool) -> Result<(), MoveFault>
     ensures { OnOk result (out.new.items ≡ out.old.items ++ place_line position time at_end) }
 {
     let mut line = [0; PLACE_ROOM];
-    let at = put_time(&mut line, time, at_end);
+    let at = put_time(&mut line, position, time, at_end);
     let at = put_count(&mut line, at, position as usize);
     let start = put_text(&mut line, at, b"at ");
     out.extend_from_slice(&line[start..])?;

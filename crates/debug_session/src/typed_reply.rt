@@ -12,11 +12,11 @@ ghost use Rattle.debug_session.specs.TypedMoves.{TellsPast};
 ghost use Rattle.debug_session.specs.WindowMoves.{IsAsked, IsTyped};
 
 use crate::command::{Command, Typed};
-use crate::name::Name;
 use crate::numbered::number_of;
 use crate::refusal::Refusal;
 use crate::reply::obey;
 use crate::said::Said;
+use crate::topic::Topic;
 use crate::window_move::WindowMove;
 use debugger::{Break, BreakFault, Debugger, MoveFault};
 use trace_text::DumpPart;
@@ -122,11 +122,11 @@ fn tell_help(said: &mut Said)
     }
 }
 
-/// Tells how a command is used.
-fn tell_help_on(name: Name, said: &mut Said)
-    ensures { (said.new ≡ help_on name) ⊎ (said.new ≡ refusal_line Refusal.M) }
+/// Tells of a topic.
+fn tell_help_on(topic: Topic, said: &mut Said)
+    ensures { (said.new ≡ help_on topic) ⊎ (said.new ≡ refusal_line Refusal.M) }
 {
-    match said.say_help_on(name) {
+    match said.say_help_on(topic) {
         Ok(()) => {}
         Err(_) => said.say_refused(Refusal::M),
     }
@@ -282,8 +282,8 @@ pub(crate) fn obey_typed(
             tell_help(said);
             None
         }
-        Typed::HelpOn(name) => {
-            tell_help_on(name, said);
+        Typed::HelpOn(topic) => {
+            tell_help_on(topic, said);
             None
         }
     }

@@ -167,7 +167,7 @@ at 3 of the run, time 2040000 ns
 2 1040000 0 0 3 free 0 una=0 nxt=1000 cwnd=4000 ssthresh=64000 phase=ss
 at 1 of the run, time 0 ns
 1 0 0 0 0 start 0 una=0 nxt=1000 cwnd=4000 ssthresh=64000 phase=ss tx=0:0:0
-at 0 of the run, time 0 ns
+at 0 of the run, time 0 ns, the beginning
 1 0 0 0 0 start 0 una=0 nxt=1000 cwnd=4000 ssthresh=64000 phase=ss tx=0:0:0
 2 1040000 0 0 3 free 0 una=0 nxt=1000 cwnd=4000 ssthresh=64000 phase=ss
 3 2040000 1 1 1 data 0 0 next=1000 tx=1:0:1000

@@ -73,7 +73,7 @@ returns-in-Help-clause-start c = refl
 pub returns-in-HelpOn-clause-obeyed : goal.returns-in-HelpOn-clause-obeyed
 returns-in-HelpOn-clause-obeyed c =
     subst (λ (k : Typed). ObeysTyped c.args.debugger.now.start k (standing c.args.debugger.now) (standing c.args.debugger.now) c.tell_help_on.new.said) (sym c.in-HelpOn.is)
-    (help_on_told c.args.debugger.now c.in-HelpOn.name c.tell_help_on.new.said c.tell_help_on.ensures)
+    (help_on_told c.args.debugger.now c.in-HelpOn.topic c.tell_help_on.new.said c.tell_help_on.ensures)
 
 pub returns-in-HelpOn-clause-start : goal.returns-in-HelpOn-clause-start
 returns-in-HelpOn-clause-start c = refl

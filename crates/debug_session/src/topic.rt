@@ -1,0 +1,105 @@
+//! What help can be asked about.
+ghost use Rattle.std.specs.Prelude.{◌≡◌, ◌++◌, OnOk};
+ghost use Rattle.debug_session.specs.Help.{help_on};
+ghost use Rattle.debug_session.specs.Topics.{other_topic, topic_of};
+
+use crate::help::append_help_on_command;
+use crate::name::{Name, begins, name_of};
+use std::alloc::AllocError;
+
+/// What help is told of.
+#[derive(Clone, Copy, Debug, PartialEq, Eq)]
+pub enum Topic {
+    /// How a command is used.
+    Command(Name),
+    /// What nodes, links, flows and breakpoints are called.
+    Numbers,
+    /// What stands in a line of the trace.
+    Trace,
+    /// The kinds of events.
+    Kinds,
+    /// When a flow is stalled, and how to find out why.
+    Stall,
+}
+
+/// The first topic beside the commands that a word begins.
+fn other_topic(word: &[u8]) -> Option<Topic>
+    ensures { result ≡ other_topic word.now }
+{
+    if begins(word, b"numbers") {
+        Some(Topic::Numbers)
+    } else if begins(word, b"trace") {
+        Some(Topic::Trace)
+    } else if begins(word, b"kinds") {
+        Some(Topic::Kinds)
+    } else if begins(word, b"stall") {
+        Some(Topic::Stall)
+    } else {
+        None
+    }
+}
+
+/// The topic that a word begins: a command comes first.
+pub(crate) fn topic_of(word: &[u8]) -> Option<Topic>
+    ensures { result ≡ topic_of word.now }
+{
+    match name_of(word) {
+        Some(name) => Some(Topic::Command(name)),
+        None => other_topic(word),
+    }
+}
+
+/// Appends what there is to say of a topic.
+pub(crate) fn append_help_on(out: &mut Vec<u8>, topic: Topic) -> Result<(), AllocError>
+    ensures { OnOk result (out.new.items ≡ out.old.items ++ help_on topic) }
+{
+    match topic {
+        Topic::Command(name) => append_help_on_command(out, name),
+        Topic::Numbers => out.extend_from_slice(
+            b"Nodes, links and flows go by numbers, not by the names of the text: each sort is counted from 0, in the
+order of its lines there. So the first flow line is flow 0, the second one flow 1. Lines of the trace and
+answers have the same numbers. In the shell, tcpsim dis FILE names all by them: n0, l0, f0.
+Bytes of a flow are counted from 0 too, breakpoints from 1.
+why 0
+",
+        ),
+        Topic::Trace => out.extend_from_slice(
+            b"A line of the trace: n time node source number KIND AFTER ACTS
+n            which event it is, counted from 1
+time         when it happens, in nanoseconds
+node         where
+source       0: an alarm of the node; L + 1: a packet comes over link L
+number       which alarm; or which packet of that link, counted from 1
+KIND         what happens: help kinds
+AFTER        the node afterwards: of a sender una= (first byte not acknowledged), nxt= (next byte to send),
+             cwnd=, ssthresh= and phase= ss (slow start), ca (congestion avoidance) or fr (fast recovery);
+             of a receiver next= (the byte that it waits for); of a router nothing
+ACTS         tx=L:F:B: link L begins to send a packet of flow F, B its byte or acknowledgement number;
+             drop=lost:F:B, drop=full:F:B or drop=codel:F:B: it is dropped by its number (lose), before
+             a full queue, or by CoDel
+lines 1
+",
+        ),
+        Topic::Kinds => out.extend_from_slice(
+            b"The kinds of events, as lines of the trace tell them and as break kind takes them:
+start F      flow F starts
+rto F        the retransmission timer of flow F ends
+delack F     the receiver of flow F sends an acknowledgement that it delayed
+free L       link L has sent a packet, and is free for the next one
+data F B     a segment of flow F, from byte B on, comes to a router or to the receiver
+ack F B      an acknowledgement of flow F, of all bytes before B, comes to a router or to the sender
+break kind rto
+",
+        ),
+        Topic::Stall => out.extend_from_slice(
+            b"A flow is stalled where it has started, some of its bytes are not acknowledged, and none of its packets
+waits in a queue or is on its way over a link. So only an alarm goes on with it: its retransmission timer,
+or a delayed acknowledgement.
+break stall stops after an event that leaves a flow so, break stall F after one that leaves flow F so, once
+for each stall. lines 1 shows the event, which has the number of that flow, or drops a packet of it. why F
+tells which alarm is due, and when; break drop and reverse find what was dropped before.
+break stall
+",
+        ),
+    }
+}
