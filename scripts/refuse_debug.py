@@ -34,6 +34,9 @@ void _exit(int status) {
 '''
 # A command that changes nothing and is answered with one line.
 NO_COMMAND, ITS_ANSWER, REFUSED = b'refuse\n', b'refused B1\n', b'refused M\n'
+# What is noted of a line that is typed and refused memory.
+NOTED = REFUSED + (b'M: there was no memory, the run has more than 10^15 events, '
+                   b'or a worker could not be started or did not give back what it ran\n')
 # How the first line of an answer begins; the further lines of a dump begin otherwise.
 FIRST_WORDS = (b'at ', b'break ', b'clear', b'refused ')
 
@@ -138,9 +141,9 @@ class Typed(Session):
 
     def refused(self, out, note):
         begin, *notes, end = note.split(PROMPT)
-        if begin or end or len(notes) != len(self.commands) or set(notes) - {b'', REFUSED}:
+        if begin or end or len(notes) != len(self.commands) or set(notes) - {b'', NOTED}:
             return None
-        return tuple(at for at, it in enumerate(notes) if it == REFUSED)
+        return tuple(at for at, it in enumerate(notes) if it == NOTED)
 
 
 def tried(name, session, refuse, count, work, pool):

@@ -71,7 +71,9 @@ class Explained(unittest.TestCase):
                 self.assertRegex(says, rf'^refused {code}( line \d+)?$')
                 out, note = self.tried(refused)
                 if how == 'note':
-                    self.assertEqual((out, note), ('', f'{says}\n'))
+                    # At a prompt the meaning follows.
+                    means = text.splitlines()[0] + '\n' if 'tcpsim debug one.txt' in refused else ''
+                    self.assertEqual((out, note), ('', f'{says}\n{means}'))
                 else:
                     self.assertEqual((out.count('refused'), note), (1, ''))
                     self.assertIn(f'{says}\n', out)

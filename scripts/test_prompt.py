@@ -38,6 +38,8 @@ PROMPT = b'(tcpsim) '
 LONGEST = 60        # seconds that a session may take
 MOST_LINE = 65_536  # bytes of a line
 STEPS = prompt.BUILT
+# What is noted of a line that is refused as no command.
+NO_NAME = b'refused B1\nB1: no command has this name, or no sort of breakpoint\n'
 
 ONE = os.path.join(TOP, 'examples', 'one_segment.txt')
 TWO = os.path.join(TOP, 'examples', 'two_timeouts_in_a_row.txt')
@@ -48,7 +50,7 @@ LINES = {
     1: [b'b', b's', b'', b'st 2', b'  ', b'sta', b'u 3.08ms', b'until 3080us', b'', b'unti 3080000ns', b'u 1s', b'br kind rto',
         b'brea flow 0', b'cl', b'break drop', b'r', b'break', b'', b'ru', b'back 3', b'', b'until 0.0000000001s', b'', b'c', b'ba 99'],
     2: [b'breaks', b'br node 0', b'break drop', b'brea kind rto', b'break drop', b'breaks', b'delete 2', b'd 3', b'breaks', b'd 1', b'del 1',
-        b'breaks', b'help', b'h until', b'help h', b'he br', b'help breaks', b'clear'],
+        b'breaks', b'help', b'h until', b'help h', b'he br', b'help breaks', b'clear', b'help numbers', b'h t', b'h kin', b'help stal', b'h sta', b'h w'],
     3: [b'lines', b'b 99', b'l', b'lines 1000', b's', b'l', b's 10', b's 11', b'l 3', b'lines 0', b'back 10', b'back 11', b'b 0', b's 0',
         b'br kind free', b'br flow 0', b'br node 1', b's 4', b'', b'r', b'b', b'u 4s', b'd 1', b'', b'r', b'', b'', b'state', b'l 1000'],
     4: [b'back 99', b'state flow 0', b'step', b'state', b'state node 0', b'sta node 1', b'state link 0', b'sta link 1', b'state flow 0', b'',
@@ -69,7 +71,7 @@ REFUSALS = {
         (b'u 01s', b'B3'), (b'u 1000000.000000001s', b'B3'), (b'u 1S', b'B3'), (b'br n 0', b'B1'), (b'br kind', b'B2'),
         (b'clear x', b'B2'), (b'step\t1', b'B1'), (b'quit now', b'B2')],
     2: [(b'breaks 1', b'B2'), (b'delete', b'B2'), (b'd 1 2', b'B2'), (b'd 01', b'B3'), (b'd x', b'B3'), (b'd 0', b'B5'), (b'd 1', b'B5'),
-        (b'delete 99999999999999999999999', b'B5'), (b'help stepp', b'B1'), (b'h x y', b'B1'), (b'h s t', b'B2')],
+        (b'delete 99999999999999999999999', b'B5'), (b'help stepp', b'B1'), (b'h x y', b'B1'), (b'h s t', b'B2'), (b'help stalls', b'B1'), (b'h k rto', b'B2')],
     3: [(b'lines 1 2', b'B2'), (b'l 1001', b'B3'), (b'l 01', b'B3'), (b'l x', b'B3')],
     4: [(b'state 1', b'B1'), (b'state kind rto', b'B1'), (b'state n 1', b'B1'), (b'state flows 1 2', b'B1'), (b'state node', b'B2'),
         (b'state link 0 1', b'B2'), (b'state node 2', b'B3'), (b'state link 2', b'B3'), (b'state flow 1', b'B3'), (b'state flow 00', b'B3')],
@@ -268,11 +270,11 @@ class AtThePrompt(unittest.TestCase):
                               (b'exit', b'quit'), (b'x', b'run'), (b'x' * 32, b'step'), (b'\xff\trun', b'run')):
             with self.subTest(word=word):
                 shown = word.replace(b'\xff\t', b'??')
-                noted = PROMPT + b'refused B1\ntcpsim: no command ' + shown + b'; the nearest is ' + nearest + b'\n' + PROMPT
+                noted = PROMPT + NO_NAME + b'tcpsim: no command ' + shown + b'; the nearest is ' + nearest + b'\n' + PROMPT
                 for line in (word, b'  ' + word + b'  1'):
                     self.assertEqual(debug(ONE, line + b'\n'), (0, b'', noted))
         for line in (b'x' * 33, b'break n 0', b'state kind rto', b'help stpe'):
-            self.assertEqual(debug(ONE, line + b'\n'), (0, b'', PROMPT + b'refused B1\n' + PROMPT))
+            self.assertEqual(debug(ONE, line + b'\n'), (0, b'', PROMPT + NO_NAME + PROMPT))
 
     def test_long_lines(self):
         step = model(ONE, [b'step 1'])
@@ -281,7 +283,8 @@ class AtThePrompt(unittest.TestCase):
                            (b'b' * 3_000_000 + b' step 1', b'B2')):
             with self.subTest(length=len(line), code=code):
                 told = debug(ONE, line + b'\nstep 1\n')
-                self.assertEqual(told, (0, step, PROMPT + b'refused ' + code + b'\n' + PROMPT * 2))
+                means = prompt.MEANINGS[code.decode()].encode()
+                self.assertEqual(told, (0, step, PROMPT + b'refused ' + code + b'\n' + means + b'\n' + PROMPT * 2))
         self.assertEqual(debug(ONE, b'step 1'.ljust(MOST_LINE) + b'\n'), (0, step, PROMPT * 2))
 
     def test_a_refused_scenario_has_no_prompt(self):

@@ -66,6 +66,12 @@ class Pages(unittest.TestCase):
                 self.assertEqual(words(also), [it for it in short if at_prompt.name_of(it.encode()) == name.encode()])
         self.assertEqual(found, [name for name, step in prompt.NAMES.items() if step <= prompt.BUILT])
 
+    def test_topics(self):
+        row, = (cells for cells in tables()['Line'] if 'help numbers' in cells[0])
+        self.assertEqual(words(row[0]), [f'help {topic.decode()}' for topic in prompt.TOPICS])
+        for topic in words(row[0]):
+            self.assertIsNone(refusal(topic))
+
     def test_times(self):
         rows = tables()['Time']
         for time, nanoseconds in rows:

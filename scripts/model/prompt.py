@@ -35,24 +35,98 @@ NAMES = {b'step': 1, b'back': 1, b'break': 1, b'breaks': 2, b'run': 1, b'reverse
 # The conditions of a breakpoint, in the order in which its words are told.
 CONDITIONS = (b'node', b'flow', b'kind', b'drop', b'link', b'byte')
 MOST_BYTE = 9 * 10**12      # of the greatest flow
-# Of each name in the order of `help`: how it is used, what it does, and an example.
+# Of each name in the order of `help`: how it is used, what it does, what else there is to say, and an example.
 HELP = {
-    b'step': ('step [K]', 'run the next K events (1)', 'step 10'),
-    b'back': ('back [K]', 'take the last K events back (1)', 'back 10'),
-    b'run': ('run', 'run until a breakpoint matches, or to the end', 'run'),
-    b'reverse': ('reverse', 'go back until a breakpoint matches, or to the beginning', 'reverse'),
-    b'until': ('until T', 'run all events before the moment T, as 1.5s, 20ms or 10000ns', 'until 20ms'),
-    b'state': ('state [PART]', 'show all of the state, or of it: node N, link L or flow F', 'state flow 0'),
-    b'break': ('break COND..', 'stop where all match: node N, flow F, kind K, drop, link L, byte B; or stall [F]', 'break flow 0 kind rto'),
-    b'breaks': ('breaks', 'list the breakpoints', 'breaks'),
-    b'delete': ('delete I', 'take breakpoint I away', 'delete 1'),
-    b'clear': ('clear', 'take all breakpoints away', 'clear'),
-    b'lines': ('lines [K]', 'show the last K lines of the trace (10)', 'lines 20'),
-    b'why': ('why F', 'tell what flow F waits for', 'why 0'),
-    b'help': ('help [NAME]', 'show this, or how NAME is used', 'help until'),
-    b'quit': ('quit', 'end the session', 'quit'),
+    b'step': ('step [K]', 'run the next K events (1)',
+        'It shows the lines of the trace that it passes, ten at most, and where it came to.\n', 'step 10'),
+    b'back': ('back [K]', 'take the last K events back (1)',
+        'It shows the lines that it takes back, the latest first, ten at most, and where it came to.\n', 'back 10'),
+    b'run': ('run', 'run until a breakpoint matches, or to the end',
+        'It stops after the next event whose line a breakpoint matches, and shows that breakpoint.\n', 'run'),
+    b'reverse': ('reverse', 'go back until a breakpoint matches, or to the beginning',
+        'It stops after the last event before this position whose line a breakpoint matches, else at position 0.\n', 'reverse'),
+    b'until': ('until T', 'run all events before the moment T, as 1.5s, 20ms or 10000ns',
+        'T is a number of nanoseconds, or has a unit: ns, us, ms or s. It only goes forwards.\n', 'until 20ms'),
+    b'state': ('state [PART]', 'show all of the state, or of it: node N, link L or flow F',
+        'node N and link L show one line each, flow F all that there is of a flow: both of its ends, the links\n'
+        'where its packets wait, and its events to come. N, L and F are numbers from 0: help numbers\n', 'state flow 0'),
+    b'break': ('break COND..', 'stop where all match: node N, flow F, kind K, drop, link L, byte B; or stall [F]',
+        'node N       the event happens at node N (N, L and F are numbers from 0: help numbers)\n'
+        'flow F       the event is of flow F; a free is of none\n'
+        'kind K       start, rto, delack, free, data or ack: help kinds\n'
+        'drop         a packet is dropped\n'
+        'link L       link L begins to send a packet, or drops one\n'
+        'byte B       a segment that begins with byte B arrives, or an acknowledgement of B\n'
+        'stall [F]    a flow, or flow F, is stalled from there on: help stall; it stands alone\n', 'break flow 0 kind rto'),
+    b'breaks': ('breaks', 'list the breakpoints',
+        'They are counted from 1; where one is taken away, those behind it move up by one.\n', 'breaks'),
+    b'delete': ('delete I', 'take breakpoint I away',
+        'I is its number, as breaks lists it.\n', 'delete 1'),
+    b'clear': ('clear', 'take all breakpoints away', '', 'clear'),
+    b'lines': ('lines [K]', 'show the last K lines of the trace (10)',
+        'K is 1000 at most. What stands in a line: help trace\n', 'lines 20'),
+    b'why': ('why F', 'tell what flow F waits for',
+        'F is a number, not a name: the first flow line of the text is flow 0, the next one flow 1.\n'
+        'It tells how the flow stands, where its packets are, and when its alarms are due.\n', 'why 0'),
+    b'help': ('help [NAME]', 'show this, or more of NAME: a command, numbers, trace, kinds or stall',
+        'NAME can be cut short, as a command can. In the shell, tcpsim explain B3 tells more of refused B3.\n', 'help until'),
+    b'quit': ('quit', 'end the session',
+        'The end of input (Ctrl-D) does so too.\n', 'quit'),
 }
-LAST_OF_HELP = '(an empty line does the last move again)\n'
+LAST_OF_HELP = (
+    '(nodes N, links L and flows F are numbers from 0, in the order of the text: help numbers)\n'
+    '(an empty line does the last move again)\n')
+# What help tells of besides, each a page.
+TOPICS = {
+    b'numbers':
+        'Nodes, links and flows go by numbers, not by the names of the text: each sort is counted from 0, in the\n'
+        'order of its lines there. So the first flow line is flow 0, the second one flow 1. Lines of the trace and\n'
+        'answers have the same numbers. In the shell, tcpsim dis FILE names all by them: n0, l0, f0.\n'
+        'Bytes of a flow are counted from 0 too, breakpoints from 1.\n'
+        'why 0\n',
+    b'trace':
+        'A line of the trace: n time node source number KIND AFTER ACTS\n'
+        'n            which event it is, counted from 1\n'
+        'time         when it happens, in nanoseconds\n'
+        'node         where\n'
+        'source       0: an alarm of the node; L + 1: a packet comes over link L\n'
+        'number       which alarm; or which packet of that link, counted from 1\n'
+        'KIND         what happens: help kinds\n'
+        'AFTER        the node afterwards: of a sender una= (first byte not acknowledged), nxt= (next byte to send),\n'
+        '             cwnd=, ssthresh= and phase= ss (slow start), ca (congestion avoidance) or fr (fast recovery);\n'
+        '             of a receiver next= (the byte that it waits for); of a router nothing\n'
+        'ACTS         tx=L:F:B: link L begins to send a packet of flow F, B its byte or acknowledgement number;\n'
+        '             drop=lost:F:B, drop=full:F:B or drop=codel:F:B: it is dropped by its number (lose), before\n'
+        '             a full queue, or by CoDel\n'
+        'lines 1\n',
+    b'kinds':
+        'The kinds of events, as lines of the trace tell them and as break kind takes them:\n'
+        'start F      flow F starts\n'
+        'rto F        the retransmission timer of flow F ends\n'
+        'delack F     the receiver of flow F sends an acknowledgement that it delayed\n'
+        'free L       link L has sent a packet, and is free for the next one\n'
+        'data F B     a segment of flow F, from byte B on, comes to a router or to the receiver\n'
+        'ack F B      an acknowledgement of flow F, of all bytes before B, comes to a router or to the sender\n'
+        'break kind rto\n',
+    b'stall':
+        'A flow is stalled where it has started, some of its bytes are not acknowledged, and none of its packets\n'
+        'waits in a queue or is on its way over a link. So only an alarm goes on with it: its retransmission timer,\n'
+        'or a delayed acknowledgement.\n'
+        'break stall stops after an event that leaves a flow so, break stall F after one that leaves flow F so, once\n'
+        'for each stall. lines 1 shows the event, which has the number of that flow, or drops a packet of it. why F\n'
+        'tells which alarm is due, and when; break drop and reverse find what was dropped before.\n'
+        'break stall\n',
+}
+# What a refusal means, told behind it.
+MEANINGS = {
+    'B1': 'B1: no command has this name, or no sort of breakpoint',
+    'B2': 'B2: the number of words is another',
+    'B3': 'B3: a word is no number, or out of its range; there is no such node, flow or kind',
+    'B4': 'B4: a 65th breakpoint',
+    'B5': 'B5: there is no breakpoint of this number',
+}
+# The commands that can have the number of a node, a link or a flow: where one is refused, those that there are are told.
+NUMBERED = (b'break', b'state', b'why')
 PLACES = {b'ns': 0, b'us': 3, b'ms': 6, b's': 9}     # of a time's unit: how many digits a nanosecond is behind it
 TIME = re.compile(rb'(0|[1-9][0-9]*)(?:(?:\.([0-9]+))?(ns|us|ms|s))?')
 
@@ -91,7 +165,7 @@ def words_of(breakpoint):
 
 
 def usage(name):
-    used, what, _ = HELP[name]
+    used, what, _, _ = HELP[name]
     return f'{used:12} {what}\n'
 
 
@@ -257,6 +331,13 @@ class Prompt:
                 return name
         raise Refused('B1')
 
+    def topic_of(self, word):
+        """The first name that the word begins, else the first topic."""
+        for topic in TOPICS:
+            if topic.startswith(word) and not any(step <= self.steps and name.startswith(word) for name, step in NAMES.items()):
+                return topic
+        return self.name_of(word)
+
     def quits(self, line):
         words = words_in(line)
         if len(line) > MOST_LINE or len(words) != 1:
@@ -278,12 +359,27 @@ class Prompt:
 
     def noted(self, line, refusal):
         """What is noted of a line that is refused so."""
-        note, words = refusal.note() + '\n', words_in(line)
-        names = [name for name, step in NAMES.items() if step <= self.steps]
-        if refusal.code != 'B1' or self.steps == 0 or len(words[0]) > MOST_WORD or any(name.startswith(words[0]) for name in names):
+        note = refusal.note() + '\n'
+        if self.steps == 0:
             return note
-        nearest = min(names, key=lambda name: edits(words[0], name))
-        return f'{note}tcpsim: no command {printable(words[0])}; the nearest is {nearest.decode()}\n'
+        note += MEANINGS[refusal.code] + '\n'
+        return note + {'B1': self.nearest, 'B3': self.numbers}.get(refusal.code, lambda word: '')((words_in(line) or [b''])[0])
+
+    def nearest(self, word):
+        """The line that tells the nearest name to a word that begins none."""
+        names = [name for name, step in NAMES.items() if step <= self.steps]
+        if len(word) > MOST_WORD or any(name.startswith(word) for name in names):
+            return ''
+        nearest = min(names, key=lambda name: edits(word, name))
+        return f'tcpsim: no command {printable(word)}; the nearest is {nearest.decode()}\n'
+
+    def numbers(self, word):
+        """The line that tells which nodes, links and flows there are, behind a command that can name one."""
+        if self.name_of(word) not in NUMBERED:
+            return ''
+        found = self.debugger.scenario
+        told = (f'{sort} 0 to {len(those) - 1}' for sort, those in (('nodes', found.nodes), ('links', found.links), ('flows', found.flows)))
+        return f'tcpsim: there are {", ".join(told)}: see help numbers\n'
 
     def move(self, name, *numbers):
         self.last = name, *numbers
@@ -300,7 +396,8 @@ class Prompt:
         """The line that says where in the run the session is."""
         net = self.debugger.net
         time = self.debugger.lines[-1].time if net.position else 0
-        return f'at {net.position} of the run, time {time} ns{"" if net.due() else ", the end"}\n'
+        end = ', the end' if not net.due() else '' if net.position else ', the beginning'
+        return f'at {net.position} of the run, time {time} ns{end}\n'
 
     def what_matched(self):
         """The line of the first breakpoint that matches the last line, if one does."""
@@ -413,9 +510,12 @@ class Prompt:
     def on_help(self, words):
         if not words:
             return ''.join(usage(name) for name in HELP if NAMES[name] <= self.steps) + LAST_OF_HELP
-        name = self.name_of(words[0])
+        topic = self.topic_of(words[0])
         at_most(words, 1)
-        return f'{usage(name)}{HELP[name][2]}\n'
+        if topic in TOPICS:
+            return TOPICS[topic]
+        _, _, more, example = HELP[topic]
+        return f'{usage(topic)}{more}{example}\n'
 
 
 def typed(scenario, lines, steps=STEPS):

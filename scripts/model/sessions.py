@@ -1,7 +1,7 @@
 """Random lines that are typed at a prompt: valid ones, names cut short, times in each unit, refused ones, empty
 lines, long ones, and spaces of all kinds."""
 from debugger import KINDS, MOST, MOST_BREAKS
-from prompt import MOST_LINE, NAMES, PLACES
+from prompt import MOST_LINE, NAMES, PLACES, TOPICS
 
 # Numbers and times of a wrong form or out of range, and some at a bound.
 WRONG_NUMBERS = (b'01', b'00', b'-1', b'+1', b'1.0', b'1_0', b'x', b'1x', b'0x1', b'\xd9\xa3', b'%d' % (MOST + 1), b'9' * 25,
@@ -100,7 +100,7 @@ def words_behind(pick, name, scenario, moments, steps):
         return [number(pick, 0, 1, 1, 1, 2, 2, 3, 5, 64, 65, 100)]
     if name == b'help':
         return pick.choice(([], [cut_short(pick, pick.choice(list(NAMES)))], [cut_short(pick, pick.choice(list(NAMES)))],
-                            [pick.choice(NO_COMMANDS[:-3])]))
+                            [cut_short(pick, pick.choice(list(TOPICS)))], [pick.choice(NO_COMMANDS[:-3])]))
     return []
 
 

@@ -775,6 +775,10 @@ at 1
         self.assertEqual(program(ONE_SEGMENT_IMAGE, 'debug')[0], 1)
 
 
+# What `refused B1` means.
+NO_NAME = 'B1: no command has this name, or no sort of breakpoint'
+
+
 class Prompts(Case):
     def typed(self, text, *lines, steps=prompt.STEPS):
         """What is written and what is noted, without the prompts."""
@@ -803,12 +807,19 @@ class Prompts(Case):
     def test_the_nearest_name(self):
         for line, word, name in (('stpe', 'stpe', 'step'), ('bak 1', 'bak', 'back'), ('sate', 'sate', 'state'), ('  exit', 'exit', 'quit'),
                                  ('x', 'x', 'run'), ('bt', 'bt', 'step'), ('ste\tp', 'ste?p', 'step'), ('x' * 32, 'x' * 32, 'step')):
-            told = f'refused B1 tcpsim: no command {word}; the nearest is {name}'.split()
+            told = f'refused B1 {NO_NAME} tcpsim: no command {word}; the nearest is {name}'.split()
             self.assertEqual(self.typed(ONE_SEGMENT, line), ('', told), line)
         for line in ('x' * 33, 'break no 1', 'help stpe', 'state x'):
-            self.assertEqual(self.typed(ONE_SEGMENT, line), ('', ['refused', 'B1']), line)
+            self.assertEqual(self.typed(ONE_SEGMENT, line), ('', f'refused B1 {NO_NAME}'.split()), line)
         self.assertEqual(self.typed(ONE_SEGMENT, 'wy 0', steps=4)[1][-1], 'run')
         self.assertEqual(self.typed(ONE_SEGMENT, 'stpe', steps=0), ('', ['refused', 'B1']))
+
+    def test_the_numbers_that_there_are(self):
+        told = 'tcpsim: there are nodes 0 to 1, links 0 to 1, flows 0 to 0: see help numbers'.split()
+        for line in ('why f', 'w 1', 'break flow 1', 'br kind acks', 'state link 2', 'sta node n'):
+            self.assertEqual(self.typed(ONE_SEGMENT, line)[1][-len(told):], told, line)
+        for line in ('step x', 'until 1.5', 'lines 1001', 'delete 01', 'why', 'break n 0'):
+            self.assertNotIn('tcpsim:', self.typed(ONE_SEGMENT, line)[1], line)
 
     def test_words(self):
         self.refuses('B2', 'step 1 2', 'back 1 1', 'run 1', 'until', 'until 1 s', 'clear 1', 'break', 'br drop link',
@@ -853,7 +864,7 @@ class Prompts(Case):
                 ('s 2', ''.join(lines[1:3]) + 'at 3 of the run, time 2040000 ns\n'),
                 ('s 0', 'at 3 of the run, time 2040000 ns\n'),
                 ('b 2', lines[2] + lines[1] + 'at 1 of the run, time 0 ns\n'),
-                ('b', lines[0] + 'at 0 of the run, time 0 ns\n'), ('', 'at 0 of the run, time 0 ns\n'), ('l', ''),
+                ('b', lines[0] + 'at 0 of the run, time 0 ns, the beginning\n'), ('', 'at 0 of the run, time 0 ns, the beginning\n'), ('l', ''),
                 ('u 2.04ms', ''.join(lines[:2]) + 'at 2 of the run, time 1040000 ns\n'),
                 ('br node 1', 'break 1: node 1\n'), ('br kind free', 'break 2: kind free\n'),
                 ('r', lines[2] + 'at 3 of the run, time 2040000 ns\nbreak 1: node 1\n'),
@@ -876,7 +887,7 @@ class Prompts(Case):
         for count, more in ((10, ''), (11, '.. 1 more\n'), (25, '.. 15 more\n')):
             forwards, back = self.typed(text, f's {count}')[0], self.typed(text, f's {count}', f'b {count}')[0]
             self.assertTrue(forwards.startswith(''.join(lines[:10]) + more + f'at {count} of the run'))
-            self.assertEqual(back, forwards + ''.join(lines[:count][::-1][:10]) + more + 'at 0 of the run, time 0 ns\n')
+            self.assertEqual(back, forwards + ''.join(lines[:count][::-1][:10]) + more + 'at 0 of the run, time 0 ns, the beginning\n')
         self.assertEqual(self.typed(text, 's 20', 'l 4')[0].splitlines(True)[-4:], lines[16:20])
         self.assertEqual(self.typed(text, 's 20', 'l')[0].splitlines(True)[-10:], lines[10:20])
 
@@ -898,7 +909,7 @@ class Prompts(Case):
 
     def test_reverse(self):
         lines = ONE_SEGMENT_TRACE.splitlines(keepends=True)
-        start, given = 'at 0 of the run, time 0 ns\n', ()
+        start, given = 'at 0 of the run, time 0 ns, the beginning\n', ()
         for line, answer in (
                 ('re', start), ('u 1s', ''.join(lines[:5]) + 'at 5 of the run, time 3080000 ns, the end\n'),
                 ('reverse', ''.join(lines[4::-1]) + start), ('br kind free', 'break 1: kind free\n'), ('br node 1', 'break 2: node 1\n'),
@@ -983,17 +994,37 @@ class Prompts(Case):
             'breaks       list the breakpoints',
             'delete I     take breakpoint I away',
             'clear        take all breakpoints away',
-            'help [NAME]  show this, or how NAME is used',
+            'help [NAME]  show this, or more of NAME: a command, numbers, trace, kinds or stall',
             'quit         end the session',
+            '(nodes N, links L and flows F are numbers from 0, in the order of the text: help numbers)',
             '(an empty line does the last move again)'], []))
         for word in ('u', 'unt', 'until'):
             self.assertEqual(self.typed(ONE_SEGMENT, f'help {word}')[0].splitlines(),
-                             ['until T      run all events before the moment T, as 1.5s, 20ms or 10000ns', 'until 20ms'])
+                             ['until T      run all events before the moment T, as 1.5s, 20ms or 10000ns',
+                              'T is a number of nanoseconds, or has a unit: ns, us, ms or s. It only goes forwards.', 'until 20ms'])
         self.assertTrue(self.typed(ONE_SEGMENT, 'h breaks')[0].startswith('breaks '))
         # Each example is a line that is not refused, but for what is not there.
-        for name, (used, _, example) in prompt.HELP.items():
+        for name, (_, _, _, example) in prompt.HELP.items():
             self.assertTrue(example.encode().startswith(name))
-            self.assertIn(self.typed(ONE_SEGMENT, example)[1], ([], ['refused', 'B5']))
+            self.assertIn(self.typed(ONE_SEGMENT, example)[1][:2], ([], ['refused', 'B5']))
+
+    def test_help_on_topics(self):
+        for words, topic in (('n num numbers', b'numbers'), ('t tra trace', b'trace'), ('k ki kinds', b'kinds'), ('stal stall', b'stall')):
+            for word in words.split():
+                self.assertEqual(self.typed(ONE_SEGMENT, f'help {word}'), (prompt.TOPICS[topic], []))
+        # A command comes first.
+        for word, name in (('s', 'step'), ('st', 'step'), ('sta', 'state'), ('l', 'lines')):
+            self.assertTrue(self.typed(ONE_SEGMENT, f'help {word}')[0].startswith(f'{name} '))
+        self.refuses('B1', 'help stalls', 'help numbers1', 'help traces 1')
+        self.refuses('B2', 'help kinds rto', 'h k k')
+        # The last line of each can be typed; a terminal holds it.
+        for text in prompt.TOPICS.values():
+            lines = text.splitlines()
+            self.assertEqual(self.typed(ONE_SEGMENT, lines[-1])[1], [])
+            self.assertLessEqual(max(map(len, lines)), 110)
+        # The kinds are those that a breakpoint takes.
+        for line in prompt.TOPICS[b'kinds'].splitlines()[1:-1]:
+            self.assertEqual(self.typed(ONE_SEGMENT, f'break kind {line.split()[0]}')[1], [])
 
 
 if __name__ == '__main__':

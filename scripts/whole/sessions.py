@@ -158,7 +158,7 @@ at 3 of the run, time 2040000 ns
 2 1040000 0 0 3 free 0 una=0 nxt=1000 cwnd=4000 ssthresh=64000 phase=ss
 at 1 of the run, time 0 ns
 1 0 0 0 0 start 0 una=0 nxt=1000 cwnd=4000 ssthresh=64000 phase=ss tx=0:0:0
-at 0 of the run, time 0 ns
+at 0 of the run, time 0 ns, the beginning
 1 0 0 0 0 start 0 una=0 nxt=1000 cwnd=4000 ssthresh=64000 phase=ss tx=0:0:0
 2 1040000 0 0 3 free 0 una=0 nxt=1000 cwnd=4000 ssthresh=64000 phase=ss
 3 2040000 1 1 1 data 0 0 next=1000 tx=1:0:1000
@@ -183,6 +183,7 @@ break 2: kind delack
 clear
 no breakpoint
 delete I     take breakpoint I away
+I is its number, as breaks lists it.
 delete 1
 '''
 
@@ -190,7 +191,7 @@ delete 1
 LINES = ['lines', 'b', 'br kind free', 'br node 1', 'r', 's', '', 'b', 'l 2', 'l 1001', 'l 1 2', 'lines 0', 'c', 'u 1s', 'l 1', 's']
 
 TOLD = '''\
-at 0 of the run, time 0 ns
+at 0 of the run, time 0 ns, the beginning
 break 1: kind free
 break 2: node 1
 1 0 0 0 0 start 0 una=0 nxt=1000 cwnd=4000 ssthresh=64000 phase=ss tx=0:0:0
@@ -249,10 +250,24 @@ break 1: link 4
 '''
 
 
+# What the codes mean.
+MEANT = {
+    'B1': 'B1: no command has this name, or no sort of breakpoint',
+    'B2': 'B2: the number of words is another',
+    'B3': 'B3: a word is no number, or out of its range; there is no such node, flow or kind',
+    'B5': 'B5: there is no breakpoint of this number',
+}
+
+
 def refused(*codes):
     """The notes of lines that are refused with these codes."""
-    return [f'refused {code}' for code in codes]
+    return [note for code in codes for note in (f'refused {code}', MEANT[code])]
 
+
+# The notes of lines that could have the number of a node, a link or a flow, over each of the scenarios.
+OUTSIDE = [*refused('B3'), 'tcpsim: there are nodes 0 to 1, links 0 to 1, flows 0 to 0: see help numbers']
+
+OUTSIDE_TWO = [*refused('B3'), 'tcpsim: there are nodes 0 to 4, links 0 to 7, flows 0 to 1: see help numbers']
 
 # What a word is refused with that begins no name, and the name that is nearest to it.
 NO_NAME = [*refused('B1'), 'tcpsim: no command bak; the nearest is back']
@@ -261,12 +276,12 @@ NO_NAME = [*refused('B1'), 'tcpsim: no command bak; the nearest is back']
 # told of lines that are refused.
 LINES_TYPED = [
     (CUT_SHORT, 11, MOVED, NO_NAME + refused('B3', 'B2', 'B3', 'B2')),
-    (REFUSED, 9, MOVED, NO_NAME + refused('B3', 'B2', 'B3')),
+    (REFUSED, 9, MOVED, NO_NAME + refused('B3', 'B2') + OUTSIDE),
     (BREAKPOINTS, 16, NUMBERED, refused('B5', 'B5', 'B5', 'B3', 'B1')),
     (LINES, 17, TOLD, refused('B3', 'B2')),
 ]
 
 # The same over two flows of equal times.
 LINES_OF_EQUAL_TIMES = [
-    (CONDITIONS, 21, MATCHED, refused('B3', 'B3', 'B2', 'B2', 'B2', 'B2', 'B2', 'B1', 'B3')),
+    (CONDITIONS, 21, MATCHED, OUTSIDE_TWO * 2 + refused('B2', 'B2', 'B2', 'B2', 'B2', 'B1') + OUTSIDE_TWO),
 ]

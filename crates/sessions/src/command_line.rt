@@ -79,7 +79,7 @@ fn workers_option<'a>(alloc: Global) -> Arg<'a>
         .value_name("N")
         .value_parser(value_parser!(usize).range(1..=64))
         .default_value("1")
-        .help("How many workers run the groups, 1 to 64; with --groups auto or yours")
+        .help("Workers for --groups, 1 to 64; they pay where a window holds thousands of events")
 }
 
 /// The option that says which group each node is in.

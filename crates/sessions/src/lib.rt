@@ -18,6 +18,7 @@ pub mod outcome;
 mod output;
 mod progress;
 mod prompt;
+mod refused_line;
 mod rest;
 mod run;
 pub mod scenario_input;

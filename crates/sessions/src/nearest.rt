@@ -108,18 +108,26 @@ fn first_word(line: &[u8]) -> &[u8] {
     &rest[..end]
 }
 
-/// Whether a word begins a name.
-fn begins_name(word: &[u8]) -> bool {
-    NAMES
-        .iter()
-        .any(|name| spelling(*name).as_bytes().starts_with(word))
+/// The first name that a word begins.
+fn name_begun(word: &[u8]) -> Option<Name> {
+    for name in &NAMES {
+        if spelling(*name).as_bytes().starts_with(word) {
+            return Some(*name);
+        }
+    }
+    None
+}
+
+/// The command whose name the first word of a line begins.
+pub(crate) fn command_begun(line: &[u8]) -> Option<Name> {
+    name_begun(first_word(line))
 }
 
 /// Tells the nearest name to the first word of a line, where that begins no name, is short, and there
 /// is memory to say it.
 pub(crate) fn tell_nearest<N: Notes>(alloc: Global, line: &[u8], notes: &mut N) {
     let word = first_word(line);
-    if word.len() > MOST_WORD || begins_name(word) {
+    if word.len() > MOST_WORD || name_begun(word).is_some() {
         return;
     }
     let mut shown = String::new(alloc);

@@ -1,5 +1,6 @@
 //! Who is told how far a run is, and why an input is refused.
 
+use debug_session::Limits;
 use sim_time::Time;
 use std::fmt;
 
@@ -38,9 +39,41 @@ impl fmt::Display for HowFar {
     }
 }
 
+/// How many nodes, links and flows a scenario has. Its `Display` is the numbers that they have, as
+/// `nodes 0 to 5, links 0 to 9, flows 0 to 1`.
+#[derive(Clone, Copy, Drop)]
+pub struct Numbers {
+    /// How many nodes.
+    pub nodes: u16,
+    /// How many links.
+    pub links: u16,
+    /// How many flows.
+    pub flows: u16,
+}
+
+impl Numbers {
+    /// Those below the limits.
+    pub(crate) fn of(limits: Limits) -> Numbers {
+        Numbers {
+            nodes: limits.nodes,
+            links: limits.links,
+            flows: limits.flows,
+        }
+    }
+}
+
+impl fmt::Display for Numbers {
+    fn fmt<W: fmt::Write>(&self, f: &mut fmt::Formatter<W>) -> fmt::Result {
+        write!(f, "nodes 0 to {}", self.nodes.saturating_sub(1))?;
+        write!(f, ", links 0 to {}", self.links.saturating_sub(1))?;
+        write!(f, ", flows 0 to {}", self.flows.saturating_sub(1))
+    }
+}
+
 /// Is told how far a run is, while it goes on, why an input is refused, and at a prompt, when a line
-/// is asked for, that it is refused, and the nearest command where it names none. What it does with
-/// that changes nothing of a session.
+/// is asked for, that it is refused, what that means, the nearest command where it names none, and
+/// which numbers there are where it may have one that is none. What it does with that changes nothing
+/// of a session.
 pub trait Notes {
     /// The run is so far.
     fn progress(&mut self, far: &HowFar);
@@ -56,6 +89,12 @@ pub trait Notes {
 
     /// The line that was typed is refused: this is the refusal, a line.
     fn line_refused(&mut self, refusal: &[u8]);
+
+    /// What that means: a line without its end.
+    fn refusal_means(&mut self, meaning: &str);
+
+    /// A number of the line that was refused may be none of the scenario's: it has these.
+    fn numbers(&mut self, numbers: &Numbers);
 
     /// The first word of the line that was refused begins no command's name, and this is the nearest of
     /// the names. The word has no byte that is not printable.
@@ -76,6 +115,10 @@ impl Notes for NoNotes {
     fn prompt(&mut self) {}
 
     fn line_refused(&mut self, _refusal: &[u8]) {}
+
+    fn refusal_means(&mut self, _meaning: &str) {}
+
+    fn numbers(&mut self, _numbers: &Numbers) {}
 
     fn no_command(&mut self, _word: &str, _nearest: &str) {}
 }

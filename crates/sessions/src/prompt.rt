@@ -16,9 +16,9 @@ ghost use Rattle.window_engine.specs.Failures.{failures_after};
 
 use crate::fault::SessionFault;
 use crate::means::{Crew, Means};
-use crate::nearest::tell_nearest;
 use crate::notes::Notes;
 use crate::output::put_all;
+use crate::refused_line::tell_refused;
 use crate::rest::Rest;
 use crate::run::{is_alone, told_groups};
 use crate::scenario_input::told_scenario;
@@ -46,17 +46,10 @@ pub(crate) enum Turn {
     NoLine,
 }
 
-/// Tells that a line is refused, and the nearest command where it names none.
-fn tell_refused<N: Notes>(alloc: Global, line: &[u8], refusal: &[u8], notes: &mut N) {
-    notes.line_refused(refusal);
-    if refusal == b"refused B1\n".as_slice() {
-        tell_nearest(alloc, line, notes);
-    }
-}
-
 /// Puts out the answer to a line; that the line is refused is told beside it.
 fn put_answer<W: Sink, N: Notes>(
     alloc: Global,
+    limits: Limits,
     line: &[u8],
     said: &Said,
     writer: &mut W,
@@ -67,7 +60,7 @@ fn put_answer<W: Sink, N: Notes>(
     ensures failures { W.failures writer.new ≡ failures_after result (W.failures writer.old) }
 {
     if is_refusal(said.as_slice()) {
-        tell_refused(alloc, line, said.as_slice(), notes);
+        tell_refused(alloc, limits, line, said.as_slice(), notes);
         return Ok(());
     }
     put_all(writer, said.as_slice())
@@ -118,7 +111,7 @@ fn take_turn<R: Source, W: Sink, G: Gate, H: Threads + Wait + Sync, N: Notes>(
         return Ok(Turn::Quit);
     }
     answer_line(crew, dialogue, limits, line, said);
-    put_answer(crew.alloc, line, said, writer, notes)?;
+    put_answer(crew.alloc, limits, line, said, writer, notes)?;
     Ok(Turn::Answered)
 }
 

@@ -53,13 +53,16 @@ fn push_place(shown: &mut String, place: &Place) -> Result<(), AllocError> {
     shown.push('\n')
 }
 
+/// The first line of what a code means.
+pub(crate) fn meaning_of(code: &str) -> Option<&'static str> {
+    text_of(code)?.lines().next()
+}
+
 /// Adds the first line of what a code means.
 fn push_meaning(shown: &mut String, code: &str) -> Result<(), AllocError> {
-    if let Some(text) = text_of(code) {
-        if let Some(line) = text.lines().next() {
-            shown.push_str(line)?;
-            shown.push('\n')?;
-        }
+    if let Some(line) = meaning_of(code) {
+        shown.push_str(line)?;
+        shown.push('\n')?;
     }
     Ok(())
 }

@@ -1,11 +1,11 @@
 //! What is told on standard error, beside the note.
 
-use sessions::notes::{HowFar, Notes};
+use sessions::notes::{HowFar, Notes, Numbers};
 use std::io::Write;
 
 /// Tells on standard error how far a run is, on one line, and at a prompt, that a line is asked for,
-/// that one is refused, and the nearest command where it names none; keeps why an input is refused.
-/// That it fails there is ignored.
+/// that one is refused, what that means, the nearest command where it names none, and which numbers
+/// there are; keeps why an input is refused. That it fails there is ignored.
 #[derive(Drop)]
 pub struct ErrorNotes<'r> {
     /// The process.
@@ -40,6 +40,14 @@ impl<'r> Notes for ErrorNotes<'r> {
 
     fn line_refused(&mut self, refusal: &[u8]) {
         let _ = self.rt.stderr().write_all(refusal);
+    }
+
+    fn refusal_means(&mut self, meaning: &str) {
+        let _ = eprint!(self.rt; "{meaning}\n");
+    }
+
+    fn numbers(&mut self, numbers: &Numbers) {
+        let _ = eprint!(self.rt; "tcpsim: there are {numbers}: see help numbers\n");
     }
 
     fn no_command(&mut self, word: &str, nearest: &str) {
