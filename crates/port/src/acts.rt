@@ -108,19 +108,7 @@ impl Acts {
     pub fn reset(&mut self)
         ensures { self.new ≡ record { acts = []; room = 2 } }
     {
-        self.items.clear();
-        if self.items.spilled() {
-            self.give_back();
-        }
-    }
-
-    // Gives the memory of no acts back.
-    #[cold]
-    #[inline(never)]
-    fn give_back(&mut self)
-        requires { self.old.acts ≡ [] }
-        ensures { self.new ≡ record { acts = []; room = 2 } }
-    {
-        self.items.shrink_to_fit();
+        // Two acts are forgotten by their count alone: a loop over them would end where it can't be guessed.
+        self.items = SmallVec::new(*self.items.allocator());
     }
 }
