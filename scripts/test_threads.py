@@ -9,6 +9,7 @@ import subprocess
 import sys
 import tempfile
 import unittest
+from itertools import accumulate
 
 TOP = os.path.dirname(os.path.dirname(os.path.abspath(__file__)))
 PROGRAM = os.path.join(TOP, 'crates', 'tcpsim', 'out', 'tcpsim')
@@ -35,13 +36,17 @@ class Threads(unittest.TestCase):
         return subprocess.run([sys.executable, NET, *shape], check=True, capture_output=True, text=True).stdout
 
     def ran(self, text, *words):
-        """What the program writes, and what beside it, and how many threads it started."""
+        """What the program writes, and what beside it, and how many threads it started; `at_once` is then how many
+        of them there were at a time at most."""
         counts = os.path.join(self.folder.name, 'counts')
         with open(counts, 'wb'):
             pass
         env = {**os.environ, 'LD_PRELOAD': self.library, 'THREADS': counts}
         done = subprocess.run([PROGRAM, *words], input=text, capture_output=True, text=True, env=env, check=True)
-        return done.stdout, done.stderr, os.path.getsize(counts)
+        with open(counts, 'rb') as file:
+            marks = file.read()
+        self.at_once = max(accumulate((1 if mark == ord('t') else -1 for mark in marks), initial=0))
+        return done.stdout, done.stderr, marks.count(b't')
 
     def counted(self, text, *words):
         """What the program writes, and how many threads it started."""
@@ -100,6 +105,13 @@ class Threads(unittest.TestCase):
         text = self.text_of(SMALL)
         for workers in ('2', '4', '64'):
             self.assertEqual(self.run_of(text, '--groups', 'each', '--workers', workers), 0)
+
+    def test_the_calling_thread_is_one_of_the_workers(self):
+        """For four workers three threads at a time are started beside the program's own, which works too."""
+        text = self.text_of(WIDE)
+        for workers in (2, 3, 4, 64):
+            self.assertGreater(self.run_of(text, '--groups', self.parts(), '--workers', str(workers)), 0)
+            self.assertEqual(self.at_once, min(workers, 4) - 1)
 
     def test_no_more_threads_than_groups(self):
         """With 64 workers no window of four groups starts more than with four."""

@@ -1,5 +1,6 @@
-/* Counts the threads that a program starts: a library for LD_PRELOAD. Each that is started adds one byte to
-   the file that THREADS names. scripts/test_threads.py and scripts/refuse_memory.sh build it. */
+/* Tells of the threads that a program starts: a library for LD_PRELOAD. Each that is started adds a t to the
+   file that THREADS names, and each that is waited for a j. scripts/test_threads.py and
+   scripts/refuse_memory.sh build it. */
 #define _GNU_SOURCE
 #include <dlfcn.h>
 #include <fcntl.h>
@@ -8,12 +9,25 @@
 #include <unistd.h>
 
 typedef int create(pthread_t *, const pthread_attr_t *, void *(*)(void *), void *);
+typedef int join(pthread_t, void **);
+
+static void tell(const char *mark) {
+  int file = open(getenv("THREADS"), O_WRONLY | O_APPEND | O_CREAT, 0600);
+  if (file < 0) return;
+  if (write(file, mark, 1) != 1) abort();
+  close(file);
+}
 
 int pthread_create(pthread_t *thread, const pthread_attr_t *how, void *(*run)(void *), void *with) {
   create *real = (create *)dlsym(RTLD_NEXT, "pthread_create");
   int status = real(thread, how, run, with);
-  int file = status ? -1 : open(getenv("THREADS"), O_WRONLY | O_APPEND | O_CREAT, 0600);
-  if (file >= 0 && write(file, "t", 1) != 1) abort();
-  if (file >= 0) close(file);
+  if (!status) tell("t");
+  return status;
+}
+
+int pthread_join(pthread_t thread, void **back) {
+  join *real = (join *)dlsym(RTLD_NEXT, "pthread_join");
+  int status = real(thread, back);
+  if (!status) tell("j");
   return status;
 }

@@ -106,15 +106,6 @@ module _ (c d : Course) (same : IsSameNet c.window d.window) (rest : d ≡ recor
   window_at : d.window.position ≡ c.window.position
   window_at = ap (λ (r : Reached). r.position) same.net
 
-  pub rest_same : AtRest c → AtRest d
-  rest_same was = record {
-    edge = same.edge;
-    committed = at ∙ was.committed ∙ sym window_at;
-    few = (let few = was.few in omega (arith, few, at));
-    end = end ∙ was.end ∙ sym same.end;
-    groups = same.few;
-  }
-
   pub behind_same : (net : Reached) → IsBehind net c → IsBehind net d
   behind_same net was =
       let sheaf : d.sheaf ≡ c.sheaf = ap (λ (x : Course). x.sheaf) rest in
@@ -126,9 +117,6 @@ module _ (c d : Course) (same : IsSameNet c.window d.window) (rest : d ≡ recor
         end = end ∙ was.end ∙ sym same.end;
         groups = same.few;
       }
-
-  pub wrote_same : (until : ℕ) (from : Reached) (n : ℕ) (a b : Option (List ℕ)) → Wrote until from (reached_in c.window) n a b → Wrote until from (reached_in d.window) n a b
-  wrote_same until from n a b w = subst (λ (r : Reached). Wrote until from r n a b) (sym same.net) w
 
 -- a sheaf says nothing of groups
 pub groups_kept : (c : Course) (s : SheafValue) → HasGroups c → HasGroups (record c { sheaf = s })

@@ -14,3 +14,4 @@ pub mod TooMany
 pub mod Unwritten
 pub mod Filled
 pub mod Grouped
+pub mod Called

@@ -1,5 +1,5 @@
 -- The net on its way: what it is between windows, and what a window that was written leaves.
-use Rattle.std.specs.Prelude.{◌≡◌, ◌≤◌, ◌<◌, ◌+◌, ◌*◌, ◌^◌, ℕ, false, List, length, Option, Some, Result, Err}
+use Rattle.std.specs.Prelude.{◌≡◌, ◌≤◌, ◌<◌, ◌+◌, ◌*◌, ◌^◌, ℕ, false, List, length, Option, Some, Result, Err, OnOk, IfOk, IfErr}
 use Rattle.std.specs.Io.KnownBytes.{Appends}
 use Rattle.scenario_image.specs.declared.parts.ScenarioParts.{ScenarioParts}
 use Rattle.scenario_image.specs.Scenario.{IsScenario}
@@ -7,6 +7,7 @@ use Rattle.node_core.specs.TraceLine.{TraceLine}
 use Rattle.table_run.specs.State.{State, run}
 use Rattle.table_run.specs.Laws.{ComesTo}
 use Rattle.net_machine.specs.Run.{Reached}
+use Rattle.window_core.specs.Full.{HasTooMany}
 use Rattle.window_core.specs.Lookahead.{lookahead}
 use Rattle.window_core.specs.Partition.{group_in, groups_of}
 use Rattle.window_core.specs.Sheaves.{merged}
@@ -16,11 +17,12 @@ use Rattle.window_engine.specs.declared.course.Course.{Course}
 use Rattle.window_engine.specs.declared.course.WriteFault.{WriteFault}
 use Rattle.window_engine.specs.declared.course.WriteFault.TheVariants.{Workers, Sink}
 use Rattle.window_engine.specs.declared.fault.EngineFault.{EngineFault}
-use Rattle.window_engine.specs.declared.fault.EngineFault.TheVariants.{Sink as SinkFailed}
+use Rattle.window_engine.specs.declared.fault.EngineFault.TheVariants.{CountFull, Sink as SinkFailed}
+use Rattle.window_engine.specs.declared.fault.Stop.{Stop}
 use Rattle.window_engine.specs.Edges.{IsAtEdge, edge_of, reached_in}
-use Rattle.window_engine.specs.Engines.{AreWhole, GoesOn}
+use Rattle.window_engine.specs.Engines.{AreWhole, Commits, GoesOn, IsStop, sink_failures}
 use Rattle.window_engine.specs.Failures.{counted}
-use Rattle.window_engine.specs.Outcomes.{IsOfWorkers}
+use Rattle.window_engine.specs.Outcomes.{IsOfRun, IsOfWorkers}
 use Rattle.window_engine.specs.Puts.{TakesFirst}
 use Rattle.window_engine.specs.Text.{text_from}
 
@@ -107,3 +109,25 @@ CanTell written (Sink count) = written + count < 2 ^ 128
 abbrev pub told_as : ℕ → WriteFault → EngineFault
 told_as written (Workers fault) = fault
 told_as written (Sink count) = SinkFailed (written + count)
+
+-- a call's windows so far, from a course on: all but the last are written, so many bytes of a text, and the sheaf has the lines of the last, whose events are not committed
+pub record IsWriting (until : ℕ) (began c : Course) (written : ℕ) (known now : Option (List ℕ)) : Type 0 where
+  pub net : Reached
+  pub behind : IsBehind net c
+  pub wrote : Wrote until (reached_in began.window) net written known now
+  pub early : AreBelow until (merged c.sheaf).lines
+  pub has : HasGroups c
+  pub groups : c.groups ≡ began.groups
+  pub ahead : c.ahead ≡ began.ahead
+
+-- a call of windows by so many workers has ended
+pub record HasEnded (workers until : ℕ) (began new : Course) (r : Result Stop EngineFault) (known now : Option (List ℕ)) (failures failed : ℕ) : Type 0 where
+  pub rest : OnOk r (AtRest new)
+  pub has : OnOk r (HasGroups new)
+  pub commits : Commits until (reached_in began.window) r (record { state = edge_of new.window; position = new.position }) known now
+  pub stop : IfOk r (IsStop until (edge_of new.window))
+  pub fault : IfErr r (IsOfRun workers)
+  pub full : IfErr r (λ fault. fault ≡ CountFull → HasTooMany (reached_in began.window))
+  pub failures_are : failed ≡ sink_failures r failures
+  pub groups : new.groups ≡ began.groups
+  pub ahead : new.ahead ≡ began.ahead

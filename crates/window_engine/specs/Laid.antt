@@ -1,5 +1,5 @@
 -- The pieces that are laid out for a window's groups, and the groups that come back.
-use Rattle.std.specs.Prelude.{◌≡◌, ◌≢◌, ◌+◌, ◌<◌, ℕ, length, true, false, min, None}
+use Rattle.std.specs.Prelude.{◌≡◌, ◌≢◌, ◌+◌, ◌<◌, ℕ, Bool, length, true, false, min, None}
 use Rattle.table_run.specs.State.{State, due}
 use Rattle.window_core.specs.Group.{GroupValue, AfterFirings, state_of}
 use Rattle.window_core.specs.Groups.{up_to}
@@ -35,3 +35,8 @@ pub record IsDoneBy (until : ℕ) (old new : WindowValue) : Type 0 where
   pub position : new.position ≡ old.position
   pub from : (edge : State) → IsFrom edge old → IsFrom edge new
   pub done : all_done new.until (states_of new.groups) ≡ true
+
+-- workers ran a window's groups so, or it is as it was
+abbrev pub HasRunOr : Bool → ℕ → WindowValue → WindowValue → Type 0
+HasRunOr true until old new = IsDoneBy until old new
+HasRunOr false until old new = new ≡ old

@@ -1,22 +1,23 @@
-//! One window, run by workers or by the calling thread alone.
+//! One window: its groups run, by workers or on the calling thread, and it is turned.
 ghost use Rattle.std.specs.Prelude.{◌≡◌, ◌+◌, ◌<◌, ◌≤◌, ◌^◌, ℕ, All, List, length, map as each, min, true, false, None, IfOk, IfErr, OnOk};
-ghost use Rattle.table_run.specs.State.{State, due};
+ghost use Rattle.table_run.specs.State.{due};
 ghost use Rattle.window_core.specs.Full.{HasTooMany};
 ghost use Rattle.window_core.specs.Group.{GroupValue, AfterFirings, state_of};
 ghost use Rattle.window_core.specs.Groups.{up_to};
 ghost use Rattle.window_core.specs.Partition.{groups_of};
 ghost use Rattle.window_core.specs.Sheaves.{merged};
-ghost use Rattle.window_core.specs.Window.{IsFrom, HasGoneOn, HasTurned, states_of, value_at};
-ghost use Rattle.window_core.specs.Windows.{AreBelow, all_done, all_lines};
+ghost use Rattle.window_core.specs.Window.{IsWindow, states_of, value_at};
+ghost use Rattle.window_core.specs.Windows.{AreBelow};
 ghost use Rattle.work_board.specs.Pieces.{PieceState};
 ghost use Rattle.window_engine.specs.Edges.{IsAtEdge, StaysNet, edge_of, reached_in};
 ghost use Rattle.window_engine.specs.Engines.{GoesOn, IsNext, NoneBelow};
 ghost use Rattle.window_engine.specs.Outcomes.{IsOfWorkers};
 ghost use Rattle.window_engine.specs.Parts.{AreRight};
-ghost use Rattle.window_engine.specs.Laid.{laid_for, HasRun, HasFullGroup, IsDoneBy};
+ghost use Rattle.window_engine.specs.Laid.{laid_for, HasRun, HasRunOr, HasFullGroup, IsDoneBy};
 
 use crate::fault::{EngineFault, group_fault};
 use crate::gate::Gate;
+use crate::lines::Lines;
 use crate::pieces::run_pieces;
 use crate::scribe::Scribe;
 use sim_time::Time;
@@ -24,7 +25,7 @@ use std::alloc::{AllocError, Global};
 use std::snapshot::Snapshot;
 use std::sync::Wait;
 use std::thread::Threads;
-use window_core::{Batch, Group, GroupFault, Sheaf, TurnFault, Window};
+use window_core::{Group, GroupFault, Sheaf, Window};
 use work_board::Piece;
 
 /// A piece for each group.
@@ -89,7 +90,7 @@ fn run_in_turn<G: Gate>(gate: &G, window: &mut Window) -> Result<(), EngineFault
 
 /// Takes the groups out, has workers run them up to the window's end and then make the text of a
 /// sheaf's lines, and puts them back. After a fault they are out.
-fn run_apart<G: Gate, R: Threads + Wait + Sync>(
+pub(crate) fn run_apart<G: Gate, R: Threads + Wait + Sync>(
     rt: &R,
     alloc: Global,
     workers: usize,
@@ -118,188 +119,67 @@ fn run_apart<G: Gate, R: Threads + Wait + Sync>(
     Ok(())
 }
 
-/// Runs the groups on the calling thread, up to the window's end or a bound that is sooner. Each is
-/// then done.
-fn run_alone<G: Gate>(gate: &G, bound: Time, window: &mut Window) -> Result<(), EngineFault>
-    requires edge { IsAtEdge window.old }
-    requires few { groups_of window.old.entries ≤ 64 }
-    ensures done { OnOk result (IsDoneBy bound window.old window.new) }
-    ensures stays { StaysNet window.old window.new }
+/// Where workers have not run the groups, runs them on the calling thread, up to the window's end or a
+/// moment that is sooner, in the memory of lines that are read. How the window was before is for clauses
+/// alone.
+fn run_rest<G: Gate, L: Lines>(
+    gate: &G,
+    ran: bool,
+    until: Time,
+    before: &Snapshot<Window>,
+    window: &mut Window,
+    lines: &mut L,
+) -> Result<(), EngineFault>
+    requires edge { IsAtEdge before.now.value }
+    requires few { groups_of before.now.value.entries ≤ 64 }
+    requires ran { HasRunOr ran until before.now.value window.old }
+    requires stays { StaysNet before.now.value window.old }
+    ensures done { OnOk result (IsDoneBy until before.now.value window.new) }
+    ensures stays { StaysNet before.now.value window.new }
     ensures fault { IfErr result (IsOfWorkers 1) }
-    ensures full { IfErr result (λ fault. fault ≡ EngineFault.CountFull → HasTooMany (reached_in window.old)) }
+    ensures full { IfErr result (λ fault. fault ≡ EngineFault.CountFull → HasTooMany (reached_in before.now.value)) }
 {
+    if ran {
+        return Ok(());
+    }
+    lines.give_back(window);
     let _began = window.position();
-    window.limit(bound);
+    window.limit(until);
     let _limited = window.position();
     run_in_turn(gate, window)
 }
 
-/// Runs the groups up to the window's end, or a moment that is sooner: by workers, which then make
-/// the text of a sheaf's lines, or where there is one alone on the calling thread, which makes none.
-/// Each is then done. After a fault the groups may be out.
-pub(crate) fn run_groups<G: Gate, R: Threads + Wait + Sync>(
-    rt: &R,
-    alloc: Global,
-    workers: usize,
+/// Ends a window that workers have run, up to its end or a moment that is sooner, or that is as it was:
+/// then the calling thread runs it, and it is turned. A window with an event in it has a line. After a
+/// fault groups may be out, and there may be no lines. How the window was before is for clauses alone.
+pub(crate) fn finish<G: Gate, L: Lines>(
     gate: &G,
+    _workers: usize,
+    ran: Result<bool, EngineFault>,
     until: Time,
+    before: &Snapshot<Window>,
     window: &mut Window,
-    sheaf: &Sheaf,
-    scribes: &mut Vec<Scribe>,
+    lines: &mut L,
 ) -> Result<(), EngineFault>
-    requires edge { IsAtEdge window.old }
-    requires few { groups_of window.old.entries ≤ 64 }
-    requires workers { (0 < workers) × (workers ≤ 64) }
-    requires right { AreRight sheaf.now scribes.old.items }
-    requires fits { sheaf.now.first + length (merged sheaf.now).lines < 2 ^ 63 }
-    ensures done { OnOk result (IsDoneBy until window.old window.new) }
-    ensures stays { StaysNet window.old window.new }
-    ensures fault { IfErr result (IsOfWorkers workers) }
-    ensures full { IfErr result (λ fault. fault ≡ EngineFault.CountFull → HasTooMany (reached_in window.old)) }
-    ensures right { AreRight sheaf.now scribes.new.items }
-{
-    if workers == 1 {
-        return run_alone(gate, until, window);
-    }
-    let _began = window.position();
-    window.limit(until);
-    let _limited = window.position();
-    run_apart(rt, alloc, workers, gate, window, sheaf, scribes)
-}
-
-/// The same, with no text to make.
-fn run_without_text<G: Gate, R: Threads + Wait + Sync>(
-    rt: &R,
-    alloc: Global,
-    workers: usize,
-    gate: &G,
-    until: Time,
-    window: &mut Window,
-) -> Result<(), EngineFault>
-    requires edge { IsAtEdge window.old }
-    requires few { groups_of window.old.entries ≤ 64 }
-    requires workers { (0 < workers) × (workers ≤ 64) }
-    ensures done { OnOk result (IsDoneBy until window.old window.new) }
-    ensures stays { StaysNet window.old window.new }
-    ensures fault { IfErr result (IsOfWorkers workers) }
-    ensures full { IfErr result (λ fault. fault ≡ EngineFault.CountFull → HasTooMany (reached_in window.old)) }
-{
-    let none = Sheaf::new(alloc, 1);
-    let mut scribes = Vec::new(alloc);
-    run_groups(rt, alloc, workers, gate, until, window, &none, &mut scribes)
-}
-
-/// Turns a window whose groups are done. The batch then has its lines. After a fault it may be
-/// empty.
-fn turn_whole(window: &mut Window, batch: &mut Batch) -> Result<(), EngineFault>
-    requires inside { window.old.out ≡ false }
-    requires done { all_done window.old.until (states_of window.old.groups) ≡ true }
-    ensures turned { OnOk result (HasTurned window.old batch.new window.new) }
-    ensures run { OnOk result ((edge : State) → IsFrom edge window.old → HasGoneOn edge batch.new.lines window.new) }
-    ensures below { OnOk result (AreBelow window.old.until batch.new.lines) }
-    ensures stays { StaysNet window.old window.new }
-    ensures fault { IfErr result (IsOfWorkers 1) }
-    ensures full { IfErr result (λ fault. fault ≡ EngineFault.CountFull → 1000000000000000 < window.old.position + length (all_lines (states_of window.old.groups))) }
-{
-    match window.turn_into(batch) {
-        Ok(()) => Ok(()),
-        Err(TurnFault::NotDone) => unreachable!(),
-        Err(TurnFault::NoMemory) => Err(EngineFault::NoMemory),
-        Err(TurnFault::CountFull) => Err(EngineFault::CountFull),
-    }
-}
-
-/// Runs the next window by workers, up to its end or a moment that is sooner. The batch then has
-/// its lines. After a fault groups may be out, and the batch may be empty.
-pub(crate) fn advance<G: Gate, R: Threads + Wait + Sync>(
-    rt: &R,
-    alloc: Global,
-    workers: usize,
-    gate: &G,
-    until: Time,
-    window: &mut Window,
-    batch: &mut Batch,
-) -> Result<(), EngineFault>
-    requires edge { IsAtEdge window.old }
-    requires few { groups_of window.old.entries ≤ 64 }
-    requires workers { (0 < workers) × (workers ≤ 64) }
+    requires edge { IsAtEdge before.now.value }
+    requires is_window { IsWindow before.now.value }
+    requires few { groups_of before.now.value.entries ≤ 64 }
+    requires workers { 0 < _workers }
+    requires ran { IfOk ran (λ ran. HasRunOr ran until before.now.value window.old) }
+    requires stays { StaysNet before.now.value window.old }
+    requires fault { IfErr ran (IsOfWorkers _workers) }
+    requires full { IfErr ran (λ fault. fault ≡ EngineFault.CountFull → HasTooMany (reached_in before.now.value)) }
     ensures edge { OnOk result (IsAtEdge window.new) }
-    ensures gone { OnOk result (GoesOn (reached_in window.old) batch.new (reached_in window.new)) }
-    ensures none_left { OnOk result (NoneBelow (min window.old.until until) (edge_of window.new)) }
-    ensures early { OnOk result (AreBelow (min window.old.until until) batch.new.lines) }
-    ensures stays { StaysNet window.old window.new }
-    ensures fault { IfErr result (IsOfWorkers workers) }
-    ensures full { IfErr result (λ fault. fault ≡ EngineFault.CountFull → HasTooMany (reached_in window.old)) }
+    ensures gone { OnOk result (GoesOn (reached_in before.now.value) (L.told lines.new) (reached_in window.new)) }
+    ensures none_left { OnOk result (NoneBelow (min before.now.value.until until) (edge_of window.new)) }
+    ensures early { OnOk result (AreBelow (min before.now.value.until until) (L.told lines.new).lines) }
+    ensures some { OnOk result ((time : ℕ) → IsNext until (edge_of before.now.value) time → 0 < length (L.told lines.new).lines) }
+    ensures stays { StaysNet before.now.value window.new }
+    ensures fault { IfErr result (IsOfWorkers _workers) }
+    ensures full { IfErr result (λ fault. fault ≡ EngineFault.CountFull → HasTooMany (reached_in before.now.value)) }
 {
-    let _began = window.position();
-    run_without_text(rt, alloc, workers, gate, until, window)?;
-    turn_whole(window, batch)?;
-    Ok(())
-}
-
-/// The same on the calling thread. A window with an event in it has a line.
-pub(crate) fn advance_alone<G: Gate>(
-    gate: &G,
-    until: Time,
-    window: &mut Window,
-    batch: &mut Batch,
-) -> Result<(), EngineFault>
-    requires edge { IsAtEdge window.old }
-    requires few { groups_of window.old.entries ≤ 64 }
-    ensures edge { OnOk result (IsAtEdge window.new) }
-    ensures gone { OnOk result (GoesOn (reached_in window.old) batch.new (reached_in window.new)) }
-    ensures none_left { OnOk result (NoneBelow (min window.old.until until) (edge_of window.new)) }
-    ensures early { OnOk result (AreBelow (min window.old.until until) batch.new.lines) }
-    ensures some { OnOk result ((time : ℕ) → IsNext until (edge_of window.old) time → 0 < length batch.new.lines) }
-    ensures stays { StaysNet window.old window.new }
-    ensures fault { IfErr result (IsOfWorkers 1) }
-    ensures full { IfErr result (λ fault. fault ≡ EngineFault.CountFull → HasTooMany (reached_in window.old)) }
-{
-    let _began = window.position();
-    run_alone(gate, until, window)?;
-    turn_whole(window, batch)?;
-    Ok(())
-}
-
-/// Turns a window whose groups are done. The sheaf then has its lines, group by group. After a
-/// fault it may be empty.
-pub(crate) fn turn_done(window: &mut Window, sheaf: &mut Sheaf) -> Result<(), EngineFault>
-    requires inside { window.old.out ≡ false }
-    requires done { all_done window.old.until (states_of window.old.groups) ≡ true }
-    ensures turned { OnOk result (HasTurned window.old (merged sheaf.new) window.new) }
-    ensures run { OnOk result ((edge : State) → IsFrom edge window.old → HasGoneOn edge (merged sheaf.new).lines window.new) }
-    ensures below { OnOk result (AreBelow window.old.until (merged sheaf.new).lines) }
-    ensures stays { StaysNet window.old window.new }
-    ensures fault { IfErr result (IsOfWorkers 1) }
-    ensures full { IfErr result (λ fault. fault ≡ EngineFault.CountFull → 1000000000000000 < window.old.position + length (all_lines (states_of window.old.groups))) }
-{
-    match window.turn_apart(sheaf) {
-        Ok(()) => Ok(()),
-        Err(TurnFault::NotDone) => unreachable!(),
-        Err(TurnFault::NoMemory) => Err(EngineFault::NoMemory),
-        Err(TurnFault::CountFull) => Err(EngineFault::CountFull),
-    }
-}
-
-/// The same, and the sheaf then has the lines, group by group. After a fault it may be empty.
-pub(crate) fn advance_apart<G: Gate>(
-    gate: &G,
-    until: Time,
-    window: &mut Window,
-    sheaf: &mut Sheaf,
-) -> Result<(), EngineFault>
-    requires edge { IsAtEdge window.old }
-    requires few { groups_of window.old.entries ≤ 64 }
-    ensures edge { OnOk result (IsAtEdge window.new) }
-    ensures gone { OnOk result (GoesOn (reached_in window.old) (merged sheaf.new) (reached_in window.new)) }
-    ensures early { OnOk result (AreBelow (min window.old.until until) (merged sheaf.new).lines) }
-    ensures some { OnOk result ((time : ℕ) → IsNext until (edge_of window.old) time → 0 < length (merged sheaf.new).lines) }
-    ensures stays { StaysNet window.old window.new }
-    ensures fault { IfErr result (IsOfWorkers 1) }
-    ensures full { IfErr result (λ fault. fault ≡ EngineFault.CountFull → HasTooMany (reached_in window.old)) }
-{
-    let _began = window.position();
-    run_alone(gate, until, window)?;
-    turn_done(window, sheaf)?;
+    let ran = ran?;
+    run_rest(gate, ran, until, before, window, lines)?;
+    lines.turn(window)?;
     Ok(())
 }

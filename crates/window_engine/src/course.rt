@@ -1,5 +1,4 @@
-//! The net on its way, with what is used again from window to window. One worker runs a window,
-//! makes its text and writes it before the next window; of more workers' see `behind.rt`.
+//! The net on its way, with what is used again from window to window.
 ghost use Rattle.std.specs.Prelude.{◌≡◌, ◌+◌, ◌<◌, ◌≤◌, ◌^◌, ℕ, length, Some, None, IfOk, IfErr, IfSome, OnOk};
 ghost use Rattle.table_run.specs.State.{due};
 ghost use Rattle.net_machine.specs.Run.{Reached};
@@ -12,15 +11,11 @@ ghost use Rattle.window_engine.specs.Courses.{AtRest, HasGroups, CanTell, Wrote,
 ghost use Rattle.window_engine.specs.Outcomes.{IsOfRun};
 ghost use Rattle.window_engine.specs.Parts.{IsWhole};
 
-use crate::advance::advance_apart;
 use crate::fault::{EngineFault, Stop};
-use crate::gate::Gate;
 use crate::pace::Pace;
-use crate::sink::Sink;
-use crate::slice::{FIRST_SLICE, aim_alone, slice_after};
-use crate::text::Text;
+use crate::slice::{aim, slice_after};
 use sim_time::Time;
-use std::alloc::{AllocError, Global};
+use std::alloc::Global;
 use window_core::{Partition, Sheaf, Window};
 
 /// Of fewer events it is not asked how they lie in their window.
@@ -48,6 +43,19 @@ pub(crate) struct Course {
     pub sheaf: Sheaf,
     /// Where memory is taken.
     pub alloc: Global,
+}
+
+/// A window that is to be run.
+#[derive(Clone, Copy, Drop)]
+pub(crate) struct Plan {
+    /// When its first event is, in nanoseconds.
+    pub next: Time,
+    /// By when it ends at the latest.
+    pub bound: Time,
+    /// How long it is.
+    pub span: Time,
+    /// Whether it ends by the lookahead, and not sooner.
+    pub whole: bool,
 }
 
 /// Why a window was not run, or not written.
@@ -87,7 +95,7 @@ impl Course {
     }
 
     /// When the next event is, where one is left below the end and a moment; else why windows end.
-    pub(crate) fn next_below(&self, until: Time) -> Result<Time, Stop>
+    fn next_below(&self, until: Time) -> Result<Time, Stop>
         requires edge { IsAtEdge self.now.window }
         requires end { self.now.end ≡ self.now.window.end }
         ensures next { IfOk result (IsNext until (edge_of self.now.window)) }
@@ -102,15 +110,30 @@ impl Course {
         Ok(next)
     }
 
-    /// How long the next window is, in nanoseconds, where its first event is at a moment and it ends
-    /// by another at the latest.
-    pub(crate) fn span(&self, next: Time, bound: Time) -> Time {
-        self.window.end().min(bound).saturating_sub(next)
+    /// The next window, which ends by a moment at the latest and is no longer than a slice, where an event
+    /// is left below the moment; else why windows end.
+    pub(crate) fn plan(&self, until: Time, slice: Time) -> Result<Plan, Stop>
+        requires edge { IsAtEdge self.now.window }
+        requires end { self.now.end ≡ self.now.window.end }
+        requires slice { 1 ≤ slice }
+        ensures next { IfOk result (λ plan. IsNext plan.bound (edge_of self.now.window) plan.next) }
+        ensures bound { IfOk result (λ plan. plan.bound ≤ until) }
+        ensures stop { IfErr result (IsStop until (edge_of self.now.window)) }
+    {
+        let next = self.next_below(until)?;
+        let bound = until.min(next.saturating_add(slice));
+        let end = self.window.end();
+        Ok(Plan {
+            next,
+            bound,
+            span: end.min(bound).saturating_sub(next),
+            whole: end <= bound,
+        })
     }
 
     /// In how much of a window's time nearly all its events were, in nanoseconds, where it began at a
     /// moment and was so long: a burst may be over long before the window. Of few events it is all.
-    pub(crate) fn busy(&self, next: Time, span: Time) -> Time {
+    fn busy(&self, next: Time, span: Time) -> Time {
         if self.sheaf.len() < MANY {
             return span;
         }
@@ -118,104 +141,13 @@ impl Course {
         past.saturating_sub(next).min(span)
     }
 
-    /// Commits the events of the sheaf's lines and writes their text, where it was made. All of it
-    /// is made before its first byte is put.
-    pub(crate) fn put_made<S: Sink>(
-        &mut self,
-        made: Result<(), AllocError>,
-        text: &Text,
-        sink: &mut S,
-    ) -> Result<u128, WriteFault>
-        requires text { OnOk made (IsWhole self.old.sheaf text.now) }
-        requires fits { self.old.position + length (merged self.old.sheaf).lines < 2 ^ 63 }
-        ensures position { OnOk result (self.new.position ≡ self.old.position + length (merged self.old.sheaf).lines) }
-        ensures rest { self.new ≡ record self.old { position = self.new.position } }
-        ensures wrote { IfOk result (λ bytes. (until : ℕ) (from to : Reached) → AreBelow until (merged self.old.sheaf).lines → GoesOn from (merged self.old.sheaf) to → Wrote until from to bytes (S.contents sink.old) (S.contents sink.new)) }
-        ensures broke { IfErr result (λ fault. (until : ℕ) (from to : Reached) → AreBelow until (merged self.old.sheaf).lines → GoesOn from (merged self.old.sheaf) to → self.old.position ≡ from.position → Broke 1 until from self.new.position (S.contents sink.old) (S.contents sink.new) fault) }
-        ensures not_full { IfErr result (λ fault. fault ≡ WriteFault.Workers EngineFault.CountFull → ⊥) }
-        ensures failures { S.failures sink.new ≡ fails_after result (S.failures sink.old) }
+    /// How long the next window may be after one, by so many workers, in nanoseconds.
+    pub(crate) fn slice_after(&self, plan: &Plan, workers: usize) -> Time
+        ensures { 1 ≤ result }
     {
-        let position = self.position + self.sheaf.len() as u64;
-        let Ok(()) = made else {
-            return Err(WriteFault::Workers(EngineFault::NoMemory));
-        };
-        self.position = position;
-        match text.put(sink) {
-            Ok(bytes) => Ok(bytes),
-            Err(written) => Err(WriteFault::Sink(written)),
-        }
-    }
-
-    /// Runs the next window on the calling thread, up to a moment at the latest, commits its events
-    /// and writes their lines. Where an event is left below the moment, some are committed.
-    fn write_window<G: Gate, S: Sink>(
-        &mut self,
-        gate: &G,
-        until: Time,
-        text: &mut Text,
-        sink: &mut S,
-    ) -> Result<u128, WriteFault>
-        requires rest { AtRest self.old }
-        ensures rest { OnOk result (AtRest self.new) }
-        ensures some { OnOk result ((time : ℕ) → IsNext until (edge_of self.old.window) time → self.old.position < self.new.position) }
-        ensures wrote { IfOk result (λ bytes. Wrote until (reached_in self.old.window) (reached_in self.new.window) bytes (S.contents sink.old) (S.contents sink.new)) }
-        ensures broke { IfErr result (Broke 1 until (reached_in self.old.window) self.new.position (S.contents sink.old) (S.contents sink.new)) }
-        ensures full { IfErr result (λ fault. fault ≡ WriteFault.Workers EngineFault.CountFull → HasTooMany (reached_in self.old.window)) }
-        ensures failures { S.failures sink.new ≡ fails_after result (S.failures sink.old) }
-        ensures stays { StaysNet self.old.window self.new.window }
-        ensures kept { self.new ≡ record self.old { window = self.new.window; position = self.new.position; sheaf = self.new.sheaf } }
-    {
-        self.window.reclaim(&mut self.sheaf);
-        match advance_apart(gate, until, &mut self.window, &mut self.sheaf) {
-            Ok(()) => {}
-            Err(fault) => return Err(WriteFault::Workers(fault)),
-        }
-        let _reached = self.window.position();
-        let made = text.make_all(&self.sheaf);
-        self.put_made(made, text, sink)
-    }
-
-    /// Runs windows on the calling thread, and writes the lines of each before the next one, up to
-    /// the run's end or until no event is left below a moment. It starts no thread and waits for
-    /// none. Where windows hold few events, all nodes are in one group for a while.
-    pub(crate) fn write_in_turn<G: Gate, S: Sink>(
-        &mut self,
-        gate: &G,
-        until: Time,
-        sink: &mut S,
-    ) -> Result<Stop, EngineFault>
-        requires rest { AtRest self.old }
-        requires groups { HasGroups self.old }
-        ensures rest { OnOk result (AtRest self.new) }
-        ensures grouped { OnOk result (HasGroups self.new) }
-        ensures commits { Commits until (reached_in self.old.window) result (record { state = edge_of self.new.window; position = self.new.position }) (S.contents sink.old) (S.contents sink.new) }
-        ensures stop { IfOk result (IsStop until (edge_of self.new.window)) }
-        ensures fault { IfErr result (IsOfRun 1) }
-        ensures full { IfErr result (λ fault. fault ≡ EngineFault.CountFull → HasTooMany (reached_in self.old.window)) }
-        ensures failures { S.failures sink.new ≡ sink_failures result (S.failures sink.old) }
-        ensures groups { self.new.groups ≡ self.old.groups }
-        ensures ahead { self.new.ahead ≡ self.old.ahead }
-    {
-        let Ok(mut text) = Text::new(self.alloc) else {
-            return Err(EngineFault::NoMemory);
-        };
-        let mut slice = FIRST_SLICE;
-        let mut written: u128 = 0;
-        loop {
-            let next = match self.next_below(until) {
-                Ok(next) => next,
-                Err(stop) => return Ok(stop),
-            };
-            let bound = until.min(next.saturating_add(slice));
-            let span = self.span(next, bound);
-            let whole = self.window.end() <= bound;
-            match self.write_window(gate, bound, &mut text, sink) {
-                Ok(bytes) => written += bytes,
-                Err(fault) => return Err(told(fault, written)),
-            }
-            let aim = aim_alone(self.pace.joined);
-            slice = slice_after(span, self.busy(next, span), self.sheaf.len(), aim);
-            self.choose(gate.worth(), whole);
-        }
+        let events = self.sheaf.len();
+        let shared = self.sheaf.beside_most();
+        let aim = aim(workers, self.pace.joined, events, shared);
+        slice_after(plan.span, self.busy(plan.next, plan.span), events, aim)
     }
 }

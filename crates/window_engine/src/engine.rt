@@ -13,11 +13,11 @@ ghost use Rattle.window_core.specs.Windows.{AreBelow};
 ghost use Rattle.window_engine.specs.Outcomes.{IsOfRun, IsOfWorkers};
 ghost use Rattle.window_engine.specs.Engines.{GoesOn, NoneBelow, Commits, IsNext, IsStop, next_time, window_end_by, sink_failures};
 
-use crate::advance::{advance, advance_alone};
+use crate::advance::finish;
 use crate::course::Course;
+use crate::crew::Crew;
 use crate::fault::{EngineFault, Stop};
 use crate::gate::Gate;
-use crate::hands::hands;
 use crate::pace::Pace;
 use crate::sink::Sink;
 use net_machine::Net;
@@ -25,6 +25,7 @@ use scenario_image::Scenario;
 use sim_time::Time;
 use std::alloc::{AllocError, Global};
 use std::marker::Model;
+use std::snapshot::Snapshot;
 use std::sync::Wait;
 use std::thread::Threads;
 use window_core::{Batch, Partition, Sheaf, Window};
@@ -173,18 +174,20 @@ impl Engine {
             }
         }
         let _parted = self.course.window.position();
-        let mut batch = Batch::new(self.course.alloc, 0);
-        let window = &self.course.window;
-        let hands = hands(window, workers, gate.worth(), self.shared, until);
-        match advance(
+        let alloc = self.course.alloc;
+        let before = Snapshot::of(&self.course.window);
+        let crew = Crew {
             rt,
-            self.course.alloc,
-            hands,
             gate,
-            until,
-            &mut self.course.window,
-            &mut batch,
-        ) {
+            workers,
+            alloc,
+        };
+        let none = Sheaf::new(alloc, 1);
+        let mut scribes = Vec::new(alloc);
+        let window = &mut self.course.window;
+        let ran = crew.run_shared(self.shared, until, window, &none, &mut scribes);
+        let mut batch = Batch::new(alloc, 0);
+        match finish(gate, workers, ran, until, &before, window, &mut batch) {
             Ok(()) => {}
             Err(fault) => {
                 self.failed = true;
@@ -224,8 +227,11 @@ impl Engine {
             }
         }
         let _parted = self.course.window.position();
-        let mut lines = Batch::new(self.course.alloc, 0);
-        match advance_alone(gate, until, &mut self.course.window, &mut lines) {
+        let alloc = self.course.alloc;
+        let before = Snapshot::of(&self.course.window);
+        let window = &mut self.course.window;
+        let mut lines = Batch::new(alloc, 0);
+        match finish(gate, 1, Ok(false), until, &before, window, &mut lines) {
             Ok(()) => {}
             Err(fault) => {
                 self.failed = true;
@@ -266,7 +272,14 @@ impl Engine {
             return Err(EngineFault::Failed);
         }
         let _reached = self.course.window.position();
-        let outcome = self.course.write_behind(rt, workers, gate, until, sink);
+        let alloc = self.course.alloc;
+        let crew = Crew {
+            rt,
+            gate,
+            workers,
+            alloc,
+        };
+        let outcome = self.course.write_together(&crew, until, sink);
         self.failed = outcome.is_err();
         outcome
     }
@@ -295,7 +308,7 @@ impl Engine {
             return Err(EngineFault::Failed);
         }
         let _reached = self.course.window.position();
-        let outcome = self.course.write_in_turn(gate, until, sink);
+        let outcome = self.course.write_alone(gate, until, sink);
         self.failed = outcome.is_err();
         outcome
     }

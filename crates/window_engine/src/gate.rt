@@ -1,5 +1,7 @@
 //! Who is told of the work on pieces.
 
+use crate::slice::WORTH;
+
 /// Is told when a worker begins and ends a piece. It may keep the worker.
 pub trait Gate: Sync {
     /// A worker has claimed the piece.
@@ -13,9 +15,6 @@ pub trait Gate: Sync {
     /// and the nodes always stay in their groups.
     fn worth(&self) -> usize;
 }
-
-/// A thread's start and end take about as long as so many events.
-pub const WORTH: usize = 1_000;
 
 /// Does nothing.
 #[derive(Clone, Copy)]

@@ -2,17 +2,19 @@
 #![tactic(auto)]
 
 mod advance;
-mod behind;
 mod course;
+mod crew;
 mod engine;
 mod fault;
 mod gate;
 mod gather;
 mod grouping;
 mod hands;
+mod lines;
 mod meeting;
 mod pace;
 mod pieces;
+mod pipeline;
 mod put;
 mod scribe;
 mod sink;
@@ -22,9 +24,9 @@ mod text;
 
 pub use engine::Engine;
 pub use fault::{EngineFault, Stop};
-pub use gate::{Gate, OpenGate, WORTH};
+pub use gate::{Gate, OpenGate};
 pub use meeting::Meeting;
 pub use pace::{Load, load_of, next_stretch};
 pub use put::put_all;
 pub use sink::{OverWrite, Sink, SinkFail};
-pub use slice::{FIRST_SLICE, next_slice};
+pub use slice::{FIRST_SLICE, WORTH, next_slice};

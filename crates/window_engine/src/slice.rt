@@ -1,4 +1,4 @@
-//! How much of the simulated time a window may span at most.
+//! How much of the simulated time a window may span at most, and what its size goes by.
 ghost use Rattle.std.specs.Prelude.{◌≤◌};
 
 use sim_time::Time;
@@ -19,22 +19,22 @@ const WIDE: u64 = 20_480;
 /// Threads share a window where its busiest group leaves them at least one event of so many.
 const SHARE: usize = 8;
 
+/// A thread's start and end take about as long as so many events.
+pub const WORTH: usize = 1_000;
+
 /// The least part of a window's time, one of so many, in which its events are taken to be.
 const DENSEST: Time = 64;
 
-/// How many events a window is to have, after one of so many, of which so many were beside those of
-/// its busiest group.
-pub(crate) fn aim_after(events: usize, shared: usize) -> u64 {
-    if shared < events / SHARE {
+/// How many events a window is to have that so many workers run, while all nodes are in one group or
+/// not, after one of so many, of which so many were beside those of its busiest group.
+pub(crate) fn aim(workers: usize, joined: bool, events: usize, shared: usize) -> u64 {
+    if joined {
+        NARROWEST
+    } else if workers == 1 || shared < events / SHARE {
         NARROW
     } else {
         WIDE
     }
-}
-
-/// The same where the calling thread runs all windows, whether all nodes are in one group or not.
-pub(crate) fn aim_alone(joined: bool) -> u64 {
-    if joined { NARROWEST } else { NARROW }
 }
 
 /// The slice after a window of so many nanoseconds, run by so many workers: at the rate of its events
@@ -43,11 +43,7 @@ pub(crate) fn aim_alone(joined: bool) -> u64 {
 pub fn next_slice(span: Time, batch: &Batch, workers: usize) -> Time
     ensures { 1 ≤ result }
 {
-    let aim = if workers == 1 {
-        NARROW
-    } else {
-        aim_after(batch.len(), batch.beside_most())
-    };
+    let aim = aim(workers, false, batch.len(), batch.beside_most());
     slice_after(span, span, batch.len(), aim)
 }
 

@@ -1,7 +1,8 @@
 use Rattle.std.proofs.Common.{◌≡◌, sym, subst, IfErr}
 use Rattle.net_machine.specs.Run.{Reached}
 use Rattle.window_core.specs.Full.{HasTooMany}
-use Rattle.window_engine.specs.Engines.{EngineValue}
+use Rattle.window_engine.specs.Edges.{edge_of}
+use Rattle.window_engine.specs.Engines.{Commits, EngineValue}
 use Rattle.window_engine.specs.declared.fault.EngineFault.TheVariants.{CountFull}
 use Rattle.window_engine.proofs.Between.{commits_none, net_is}
 use Rattle.window_engine.proofs.engine.Engine.run.Goals as goal
@@ -9,9 +10,18 @@ use Rattle.window_engine.proofs.engine.Engine.run.Goals as goal
 pub returns-then-self-clause-commits : goal.returns-then-self-clause-commits
 returns-then-self-clause-commits g c = commits_none c.args.until c.args.self.now.net (g.S.Sink.contents c.args.sink.now)
 
+pub returns-clause-commits : goal.returns-clause-commits
+returns-clause-commits g c =
+    let e = c.self.inside in
+    let rest = (c.self.invariant c.if-self.false).0 in
+    let contents = g.S.Sink.contents in
+    let course = c.write_together-outcome.new.self in
+    let at : Reached → Type 0 = λ r. Commits c.args.until r c.write_together-outcome.result (record { state = edge_of course.window; position = course.position }) (contents c.args.sink.now) (contents c.write_together-outcome.new.sink) in
+    subst (λ (v : EngineValue). at v.net) c.self.view_is (subst at (sym (net_is e.course.window e.course.position rest.committed)) c.write_together-outcome.ensures.commits)
+
 pub returns-clause-full : goal.returns-clause-full
 returns-clause-full g c =
     let e = c.self.inside in
     let rest = (c.self.invariant c.if-self.false).0 in
-    subst (λ (v : EngineValue). IfErr c.write_behind-outcome.result (λ fault. fault ≡ CountFull → HasTooMany v.net)) c.self.view_is
-    (subst (λ (r : Reached). IfErr c.write_behind-outcome.result (λ fault. fault ≡ CountFull → HasTooMany r)) (sym (net_is e.course.window e.course.position rest.committed)) c.write_behind-outcome.ensures.full)
+    subst (λ (v : EngineValue). IfErr c.write_together-outcome.result (λ fault. fault ≡ CountFull → HasTooMany v.net)) c.self.view_is
+    (subst (λ (r : Reached). IfErr c.write_together-outcome.result (λ fault. fault ≡ CountFull → HasTooMany r)) (sym (net_is e.course.window e.course.position rest.committed)) c.write_together-outcome.ensures.full)

@@ -1,0 +1,46 @@
+use Rattle.window_engine.proofs.Edge.{turned_edge, turned_stays, stays_both, turned_below, went_on, left_none}
+use Rattle.std.proofs.lemmas.Result.{err_from_is_err_and}
+use Rattle.window_engine.specs.Edges.{reached_in}
+use Rattle.window_engine.proofs.Filled.{has_line}
+use Rattle.window_engine.proofs.TooMany.{turn_full}
+use Rattle.window_engine.proofs.advance.finish.Goals as goal
+
+pub returns-clause-edge : goal.returns-clause-edge
+returns-clause-edge g c = turned_edge c.run_rest.new.window c.turn.new.window (g.L.Lines.told c.turn.new.self) c.in_ok-run_rest.ensures.done.inside c.in_ok-turn.ensures.turned
+
+pub returns-clause-gone : goal.returns-clause-gone
+returns-clause-gone g c =
+    went_on c.args.before.now.value c.run_rest.new.window c.turn.new.window c.args.until (g.L.Lines.told c.turn.new.self) c.requires.edge c.requires.is_window c.in_ok-run_rest.ensures.done
+    c.in_ok-turn.ensures.turned c.in_ok-turn.ensures.run c.in_ok-turn.ensures.below
+
+pub returns-clause-early : goal.returns-clause-early
+returns-clause-early g c =
+    turned_below c.args.before.now.value c.run_rest.new.window c.turn.new.window c.args.until (g.L.Lines.told c.turn.new.self) c.requires.edge c.requires.is_window c.in_ok-run_rest.ensures.done
+    c.in_ok-turn.ensures.turned c.in_ok-turn.ensures.run c.in_ok-turn.ensures.below
+
+pub returns-clause-none_left : goal.returns-clause-none_left
+returns-clause-none_left g c =
+    left_none c.args.before.now.value c.run_rest.new.window c.turn.new.window c.args.until (g.L.Lines.told c.turn.new.self) c.requires.edge c.requires.is_window c.in_ok-run_rest.ensures.done
+    c.in_ok-turn.ensures.turned c.in_ok-turn.ensures.run c.in_ok-turn.ensures.below
+
+pub returns-clause-some : goal.returns-clause-some
+returns-clause-some g c time next =
+    let v = c.args.before.now.value in
+    let w = c.run_rest.new.window in
+    let u = c.turn.new.window in
+    let lines = g.L.Lines.told c.turn.new.self in
+    let turned = c.in_ok-turn.ensures in
+    let done = c.in_ok-run_rest.ensures.done in
+    let is = c.requires.is_window in
+    has_line v c.args.until time lines (reached_in u) c.requires.edge is (went_on v w u c.args.until lines c.requires.edge is done turned.turned turned.run turned.below) (left_none v w u c.args.until lines c.requires.edge is done turned.turned turned.run turned.below) next
+
+pub returns-clause-stays : goal.returns-clause-stays
+returns-clause-stays g c =
+    stays_both c.args.before.now.value c.run_rest.new.window c.turn.new.window c.in_ok-run_rest.ensures.stays (turned_stays c.run_rest.new.window c.turn.new.window (g.L.Lines.told c.turn.new.self) c.in_ok-turn.ensures.turned)
+
+pub returns-in_err-turn-clause-full : goal.returns-in_err-turn-clause-full
+returns-in_err-turn-clause-full g c =
+    let p = err_from_is_err_and c.from_residual-in_err-turn.result c.from_residual-in_err-turn.ensures.1 in
+    rw (p.1, p.2)
+    (λ is. turn_full c.args.before.now.value c.run_rest.new.window c.args.until c.requires.edge c.requires.is_window c.in_ok-run_rest.ensures.done
+    (c.in_ok-run_rest.ensures.done.done, c.in_err-turn.ensures.full is))

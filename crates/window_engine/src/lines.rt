@@ -1,0 +1,71 @@
+//! What a window's lines go to: a sheaf, where they stay group by group, or a batch, which has them in
+//! the order of their keys.
+ghost use Rattle.std.specs.Prelude.{◌≡◌, ◌<◌, ◌+◌};
+
+use crate::fault::EngineFault;
+use window_core::{Batch, Sheaf, TurnFault, Window};
+
+/// What a window's lines go to.
+pub(crate) trait Lines {
+    ghost use Rattle.std.specs.Prelude.{◌≡◌, ◌+◌, ◌<◌, length, true, false, IfErr, OnOk};
+    ghost use Rattle.table_run.specs.State.{State};
+    ghost use Rattle.window_core.specs.Batches.{BatchValue};
+    ghost use Rattle.window_core.specs.Window.{IsFrom, HasGoneOn, HasTurned, states_of};
+    ghost use Rattle.window_core.specs.Windows.{AreBelow, all_done, all_lines};
+    ghost use Rattle.window_engine.specs.declared.fault.EngineFault.TheVariants as fault;
+    ghost use Rattle.window_engine.specs.Edges.{StaysNet};
+    ghost use Rattle.window_engine.specs.Outcomes.{IsOfWorkers};
+
+    // The lines that it has.
+    ghost told: { Self → BatchValue };
+
+    /// Gives the memory of lines that are read back to the groups that wrote them, where it has that.
+    fn give_back(&mut self, window: &mut Window)
+        requires { window.old.out ≡ false }
+        ensures { window.new ≡ window.old };
+
+    /// Turns a window whose groups are done, and then has its lines. After a fault it may be empty.
+    fn turn(&mut self, window: &mut Window) -> Result<(), EngineFault>
+        requires inside { window.old.out ≡ false }
+        requires done { all_done window.old.until (states_of window.old.groups) ≡ true }
+        ensures turned { OnOk result (HasTurned window.old (told self.new) window.new) }
+        ensures run { OnOk result ((edge : State) → IsFrom edge window.old → HasGoneOn edge (told self.new).lines window.new) }
+        ensures below { OnOk result (AreBelow window.old.until (told self.new).lines) }
+        ensures fault { IfErr result (IsOfWorkers 1) }
+        ensures full { IfErr result (λ f. f ≡ fault.CountFull → 1000000000000000 < window.old.position + length (all_lines (states_of window.old.groups))) }
+        ensures stays { StaysNet window.old window.new };
+}
+
+impl Lines for Batch {
+    ghost told = { λ batch. batch };
+
+    fn give_back(&mut self, _window: &mut Window) {}
+
+    fn turn(&mut self, window: &mut Window) -> Result<(), EngineFault> {
+        match window.turn_into(self) {
+            Ok(()) => Ok(()),
+            Err(TurnFault::NotDone) => unreachable!(),
+            Err(TurnFault::NoMemory) => Err(EngineFault::NoMemory),
+            Err(TurnFault::CountFull) => Err(EngineFault::CountFull),
+        }
+    }
+}
+
+impl Lines for Sheaf {
+    ghost use Rattle.window_core.specs.Sheaves.{merged};
+
+    ghost told = { merged };
+
+    fn give_back(&mut self, window: &mut Window) {
+        window.reclaim(self);
+    }
+
+    fn turn(&mut self, window: &mut Window) -> Result<(), EngineFault> {
+        match window.turn_apart(self) {
+            Ok(()) => Ok(()),
+            Err(TurnFault::NotDone) => unreachable!(),
+            Err(TurnFault::NoMemory) => Err(EngineFault::NoMemory),
+            Err(TurnFault::CountFull) => Err(EngineFault::CountFull),
+        }
+    }
+}

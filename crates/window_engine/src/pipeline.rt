@@ -1,0 +1,254 @@
+//! Windows one after another. The text of a window's lines is made by the calling thread before the next
+//! one runs, so that the lines are in the near cache and the groups have their memory back; or by the
+//! workers that run the next one, once no group is left to them, so that no processor waits for the
+//! longest group.
+ghost use Rattle.std.specs.Prelude.{◌≡◌, ◌+◌, ◌<◌, ◌≤◌, ◌^◌, ℕ, length, Err, IfOk, IfErr, OnOk};
+ghost use Rattle.net_machine.specs.Run.{Reached};
+ghost use Rattle.window_core.specs.Full.{HasTooMany};
+ghost use Rattle.window_core.specs.Sheaves.{merged};
+ghost use Rattle.window_core.specs.Window.{IsWindow};
+ghost use Rattle.window_core.specs.Windows.{AreBelow};
+ghost use Rattle.window_engine.specs.Courses.{AtRest, HasGroups, IsWriting, HasEnded, Wrote, Broke, fails_after};
+ghost use Rattle.window_engine.specs.Edges.{StaysNet, edge_of, reached_in};
+ghost use Rattle.window_engine.specs.Engines.{GoesOn, IsNext, IsStop};
+ghost use Rattle.window_engine.specs.Laid.{HasRunOr};
+ghost use Rattle.window_engine.specs.Outcomes.{IsOfWorkers};
+ghost use Rattle.window_engine.specs.Parts.{AreRight, IsWhole};
+
+use crate::advance::finish;
+use crate::course::{Course, Plan, WriteFault, told};
+use crate::crew::Crew;
+use crate::fault::{EngineFault, Stop};
+use crate::gate::Gate;
+use crate::sink::Sink;
+use crate::slice::FIRST_SLICE;
+use crate::text::Text;
+use sim_time::Time;
+use std::alloc::AllocError;
+use std::snapshot::Snapshot;
+use std::sync::Wait;
+use std::thread::Threads;
+use window_core::{Sheaf, Window};
+
+impl Course {
+    /// Commits the events of the sheaf's lines and writes their text, where it was made. All of it
+    /// is made before its first byte is put.
+    fn put_made<S: Sink>(
+        &mut self,
+        made: Result<(), AllocError>,
+        text: &Text,
+        sink: &mut S,
+    ) -> Result<u128, WriteFault>
+        requires text { OnOk made (IsWhole self.old.sheaf text.now) }
+        requires fits { self.old.position + length (merged self.old.sheaf).lines < 2 ^ 63 }
+        ensures position { OnOk result (self.new.position ≡ self.old.position + length (merged self.old.sheaf).lines) }
+        ensures rest { self.new ≡ record self.old { position = self.new.position } }
+        ensures wrote { IfOk result (λ bytes. (until : ℕ) (from to : Reached) → AreBelow until (merged self.old.sheaf).lines → GoesOn from (merged self.old.sheaf) to → Wrote until from to bytes (S.contents sink.old) (S.contents sink.new)) }
+        ensures broke { IfErr result (λ fault. (until : ℕ) (from to : Reached) → AreBelow until (merged self.old.sheaf).lines → GoesOn from (merged self.old.sheaf) to → self.old.position ≡ from.position → Broke 1 until from self.new.position (S.contents sink.old) (S.contents sink.new) fault) }
+        ensures not_full { IfErr result (λ fault. fault ≡ WriteFault.Workers EngineFault.CountFull → ⊥) }
+        ensures failures { S.failures sink.new ≡ fails_after result (S.failures sink.old) }
+    {
+        let position = self.position + self.sheaf.len() as u64;
+        let Ok(()) = made else {
+            return Err(WriteFault::Workers(EngineFault::NoMemory));
+        };
+        self.position = position;
+        match text.put(sink) {
+            Ok(bytes) => Ok(bytes),
+            Err(written) => Err(WriteFault::Sink(written)),
+        }
+    }
+
+    /// Completes the text of the lines before a window, commits their events and writes them, and ends the
+    /// window, which workers have run or the calling thread runs; the sheaf then has its lines. After it
+    /// the nodes may be in other groups. The answer is how long the next window may be. How the course
+    /// and the sink were as the call began, and the window before it was run, is for clauses alone.
+    fn go_on<G: Gate, S: Sink>(
+        &mut self,
+        gate: &G,
+        workers: usize,
+        until: Time,
+        plan: &Plan,
+        ran: Result<bool, EngineFault>,
+        began: &Snapshot<Course>,
+        known: &Snapshot<S>,
+        now: &Snapshot<Window>,
+        text: &mut Text,
+        written: &mut u128,
+        sink: &mut S,
+    ) -> Result<Time, EngineFault>
+        requires writing { IsWriting until began.now.value (record self.old { window = now.now.value }) written.old (S.contents known.now.value) (S.contents sink.old) }
+        requires failures { S.failures sink.old ≡ S.failures known.now.value }
+        requires is_window { IsWindow now.now.value }
+        requires right { AreRight self.old.sheaf text.old.scribes.items }
+        requires workers { 0 < workers }
+        requires bound { plan.now.bound ≤ until }
+        requires ran { IfOk ran (λ ran. HasRunOr ran plan.now.bound now.now.value self.old.window) }
+        requires stays { StaysNet now.now.value self.old.window }
+        requires fault { IfErr ran (IsOfWorkers workers) }
+        requires full { IfErr ran (λ fault. fault ≡ EngineFault.CountFull → HasTooMany (reached_in now.now.value)) }
+        ensures writing { OnOk result (IsWriting until began.now.value self.new written.new (S.contents known.now.value) (S.contents sink.new)) }
+        ensures failures { OnOk result (S.failures sink.new ≡ S.failures known.now.value) }
+        ensures slice { IfOk result (λ slice. 1 ≤ slice) }
+        ensures some { OnOk result ((time : ℕ) → IsNext plan.now.bound (edge_of now.now.value) time → now.now.value.position < self.new.window.position) }
+        ensures ended { IfErr result (λ fault. HasEnded workers until began.now.value self.new (Err fault) (S.contents known.now.value) (S.contents sink.new) (S.failures known.now.value) (S.failures sink.new)) }
+    {
+        let made = text.complete(&self.sheaf);
+        match self.put_made(made, text, sink) {
+            Ok(bytes) => *written += bytes,
+            Err(fault) => return Err(told(fault, *written)),
+        }
+        let bound = plan.bound;
+        match finish(
+            gate,
+            workers,
+            ran,
+            bound,
+            now,
+            &mut self.window,
+            &mut self.sheaf,
+        ) {
+            Ok(()) => {}
+            Err(fault) => return Err(fault),
+        }
+        let _turned = self.window.position();
+        let slice = self.slice_after(plan, workers);
+        self.choose(gate.worth(), plan.whole);
+        Ok(slice)
+    }
+
+    /// Makes the text of the lines that are left where windows end, commits their events and writes them.
+    fn end<S: Sink>(
+        &mut self,
+        stop: Stop,
+        _workers: usize,
+        _until: Time,
+        _began: &Snapshot<Course>,
+        _known: &Snapshot<S>,
+        text: &mut Text,
+        written: u128,
+        sink: &mut S,
+    ) -> Result<Stop, EngineFault>
+        requires writing { IsWriting _until _began.now.value self.old written (S.contents _known.now.value) (S.contents sink.old) }
+        requires failures { S.failures sink.old ≡ S.failures _known.now.value }
+        requires workers { 0 < _workers }
+        requires stop { IsStop _until (edge_of self.old.window) stop }
+        ensures { HasEnded _workers _until _began.now.value self.new result (S.contents _known.now.value) (S.contents sink.new) (S.failures _known.now.value) (S.failures sink.new) }
+    {
+        let _reached = self.window.position();
+        let made = text.make_all(&self.sheaf);
+        match self.put_made(made, text, sink) {
+            Ok(_) => Ok(stop),
+            Err(fault) => Err(told(fault, written)),
+        }
+    }
+
+    /// Runs windows on the calling thread and writes their lines, up to the run's end or until no event is
+    /// left below a moment. It starts no thread and waits for none. Where windows hold few events, all
+    /// nodes are in one group for a while.
+    pub(crate) fn write_alone<G: Gate, S: Sink>(
+        &mut self,
+        gate: &G,
+        until: Time,
+        sink: &mut S,
+    ) -> Result<Stop, EngineFault>
+        requires rest { AtRest self.old }
+        requires groups { HasGroups self.old }
+        ensures { HasEnded 1 until self.old self.new result (S.contents sink.old) (S.contents sink.new) (S.failures sink.old) (S.failures sink.new) }
+    {
+        let Ok(mut text) = Text::new(self.alloc) else {
+            return Err(EngineFault::NoMemory);
+        };
+        let (began, known) = (Snapshot::of(self), Snapshot::of(sink));
+        self.sheaf = Sheaf::new(self.alloc, self.position + 1);
+        let mut slice = FIRST_SLICE;
+        let mut written: u128 = 0;
+        loop {
+            let plan = match self.plan(until, slice) {
+                Ok(plan) => plan,
+                Err(stop) => {
+                    return self.end(stop, 1, until, &began, &known, &mut text, written, sink);
+                }
+            };
+            let _reached = self.window.position();
+            let now = Snapshot::of(&self.window);
+            text.clear(&self.sheaf);
+            match self.go_on(
+                gate,
+                1,
+                until,
+                &plan,
+                Ok(false),
+                &began,
+                &known,
+                &now,
+                &mut text,
+                &mut written,
+                sink,
+            ) {
+                Ok(next) => slice = next,
+                Err(fault) => return Err(fault),
+            }
+        }
+    }
+
+    /// Has a crew run windows, and writes the lines of each while the next one runs, up to the run's end or
+    /// until no event is left below a moment. Nothing is left to write where they end. Where windows hold
+    /// few events, all nodes are in one group for a while.
+    pub(crate) fn write_together<G: Gate, S: Sink, R: Threads + Wait + Sync>(
+        &mut self,
+        crew: &Crew<R, G>,
+        until: Time,
+        sink: &mut S,
+    ) -> Result<Stop, EngineFault>
+        requires rest { AtRest self.old }
+        requires groups { HasGroups self.old }
+        ensures { HasEnded crew.now.workers until self.old self.new result (S.contents sink.old) (S.contents sink.new) (S.failures sink.old) (S.failures sink.new) }
+    {
+        let workers = crew.workers;
+        let Ok(mut text) = Text::new(self.alloc) else {
+            return Err(EngineFault::NoMemory);
+        };
+        let (began, known) = (Snapshot::of(self), Snapshot::of(sink));
+        self.sheaf = Sheaf::new(self.alloc, self.position + 1);
+        let mut slice = FIRST_SLICE;
+        let mut written: u128 = 0;
+        loop {
+            let plan = match self.plan(until, slice) {
+                Ok(plan) => plan,
+                Err(stop) => {
+                    return self.end(
+                        stop, workers, until, &began, &known, &mut text, written, sink,
+                    );
+                }
+            };
+            let _reached = self.window.position();
+            let now = Snapshot::of(&self.window);
+            text.clear(&self.sheaf);
+            let shared = self.sheaf.beside_most();
+            let ran = crew.run_shared(
+                shared,
+                plan.bound,
+                &mut self.window,
+                &self.sheaf,
+                &mut text.scribes,
+            );
+            match self.go_on(
+                crew.gate,
+                workers,
+                until,
+                &plan,
+                ran,
+                &began,
+                &known,
+                &now,
+                &mut text,
+                &mut written,
+                sink,
+            ) {
+                Ok(next) => slice = next,
+                Err(fault) => return Err(fault),
+            }
+        }
+    }
+}
