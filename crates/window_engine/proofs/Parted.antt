@@ -56,14 +56,14 @@ has_appended s old new part start end within is =
 
 -- a thread that made no part
 right_none : (s : SheafValue) (scribe : Scribe) → scribe.parts.items ≡ [] → IsRight s scribe
-right_none s scribe none = subst (All (HasText s scribe.text.items)) (sym none) (All-nil (HasText s scribe.text.items))
+right_none s scribe none = subst (All (HasText s scribe.text)) (sym none) (All-nil (HasText s scribe.text))
 
 -- one more made none
 pub rights_none : (s : SheafValue) (scribes : List Scribe) (i : ℕ) (scribe : Scribe) → i < length scribes → AreRight s (take i scribes) → scribe.parts.items ≡ [] → AreRight s (take (i + 1) (set scribes i scribe))
 rights_none s scribes i scribe l all none = subst (AreRight s) (sym (take_more_set scribes i scribe l)) (All-push (IsRight s) (take i scribes) scribe all (right_none s scribe none))
 
 -- the text of a thread by its number
-pub text_at-is : (scribes : List Scribe) (i : ℕ) (d : Scribe) → i < length scribes → text_at scribes i ≡ (get_or scribes i d).text.items
+pub text_at-is : (scribes : List Scribe) (i : ℕ) (d : Scribe) → i < length scribes → text_at scribes i ≡ (get_or scribes i d).text
 text_at-is [] i d l = absurd (omega (arith, l))
 text_at-is (s ∷ ss) zero d l = refl
 text_at-is (s ∷ ss) (suc i) d l = text_at-is ss i d (omega (arith, l))
@@ -113,7 +113,7 @@ part_broken ss ps i done n d a b c l count h k =
     )
 
 -- the part of a thread's that begins with a line is at its place
-pub is_place : (s : SheafValue) (ss : List Scribe) (at i : ℕ) (d : Scribe) (part : Part) → i < length ss → HasText s (get_or ss i d).text.items part → part.from ≡ at → 0 < part.count
+pub is_place : (s : SheafValue) (ss : List Scribe) (at i : ℕ) (d : Scribe) (part : Part) → i < length ss → HasText s (get_or ss i d).text part → part.from ≡ at → 0 < part.count
     → IsPlaceAt s ss at (record { scribe = i; part = part })
 is_place s ss at i d part l has from some =
     let lines = (merged s).lines in
@@ -149,17 +149,17 @@ text_up_to s ss ps at p so_far is =
     ∙ ap (text_from s.first) (sym both)
 
 -- the first thread made the text of all lines
-pub first_inside : (s : SheafValue) (ss : List Scribe) (scribe : Scribe) (part : Part) → 0 < length ss → HasText s scribe.text.items part → All (IsInside (set ss 0 scribe)) (record { scribe = 0; part = part } ∷ [])
+pub first_inside : (s : SheafValue) (ss : List Scribe) (scribe : Scribe) (part : Part) → 0 < length ss → HasText s scribe.text part → All (IsInside (set ss 0 scribe)) (record { scribe = 0; part = part } ∷ [])
 first_inside s [] scribe part some has = absurd (omega (arith, some))
 first_inside s (q ∷ qs) scribe part some has = All-cons (IsInside (scribe ∷ qs)) _ [] (record { scribe = omega arith; part = has.inside }) (All-nil (IsInside (scribe ∷ qs)))
 
-pub first_text : (s : SheafValue) (ss : List Scribe) (scribe : Scribe) (part : Part) → 0 < length ss → HasText s scribe.text.items part → part.from ≡ 0 → part.count ≡ length (merged s).lines
+pub first_text : (s : SheafValue) (ss : List Scribe) (scribe : Scribe) (part : Part) → 0 < length ss → HasText s scribe.text part → part.from ≡ 0 → part.count ≡ length (merged s).lines
     → text_of (set ss 0 scribe) (record { scribe = 0; part = part } ∷ []) ≡ text_from s.first (merged s).lines
 first_text s [] scribe part some has from count = absurd (omega (arith, some))
 first_text s (q ∷ qs) scribe part some has from count =
     let lines = (merged s).lines in
     let zeroth : s.first + 0 ≡ s.first = omega arith in
-    append-nil (bytes_in scribe.text.items part)
+    append-nil (bytes_in scribe.text part)
     ∙ has.is
     ∙ ap (λ n. text_from (s.first + n) (take part.count (drop n lines))) from
     ∙ ap (λ n. text_from n (take part.count lines)) zeroth

@@ -24,7 +24,7 @@ pub record HasText (s : SheafValue) (text : List ℕ) (part : Part) : Type 0 whe
 
 -- each of its parts has the text of its lines
 abbrev pub IsRight : SheafValue → Scribe → Type 0
-IsRight s scribe = All (HasText s scribe.text.items) scribe.parts.items
+IsRight s scribe = All (HasText s scribe.text) scribe.parts.items
 
 -- so has each thread's
 abbrev pub AreRight : SheafValue → List Scribe → Type 0
@@ -33,7 +33,7 @@ AreRight s scribes = All (IsRight s) scribes
 -- the text of a thread by its number
 abbrev pub text_at : List Scribe → ℕ → List ℕ
 text_at [] i = []
-text_at (scribe ∷ scribes) zero = scribe.text.items
+text_at (scribe ∷ scribes) zero = scribe.text
 text_at (scribe ∷ scribes) (suc i) = text_at scribes i
 
 -- the bytes at a place

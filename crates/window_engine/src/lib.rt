@@ -13,6 +13,7 @@ mod hands;
 mod lines;
 mod meeting;
 mod pace;
+mod pad;
 mod pieces;
 mod pipeline;
 mod put;

@@ -5,11 +5,14 @@ ghost use Rattle.window_core.specs.Sheaves.{StandsIn, merged};
 ghost use Rattle.window_engine.specs.Parts.{HasText, IsRight};
 ghost use Rattle.window_engine.specs.Text.{text_from};
 
+use crate::pad::Pad;
 use std::alloc::{AllocError, Global};
 use std::sync::atomic::AtomicU64;
 use std::sync::atomic::Ordering::SeqCst;
-use trace_text::line_text;
 use window_core::{Cursor, Sheaf};
+
+/// For how many bytes of a line there is to be room: few lines have more.
+const LINE_BYTES: usize = 128;
 
 /// The parts in which threads make a window's text. Each is taken by one thread.
 #[derive(Drop)]
@@ -59,7 +62,7 @@ pub(crate) struct Part {
 #[derive(Drop)]
 pub(crate) struct Scribe {
     /// The text of its parts, one after another.
-    pub text: Vec<u8>,
+    pub text: Pad,
     /// Its parts.
     pub parts: Vec<Part>,
 }
@@ -70,16 +73,16 @@ fn append_lines(
     sheaf: &Sheaf,
     cursor: &mut Cursor,
     count: usize,
-    text: &mut Vec<u8>,
+    text: &mut Pad,
 ) -> Result<(), AllocError>
     requires stands { StandsIn sheaf.now cursor.old }
     requires within { cursor.old.at + count ≤ length (merged sheaf.now).lines }
     requires fits { sheaf.now.first + length (merged sheaf.now).lines < 2 ^ 63 }
-    ensures { OnOk result (text.new.items ≡ text.old.items ++ text_from (sheaf.now.first + cursor.old.at) (take count (drop cursor.old.at (merged sheaf.now).lines))) }
+    ensures { OnOk result (text.new ≡ text.old ++ text_from (sheaf.now.first + cursor.old.at) (take count (drop cursor.old.at (merged sheaf.now).lines))) }
 {
     for _ in 0..count {
         let number = sheaf.first() + cursor.at() as u64;
-        line_text(number, sheaf.next(cursor), text)?;
+        text.put_line(number, sheaf.next(cursor))?;
     }
     Ok(())
 }
@@ -107,14 +110,14 @@ impl Scribe {
         ensures { result.parts.items ≡ [] }
     {
         Scribe {
-            text: Vec::new(alloc),
+            text: Pad::new(alloc),
             parts: Vec::new(alloc),
         }
     }
 
     /// Forgets what it made. Its memory is used again.
     pub(crate) fn clear(&mut self)
-        ensures text { self.new.text.items ≡ [] }
+        ensures text { self.new.text ≡ [] }
         ensures parts { self.new.parts.items ≡ [] }
     {
         self.text.clear();
@@ -131,7 +134,7 @@ impl Scribe {
         requires stands { StandsIn sheaf.now cursor.old }
         requires within { cursor.old.at + count ≤ length (merged sheaf.now).lines }
         requires fits { sheaf.now.first + length (merged sheaf.now).lines < 2 ^ 63 }
-        ensures part { IfOk result (HasText sheaf.now self.new.text.items) }
+        ensures part { IfOk result (HasText sheaf.now self.new.text) }
         ensures from { IfOk result (λ part. part.from ≡ cursor.old.at) }
         ensures count { IfOk result (λ part. part.count ≡ count) }
         ensures kept { IsRight sheaf.now self.old → OnOk result (IsRight sheaf.now self.new) }
@@ -154,11 +157,12 @@ impl Scribe {
         cursor: &mut Cursor,
     ) -> Result<Part, AllocError>
         requires fits { sheaf.now.first + length (merged sheaf.now).lines < 2 ^ 63 }
-        ensures part { IfOk result (HasText sheaf.now self.new.text.items) }
+        ensures part { IfOk result (HasText sheaf.now self.new.text) }
         ensures from { IfOk result (λ part. part.from ≡ 0) }
         ensures count { IfOk result (λ part. part.count ≡ length (merged sheaf.now).lines) }
     {
         self.clear();
+        self.text.make_room(sheaf.len().saturating_mul(LINE_BYTES))?;
         sheaf.begin_at(cursor, 0)?;
         self.make_lines(sheaf, cursor, sheaf.len())
     }
@@ -176,6 +180,8 @@ impl Scribe {
         requires right { IsRight sheaf.now self.old }
         ensures right { OnOk result (IsRight sheaf.now self.new) }
     {
+        self.text
+            .make_room((sheaf.len() / 2).saturating_mul(LINE_BYTES))?;
         let end = end_of(sheaf, cursor, number, parts)?;
         sheaf.begin_at(cursor, sheaf.moment_at(number, parts))?;
         let count = end.saturating_sub(cursor.at());
@@ -190,7 +196,7 @@ impl Scribe {
         requires right { IsRight sheaf.now self.old }
         ensures right { OnOk result (IsRight sheaf.now self.new) }
     {
-        let mut cursor = Cursor::new(*self.text.allocator())?;
+        let mut cursor = Cursor::new(self.text.allocator())?;
         for _ in 0..parts.count {
             let Some(number) = parts.take() else {
                 break;

@@ -51,7 +51,7 @@ pub(crate) fn parts_for(lines: usize, workers: usize) -> usize {
 /// The part of a thread's that begins with a line, where it made one and has a line.
 fn part_from(sheaf: &Sheaf, scribe: &Scribe, at: usize) -> Option<Part>
     requires { IsRight sheaf.now scribe.now }
-    ensures text { IfSome result (HasText sheaf.now scribe.now.text.items) }
+    ensures text { IfSome result (HasText sheaf.now scribe.now.text) }
     ensures from { IfSome result (λ part. part.from ≡ at) }
     ensures some { IfSome result (λ part. 0 < part.count) }
 {

@@ -14,14 +14,14 @@ loop-preserved c =
     let from = c.args.cursor.now.at in
     let i = c.loop.counter in
     let was = c.loop.invariant in
-    let before = c.args.text.now.items in
+    let before = c.args.text.now in
     let line = shown c.next.result.now in
     let number : c.first.result + c.at.result ≡ first + (from + i) = omega (arith, c.first.ensures, c.at.ensures, was.1) in
     let within : from + i < length lines = omega (arith, c.loop-test.true, c.requires.within) in
     let so_far = text_from (first + from) (take i (drop from lines)) in (
       c.next.ensures.at,
       omega (arith, c.next.ensures.count, was.1),
-      c.in_ok-line_text.ensures.ok
+      c.in_ok-put_line.ensures
           ∙ ap (λ (l : List ℕ). l ++ line_bytes (c.first.result + c.at.result) line) was.2
           ∙ append_assoc before so_far (line_bytes (c.first.result + c.at.result) line)
           ∙ ap (λ (l : List ℕ). before ++ l)

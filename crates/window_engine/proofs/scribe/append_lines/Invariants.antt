@@ -8,4 +8,4 @@ abbrev pub invariant-loop : goal.invariant-loop
 invariant-loop l =
     StandsIn l.sheaf l.cursor
     × (l.cursor.at ≡ l.fn.cursor.at + l.counter)
-    × (l.text.items ≡ l.fn.text.items ++ text_from (l.sheaf.first + l.fn.cursor.at) (take l.counter (drop l.fn.cursor.at (merged l.sheaf).lines)))
+    × (l.text ≡ l.fn.text ++ text_from (l.sheaf.first + l.fn.cursor.at) (take l.counter (drop l.fn.cursor.at (merged l.sheaf).lines)))

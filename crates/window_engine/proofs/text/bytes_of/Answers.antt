@@ -7,9 +7,9 @@ pub slice_bounds-result-end : goal.slice_bounds-result-end
 slice_bounds-result-end c =
     let end = c.requires.part.end in
     let text = text_at-is c.args.scribes.now c.args.place.scribe c.index-scribes-place.result c.requires.scribe in
-    omega (arith, end, ap length (c.as_slice-text.ensures.value ∙ sym text))
+    omega (arith, end, ap length (c.as_slice-text.ensures ∙ sym text))
 
 pub returns : goal.returns
 returns c =
     let text = text_at-is c.args.scribes.now c.args.place.scribe c.index-scribes-place.result c.requires.scribe in
-    ap (λ (l : List ℕ). bytes_in l c.args.place.part) (c.as_slice-text.ensures.value ∙ sym text)
+    ap (λ (l : List ℕ). bytes_in l c.args.place.part) (c.as_slice-text.ensures ∙ sym text)

@@ -10,4 +10,4 @@ returns-in-Some c =
     let scribe = c.index-scribes-scribe.result in
     let is = c.in-Some.ensures in
     is_place s c.args.scribes.now c.args.at c.loop-scribe.scribe scribe c.in-Some.part c.loop-scribe-test.true
-    (subst (λ (x : Scribe). HasText s x.text.items c.in-Some.part) c.index-scribes-scribe.is is.text) is.from is.some
+    (subst (λ (x : Scribe). HasText s x.text c.in-Some.part) c.index-scribes-scribe.is is.text) is.from is.some
