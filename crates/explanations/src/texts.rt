@@ -415,7 +415,8 @@ Right is:
     "B1: no command has this name, or no sort of breakpoint
 
 The commands are step, back, until, run, state, break and clear; a breakpoint is of a node, a flow, a
-kind or a drop. At a prompt there are more of both, and `help` lists them. The session goes on.
+kind or a drop. At a prompt there are more of both, and `help` lists them; what stands behind `state` or
+`help` there can be unknown too. The session goes on.
 
 Refused, with the answer `refused B1`, where one.txt is the text that `tcpsim explain E2` ends with:
 
@@ -443,8 +444,10 @@ Right is:
     "B3: a word is no number, or out of its range; there is no such node, flow or kind
 
 A number is decimal digits without a leading zero, and counts and moments are from 0 to
-1000000000000000. The kinds are start, rto, delack, free, data and ack. At a prompt a moment can have a
-unit, as 1.5s, 20ms, 3us or 10ns, and is in whole nanoseconds. The session goes on.
+1000000000000000. Nodes, links and flows go by their numbers and not by their names, each sort from 0 in
+the order of the text: the first flow is 0. The kinds are start, rto, delack, free, data and ack. At a
+prompt a moment can have a unit, as 1.5s, 20ms, 3us or 10ns, and is in whole nanoseconds. The session
+goes on.
 
 Refused, with the answer `refused B3`, where one.txt is the text that `tcpsim explain E2` ends with:
 
