@@ -48,7 +48,10 @@ BARS = (
     ('tree', '100 flows through a tree of routers, one bottleneck', 850),
     ('chain', 'one flow through a chain of 16 routers', 730),
     ('few_islands', 'four parts of three flows each, of which one goes over to the next', 830),
+    ('four_islands', 'four parts of twelve flows each, of which two go over to the next', 830),
 )
+# The most data references and mispredicted branches that an event of this scenario is to cost.
+GUESSED, REFERENCES, MISPREDICTED = 'four_islands', 330, 6
 # The sections of bench/RESULTS.md that other scripts make, behind this one's.
 OTHERS = re.compile(r'\n## (?!What ).*', re.S)
 DHAT = ('valgrind', '--tool=dhat', '--dhat-out-file=/dev/null')
@@ -239,7 +242,9 @@ def cost_table(rows):
                        within(r.run.instructions, r.bar), f'{r.run.references:,.0f}', f'{r.run.misses:,.1f}',
                        f'{r.run.mispredicted:,.1f}') for r in rows])
     yield ('Data references, misses of the nearest cache (48 kB, of 12 ways) and mispredicted branches are an event\'s, '
-           'of the machine that callgrind simulates.\n')
+           f'of the machine that callgrind simulates; in `{GUESSED}` at most {REFERENCES} and {MISPREDICTED} of the first and '
+           'the last.\n')
+    yield from (f'They are {r.run.references:,.1f} and {r.run.mispredicted:,.2f} there.\n' for r in rows if r.name == GUESSED)
     yield ('The same without its text, which is what is left of it once the calls that make text are taken off, with '
            f'the loop that makes them, and what `figures` costs, which makes no text: {ABOVE} instructions more at most.\n')
     yield from table(('Scenario', '`run` without text', '`figures`', 'At most', 'Within'),

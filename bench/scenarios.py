@@ -210,6 +210,7 @@ SCENARIOS = {
     'tree': lambda: tree(100, 1_000),
     'chain': lambda: chain(16, 20_000),
     'few_islands': lambda: islands(3, 1, 7_500),
+    'four_islands': lambda: islands(12, 2, 600),
     'islands': lambda: islands(12, 2, 20_000),
     'ring': lambda: ring(14, 10_000),
     'busy_islands': lambda: busy(24, 4, 8_000, 40),
