@@ -205,7 +205,7 @@ def section(program, rounds, before):
                        f'{c.a_window:,.0f}')
                       for c in counted(program)])
     yield (f'Seconds of whole runs on {processor()}, {os.cpu_count()} cores, pinned to as many cores as workers'
-           + (', with real-time priority beside other work' if before else '') + f', the least of {rounds} rounds; the four '
+           + (', with real-time priority' if before else '') + f', the least of {rounds} rounds; the four '
            'groups are the four parts of each scenario (bench/scenarios.py), joined by links of 10 ms and more. Four workers '
            f'are to be at least {LEAST} times as fast as `run`, and one worker is to take at most {ALONE_MOST} times as long.\n')
     wide = list(sped_up(program, rounds, before))
