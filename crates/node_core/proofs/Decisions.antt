@@ -108,11 +108,11 @@ pub no_route_decides : (table : List FlowExits) (links : List LinkState) (key : 
 no_route_decides table links key packet room none = record { row_is = ap (passed_on (part (Routes table) links) key packet) none; suits = (refl, tt); can = tt }
 
 -- it goes on by the link of its route
-pub through_decides : (role : Role) (links : List LinkState) (key : Key) (event : Event) (room index : ℕ) → IsRouted role event index → CanRun (part role links) key.time event → 2 ≤ room → IsDecided role role links key event room (PassOn index)
+pub through_decides : (role : Role) (links : List LinkState) (key : Key) (event : Event) (room index : ℕ) → IsRouted role event index → CanRun (part role links) key.time event → 1 ≤ room → IsDecided role role links key event room (PassOn index)
 through_decides role links key event room index routed runs enough =
     subst (λ (e : Event). CanRun (part role links) key.time e → IsDecided role role links key e room (PassOn index)) (sym routed.arrives) (passes role routed.route) runs
   where
     passes : (role : Role) → route_of role routed.packet ≡ Some index → CanRun (part role links) key.time (Arrive routed.packet) → IsDecided role role links key (Arrive routed.packet) room (PassOn index)
     passes (Sends flow fields) route can = absurd (cc)
     passes (Receives flow state) route can = absurd (cc)
-    passes (Routes table) route can = route_decides table links key routed.packet room index route (can index route) (omega (arith, enough))
+    passes (Routes table) route can = route_decides table links key routed.packet room index route (can index route) enough

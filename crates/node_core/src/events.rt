@@ -1,5 +1,5 @@
 //! What is decided of each event, by what its node does.
-ghost use Rattle.std.specs.Prelude.{◌≡◌, ℕ, List, IfOk, OnErr, IsSome};
+ghost use Rattle.std.specs.Prelude.{◌≡◌, ◌≤◌, ℕ, List, IfOk, OnErr, IsSome};
 ghost use Rattle.sim_time.specs.Moment.{IsMoment};
 ghost use Rattle.node_core.specs.declared.event.Event.TheVariants.{Start, Rto, DelAck, Arrive};
 ghost use Rattle.node_core.specs.Decided.{CanDecide, IsDecided};
@@ -96,6 +96,7 @@ pub(crate) fn decide_arrival(
 ) -> Result<Decision, AllocError>
     requires moment { IsMoment key.time }
     requires takes { EndTakes role.old key.time packet }
+    requires room { 1 ≤ acts.old.room }
     ensures decided { (links : List LinkState) → HasItsLink role.old links → Takes (part role.old links) role.old key.time packet → IfOk result (IsDecided role.old role.new links key (Arrive packet) acts.new.room) }
     ensures same { OnErr result (role.new ≡ role.old) }
     ensures acts { acts.new.acts ≡ acts.old.acts }
@@ -127,7 +128,8 @@ pub(crate) fn decide(
     links: &Vec<Link>,
     line: &mut Line,
 ) -> Result<Decision, AllocError>
-    requires { CanDecide role.old links.now.items line.old.key line.old.event }
+    requires can { CanDecide role.old links.now.items line.old.key line.old.event }
+    requires room { 1 ≤ line.old.acts.room }
     ensures decided { IfOk result (IsDecided role.old role.new links.now.items line.old.key line.old.event line.new.acts.room) }
     ensures same { OnErr result (role.new ≡ role.old) }
     ensures acts { line.new.acts.acts ≡ line.old.acts.acts }

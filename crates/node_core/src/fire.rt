@@ -1,5 +1,5 @@
 //! Running the event of a node's least key: it is decided, and then carried out.
-ghost use Rattle.std.specs.Prelude.{OnErr, IfOk};
+ghost use Rattle.std.specs.Prelude.{◌≤◌, OnErr, IfOk};
 ghost use Rattle.node_core.specs.CarriedOut.{CanFire, IsNext, IsCarriedOut, IsRun};
 ghost use Rattle.node_core.specs.Decided.{CanDo};
 ghost use Rattle.node_core.specs.Running.{IsAsBefore};
@@ -54,6 +54,7 @@ fn run_decided(
     out: &mut Outbox,
 ) -> Result<Option<u16>, AllocError>
     requires can { CanFire role.old links.old.items agenda.old line.old.key line.old.event out.old }
+    requires room { 1 ≤ line.old.acts.room }
     ensures ran { IfOk result (IsRun role.old role.new links.old.items links.new.items agenda.old agenda.new out.old out.new line.old line.new) }
     ensures same { OnErr result (IsAsBefore role.old role.new links.old.items links.new.items agenda.old agenda.new out.old out.new) }
 {
@@ -72,6 +73,7 @@ fn run_apart(
     out: &mut Outbox,
 ) -> Result<Option<u16>, AllocError>
     requires can { CanFire role.old links.old.items agenda.old line.old.key line.old.event out.old }
+    requires room { 1 ≤ line.old.acts.room }
     ensures ran { IfOk result (IsRun role.old role.new links.old.items links.new.items agenda.old agenda.new out.old out.new line.old line.new) }
     ensures same { OnErr result (IsAsBefore role.old role.new links.old.items links.new.items agenda.old agenda.new out.old out.new) }
 {
@@ -88,6 +90,7 @@ fn run_data(
     out: &mut Outbox,
 ) -> Result<Option<u16>, AllocError>
     requires can { CanFire role.old links.old.items agenda.old line.old.key line.old.event out.old }
+    requires room { 1 ≤ line.old.acts.room }
     ensures ran { IfOk result (IsRun role.old role.new links.old.items links.new.items agenda.old agenda.new out.old out.new line.old line.new) }
     ensures same { OnErr result (IsAsBefore role.old role.new links.old.items links.new.items agenda.old agenda.new out.old out.new) }
 {
@@ -108,6 +111,7 @@ fn run_ack(
     out: &mut Outbox,
 ) -> Result<Option<u16>, AllocError>
     requires can { CanFire role.old links.old.items agenda.old line.old.key line.old.event out.old }
+    requires room { 1 ≤ line.old.acts.room }
     ensures ran { IfOk result (IsRun role.old role.new links.old.items links.new.items agenda.old agenda.new out.old out.new line.old line.new) }
     ensures same { OnErr result (IsAsBefore role.old role.new links.old.items links.new.items agenda.old agenda.new out.old out.new) }
 {
@@ -118,7 +122,8 @@ fn run_ack(
     }
 }
 
-/// Runs a line's event, which is the least: first all memory is taken, then the event is done.
+/// Runs a line's event, which is the least: first all memory is taken, then the event is done. There is room for one
+/// act.
 pub(crate) fn run(
     role: &mut Role,
     links: &mut Vec<Link>,
@@ -127,6 +132,7 @@ pub(crate) fn run(
     out: &mut Outbox,
 ) -> Result<Option<u16>, AllocError>
     requires can { CanFire role.old links.old.items agenda.old line.old.key line.old.event out.old }
+    requires room { 1 ≤ line.old.acts.room }
     ensures ran { IfOk result (IsRun role.old role.new links.old.items links.new.items agenda.old agenda.new out.old out.new line.old line.new) }
     ensures same { OnErr result (IsAsBefore role.old role.new links.old.items links.new.items agenda.old agenda.new out.old out.new) }
 {
@@ -136,10 +142,7 @@ pub(crate) fn run(
             Ok(take_next(index, links, agenda, line, out))
         }
         Event::Arrive(packet) => match role.route(packet) {
-            Some(index) => {
-                line.acts.reserve(2)?;
-                Ok(pass_on(index, links, agenda, line, out))
-            }
+            Some(index) => Ok(pass_on(index, links, agenda, line, out)),
             None => match packet.kind {
                 Kind::Data => run_data(role, links, agenda, line, out),
                 Kind::Ack => run_ack(role, links, agenda, line, out),

@@ -37,12 +37,12 @@ pub(crate) fn answer_data(
     requires moment { IsMoment now }
     requires multiple { number % receiver.old.mss ≡ 0 }
     requires greatest { number ≤ 9000000000000 }
+    requires room { 1 ≤ acts.old.room }
     ensures sends { IfOk result (OnSend (IsSent true (ack_of origin.flow (data_came receiver.old number now).reply) DelayedAcknowledgement (data_came receiver.old number now).state.alarm acts.new.room)) }
     ensures receiver { OnOk result (receiver.new ≡ (data_came receiver.old number now).state) }
     ensures same { OnErr result (receiver.new ≡ receiver.old) }
     ensures acts { acts.new.acts ≡ acts.old.acts }
 {
-    acts.reserve(1)?;
     let reply = receiver.on_data(number, now)?;
     Ok(Decision::Send(Sending {
         cells: PacketChain::new(origin.alloc),

@@ -36,16 +36,30 @@ pub(crate) fn pass_packet(
     Ok(Decision::PassOn(index))
 }
 
+// Room for so many acts, where there is room for one, as most events need no more.
+#[inline(always)]
+fn reserve_beyond_one(acts: &mut Acts, more: usize) -> Result<(), AllocError>
+    requires { 1 ≤ acts.old.room }
+    ensures same { acts.new.acts ≡ acts.old.acts }
+    ensures ok { IfOk result (λ _. more ≤ acts.new.room) }
+{
+    if more <= 1 {
+        return Ok(());
+    }
+    acts.reserve(more)
+}
+
 /// A link has sent a packet whole, and takes the next. The answer is the index of the link.
 #[inline(always)]
 pub(crate) fn free_link(links: &Vec<Link>, key: Key, acts: &mut Acts) -> Result<u16, AllocError>
     requires moment { IsMoment key.time }
     requires own { IsOfLink key.number (length links.now.items) (Free 0) }
     requires few { length links.now.items ≤ 1024 }
+    requires room { 1 ≤ acts.old.room }
     ensures decided { IfOk result (λ index. (role : Role) (link : ℕ) → IsDecided role role links.now.items key (Free link) acts.new.room (TakeNext index)) }
     ensures acts { acts.new.acts ≡ acts.old.acts }
 {
     let place = (key.number - FIRST_FREE as u64) as usize;
-    acts.reserve(links[place].port().room_at(key.time))?;
+    reserve_beyond_one(acts, links[place].port().room_at(key.time))?;
     Ok(place as u16)
 }

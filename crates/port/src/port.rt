@@ -131,6 +131,7 @@ impl Port {
 
     /// For how many acts there is to be room at `now`: one, and one for each packet that the queue
     /// drops where the link takes. The cost doesn't grow with what stays in the queue.
+    #[inline(always)]
     pub fn room_at(&self, now: Time) -> usize
         requires { IsMoment now }
         ensures value { result ≡ drops_at now self.now + 1 }

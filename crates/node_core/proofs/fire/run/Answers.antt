@@ -24,11 +24,11 @@ returns-in_ok-index-in-Free-clause-ran c =
     record { has_run = r.has_run; did = r.did; leaves = r.leaves; same_event = c.take_next.ensures.same_event }
 
 pub pass_on-requires-clause-can : goal.pass_on-requires-clause-can
-pass_on-requires-clause-can c = (through_decides c.args.role.now c.args.links.now.items c.args.line.now.key c.args.line.now.event c.reserve.new.self.room c.in-Some.index (record { packet = c.in-Arrive.packet; arrives = c.in-Arrive.is; route = sym c.route.ensures ∙ c.in-Some.is }) c.requires.can.runs c.in_ok-reserve-in-Some.ensures.ok).can
+pass_on-requires-clause-can c = (through_decides c.args.role.now c.args.links.now.items c.args.line.now.key c.args.line.now.event c.args.line.now.acts.room c.in-Some.index (record { packet = c.in-Arrive.packet; arrives = c.in-Arrive.is; route = sym c.route.ensures ∙ c.in-Some.is }) c.requires.can.runs c.requires.room).can
 
-pub returns-in_ok-reserve-in-Some-clause-ran : goal.returns-in_ok-reserve-in-Some-clause-ran
-returns-in_ok-reserve-in-Some-clause-ran c =
+pub returns-in-Some-clause-ran : goal.returns-in-Some-clause-ran
+returns-in-Some-clause-ran c =
     let r = ran c.args.role.now c.args.role.now c.args.links.now.items c.pass_on.new.links.items c.args.agenda.now c.pass_on.new.agenda c.args.out.now c.pass_on.new.out c.args.line.now.acts.acts c.pass_on.new.line.acts.acts c.pass_on.result
-    c.args.line.now.key c.args.line.now.event c.reserve.new.self.room c.requires.can.in_step c.requires.can.next (PassOn c.in-Some.index) (through_decides c.args.role.now c.args.links.now.items c.args.line.now.key c.args.line.now.event c.reserve.new.self.room c.in-Some.index (record { packet = c.in-Arrive.packet; arrives = c.in-Arrive.is; route = sym c.route.ensures ∙ c.in-Some.is }) c.requires.can.runs c.in_ok-reserve-in-Some.ensures.ok)
-    c.args.line.now.key c.args.line.now.event c.reserve.new.self.acts refl refl c.reserve.ensures.same c.pass_on.ensures.passed in
+    c.args.line.now.key c.args.line.now.event c.args.line.now.acts.room c.requires.can.in_step c.requires.can.next (PassOn c.in-Some.index) (through_decides c.args.role.now c.args.links.now.items c.args.line.now.key c.args.line.now.event c.args.line.now.acts.room c.in-Some.index (record { packet = c.in-Arrive.packet; arrives = c.in-Arrive.is; route = sym c.route.ensures ∙ c.in-Some.is }) c.requires.can.runs c.requires.room)
+    c.args.line.now.key c.args.line.now.event c.args.line.now.acts.acts refl refl refl c.pass_on.ensures.passed in
     record { has_run = r.has_run; did = r.did; leaves = r.leaves; same_event = c.pass_on.ensures.same_event }

@@ -7,8 +7,8 @@ use Rattle.node_core.proofs.Carried.{ran}
 use Rattle.node_core.proofs.Due.{of_link, set_by}
 use Rattle.node_core.proofs.fire.run_decided.Goals as goal
 
-pub decide-requires : goal.decide-requires
-decide-requires c = record {
+pub decide-requires-clause-can : goal.decide-requires-clause-can
+decide-requires-clause-can c = record {
   moment = c.requires.can.next.moment;
   set = set_by c.args.role.now c.args.links.now.items c.args.agenda.now c.args.line.now.key c.args.line.now.event c.requires.can.in_step c.requires.can.next.due;
   own = of_link c.args.role.now c.args.links.now.items c.args.agenda.now c.args.line.now.key c.args.line.now.event c.requires.can.in_step c.requires.can.next.due;
