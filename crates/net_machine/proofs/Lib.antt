@@ -1,3 +1,4 @@
+pub mod Copies
 pub mod AtNodes
 pub mod First
 pub mod Home

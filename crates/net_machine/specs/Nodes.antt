@@ -1,5 +1,5 @@
 -- The nodes of a net, and what is pending at all of them.
-use Rattle.std.specs.Prelude.{◌≡◌, ◌<◌, ℕ, List, [], map as each, length, slice_index_or, Option}
+use Rattle.std.specs.Prelude.{◌≡◌, ◌<◌, ℕ, List, [], map as each, length, slice_index_or, Option, Some, None}
 use Rattle.std.specs.List.{enumerate_from}
 use Rattle.sim_time.specs.declared.key.Key.{Key}
 use Rattle.scenario_image.specs.declared.parts.ScenarioParts.{ScenarioParts}
@@ -55,3 +55,7 @@ pub record IsRanked (nodes : List NodeState) (ranks : List (Option Key)) : Type 
 pub record IsFirst (nodes : List NodeState) (place : ℕ) : Type 0 where
   pub within : place < length nodes
   pub same : least (net_pending nodes) ≡ least (node_at nodes place).pending
+
+-- at some places there is a copy of the node there
+abbrev pub AreCopies : List NodeState → List (Option NodeState) → Type 0
+AreCopies nodes copies = (i : ℕ) (copy : NodeState) → slice_index_or copies i None ≡ Some copy → copy ≡ node_at nodes i

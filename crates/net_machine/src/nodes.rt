@@ -1,5 +1,5 @@
 //! The nodes, ranked by their next keys.
-ghost use Rattle.std.specs.Prelude.{◌≡◌, ◌≢◌, ◌+◌, ◌<◌, ◌≤◌, ◌^◌, [], ℕ, All, IfOk, OnOk, OnErr, MatchOption, Option, Some, None, length, map as each, slice_set};
+ghost use Rattle.std.specs.Prelude.{◌≡◌, ◌≢◌, ◌+◌, ◌<◌, ◌≤◌, ◌^◌, [], ℕ, All, IfOk, IfSome, OnOk, OnErr, MatchOption, Option, Some, None, length, map as each, slice_set, replicate};
 ghost use Rattle.std.specs.Option.{option_map};
 ghost use Rattle.std.specs.List.Sorted.{IsStrictlyIncreasing};
 ghost use Rattle.sim_time.specs.declared.key.Key.{Key};
@@ -12,7 +12,7 @@ ghost use Rattle.node_core.specs.Row.{Leaving, row};
 ghost use Rattle.node_core.specs.Ready.{IsRunnable};
 ghost use Rattle.node_core.specs.TraceLine.{shown};
 ghost use Rattle.node_core.specs.Node.{delivered, HasFired};
-ghost use Rattle.net_machine.specs.Nodes.{node_at, pendings, net_pending, IsPlaced, IsFirst};
+ghost use Rattle.net_machine.specs.Nodes.{node_at, pendings, net_pending, IsPlaced, IsFirst, AreCopies};
 
 use node_core::{Line, Node, Outbox};
 use packet_chain::PacketChain;
@@ -44,6 +44,59 @@ impl Model for Nodes {
     ghost view = { λ n. n.nodes.items };
 
     ghost invariant = { λ n. IsRanked n.nodes.items n.ranking };
+}
+
+// Room for copies of so many nodes, of which there is none yet.
+fn no_copies(alloc: Global, count: usize) -> Result<Vec<Option<Node>>, AllocError>
+    ensures { IfOk result (λ copies. copies.items ≡ replicate count None) }
+{
+    let mut copies = Vec::with_capacity(alloc, count)?;
+    for _place in 0..count {
+        copies.push(None)?;
+    }
+    Ok(copies)
+}
+
+// Copies the node of a number to its place, where there is such a node.
+fn copy_one(nodes: &[Node], number: u16, copies: &mut [Option<Node>]) -> Result<(), AllocError>
+    requires size { length copies.old ≡ length nodes.now }
+    requires before { AreCopies nodes.now copies.old }
+    ensures size { length copies.new ≡ length nodes.now }
+    ensures copies { AreCopies nodes.now copies.new }
+{
+    let place = usize::from(number);
+    if place >= nodes.len() {
+        return Ok(());
+    }
+    let copy = nodes[place].copy()?;
+    let _before = copies[place].replace(copy);
+    Ok(())
+}
+
+// The copy of a node that was made, or else one that is made now.
+fn copy_of(node: &Node, made: Option<Node>) -> Result<Node, AllocError>
+    requires { IfSome made (λ copy. copy ≡ node.now) }
+    ensures { IfOk result (λ copy. copy ≡ node.now) }
+{
+    match made {
+        Some(copy) => Ok(copy),
+        None => node.copy(),
+    }
+}
+
+// Copies of nodes, each at its place, of which those of these numbers are made first, in this order.
+fn copies_in(alloc: Global, nodes: &[Node], order: &[u16]) -> Result<Vec<Node>, AllocError>
+    ensures { IfOk result (λ copies. copies.items ≡ nodes.now) }
+{
+    let mut made = no_copies(alloc, nodes.len())?;
+    for number in order {
+        copy_one(nodes, *number, &mut made)?;
+    }
+    let mut copies = Vec::with_capacity(alloc, nodes.len())?;
+    for place in 0..nodes.len() {
+        copies.push(copy_of(&nodes[place], made[place].take())?)?;
+    }
+    Ok(copies)
 }
 
 // Ranks nodes by their next keys.
@@ -161,10 +214,15 @@ impl Nodes {
     pub fn copy(&self) -> Result<Nodes, AllocError>
         ensures { IfOk result (λ copy. copy ≡ self.now) }
     {
-        let mut nodes = Vec::new(*self.nodes.allocator());
-        for node in &self.nodes {
-            nodes.push(node.copy()?)?;
-        }
+        self.copy_in(&[])
+    }
+
+    /// The same, and memory is taken node by node, for those of these numbers in this order and then
+    /// for the others: what nodes have that come one after another here lies side by side.
+    pub fn copy_in(&self, order: &[u16]) -> Result<Nodes, AllocError>
+        ensures { IfOk result (λ copy. copy ≡ self.now) }
+    {
+        let nodes = copies_in(*self.nodes.allocator(), &self.nodes, order)?;
         let ranking = self.ranking.copy()?;
         Ok(Nodes { nodes, ranking })
     }
