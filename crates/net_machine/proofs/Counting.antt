@@ -1,7 +1,9 @@
--- Where the elements that pass stand among themselves: at their counts.
-use Rattle.std.proofs.Common.{◌≡◌, ℕ, zero, suc, ◌+◌, ◌<◌, Bool, true, false, cond, List, [], ◌∷◌, length, filter, take, get_or, refl, ap, ◌∙◌, arith}
+-- Where the elements that pass stand among themselves: at their counts. And elements that are counted one after another, each under its number.
+use Rattle.std.proofs.Common.{◌≡◌, ◌≢◌, ℕ, zero, suc, ◌+◌, ◌<◌, ◌==◌, Bool, true, false, cond, List, [], ◌∷◌, length, filter, take, set, get_or, refl, sym, ap, ◌∙◌, eq-eqb, ⊎_elim, arith}
 use Rattle.std.specs.List.{enumerate_from, count_by}
-use Rattle.std.proofs.lemmas.List.Sums.{sum_by-cons}
+use Rattle.std.proofs.lemmas.Bool.{cases_eq, ne_eqb}
+use Rattle.std.proofs.lemmas.List.{get_or-set_same, get_or-set_other}
+use Rattle.std.proofs.lemmas.List.Sums.{sum_by-cons, count_by_more_yes, count_by_more_no}
 
 module _ {X : Type 0} (p : X → Bool) where
   pub count-cons : (x : X) (xs : List X) → count_by p (x ∷ xs) ≡ cond (p x) 1 0 + count_by p xs
@@ -55,3 +57,16 @@ module _ {X : Type 0} (p : X → Bool) where
         | true ↦ λ yes' within. first base x xs d e (λ i below. passing_at (base + 1) xs i d e below) index yes' within
         | false ↦ λ no' within. later base x xs d index 0 index _ (passing_at (base + 1) xs index d e within) (ap (λ b. cond b 1 0) no') (omega arith)
       ] refl under
+
+-- an element is counted under its number
+pub counted_more : {X : Type 0} (number : X → ℕ) (xs : List X) (i : ℕ) (d : X) → i < length xs → (counts : List ℕ) (at : ℕ) → at ≡ number (get_or xs i d) → at < length counts → (one_more : ℕ) → one_more ≡ get_or counts at 0 + 1
+    → (n : ℕ) → get_or counts n 0 ≡ count_by (λ x. number x == n) (take i xs) → get_or (set counts at one_more) n 0 ≡ count_by (λ x. number x == n) (take (i + 1) xs)
+counted_more number xs i d within counts at its_number inside one_more more n before =
+    ⊎_elim
+    (λ (here : n ≡ at).
+    ap (λ m. get_or (set counts at one_more) m 0) here ∙ get_or-set_same counts at one_more 0 inside ∙ more ∙ ap (λ m. get_or counts m 0 + 1) (sym here) ∙ ap (λ m. m + 1) before
+    ∙ sym (count_by_more_yes (λ x. number x == n) xs i d within (eq-eqb (number (get_or xs i d)) n (sym its_number ∙ sym here))))
+    (λ (apart : n ≢ at).
+    get_or-set_other counts at n one_more 0 apart ∙ before
+    ∙ sym (count_by_more_no (λ x. number x == n) xs i d within (ne_eqb (number (get_or xs i d)) n (λ same. apart (sym same ∙ sym its_number)))))
+    (cases_eq n at)

@@ -43,6 +43,11 @@ pub record AreJoined (links : List LinkEnds) (nodes : List NodeState) : Type 0 w
   pub came : (link : ℕ) → link < length links → (idle_wire links nodes link).taken ≡ sent_over links nodes link
   pub most : (link : ℕ) → link < length links → sent_over links nodes link ≤ 2 ^ 50
 
+-- for each link how many packets it has sent
+pub record HaveSent (links : List LinkEnds) (nodes : List NodeState) (sent : List ℕ) : Type 0 where
+  pub count : length sent ≡ length links
+  pub each_link : (link : ℕ) → link < length links → slice_index_or sent link 0 ≡ sent_over links nodes link
+
 -- where a node is that has not joined
 abbrev pub nowhere : ℕ
 nowhere = 4294967295

@@ -5,7 +5,7 @@ ghost use Rattle.net_machine.specs.declared.places.LinkEnds.{LinkEnds};
 ghost use Rattle.net_machine.specs.Nodes.{IsPlaced};
 ghost use Rattle.net_machine.specs.NetOf.{AreNetParts};
 ghost use Rattle.net_partition.specs.Partition.{groups_of};
-ghost use Rattle.node_group.specs.Shares.{AreJoined, AreIdle, IsRoom, AreRooms, AreSeatedFrom, AreSharesOf, idle_wire};
+ghost use Rattle.node_group.specs.Shares.{AreJoined, AreIdle, IsRoom, AreRooms, AreSeatedFrom, AreSharesOf, HaveSent};
 
 use crate::exits::Exits;
 use crate::held::Held;
@@ -20,19 +20,6 @@ use std::alloc::{AllocError, Global};
 /// The most outgoing links of a node.
 const MOST_LINKS: usize = 16;
 
-// How many of these links leave a node.
-fn leaving(links: &[LinkEnds], from: u16) -> usize
-    ensures { result ≡ count_by (λ (ends : LinkEnds). ends.from == from) links.now }
-{
-    let mut count = 0;
-    for ends in links {
-        if ends.from == from {
-            count += 1;
-        }
-    }
-    count
-}
-
 // How many packets an outgoing link of a node has sent; none where there is no such link.
 fn sent_by(node: &Node, index: usize) -> u64
     ensures { result ≡ (link_at node.now.part.links index).port.sent }
@@ -45,26 +32,37 @@ fn sent_by(node: &Node, index: usize) -> u64
     }
 }
 
-// A wire over which all that a link of a net sent has come.
-fn idle_held(alloc: Global, nodes: &[Node], links: &[LinkEnds], link: usize) -> Held
-    requires joined { AreJoined links.now nodes.now }
-    requires within { link < length links.now }
-    ensures { result ≡ idle_wire links.now nodes.now link }
+// For each link of a net how many packets came over it: all that it sent.
+fn sent_over(alloc: Global, nodes: &[Node], links: &[LinkEnds]) -> Result<Vec<u64>, AllocError>
+    requires { AreJoined links.now nodes.now }
+    ensures { IfOk result (λ sent. HaveSent links.now nodes.now sent.items) }
 {
-    let ends = links[link];
-    let from = &nodes[usize::from(ends.from)];
-    let sent = sent_by(from, leaving(&links[..link], ends.from));
-    Held::new(alloc, ends.to.node, link as u16, sent)
+    // How many of the links so far leave each node.
+    let mut leaving = vec![in alloc; 0usize; nodes.len()]?;
+    let mut sent = Vec::with_capacity(alloc, links.len())?;
+    for ends in links {
+        let from = usize::from(ends.from);
+        let index = leaving[from];
+        leaving[from] = index + 1;
+        sent.push(sent_by(&nodes[from], index))?;
+    }
+    Ok(sent)
 }
 
-// For each link of a net such a wire.
-fn idle_exits(alloc: Global, nodes: &[Node], links: &[LinkEnds]) -> Result<Exits, AllocError>
-    requires { AreJoined links.now nodes.now }
-    ensures { IfOk result (λ exits. AreIdle links.now nodes.now exits) }
+// For each link of a net a wire over which all that it sent has come.
+fn idle_exits(
+    alloc: Global,
+    _nodes: &[Node],
+    links: &[LinkEnds],
+    sent: &[u64],
+) -> Result<Exits, AllocError>
+    requires joined { AreJoined links.now _nodes.now }
+    requires sent { HaveSent links.now _nodes.now sent.now }
+    ensures { IfOk result (λ exits. AreIdle links.now _nodes.now exits) }
 {
     let mut exits = Exits::new(alloc);
-    for link in 0..links.len() {
-        exits.push(idle_held(alloc, nodes, links, link))?;
+    for (link, ends) in links.iter().enumerate() {
+        exits.push(Held::new(alloc, ends.to.node, link as u16, sent[link]))?;
     }
     Ok(exits)
 }
@@ -81,17 +79,19 @@ fn room_of(
     alloc: Global,
     nodes: &[Node],
     links: &Vec<LinkEnds>,
+    sent: &[u64],
     partition: &Partition,
     number: usize,
 ) -> Result<ShareParts, AllocError>
     requires joined { AreJoined links.now.items nodes.now }
+    requires sent { HaveSent links.now.items nodes.now sent.now }
     requires few { length partition.now ≤ 2 ^ 31 }
     ensures { IfOk result (λ room. IsRoom partition.now links.now.items nodes.now number room) }
 {
     Ok(ShareParts {
         links: copied(links)?,
         members: MemberParts::new(alloc, partition, number)?,
-        exits: idle_exits(alloc, nodes, links)?,
+        exits: idle_exits(alloc, nodes, links, sent)?,
         out: Outbox::new(alloc, MOST_LINKS)?,
     })
 }
@@ -108,9 +108,10 @@ pub fn rooms_of(
     ensures count { IfOk result (λ rooms. length rooms.items ≡ groups_of partition.now) }
     ensures each { IfOk result (λ rooms. AreRooms partition.now links.now.items nodes.now rooms.items) }
 {
+    let sent = sent_over(alloc, nodes, links)?;
     let mut rooms = Vec::new(alloc);
     for number in 0..partition.groups() {
-        rooms.push(room_of(alloc, nodes, links, partition, number)?)?;
+        rooms.push(room_of(alloc, nodes, links, &sent, partition, number)?)?;
     }
     Ok(rooms)
 }

@@ -4,7 +4,8 @@ use Rattle.std.specs.List.{count_by}
 use Rattle.scenario_image.specs.declared.parts.LinkPart.{LinkPart}
 use Rattle.net_machine.specs.declared.places.LinkEnds.{LinkEnds}
 use Rattle.net_machine.specs.Wiring.{link_part, no_link_part, entry_of, ends_at, link_ends}
-use Rattle.net_machine.proofs.Ends.{ends_more, counted_more}
+use Rattle.net_machine.proofs.Counting.{counted_more}
+use Rattle.net_machine.proofs.Ends.{ends_more}
 use Rattle.net_machine.proofs.opening.ends_of.Goals as goal
 
 pub loop-link-init : goal.loop-link-init
@@ -33,5 +34,5 @@ loop-link-preserved c =
       size = ap length c.in_ok-push.ensures.items ∙ length-append c.loop-link.ends.items _ ∙ ap (λ n. n + 1) c.loop-link.invariant.size;
       each_link = subst (λ (ends : List LinkEnds). (number : ℕ) → number < i + 1 → ends_at ends number ≡ link_ends links number) (sym c.in_ok-push.ensures.items) (ends_more links c.loop-link.ends.items i x c.loop-link.invariant.size c.loop-link.invariant.each_link x_is);
       width = length-set c.loop-link.coming c.from-node.result _ ∙ c.loop-link.invariant.width;
-      counted = λ node under. counted_more links i within c.loop-link.coming c.from-node.result to_is inside _ refl node (c.loop-link.invariant.counted node under);
+      counted = λ node under. counted_more (λ (link : LinkPart). link.to) links i no_link_part within c.loop-link.coming c.from-node.result to_is inside _ refl node (c.loop-link.invariant.counted node under);
     }

@@ -7,5 +7,5 @@ use Rattle.node_group.proofs.sharing.idle_exits.Given as goal
 abbrev pub invariant-loop-link : goal.invariant-loop-link
 invariant-loop-link l = record {
   size : length l.exits ≡ l.link;
-  each_wire : (link : ℕ) → link < l.link → wire_at l.exits link ≡ idle_wire l.links l.nodes link;
+  each_wire : (link : ℕ) → link < l.link → wire_at l.exits link ≡ idle_wire l.links l._nodes link;
 }
