@@ -22,3 +22,4 @@ pub mod JoinedNet
 pub mod Gathering
 pub mod TooMany
 pub mod Taken
+pub mod Faults

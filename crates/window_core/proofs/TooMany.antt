@@ -10,7 +10,8 @@ use Rattle.node_core.specs.TraceLine.{TraceLine}
 use Rattle.table_run.specs.State.{State, below, due, run}
 use Rattle.table_run.proofs.Runs.{run_length, run_parts}
 use Rattle.window_law.specs.Calls.{IsInRun}
-use Rattle.window_core.specs.Full.{HasTooMany, FullGroupHasTooMany, FullTurnHasTooMany}
+use Rattle.window_core.specs.Full.{HasTooMany}
+use Rattle.window_core.specs.Laws.{FullGroupHasTooMany, FullTurnHasTooMany}
 use Rattle.node_group.specs.Group.{GroupValue, state_of}
 use Rattle.window_law.specs.Groups.{GroupState, group_at, up_to}
 use Rattle.net_partition.specs.Partition.{group_in}
@@ -73,15 +74,15 @@ full_group v edge p before in_run fits h under one upto =
     due_at_most edge c.state v.position c.n c.more c.is_run fits (omega (arith, upto, fewer, count, steps)) (λ none. absurd (cc))
 
 pub full_group_has_too_many : FullGroupHasTooMany
-full_group_has_too_many edge v is from h g under after end within one full =
+full_group_has_too_many edge v is from h g under after end within full =
     let part = is.split.parts h under in
     let position : g.position ≡ v.position = ap (λ (x : GroupValue). x.position) after.rest ∙ part.position_is in
     let now : WindowValue = record v { groups = set v.groups h g; out = false } in
     let it : value_at now.groups h ≡ g = get_or-set_same v.groups h g no_value under in
     let later = from_fired v is h under g after edge from in
     full_group now edge later.scenario later.before later.in_run is.split.fits h (let size = length-set v.groups h g in omega (arith, under, size))
-    (subst (λ (x : GroupValue). due (up_to v.until (state_of x)) ≢ None) (sym it) (due_later end v.until (least (state_of g).pending) within one))
-    (subst (λ (x : GroupValue). most ≤ v.position + length x.lines) (sym it) (omega (arith, full, position)))
+    (subst (λ (x : GroupValue). due (up_to v.until (state_of x)) ≢ None) (sym it) (due_later end v.until (least (state_of g).pending) within full.0))
+    (subst (λ (x : GroupValue). most ≤ v.position + length x.lines) (sym it) (let many = full.1 in omega (arith, many, position)))
 
 -- THE LINES OF ALL GROUPS
 

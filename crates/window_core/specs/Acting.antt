@@ -1,5 +1,5 @@
 -- What an action on a window does, as the window machine has it.
-use Rattle.std.specs.Prelude.{◌≡◌, ◌<◌, ◌≤◌, ◌+◌, ℕ, Bool, true, false, [], length, Some, None}
+use Rattle.std.specs.Prelude.{◌≡◌, ◌<◌, ◌+◌, ℕ, Bool, true, false, [], Some, None}
 use Rattle.table_run.specs.State.{State}
 use Rattle.window_core.specs.declared.window.acting.Action.{Action}
 use Rattle.window_core.specs.declared.window.acting.Action.TheVariants.{Fire as FireOf, Turn as TakeTurn}
@@ -8,9 +8,10 @@ use Rattle.window_core.specs.declared.window.turning.TurnFault.TheVariants.{NotD
 use Rattle.node_group.specs.declared.group.GroupFault.{GroupFault}
 use Rattle.node_group.specs.declared.group.GroupFault.TheVariants.{NoMemory as WithoutMemory, CountFull as WithFullCount}
 use Rattle.line_merge.specs.Batches.{BatchValue}
+use Rattle.window_core.specs.Faults.{IsTurnFault}
 use Rattle.window_core.specs.Full.{IsDueAt, events_with}
 use Rattle.window_core.specs.Window.{WindowValue, IsFrom, HasGoneOn, HasTurned, machine_of, setting_in, states_of}
-use Rattle.window_law.specs.Windows.{Move, Fire, Turn, moved, all_done, all_lines, none_fired}
+use Rattle.window_law.specs.Windows.{Move, Fire, Turn, moved, none_fired}
 
 -- no line yet, after so many events
 abbrev pub nothing_after : ℕ → BatchValue
@@ -44,17 +45,10 @@ abbrev pub fault_of : GroupFault → TurnFault
 fault_of WithoutMemory = NoMemory
 fault_of WithFullCount = CountFull
 
--- how many events there are with the lines of all groups
-abbrev pub events_in : WindowValue → ℕ
-events_in v = v.position + length (all_lines (states_of v.groups))
-
-abbrev pub IsDone : WindowValue → Type 0
-IsDone v = all_done v.until (states_of v.groups) ≡ true
-
 -- when an action fails: it would be possible, and there are as many events as there may be, or no memory
 abbrev pub IsFaultOf : WindowValue → Action → TurnFault → Type 0
 IsFaultOf v action NotDone = ⊥
 IsFaultOf v (FireOf number) CountFull = IsDueAt v number × (events_with v number ≡ 1000000000000000)
 IsFaultOf v (FireOf number) NoMemory = IsDueAt v number × (events_with v number < 1000000000000000)
-IsFaultOf v TakeTurn CountFull = IsDone v × (1000000000000000 < events_in v)
-IsFaultOf v TakeTurn NoMemory = IsDone v × (events_in v ≤ 1000000000000000)
+IsFaultOf v TakeTurn CountFull = IsTurnFault v CountFull
+IsFaultOf v TakeTurn NoMemory = IsTurnFault v NoMemory

@@ -8,6 +8,8 @@ pub mod RosterOf
 pub mod Opening
 pub mod Together
 pub mod Full
+pub mod Faults
+pub mod Laws
 pub mod Acting
 pub use Rattle.window_law.specs.Groups
 pub use Rattle.window_law.specs.Lookahead

@@ -1,8 +1,10 @@
 //! A net's run by windows: groups run apart up to a common end, and a turn brings them together.
-ghost use Rattle.std.specs.Prelude.{◌≡◌, ◌≢◌, ◌+◌, ◌<◌, ◌≤◌, [], ℕ, length, map as each, min, true, false, All, IfOk, IfErr, OnOk, OnErr, None, slice_set, vec_capacity};
+ghost use Rattle.std.specs.Prelude.{◌≡◌, ◌<◌, ◌≤◌, [], ℕ, length, map as each, min, true, false, All, IfOk, IfErr, OnOk, OnErr, None, slice_set, vec_capacity};
 ghost use Rattle.table_run.specs.State.{State, due};
 ghost use Rattle.window_law.specs.Groups.{up_to};
-ghost use Rattle.window_core.specs.Full.{IsDueAt, events_with};
+ghost use Rattle.window_core.specs.Acting.{IsFaultOf, fault_of};
+ghost use Rattle.window_core.specs.Faults.{IsFaultAt};
+ghost use Rattle.window_core.specs.Full.{events_with};
 ghost use Rattle.node_group.specs.Group.{GroupValue, AfterFirings, IsOnRun, state_of};
 ghost use Rattle.window_core.specs.Window.{IsFrom, IsWindow, HasFiredOr, states_of, value_at};
 ghost use Rattle.window_law.specs.Windows.{none_fired, soonest};
@@ -131,8 +133,7 @@ impl Window {
         ensures rest { self.new ≡ record self.old { groups = self.new.groups } }
         ensures from { (edge : State) → IsFrom edge self.old → IsFrom edge self.new }
         ensures room { IfOk result (λ fired. fired ≡ true → events_with self.old group < 1000000000000000) }
-        ensures full { IfErr result (λ fault. fault ≡ GroupFault.CountFull → IsDueAt self.old group × (events_with self.old group ≡ 1000000000000000)) }
-        ensures memory { IfErr result (λ fault. fault ≡ GroupFault.NoMemory → IsDueAt self.old group × (events_with self.old group < 1000000000000000)) }
+        ensures fault { IfErr result (λ fault. IsFaultOf self.old (Action.Fire group) (fault_of fault)) }
         ensures err { OnErr result (self.new ≡ self.old) }
     {
         if group >= self.roster.len() {
@@ -165,8 +166,7 @@ impl Window {
         ensures after { AfterFirings self.old.until (value_at self.old.groups group) (value_at self.new.groups group) }
         ensures done { OnOk result (due (up_to self.old.until (state_of (value_at self.new.groups group))) ≡ None) }
         ensures from { (edge : State) → IsFrom edge self.old → IsFrom edge self.new }
-        ensures full { IfErr result (λ fault. fault ≡ GroupFault.CountFull → (due (up_to self.old.until (state_of (value_at self.new.groups group))) ≢ None) × ((value_at self.new.groups group).position + length (value_at self.new.groups group).lines ≡ 1000000000000000)) }
-        ensures memory { IfErr result (λ fault. fault ≡ GroupFault.NoMemory → (due (up_to self.old.until (state_of (value_at self.new.groups group))) ≢ None) × ((value_at self.new.groups group).position + length (value_at self.new.groups group).lines < 1000000000000000)) }
+        ensures fault { IfErr result (IsFaultAt self.old.until (value_at self.new.groups group)) }
     {
         self.roster.run(group, self.until)
     }

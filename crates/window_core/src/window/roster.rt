@@ -1,9 +1,10 @@
 //! The groups of a window, and what is asked of all of them again and again.
-ghost use Rattle.std.specs.Prelude.{◌≡◌, ◌≢◌, ◌+◌, ◌<◌, ◌≤◌, [], All, IfErr, IfOk, List, OnErr, OnOk, None, false, length, map as each, min, slice_set, true, vec_capacity};
+ghost use Rattle.std.specs.Prelude.{◌≡◌, ◌+◌, ◌<◌, ◌≤◌, [], All, IfErr, IfOk, List, OnErr, OnOk, None, false, length, map as each, min, slice_set, true, vec_capacity};
 ghost use Rattle.table_run.specs.State.{due};
 ghost use Rattle.window_law.specs.Groups.{up_to};
 ghost use Rattle.node_group.specs.Group.{GroupValue, AfterFirings, Fired, IsGroup, IsOnRun, state_of};
 ghost use Rattle.line_merge.specs.Merged.{AreApart, all_of};
+ghost use Rattle.window_core.specs.Faults.{IsFaultAt};
 ghost use Rattle.window_core.specs.Rosters.{least_of, nexts_of};
 ghost use Rattle.line_merge.specs.Sheaves.{merged};
 ghost use Rattle.window_core.specs.Turning.{AreReady, HasHanded};
@@ -182,8 +183,7 @@ impl Roster {
         ensures ok { IfOk result (λ fired. Fired until (value_at self.old.groups group) fired (value_at self.new.groups group)) }
         ensures after { AfterFirings until (value_at self.old.groups group) (value_at self.new.groups group) }
         ensures fits { (value_at self.new.groups group).position + length (value_at self.new.groups group).lines ≤ 1000000000000000 }
-        ensures full { IfErr result (λ fault. fault ≡ GroupFault.CountFull → (due (up_to until (state_of (value_at self.old.groups group))) ≢ None) × ((value_at self.old.groups group).position + length (value_at self.old.groups group).lines ≡ 1000000000000000)) }
-        ensures memory { IfErr result (λ fault. fault ≡ GroupFault.NoMemory → (due (up_to until (state_of (value_at self.old.groups group))) ≢ None) × ((value_at self.old.groups group).position + length (value_at self.old.groups group).lines < 1000000000000000)) }
+        ensures fault { IfErr result (IsFaultAt until (value_at self.old.groups group)) }
         ensures err { OnErr result (self.new ≡ self.old) }
     {
         // With this many lines told, one group's more fit.
@@ -206,8 +206,7 @@ impl Roster {
         ensures state { self.new ≡ record self.old { groups = slice_set self.old.groups group (value_at self.new.groups group) } }
         ensures after { AfterFirings until (value_at self.old.groups group) (value_at self.new.groups group) }
         ensures done { OnOk result (due (up_to until (state_of (value_at self.new.groups group))) ≡ None) }
-        ensures full { IfErr result (λ fault. fault ≡ GroupFault.CountFull → (due (up_to until (state_of (value_at self.new.groups group))) ≢ None) × ((value_at self.new.groups group).position + length (value_at self.new.groups group).lines ≡ 1000000000000000)) }
-        ensures memory { IfErr result (λ fault. fault ≡ GroupFault.NoMemory → (due (up_to until (state_of (value_at self.new.groups group))) ≢ None) × ((value_at self.new.groups group).position + length (value_at self.new.groups group).lines < 1000000000000000)) }
+        ensures fault { IfErr result (IsFaultAt until (value_at self.new.groups group)) }
     {
         // With this many lines told, one group's more fit.
         let _ = told(&self.shares);
@@ -231,8 +230,7 @@ impl Roster {
         ensures state { self.new ≡ record self.old { groups = slice_set self.old.groups group (value_at self.new.groups group) } }
         ensures after { AfterFirings until (value_at self.old.groups group) (value_at self.new.groups group) }
         ensures done { OnOk result (due (up_to until (state_of (value_at self.new.groups group))) ≡ None) }
-        ensures full { IfErr result (λ fault. fault ≡ GroupFault.CountFull → (due (up_to until (state_of (value_at self.new.groups group))) ≢ None) × ((value_at self.new.groups group).position + length (value_at self.new.groups group).lines ≡ 1000000000000000)) }
-        ensures memory { IfErr result (λ fault. fault ≡ GroupFault.NoMemory → (due (up_to until (state_of (value_at self.new.groups group))) ≢ None) × ((value_at self.new.groups group).position + length (value_at self.new.groups group).lines < 1000000000000000)) }
+        ensures fault { IfErr result (IsFaultAt until (value_at self.new.groups group)) }
     {
         if self.nexts[group] >= until {
             return Ok(());

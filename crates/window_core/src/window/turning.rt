@@ -1,13 +1,13 @@
 //! A turn brings the groups of a window together.
-ghost use Rattle.std.specs.Prelude.{◌≡◌, ◌+◌, ◌<◌, ◌↔◌, length, map as each, true, false, Err, IfErr, IfOk, IsErrOf, OnOk, OnErr};
+ghost use Rattle.std.specs.Prelude.{◌≡◌, map as each, true, false, IfOk, OnOk, OnErr};
 ghost use Rattle.table_run.specs.State.{State};
 ghost use Rattle.window_core.specs.Acting.{nothing_after};
-ghost use Rattle.window_core.specs.Full.{HasTooMany, opening_at};
+ghost use Rattle.window_core.specs.Faults.{IsTurnAnswer};
 ghost use Rattle.node_group.specs.Group.{GroupValue};
 ghost use Rattle.line_merge.specs.Sheaves.{merged};
 ghost use Rattle.window_core.specs.Turning.{CanTurn};
 ghost use Rattle.window_core.specs.Window.{IsFrom, HasGoneOn, HasTurned, states_of};
-ghost use Rattle.window_law.specs.Windows.{AreBelow, all_done, all_lines, none_fired};
+ghost use Rattle.window_law.specs.Windows.{AreBelow, none_fired};
 
 use super::Window;
 use crate::ahead::window_end;
@@ -33,9 +33,7 @@ impl Window {
     fn ready(&self) -> Result<usize, TurnFault>
         requires { self.now.out ≡ false }
         ensures ok { IfOk result (λ count. CanTurn self.now count) }
-        ensures not_done { (IsErrOf result TurnFault.NotDone) ↔ (all_done self.now.until (states_of self.now.groups) ≡ false) }
-        ensures full { (IsErrOf result TurnFault.CountFull) ↔ ((all_done self.now.until (states_of self.now.groups) ≡ true) × (1000000000000000 < self.now.position + length (all_lines (states_of self.now.groups)))) }
-        ensures too_many { IsErrOf result TurnFault.CountFull → (edge : State) → IsFrom edge self.now → HasTooMany (opening_at edge self.now) }
+        ensures told { IsTurnAnswer self.now result }
     {
         if !self.roster.all_done(self.until) {
             return Err(TurnFault::NotDone);
@@ -56,7 +54,7 @@ impl Window {
         ensures run { OnOk result ((edge : State) → IsFrom edge self.old → HasGoneOn edge (merged sheaf.new).lines self.new) }
         ensures below { OnOk result (AreBelow self.old.until (merged sheaf.new).lines) }
         ensures lists { OnOk result (sheaf.new.lists ≡ each (λ (g : GroupValue). g.lines) self.old.groups) }
-        ensures memory { IfErr result (λ fault. fault ≡ TurnFault.NoMemory) }
+        ensures told { IsTurnAnswer self.old result }
         ensures err { OnErr result (self.new ≡ self.old) }
     {
         let _ = self.partition.groups();
@@ -82,9 +80,7 @@ impl Window {
         ensures run { OnOk result ((edge : State) → IsFrom edge self.old → HasGoneOn edge (merged sheaf.new).lines self.new) }
         ensures below { OnOk result (AreBelow self.old.until (merged sheaf.new).lines) }
         ensures lists { OnOk result (sheaf.new.lists ≡ each (λ (g : GroupValue). g.lines) self.old.groups) }
-        ensures not_done { (result ≡ Err TurnFault.NotDone) ↔ (all_done self.old.until (states_of self.old.groups) ≡ false) }
-        ensures full { (result ≡ Err TurnFault.CountFull) ↔ ((all_done self.old.until (states_of self.old.groups) ≡ true) × (1000000000000000 < self.old.position + length (all_lines (states_of self.old.groups)))) }
-        ensures too_many { result ≡ Err TurnFault.CountFull → (edge : State) → IsFrom edge self.old → HasTooMany (opening_at edge self.old) }
+        ensures told { IsTurnAnswer self.old result }
         ensures err { OnErr result (self.new ≡ self.old) }
     {
         let count = self.ready()?;
@@ -100,9 +96,7 @@ impl Window {
         ensures ok { OnOk result (HasTurned self.old batch.new self.new) }
         ensures run { OnOk result ((edge : State) → IsFrom edge self.old → HasGoneOn edge batch.new.lines self.new) }
         ensures below { OnOk result (AreBelow self.old.until batch.new.lines) }
-        ensures not_done { (result ≡ Err TurnFault.NotDone) ↔ (all_done self.old.until (states_of self.old.groups) ≡ false) }
-        ensures full { (result ≡ Err TurnFault.CountFull) ↔ ((all_done self.old.until (states_of self.old.groups) ≡ true) × (1000000000000000 < self.old.position + length (all_lines (states_of self.old.groups)))) }
-        ensures too_many { result ≡ Err TurnFault.CountFull → (edge : State) → IsFrom edge self.old → HasTooMany (opening_at edge self.old) }
+        ensures told { IsTurnAnswer self.old result }
         ensures err { OnErr result (self.new ≡ self.old) }
     {
         let count = self.ready()?;
@@ -120,8 +114,7 @@ impl Window {
         ensures ok { OnOk result (HasTurned self.old self.new.taken (record self.new { taken = self.old.taken })) }
         ensures run { OnOk result ((edge : State) → IsFrom edge self.old → HasGoneOn edge self.new.taken.lines self.new) }
         ensures inside { self.new.out ≡ false }
-        ensures not_done { (result ≡ Err TurnFault.NotDone) ↔ (all_done self.old.until (states_of self.old.groups) ≡ false) }
-        ensures full { (result ≡ Err TurnFault.CountFull) ↔ ((all_done self.old.until (states_of self.old.groups) ≡ true) × (1000000000000000 < self.old.position + length (all_lines (states_of self.old.groups)))) }
+        ensures told { IsTurnAnswer self.old result }
         ensures err { OnErr result (self.new ≡ self.old) }
     {
         let mut batch = replace(&mut self.spare, Batch::new(self.alloc, 0));
@@ -143,8 +136,7 @@ impl Window {
         ensures taken { IfOk result (λ batch. self.new.taken ≡ nothing_after self.new.position) }
         ensures inside { self.new.out ≡ false }
         ensures unfired { IfOk result (λ batch. none_fired (states_of self.new.groups) ≡ true) }
-        ensures not_done { (IsErrOf result TurnFault.NotDone) ↔ (all_done self.old.until (states_of self.old.groups) ≡ false) }
-        ensures full { (IsErrOf result TurnFault.CountFull) ↔ ((all_done self.old.until (states_of self.old.groups) ≡ true) × (1000000000000000 < self.old.position + length (all_lines (states_of self.old.groups)))) }
+        ensures told { IsTurnAnswer self.old result }
         ensures err { OnErr result (self.new ≡ self.old) }
     {
         self.turn_over()?;

@@ -1,7 +1,9 @@
-use Rattle.std.proofs.Common.{◌≡◌, ◌≤◌, ◌<◌, ℕ, List, length, refl, sym, ap, subst, arith}
+use Rattle.std.proofs.Common.{IfErr, ◌≡◌, ◌≤◌, ◌<◌, ℕ, List, length, refl, sym, ap, subst, arith}
 use Rattle.std.specs.Result.{IfOk}
 use Rattle.node_group.specs.Group.{GroupValue, AfterFirings, Fired, IsOnRun}
 use Rattle.window_core.specs.Window.{WindowValue, value_at, IsWindow, IsFrom, HasFiredOr}
+use Rattle.window_core.specs.Faults.{IsFaultAt}
+use Rattle.window_core.proofs.Faults.{fault_fired}
 use Rattle.window_core.proofs.FiredAt.{none_past, from_fired, window_fired, has_fired, has_room}
 use Rattle.window_core.proofs.WindowFields.{groups_are, fired_view}
 use Rattle.window_core.proofs.Windowed.{on_run_at}
@@ -83,3 +85,15 @@ returns-clause-room c =
     let after : AfterFirings v.until (value_at v.groups number) g = subst (λ (n : ℕ). AfterFirings n (value_at v.groups number) g) until (subst (λ (gs : List GroupValue). AfterFirings w.until (value_at gs number) g) same c.fire.ensures.after) in
     let fired : IfOk c.fire.result (λ b. Fired v.until (value_at v.groups number) b g) = subst (λ (n : ℕ). IfOk c.fire.result (λ b. Fired n (value_at v.groups number) b g)) until (subst (λ (gs : List GroupValue). IfOk c.fire.result (λ b. Fired w.until (value_at gs number) b g)) same c.fire.ensures.ok) in
     has_room v is number under g c.fire.result after fired c.fire.ensures.fits
+
+pub returns-clause-fault : goal.returns-clause-fault
+returns-clause-fault c =
+    let w = c.self.inside in
+    let v = c.args.self.now in
+    let number = c.args.group in
+    let is : IsWindow v = subst IsWindow c.self.view_is c.self.invariant.window in
+    let same = groups_are w v c.self.view_is in
+    let under : number < length v.groups = (let size = c.len.ensures in let below = c.if-group-len.false in let known = ap length same in omega (arith, size, below, known)) in
+    let until : w.until ≡ v.until = ap (λ (x : WindowValue). x.until) c.self.view_is in
+    let at : IfErr c.fire.result (IsFaultAt v.until (value_at v.groups number)) = subst (λ (n : ℕ). IfErr c.fire.result (IsFaultAt n (value_at v.groups number))) until (subst (λ (gs : List GroupValue). IfErr c.fire.result (IsFaultAt w.until (value_at gs number))) same c.fire.ensures.fault) in
+    fault_fired c.fire.result v is number under at

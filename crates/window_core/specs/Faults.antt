@@ -1,0 +1,40 @@
+-- What a fault means: of a group that stopped, and of a turn that was not taken.
+use Rattle.std.specs.Prelude.{◌≡◌, ◌≢◌, ◌<◌, ◌≤◌, ◌+◌, ℕ, true, false, length, None, Result, Ok, Err}
+use Rattle.table_run.specs.State.{due}
+use Rattle.window_law.specs.Groups.{up_to}
+use Rattle.window_law.specs.Windows.{all_done, all_lines}
+use Rattle.node_group.specs.declared.group.GroupFault.{GroupFault}
+use Rattle.node_group.specs.declared.group.GroupFault.TheVariants as group
+use Rattle.node_group.specs.Group.{GroupValue, state_of}
+use Rattle.window_core.specs.declared.window.turning.TurnFault.{TurnFault}
+use Rattle.window_core.specs.declared.window.turning.TurnFault.TheVariants.{NotDone, CountFull, NoMemory}
+use Rattle.window_core.specs.Full.{RunsTooLong}
+use Rattle.window_core.specs.Window.{WindowValue, states_of}
+
+-- how many events the run had at the last turn, with those that the group ran since
+abbrev pub events_of : GroupValue → ℕ
+events_of g = g.position + length g.lines
+
+-- why a group stands where it is: an event of it is due below a moment, and there are as many as there may be, or there was no memory for one more
+abbrev pub IsFaultAt : ℕ → GroupValue → GroupFault → Type 0
+IsFaultAt end g group.CountFull = (due (up_to end (state_of g)) ≢ None) × (events_of g ≡ 1000000000000000)
+IsFaultAt end g group.NoMemory = (due (up_to end (state_of g)) ≢ None) × (events_of g < 1000000000000000)
+
+-- how many events there are with the lines of all groups
+abbrev pub events_in : WindowValue → ℕ
+events_in v = v.position + length (all_lines (states_of v.groups))
+
+-- no group has an event before the window's end
+abbrev pub IsDone : WindowValue → Type 0
+IsDone v = all_done v.until (states_of v.groups) ≡ true
+
+-- why a window is not turned: a group has an event before its end, or the run has more events than there may be, or there was no memory
+abbrev pub IsTurnFault : WindowValue → TurnFault → Type 0
+IsTurnFault v NotDone = all_done v.until (states_of v.groups) ≡ false
+IsTurnFault v CountFull = IsDone v × (1000000000000000 < events_in v) × RunsTooLong v
+IsTurnFault v NoMemory = IsDone v × (events_in v ≤ 1000000000000000)
+
+-- what the answer to a turn tells of the window: it could be turned, or why it was not
+abbrev pub IsTurnAnswer : {T : Type 0} → WindowValue → Result T TurnFault → Type 0
+IsTurnAnswer v (Ok turned) = IsDone v × (events_in v ≤ 1000000000000000)
+IsTurnAnswer v (Err fault) = IsTurnFault v fault
