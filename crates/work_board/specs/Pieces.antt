@@ -1,10 +1,10 @@
 -- What a clause sees of a piece.
-use Rattle.std.specs.Prelude.{◌≡◌, ℕ, ◌+◌, ◌<◌, length, Option, None, Some, IsSome, ◌⊎◌}
+use Rattle.std.specs.Prelude.{◌≡◌, ℕ, Option, None, IsSome, IfSome, ◌⊎◌}
 use Rattle.table_run.specs.State.{due}
+use Rattle.window_core.specs.Faults.{IsFaultAt}
 use Rattle.window_core.specs.Groups.{up_to}
 use Rattle.window_core.specs.Group.{GroupValue, state_of}
 use Rattle.node_group.specs.declared.group.GroupFault.{GroupFault}
-use Rattle.node_group.specs.declared.group.GroupFault.TheVariants.{NoMemory, CountFull}
 
 -- where it ends, the group as the piece began, the group now, and why it stopped before the end
 pub record PieceState : Type 0 where
@@ -21,10 +21,6 @@ BeganAs p q = (q.end ≡ p.end) × (q.began ≡ p.began)
 abbrev pub IsDone : PieceState → Type 0
 IsDone p = due (up_to p.end (state_of p.group)) ≡ None
 
--- how many events the run had at the last turn, with those that the group ran since
-abbrev pub events_of : PieceState → ℕ
-events_of p = p.group.position + length p.group.lines
-
 -- its group stopped before the end
 abbrev pub IsRefused : PieceState → Type 0
 IsRefused p = IsSome p.fault
@@ -34,7 +30,5 @@ abbrev pub IsSettled : PieceState → Type 0
 IsSettled p = IsDone p ⊎ IsRefused p
 
 -- a fault is told where an event is still due: that the count is full where it is, and want of memory elsewhere
-pub record IsTold (p : PieceState) : Type 0 where
-  pub due : IsRefused p → ¬ IsDone p
-  pub full : p.fault ≡ Some CountFull → events_of p ≡ 1000000000000000
-  pub memory : p.fault ≡ Some NoMemory → events_of p < 1000000000000000
+abbrev pub IsTold : PieceState → Type 0
+IsTold p = IfSome p.fault (IsFaultAt p.end p.group)
