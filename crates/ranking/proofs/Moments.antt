@@ -10,7 +10,7 @@ use Rattle.sim_time.proofs.Order.{earlier_less}
 use Rattle.sim_time.specs.declared.key.Key.{Key}
 use Rattle.sim_time.specs.Keys.{key_cmp}
 use Rattle.ranking.specs.declared.standing.Standing.{Standing}
-use Rattle.ranking.specs.Tournament.{standing_cmp, vacant_key, moment_of, first_place, standing_at, won_below, IsDated}
+use Rattle.ranking.specs.Tournament.{standing_cmp, vacant_key, moment_of, moment_at, first_place, standing_at, won_below}
 use Rattle.ranking.proofs.Winners.{standings_total}
 
 -- the order of keys, or none, at places
@@ -24,10 +24,10 @@ earlier false true k l p q less = absurd (omega (arith, less))
 earlier false false k l p q less = sym (nat_cmp_is p q Less (omega (arith, less)))
 
 -- the one with the lesser moment comes first
-lesser_moment : (a b : Standing) → IsDated a → IsDated b → a.moment < b.moment → standing_cmp a b ≡ Less
-lesser_moment a b da db less = earlier a.held b.held a.key b.key a.place b.place (omega (arith, less, da.moment, db.moment))
+lesser_moment : (a b : Standing) → moment_of a.key.time a.place a.held < moment_of b.key.time b.place b.held → standing_cmp a b ≡ Less
+lesser_moment a b less = earlier a.held b.held a.key b.key a.place b.place less
 
-module _ (leaves : List Standing) (p q : ℕ) (dated : IsDated (standing_at leaves p)) (other_dated : IsDated (standing_at leaves q)) (less : (standing_at leaves p).moment < (standing_at leaves q).moment) where
+module _ (leaves : List Standing) (p q : ℕ) (less : moment_at leaves p < moment_at leaves q) where
   abbrev a : Standing
   a = standing_at leaves p
 
@@ -35,7 +35,7 @@ module _ (leaves : List Standing) (p q : ℕ) (dated : IsDated (standing_at leav
   b = standing_at leaves q
 
   before : standing_cmp a b ≡ Less
-  before = lesser_moment a b dated other_dated less
+  before = lesser_moment a b less
 
   first_as_left : p ≡ first_place leaves p q
   first_as_left = ap (λ o. cond (is_lt o) q p) (sym (standings_total.antisymm b a ∙ ap ordering_reverse before))
@@ -44,16 +44,16 @@ module _ (leaves : List Standing) (p q : ℕ) (dated : IsDated (standing_at leav
   first_as_right = ap (λ o. cond (is_lt o) p q) (sym before)
 
 -- of the two below a node the one with the lesser moment has the place that comes first there
-pub first_beside : (leaves : List Standing) (winners : List ℕ) (i s : ℕ) → i ≢ s → i / 2 ≡ s / 2 → IsDated (standing_at leaves (slice_index winners i)) → IsDated (standing_at leaves (slice_index winners s))
-    → (standing_at leaves (slice_index winners i)).moment < (standing_at leaves (slice_index winners s)).moment → slice_index winners i ≡ won_below leaves winners (i / 2)
-first_beside leaves winners i s apart same dated other_dated less =
+pub first_beside : (leaves : List Standing) (winners : List ℕ) (i s : ℕ) → i ≢ s → i / 2 ≡ s / 2
+    → moment_at leaves (slice_index winners i) < moment_at leaves (slice_index winners s) → slice_index winners i ≡ won_below leaves winners (i / 2)
+first_beside leaves winners i s apart same less =
     let p = slice_index winners i in
     let q = slice_index winners s in
     let h = i / 2 in
     ⊎_elim
     (λ (even : i ≡ 2 * h).
-    first_as_left leaves p q dated other_dated less ∙ ap (λ n. first_place leaves (slice_index winners n) q) even ∙ ap (λ n. first_place leaves (slice_index winners (2 * h)) (slice_index winners n)) {x = s} {y = 2 * h + 1} (omega (arith, apart, same, even)))
+    first_as_left leaves p q less ∙ ap (λ n. first_place leaves (slice_index winners n) q) even ∙ ap (λ n. first_place leaves (slice_index winners (2 * h)) (slice_index winners n)) {x = s} {y = 2 * h + 1} (omega (arith, apart, same, even)))
     (λ (odd : i ≢ 2 * h).
-    first_as_right leaves p q dated other_dated less ∙ ap (λ n. first_place leaves (slice_index winners n) p) {x = s} {y = 2 * h} (omega (arith, apart, same, odd))
+    first_as_right leaves p q less ∙ ap (λ n. first_place leaves (slice_index winners n) p) {x = s} {y = 2 * h} (omega (arith, apart, same, odd))
     ∙ ap (λ n. first_place leaves (slice_index winners (2 * h)) (slice_index winners n)) {x = i} {y = 2 * h + 1} (omega (arith, odd)))
     (cases_eq i (2 * h))

@@ -5,7 +5,7 @@ use Rattle.std.proofs.lemmas.List.{get_or-set_same, get_or-set_other, length-set
 use Rattle.std.specs.Ordering.{is_lt}
 use Rattle.std.specs.Prelude.{slice_index}
 use Rattle.ranking.specs.declared.standing.Standing.{Standing}
-use Rattle.ranking.specs.Tournament.{standing_at, standing_cmp, first_place, won_below, IsWon, AllWon, AreOwn, AreWithin, AreDated, no_standing, IsDated, IsTournament, rank_of, ranks_of}
+use Rattle.ranking.specs.Tournament.{standing_at, standing_cmp, first_place, won_below, IsWon, AllWon, AreOwn, AreWithin, AreDated, moment_of, moment_at, no_standing, IsTournament, rank_of, ranks_of}
 use Rattle.ranking.specs.Replayed.{halves, IsOnWay, WonBut}
 use Rattle.ranking.proofs.Winners.{one_place}
 
@@ -103,17 +103,29 @@ at_each P leaves place s one rest p under =
     (λ (apart : p ≢ place). subst (P p) (sym (get_or-set_other leaves place p s no_standing apart)) (rest p within))
     (cases_eq p place)
 
-pub dated_anew : (leaves : List Standing) (place : ℕ) (s : Standing) → AreDated leaves → IsDated s → AreDated (set leaves place s)
-dated_anew leaves place s all dated = at_each (λ _ (x : Standing). IsDated x) leaves place s dated all
+pub dated_anew : (leaves : List Standing) (moments : List ℕ) (place : ℕ) (s : Standing) (moment : ℕ) → AreDated leaves moments → moment ≡ moment_of s.key.time s.place s.held → AreDated (set leaves place s) (set moments place moment)
+dated_anew leaves moments place s moment dated is = record {
+  size = length-set moments place moment ∙ dated.size ∙ sym (length-set leaves place s);
+  each = λ p under.
+      let within : p < length leaves = omega (arith, under, length-set leaves place s) in
+      ⊎_elim
+      (λ (here : p ≡ place).
+      ap (slice_index (set moments place moment)) here ∙ get_or-set_same moments place moment 0 (omega (arith, within, here, dated.size)) ∙ is
+      ∙ ap (λ (x : Standing). moment_of x.key.time x.place x.held) (sym (get_or-set_same leaves place s no_standing (omega (arith, within, here))))
+      ∙ ap (moment_at (set leaves place s)) (sym here))
+      (λ (apart : p ≢ place).
+      get_or-set_other moments place p moment 0 apart ∙ dated.each p within ∙ ap (λ (x : Standing). moment_of x.key.time x.place x.held) (sym (get_or-set_other leaves place p s no_standing apart)))
+      (cases_eq p place);
+}
 
 -- the tree, once the games above are played
-pub tournament_anew : (leaves : List Standing) (winners : List ℕ) (place : ℕ) (s : Standing) (after : List ℕ) → IsTournament leaves winners → s.place ≡ place → IsDated s → length after ≡ length winners
-    → AreWithin (length (set leaves place s)) after → AreOwn (length (set leaves place s)) after → AllWon (set leaves place s) after → IsTournament (set leaves place s) after
-tournament_anew leaves winners place s after t number dated same within own won = record {
+pub tournament_anew : (leaves : List Standing) (moments winners : List ℕ) (place : ℕ) (s : Standing) (moment : ℕ) (after : List ℕ) → IsTournament leaves moments winners → s.place ≡ place → moment ≡ moment_of s.key.time s.place s.held → length after ≡ length winners
+    → AreWithin (length (set leaves place s)) after → AreOwn (length (set leaves place s)) after → AllWon (set leaves place s) after → IsTournament (set leaves place s) (set moments place moment) after
+tournament_anew leaves moments winners place s moment after t number dated same within own won = record {
   size = omega (arith, same, t.size, length-set leaves place s);
   few = omega (arith, t.few, length-set leaves place s);
   numbered = at_each (λ p (x : Standing). x.place ≡ p) leaves place s number t.numbered;
-  dated = dated_anew leaves place s t.dated dated;
+  dated = dated_anew leaves moments place s moment t.dated dated;
   own = own;
   within = within;
   won = won;

@@ -5,33 +5,31 @@ use Rattle.std.proofs.lemmas.List.{length-set, get_or-set_same, get_or-set_other
 use Rattle.std.specs.Prelude.{slice_index}
 use Rattle.ranking.specs.declared.standing.Standing.{Standing}
 use Rattle.ranking.specs.Replayed.{WonBut, IsRising, IsReplayed}
-use Rattle.ranking.specs.Tournament.{standing_at, won_below, AreDated}
+use Rattle.ranking.specs.Tournament.{moment_at, won_below}
 use Rattle.ranking.proofs.Moments.{first_beside}
 use Rattle.ranking.proofs.Replays.{played, all_played, within_still}
 
 -- the game above a node, against the node beside it, whose place has another moment
-pub risen : (leaves : List Standing) (winners : List ℕ) (at first due beside other its won least : ℕ) → AreDated leaves → IsRising leaves winners at first due → 1 < at
-    → beside ≢ at → beside / 2 ≡ at / 2 → other ≡ slice_index winners beside → its ≡ (standing_at leaves other).moment → its ≢ due
+pub risen : (leaves : List Standing) (winners : List ℕ) (at first due beside other its won least : ℕ) → IsRising leaves winners at first due → 1 < at
+    → beside ≢ at → beside / 2 ≡ at / 2 → other ≡ slice_index winners beside → its ≡ moment_at leaves other → its ≢ due
     → (its < due → won ≡ other) → (due ≤ its → won ≡ first) → least ≡ min due its → IsRising leaves (set winners (at / 2) won) (at / 2) won least
-risen leaves winners at first due beside other its won least dated kept inner apart below theirs is differ less more lesser =
+risen leaves winners at first due beside other its won least kept inner apart below theirs is differ less more lesser =
     let half = at / 2 in
     let same : length (set winners half won) ≡ length winners = length-set winners half won in
     let there : beside < length winners = omega (arith, below, kept.inside, kept.size) in
-    let mine : due ≡ (standing_at leaves (slice_index winners at)).moment = kept.moment ∙ ap (λ p. (standing_at leaves p).moment) (sym kept.here) in
-    let his : its ≡ (standing_at leaves (slice_index winners beside)).moment = is ∙ ap (λ p. (standing_at leaves p).moment) theirs in
-    let mine_dated = dated (slice_index winners at) (kept.within at kept.inside) in
-    let his_dated = dated (slice_index winners beside) (kept.within beside there) in
-    let chosen : (won ≡ won_below leaves winners half) × ((least ≡ (standing_at leaves won).moment) × (won < length leaves)) =
+    let mine : due ≡ moment_at leaves (slice_index winners at) = kept.moment ∙ ap (moment_at leaves) (sym kept.here) in
+    let his : its ≡ moment_at leaves (slice_index winners beside) = is ∙ ap (moment_at leaves) theirs in
+    let chosen : (won ≡ won_below leaves winners half) × ((least ≡ moment_at leaves won) × (won < length leaves)) =
     ⊎_elim
     (λ (lower : its < due).
     let w = less lower in (
-      w ∙ theirs ∙ first_beside leaves winners beside at apart below his_dated mine_dated (omega (arith, mine, his, lower)) ∙ ap (won_below leaves winners) below,
-      (omega (arith, lower, is, lesser) ∙ ap (λ p. (standing_at leaves p).moment) (sym w), omega (arith, w, theirs, kept.within beside there)),
+      w ∙ theirs ∙ first_beside leaves winners beside at apart below (omega (arith, mine, his, lower)) ∙ ap (won_below leaves winners) below,
+      (omega (arith, lower, is, lesser) ∙ ap (moment_at leaves) (sym w), omega (arith, w, theirs, kept.within beside there)),
     ))
     (λ (upper : due ≤ its).
     let w = more upper in (
-      w ∙ sym kept.here ∙ first_beside leaves winners at beside (λ e. apart (sym e)) (sym below) mine_dated his_dated (omega (arith, mine, his, upper, differ)),
-      (omega (arith, upper, kept.moment, lesser) ∙ ap (λ p. (standing_at leaves p).moment) (sym w), omega (arith, w, kept.here, kept.within at kept.inside)),
+      w ∙ sym kept.here ∙ first_beside leaves winners at beside (λ e. apart (sym e)) (sym below) (omega (arith, mine, his, upper, differ)),
+      (omega (arith, upper, kept.moment, lesser) ∙ ap (moment_at leaves) (sym w), omega (arith, w, kept.here, kept.within at kept.inside)),
     ))
     (cases_lt its due) in
     let some : 0 < half = omega (arith, inner) in

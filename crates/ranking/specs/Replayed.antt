@@ -1,7 +1,7 @@
 -- The tree while the games above a place are played, whose standing has changed.
 use Rattle.std.specs.Prelude.{◌≡◌, ◌<◌, ◌*◌, ◌/◌, ℕ, zero, suc, List, length, slice_index}
 use Rattle.ranking.specs.declared.standing.Standing.{Standing}
-use Rattle.ranking.specs.Tournament.{standing_at, IsWon, AllWon, AreOwn, AreWithin}
+use Rattle.ranking.specs.Tournament.{moment_at, IsWon, AllWon, AreOwn, AreWithin}
 
 -- halved so many times
 abbrev pub halves : ℕ → ℕ → ℕ
@@ -25,7 +25,7 @@ pub record IsRising (leaves : List Standing) (winners : List ℕ) (at first due 
   pub own : AreOwn (length leaves) winners
   pub won : WonBut leaves winners (at / 2)
   pub here : slice_index winners at ≡ first
-  pub moment : due ≡ (standing_at leaves first).moment
+  pub moment : due ≡ moment_at leaves first
 
 -- all games are played
 pub record IsReplayed (leaves : List Standing) (winners : List ℕ) : Type 0 where

@@ -1,25 +1,30 @@
 //! A tree of winners over places, flat: node j has the first of what nodes 2j and 2j + 1 have, and
 //! the last half of the nodes have the places themselves.
 ghost use Rattle.std.specs.Prelude.{◌≡◌, ◌≢◌, ℕ, ◌+◌, ◌*◌, ◌/◌, ◌^◌, ◌<◌, ◌≤◌, length, IfOk, IfSome, MatchOption};
-ghost use Rattle.ranking.specs.Tournament.{AllWon, AreDated, AreOwn, AreWithin, standing_at, won_below};
+ghost use Rattle.ranking.specs.Tournament.{AllWon, AreDated, AreOwn, AreWithin, moment_at, won_below};
 ghost use Rattle.ranking.specs.Replayed.{WonBut, IsRising, IsReplayed};
 
-use crate::standing::{Standing, second_leads};
+use crate::standing::{Standing, precedes};
 use std::alloc::{AllocError, Global};
 
 // Plays the game of a node: which place comes first below it.
 #[inline]
-fn winner(leaves: &[Standing], winners: &[u32], at: usize) -> u32
+fn winner(leaves: &[Standing], moments: &[u64], winners: &[u32], at: usize) -> u32
     requires below { 2 * at + 1 < length winners.now }
     requires within { AreWithin (length leaves.now) winners.now }
-    requires dated { AreDated leaves.now }
+    requires dated { AreDated leaves.now moments.now }
     ensures first { result ≡ won_below leaves.now winners.now at }
     ensures within { result < length leaves.now }
 {
-    let left = &leaves[winners[2 * at] as usize];
-    let right = &leaves[winners[2 * at + 1] as usize];
-    // Which comes first cannot be guessed, so it is an index and no branch.
-    winners[2 * at + usize::from(second_leads(left, right))]
+    let left = winners[2 * at] as usize;
+    let right = winners[2 * at + 1] as usize;
+    // Moments mostly differ. Which comes first cannot be guessed, so it is an index and no branch.
+    let second = if moments[left] == moments[right] {
+        precedes(&leaves[right], &leaves[left])
+    } else {
+        moments[right] < moments[left]
+    };
+    winners[2 * at + usize::from(second)]
 }
 
 // The node that is below the same node as this one.
@@ -34,12 +39,12 @@ fn beside(at: usize) -> usize
 // Plays the games from a node up to the root by whole standings, as the moments of two are equal.
 #[cold]
 #[inline(never)]
-fn games_from(leaves: &[Standing], winners: &mut [u32], node: usize)
+fn games_from(leaves: &[Standing], moments: &[u64], winners: &mut [u32], node: usize)
     requires size { length winners.old ≡ 2 * length leaves.now }
     requires node { node < length leaves.now }
     requires within { AreWithin (length leaves.now) winners.old }
     requires own { AreOwn (length leaves.now) winners.old }
-    requires dated { AreDated leaves.now }
+    requires dated { AreDated leaves.now moments.now }
     requires won { WonBut leaves.now winners.old node }
     ensures within { AreWithin (length leaves.now) winners.new }
     ensures own { AreOwn (length leaves.now) winners.new }
@@ -47,7 +52,7 @@ fn games_from(leaves: &[Standing], winners: &mut [u32], node: usize)
 {
     let mut at = node;
     while at > 0 {
-        winners[at] = winner(leaves, winners, at);
+        winners[at] = winner(leaves, moments, winners, at);
         at /= 2;
     }
 }
@@ -80,18 +85,18 @@ fn lesser(climb: Climb, other: u32, its: u64) -> u32
 // Plays the next game. Where two have the same moment it plays all that are left, and there is nothing to go on
 // with.
 #[inline(always)]
-fn rise(leaves: &[Standing], winners: &mut [u32], climb: Climb) -> Option<Climb>
+fn rise(leaves: &[Standing], moments: &[u64], winners: &mut [u32], climb: Climb) -> Option<Climb>
     requires inner { 1 < climb.at }
-    requires dated { AreDated leaves.now }
+    requires dated { AreDated leaves.now moments.now }
     requires rising { IsRising leaves.now winners.old climb.at climb.first climb.moment }
     ensures half { IfSome result (λ next. next.at ≡ climb.at / 2) }
     ensures rising { MatchOption result (IsReplayed leaves.now winners.new) (λ next. IsRising leaves.now winners.new next.at next.first next.moment) }
 {
     let other = winners[beside(climb.at)];
-    let its = leaves[other as usize].moment;
+    let its = moments[other as usize];
     let node = climb.at / 2;
     if its == climb.moment {
-        games_from(leaves, winners, node);
+        games_from(leaves, moments, winners, node);
         return None;
     }
     let first = lesser(climb, other, its);
@@ -105,16 +110,22 @@ fn rise(leaves: &[Standing], winners: &mut [u32], climb: Climb) -> Option<Climb>
 
 // Plays the next game where the last node is not below this one.
 #[inline(always)]
-fn rise_below(leaves: &[Standing], winners: &mut [u32], climb: Climb, bound: usize) -> Option<Climb>
+fn rise_below(
+    leaves: &[Standing],
+    moments: &[u64],
+    winners: &mut [u32],
+    climb: Climb,
+    bound: usize,
+) -> Option<Climb>
     requires bound { 1 < bound }
     requires near { climb.at < 2 * bound }
-    requires dated { AreDated leaves.now }
+    requires dated { AreDated leaves.now moments.now }
     requires rising { IsRising leaves.now winners.old climb.at climb.first climb.moment }
     ensures below { IfSome result (λ next. next.at < bound) }
     ensures rising { MatchOption result (IsReplayed leaves.now winners.new) (λ next. IsRising leaves.now winners.new next.at next.first next.moment) }
 {
     if climb.at >= bound {
-        rise(leaves, winners, climb)
+        rise(leaves, moments, winners, climb)
     } else {
         Some(climb)
     }
@@ -122,23 +133,33 @@ fn rise_below(leaves: &[Standing], winners: &mut [u32], climb: Climb, bound: usi
 
 // Plays games until the last node is below 128.
 #[inline(always)]
-fn rise_far(leaves: &[Standing], winners: &mut [u32], start: Climb) -> Option<Climb>
-    requires dated { AreDated leaves.now }
+fn rise_far(
+    leaves: &[Standing],
+    moments: &[u64],
+    winners: &mut [u32],
+    start: Climb,
+) -> Option<Climb>
+    requires dated { AreDated leaves.now moments.now }
     requires rising { IsRising leaves.now winners.old start.at start.first start.moment }
     ensures below { IfSome result (λ next. next.at < 128) }
     ensures rising { MatchOption result (IsReplayed leaves.now winners.new) (λ next. IsRising leaves.now winners.new next.at next.first next.moment) }
 {
     let mut climb = start;
     while climb.at >= 128 {
-        climb = rise(leaves, winners, climb)?;
+        climb = rise(leaves, moments, winners, climb)?;
     }
     Some(climb)
 }
 
 // Plays games until the last node is below 16.
 #[inline(always)]
-fn rise_high(leaves: &[Standing], winners: &mut [u32], climb: Climb) -> Option<Climb>
-    requires dated { AreDated leaves.now }
+fn rise_high(
+    leaves: &[Standing],
+    moments: &[u64],
+    winners: &mut [u32],
+    climb: Climb,
+) -> Option<Climb>
+    requires dated { AreDated leaves.now moments.now }
     requires rising { IsRising leaves.now winners.old climb.at climb.first climb.moment }
     ensures below { IfSome result (λ next. next.at < 16) }
     ensures rising { MatchOption result (IsReplayed leaves.now winners.new) (λ next. IsRising leaves.now winners.new next.at next.first next.moment) }
@@ -146,37 +167,43 @@ fn rise_high(leaves: &[Standing], winners: &mut [u32], climb: Climb) -> Option<C
     if climb.at < 16 {
         return Some(climb);
     }
-    let climb = rise_far(leaves, winners, climb)?;
-    let climb = rise_below(leaves, winners, climb, 64)?;
-    let climb = rise_below(leaves, winners, climb, 32)?;
-    rise_below(leaves, winners, climb, 16)
+    let climb = rise_far(leaves, moments, winners, climb)?;
+    let climb = rise_below(leaves, moments, winners, climb, 64)?;
+    let climb = rise_below(leaves, moments, winners, climb, 32)?;
+    rise_below(leaves, moments, winners, climb, 16)
 }
 
 // Plays all games that are left.
 #[inline(always)]
-fn rise_up(leaves: &[Standing], winners: &mut [u32], climb: Climb) -> Option<Climb>
-    requires dated { AreDated leaves.now }
+fn rise_up(leaves: &[Standing], moments: &[u64], winners: &mut [u32], climb: Climb) -> Option<Climb>
+    requires dated { AreDated leaves.now moments.now }
     requires rising { IsRising leaves.now winners.old climb.at climb.first climb.moment }
     ensures below { IfSome result (λ next. next.at < 2) }
     ensures rising { MatchOption result (IsReplayed leaves.now winners.new) (λ next. IsRising leaves.now winners.new next.at next.first next.moment) }
 {
-    let climb = rise_high(leaves, winners, climb)?;
-    let climb = rise_below(leaves, winners, climb, 8)?;
-    let climb = rise_below(leaves, winners, climb, 4)?;
-    rise_below(leaves, winners, climb, 2)
+    let climb = rise_high(leaves, moments, winners, climb)?;
+    let climb = rise_below(leaves, moments, winners, climb, 8)?;
+    let climb = rise_below(leaves, moments, winners, climb, 4)?;
+    rise_below(leaves, moments, winners, climb, 2)
 }
 
 /// Plays the games above a place, whose standing has changed, from the place, of this moment, up to
 /// the root. Each of the last levels has a branch of its own, since how many there are differs from ranking to
 /// ranking, and the end of one loop for all could not be guessed.
 #[inline(always)]
-pub(crate) fn games_above(leaves: &[Standing], winners: &mut [u32], place: u32, moment: u64)
+pub(crate) fn games_above(
+    leaves: &[Standing],
+    moments: &[u64],
+    winners: &mut [u32],
+    place: u32,
+    moment: u64,
+)
     requires size { length winners.old ≡ 2 * length leaves.now }
     requires place { place < length leaves.now }
-    requires moment { moment ≡ (standing_at leaves.now place).moment }
+    requires moment { moment ≡ moment_at leaves.now place }
     requires within { AreWithin (length leaves.now) winners.old }
     requires own { AreOwn (length leaves.now) winners.old }
-    requires dated { AreDated leaves.now }
+    requires dated { AreDated leaves.now moments.now }
     requires won { WonBut leaves.now winners.old ((length leaves.now + place) / 2) }
     ensures within { AreWithin (length leaves.now) winners.new }
     ensures own { AreOwn (length leaves.now) winners.new }
@@ -187,13 +214,17 @@ pub(crate) fn games_above(leaves: &[Standing], winners: &mut [u32], place: u32, 
         first: place,
         moment,
     };
-    let _root = rise_up(leaves, winners, climb);
+    let _root = rise_up(leaves, moments, winners, climb);
 }
 
 /// The tree of these places: each game is played after those below it.
-pub(crate) fn all_games(alloc: Global, leaves: &[Standing]) -> Result<Vec<u32>, AllocError>
+pub(crate) fn all_games(
+    alloc: Global,
+    leaves: &[Standing],
+    moments: &[u64],
+) -> Result<Vec<u32>, AllocError>
     requires few { length leaves.now ≤ 2 ^ 31 }
-    requires dated { AreDated leaves.now }
+    requires dated { AreDated leaves.now moments.now }
     ensures size { IfOk result (λ winners. length winners.items ≡ 2 * length leaves.now) }
     ensures within { IfOk result (λ winners. AreWithin (length leaves.now) winners.items) }
     ensures own { IfOk result (λ winners. AreOwn (length leaves.now) winners.items) }
@@ -203,16 +234,16 @@ pub(crate) fn all_games(alloc: Global, leaves: &[Standing]) -> Result<Vec<u32>, 
     for place in 0..leaves.len() {
         winners.push(place as u32)?;
     }
-    play_all(leaves, &mut winners);
+    play_all(leaves, moments, &mut winners);
     Ok(winners)
 }
 
 // Plays each game after those below it.
-fn play_all(leaves: &[Standing], winners: &mut [u32])
+fn play_all(leaves: &[Standing], moments: &[u64], winners: &mut [u32])
     requires size { length winners.old ≡ 2 * length leaves.now }
     requires within { AreWithin (length leaves.now) winners.old }
     requires own { AreOwn (length leaves.now) winners.old }
-    requires dated { AreDated leaves.now }
+    requires dated { AreDated leaves.now moments.now }
     ensures within { AreWithin (length leaves.now) winners.new }
     ensures own { AreOwn (length leaves.now) winners.new }
     ensures won { AllWon leaves.now winners.new }
@@ -220,6 +251,6 @@ fn play_all(leaves: &[Standing], winners: &mut [u32])
     let mut at = leaves.len();
     while at > 1 {
         at -= 1;
-        winners[at] = winner(leaves, winners, at);
+        winners[at] = winner(leaves, moments, winners, at);
     }
 }

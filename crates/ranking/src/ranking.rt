@@ -1,8 +1,8 @@
 //! The places with their keys, and the least of them.
-ghost use Rattle.std.specs.Prelude.{◌≡◌, ℕ, ◌+◌, ◌*◌, ◌^◌, ◌<◌, ◌≤◌, length, replicate, slice_set, IfOk, MatchOption, Some, None, if◌then◌else◌};
+ghost use Rattle.std.specs.Prelude.{◌≡◌, ℕ, ◌+◌, ◌*◌, ◌^◌, ◌<◌, ◌≤◌, length, replicate, slice_index, slice_set, false, IfOk, MatchOption, Some, None, if◌then◌else◌};
 ghost use Rattle.sim_time.specs.declared.key.Key.{Key};
 ghost use Rattle.ranking.specs.Leading.{rank_at, Leads};
-ghost use Rattle.ranking.specs.Tournament.{IsVacantAt};
+ghost use Rattle.ranking.specs.Tournament.{moment_of, IsVacantAt};
 
 use crate::games::{all_games, games_above};
 use crate::standing::{Standing, moment_of, no_key, vacant};
@@ -15,6 +15,8 @@ use std::marker::Model;
 pub struct Ranking {
     /// What each place has.
     leaves: Vec<Standing>,
+    /// The moment of each place. They stand apart from the keys, so that a game reads one word of eight bytes.
+    moments: Vec<u64>,
     /// Node j has the place that comes first below it.
     winners: Vec<u32>,
 }
@@ -28,7 +30,7 @@ impl Model for Ranking {
 
     ghost view = { λ r. ranks_of r.leaves.items };
 
-    ghost invariant = { λ r. IsTournament r.leaves.items r.winners.items };
+    ghost invariant = { λ r. IsTournament r.leaves.items r.moments.items r.winners.items };
 }
 
 // So many places with no key.
@@ -44,6 +46,19 @@ fn vacancies(alloc: Global, places: usize) -> Result<Vec<Standing>, AllocError>
     Ok(leaves)
 }
 
+// The moments of so many places with no key.
+fn vacant_moments(alloc: Global, places: usize) -> Result<Vec<u64>, AllocError>
+    requires { places ≤ 2 ^ 31 }
+    ensures size { IfOk result (λ moments. length moments.items ≡ places) }
+    ensures vacant { IfOk result (λ moments. (p : ℕ) → p < places → slice_index moments.items p ≡ moment_of 18446744073709551615 p false) }
+{
+    let mut moments: Vec<u64> = Vec::new(alloc);
+    for place in 0..places {
+        moments.push(moment_of(u64::MAX, place as u32, false))?;
+    }
+    Ok(moments)
+}
+
 impl Ranking {
     /// So many places with no key.
     pub fn new(alloc: Global, places: usize) -> Result<Ranking, AllocError>
@@ -51,8 +66,13 @@ impl Ranking {
         ensures { IfOk result (λ ranking. ranking ≡ replicate places None) }
     {
         let leaves = vacancies(alloc, places)?;
-        let winners = all_games(alloc, &leaves)?;
-        Ok(Ranking { leaves, winners })
+        let moments = vacant_moments(alloc, places)?;
+        let winners = all_games(alloc, &leaves, &moments)?;
+        Ok(Ranking {
+            leaves,
+            moments,
+            winners,
+        })
     }
 
     /// How many places.
@@ -104,13 +124,22 @@ impl Ranking {
         requires { place < length self.old }
         ensures { self.new ≡ slice_set self.old place (if held then Some key else None) }
     {
-        let time = key.time;
-        let leaf = &mut self.leaves[place];
-        leaf.key = key;
-        let moment = moment_of(time, place as u32, held);
-        leaf.moment = moment;
+        let leaves: &mut [Standing] = &mut self.leaves;
+        let leaf = &mut leaves[place];
+        leaf.key.time = key.time;
+        leaf.key.node = key.node;
+        leaf.key.source = key.source;
+        leaf.key.number = key.number;
         leaf.held = held;
-        games_above(&self.leaves, &mut self.winners, place as u32, moment);
+        let moment = moment_of(key.time, place as u32, held);
+        self.moments[place] = moment;
+        games_above(
+            leaves,
+            &self.moments,
+            &mut self.winners,
+            place as u32,
+            moment,
+        );
     }
 
     /// The place of the least key, the lowest such place, and the key.
@@ -146,6 +175,7 @@ impl Ranking {
     {
         Ok(Ranking {
             leaves: self.leaves.clone()?,
+            moments: self.moments.clone()?,
             winners: self.winners.clone()?,
         })
     }

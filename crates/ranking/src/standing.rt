@@ -1,7 +1,7 @@
 //! A key at its place, and which of two comes first.
 ghost use Rattle.std.specs.Prelude.{◌≡◌, ◌<◌, ◌^◌, false};
 ghost use Rattle.std.specs.Ordering.{is_lt};
-ghost use Rattle.ranking.specs.Tournament.{standing_cmp, moment_of, vacant_key, IsDated};
+ghost use Rattle.ranking.specs.Tournament.{standing_cmp, moment_of, vacant_key};
 
 use sim_time::{Key, Time, key_order};
 
@@ -13,9 +13,6 @@ const LAST_MOMENT: u64 = u64::MAX - (1 << 31);
 pub struct Standing {
     /// The key, where there is one. Where there is none its time is the greatest.
     pub key: Key,
-    /// The key's time in nanoseconds, at most the last moment; where there is no key, a later
-    /// moment, which no other place has. Of two places the one with the lesser moment comes first.
-    pub moment: u64,
     /// The place's number.
     pub place: u32,
     /// Whether there is a key.
@@ -35,7 +32,8 @@ pub(crate) fn no_key() -> Key
     }
 }
 
-/// The moment of a place that has a key of this time, or none.
+/// The moment of a place: the time of its key in nanoseconds, at most the last moment; where there is no
+/// key, a later moment, which no other place has. Of two places the one with the lesser moment comes first.
 #[inline(always)]
 pub(crate) fn moment_of(time: Time, place: u32, held: bool) -> u64
     requires { place < 2 ^ 31 }
@@ -50,23 +48,20 @@ pub(crate) fn moment_of(time: Time, place: u32, held: bool) -> u64
 
 /// A place with no key.
 pub(crate) fn vacant(place: u32) -> Standing
-    requires { place < 2 ^ 31 }
     ensures place { result.place ≡ place }
     ensures held { result.held ≡ false }
-    ensures dated { IsDated result }
 {
     Standing {
         key: no_key(),
-        moment: moment_of(u64::MAX, place, false),
         place,
         held: false,
     }
 }
 
-// Whether `a` comes before `b`, whatever their moments: a key before none, the lesser key, the lower
-// place.
+/// Whether `a` comes before `b`, by all that they have: a key before none, the lesser key, the lower
+/// place.
 #[inline]
-fn precedes(a: &Standing, b: &Standing) -> bool
+pub(crate) fn precedes(a: &Standing, b: &Standing) -> bool
     ensures { result ≡ is_lt (standing_cmp a.now b.now) }
 {
     if a.held != b.held {
@@ -78,18 +73,4 @@ fn precedes(a: &Standing, b: &Standing) -> bool
     key_order(&a.key, &b.key)
         .then(a.place.cmp(&b.place))
         .is_lt()
-}
-
-/// Whether the second of two comes before the first.
-#[inline(always)]
-pub(crate) fn second_leads(first: &Standing, second: &Standing) -> bool
-    requires first { IsDated first.now }
-    requires second { IsDated second.now }
-    ensures { result ≡ is_lt (standing_cmp second.now first.now) }
-{
-    // Moments mostly differ.
-    if first.moment == second.moment {
-        return precedes(second, first);
-    }
-    second.moment < first.moment
 }

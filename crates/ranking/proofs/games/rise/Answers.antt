@@ -1,6 +1,6 @@
-use Rattle.std.proofs.Common.{refl, arith}
+use Rattle.std.proofs.Common.{◌≡◌, ◌<◌, length, refl, arith}
 use Rattle.std.specs.Prelude.{slice_index}
-use Rattle.ranking.specs.Tournament.{standing_at}
+use Rattle.ranking.specs.Tournament.{moment_at}
 use Rattle.ranking.proofs.Rising.{risen}
 use Rattle.ranking.proofs.games.rise.Goals as goal
 
@@ -10,6 +10,10 @@ returns-clause-rising c =
     let winners = c.args.winners.now in
     let leaves = c.args.leaves.now in
     let beside = c.beside.result in
-    let its = (standing_at leaves (slice_index winners beside)).moment in
-    risen leaves winners climb.at climb.first climb.moment beside (slice_index winners beside) its c.lesser-first.result c.min.result c.requires.dated c.requires.rising c.requires.inner
-    c.beside.ensures.other c.beside.ensures.below refl refl c.if-its-climb.false c.lesser-first.ensures.other c.lesser-first.ensures.first (omega (arith, c.min.ensures))
+    let other = slice_index winners beside in
+    let its = slice_index c.args.moments.now other in
+    let kept = c.requires.rising in
+    let there : beside < length winners = omega (arith, c.beside.ensures.below, kept.inside, kept.size) in
+    let is : its ≡ moment_at leaves other = c.requires.dated.each other (kept.within beside there) in
+    risen leaves winners climb.at climb.first climb.moment beside other its c.lesser-first.result c.min.result kept c.requires.inner
+    c.beside.ensures.other c.beside.ensures.below refl is c.if-its-climb.false c.lesser-first.ensures.other c.lesser-first.ensures.first (omega (arith, c.min.ensures))

@@ -25,7 +25,7 @@ returns c =
     let place : c.index.result.now ≡ slice_index winners 1 = get_or_read winners 1 c.index.result.now (omega (arith, some, t.size)) c.index.ensures 0 in
     let within : c.index.result.now < length leaves = subst (λ p. p < length leaves) (sym place) (t.within 1 (omega (arith, some, t.size))) in
     let leaf : c.index-leaf.result.now ≡ standing_at leaves (slice_index winners 1) = get_or_read leaves c.index.result.now c.index-leaf.result.now within c.index-leaf.ensures no_standing ∙ ap (standing_at leaves) place in
-    let held = not_false (standing_at leaves (slice_index winners 1)).held (λ none. ranked (none_ranked leaves winners t none)) in
+    let held = not_false (standing_at leaves (slice_index winners 1)).held (λ none. ranked (none_ranked leaves c.self.inside.moments.items winners t none)) in
     subst (λ ranks. Leads ranks c.index.result.now c.index-leaf.result.now.key) c.self.view_is
     (subst (λ p. Leads (ranks_of leaves) p c.index-leaf.result.now.key) (sym place)
-    (subst (λ (s : Standing). Leads (ranks_of leaves) (slice_index winners 1) s.key) (sym leaf) (leads_root leaves winners t some held)))
+    (subst (λ (s : Standing). Leads (ranks_of leaves) (slice_index winners 1) s.key) (sym leaf) (leads_root leaves c.self.inside.moments.items winners t some held)))
