@@ -261,14 +261,11 @@ impl Agenda {
     fn announced(&self, number: usize) -> Event
         ensures { result ≡ alarm_event self.now.owner number }
     {
-        // Most are of links.
-        if number >= FIRST_FREE {
-            return Event::Free(self.exits.get(number - FIRST_FREE).copied().unwrap_or(0));
-        }
         match number {
             0 => Event::Start(self.flow),
             1 => Event::Rto(self.flow),
-            _ => Event::DelAck(self.flow),
+            2 => Event::DelAck(self.flow),
+            _ => Event::Free(self.exits.get(number - FIRST_FREE).copied().unwrap_or(0)),
         }
     }
 
