@@ -56,6 +56,29 @@ impl Model for Engine {
     ghost invariant = { IsEngineInside };
 }
 
+/// The numbers of the nodes, those of the first group before those of the second, and so on.
+fn by_groups(alloc: Global, partition: &Partition) -> Result<Vec<u16>, AllocError> {
+    let mut order = Vec::new(alloc);
+    for group in 0..partition.groups() {
+        for node in 0..partition.nodes() {
+            match u16::try_from(node) {
+                Ok(number) if partition.group(node) == group => order.push(number)?,
+                _ => {}
+            }
+        }
+    }
+    Ok(order)
+}
+
+/// The net of a scenario before anything is sent. What the nodes of a group keep stands together in memory, so that
+/// workers do not write to the same cache lines.
+fn opening_net(alloc: Global, scenario: &Scenario, partition: &Partition) -> Result<Net, AllocError>
+    ensures state { IfOk result (λ net. net ≡ record { state = opening scenario.now; position = 0 }) }
+{
+    let order = by_groups(alloc, partition)?;
+    Net::new(alloc, scenario)?.copy_in(&order)
+}
+
 impl Engine {
     /// A scenario's run from its beginning. A refusal gives the partition up.
     pub fn new(
@@ -67,7 +90,7 @@ impl Engine {
         ensures { IfOk result (λ e. e ≡ record { entries = partition; ahead = lookahead (group_in partition) scenario.now.links; net = record { state = opening scenario.now; position = 0 }; failed = false }) }
     {
         let _parts = scenario.parts();
-        let net = Net::new(alloc, scenario)?;
+        let net = opening_net(alloc, scenario, &partition)?;
         Engine::at(alloc, net, partition)
     }
 

@@ -58,9 +58,11 @@ pub(crate) struct Part {
     pub end: usize,
 }
 
-/// What one thread made of a window's text.
+/// What one thread made of a window's text, and where it begins.
 #[derive(Drop)]
 pub(crate) struct Scribe {
+    /// The group's piece that the thread tries first, before it makes text.
+    pub first: usize,
     /// The text of its parts, one after another.
     pub text: Pad,
     /// Its parts.
@@ -110,6 +112,7 @@ impl Scribe {
         ensures { result.parts.items ≡ [] }
     {
         Scribe {
+            first: 0,
             text: Pad::new(alloc),
             parts: Vec::new(alloc),
         }

@@ -1,10 +1,10 @@
 //! Workers that go over all pieces of a board, and then make text.
 ghost use Rattle.std.specs.Prelude.{◌≡◌, ◌+◌, ◌<◌, ◌^◌, All, IfOk, IfSome, length};
 ghost use Rattle.window_core.specs.Sheaves.{merged};
-ghost use Rattle.work_board.specs.Marks.{Has};
+ghost use Rattle.work_board.specs.Marks.{Has, StaysIn};
 ghost use Rattle.work_board.specs.Seats.{IsOf, HoldsAsLaid, HoldsNothing};
 ghost use Rattle.window_engine.specs.Parts.{AreRight, IsRight};
-ghost use Rattle.window_engine.specs.Sweeps.{IsSwept};
+ghost use Rattle.window_engine.specs.Sweeps.{HasMet, IsSwept};
 
 use crate::gate::Gate;
 use crate::scribe::{Parts, Scribe};
@@ -57,21 +57,39 @@ fn leave<G: Gate>(gate: &G, _seat: &Seat, piece: usize)
     gate.leave(piece as u64);
 }
 
-/// Tries every piece in turn, and runs those that it claimed.
-fn work<G: Gate>(board: &Board, seat: Seat, gate: &G) -> Seat
+/// Tries a piece, and runs it where the seat claimed it.
+fn meet<G: Gate>(board: &Board, seat: &mut Seat, gate: &G, piece: usize)
+    requires board { IsOf board.now seat.old }
+    requires idle { HoldsNothing seat.old }
+    requires piece { piece < length board.now.pieces }
+    ensures board { IsOf board.now seat.new }
+    ensures idle { HoldsNothing seat.new }
+    ensures met { HasMet seat.new piece }
+    ensures stays { StaysIn seat.old.view seat.new.view }
+{
+    if board.try_claim(seat, piece) {
+        enter(gate, seat, piece);
+        seat.held(board, piece).run();
+        board.finish(seat, piece);
+        leave(gate, seat, piece);
+    }
+}
+
+/// Tries every piece, from one on and then those before it, and runs those that it claimed. So a worker that begins
+/// where it did in the window before meets groups that its core's cache has.
+fn work<G: Gate>(board: &Board, seat: Seat, first: usize, gate: &G) -> Seat
     requires board { IsOf board.now seat }
     requires idle { HoldsNothing seat }
     ensures board { IsOf board.now result }
     ensures swept { IsSwept result }
 {
     let mut seat = seat;
-    for i in 0..board.pieces() {
-        if board.try_claim(&mut seat, i) {
-            enter(gate, &seat, i);
-            seat.held(board, i).run();
-            board.finish(&mut seat, i);
-            leave(gate, &seat, i);
-        }
+    let first = first.min(board.pieces());
+    for piece in first..board.pieces() {
+        meet(board, &mut seat, gate, piece);
+    }
+    for before in 0..first {
+        meet(board, &mut seat, gate, before);
     }
     seat
 }
@@ -86,8 +104,8 @@ fn serve<G: Gate>(tasks: &Tasks, gate: &G, sheaf: &Sheaf, shift: Shift) -> Shift
     ensures swept { IsSwept result.seat }
     ensures right { IsRight sheaf.now result.scribe }
 {
-    let seat = work(&tasks.board, shift.seat, gate);
-    let mut scribe = shift.scribe;
+    let Shift { seat, mut scribe } = shift;
+    let seat = work(&tasks.board, seat, scribe.first, gate);
     scribe.make_parts(sheaf, &tasks.parts);
     Shift { seat, scribe }
 }
@@ -148,7 +166,7 @@ pub(crate) fn sweep<G: Gate, R: Threads + Wait + Sync>(
             for _ in 0..others {
                 let (rest, seat) = tasks.board.split(mine);
                 mine = rest;
-                let scribe = take_scribe(sheaf, alloc, &mut scribes);
+                let scribe = take_scribe(tasks, workers, sheaf, alloc, &mut scribes);
                 let shift = Shift { seat, scribe };
                 let promise = Sweeps(Snapshot::of(&tasks.board), Snapshot::of(sheaf));
                 match scope.spawn_with(
@@ -167,10 +185,11 @@ pub(crate) fn sweep<G: Gate, R: Threads + Wait + Sync>(
                     Err(_) => all = false,
                 }
             }
-            let scribe = take_scribe(sheaf, alloc, &mut scribes);
+            let scribe = take_scribe(tasks, workers, sheaf, alloc, &mut scribes);
             let shift = serve(tasks, gate, sheaf, Shift { seat: mine, scribe });
-            join_all(rt, &tasks.board, sheaf, handles, &mut scribes);
+            // In this order each worker has the scribe of the window before again, whose text its core's cache has.
             give_scribe(sheaf, &mut scribes, shift.scribe);
+            join_all(rt, &tasks.board, sheaf, handles, &mut scribes);
             if all {
                 (Ok(shift.seat), scribes)
             } else {
@@ -182,16 +201,25 @@ pub(crate) fn sweep<G: Gate, R: Threads + Wait + Sync>(
     swept
 }
 
-/// A scribe for a worker; a new one where there is none left.
-fn take_scribe(sheaf: &Sheaf, alloc: Global, scribes: &mut Vec<Scribe>) -> Scribe
+/// A scribe for one of so many workers; a new one where there is none left. By how many are left then it begins at a
+/// piece of its own.
+fn take_scribe(
+    tasks: &Tasks,
+    workers: usize,
+    sheaf: &Sheaf,
+    alloc: Global,
+    scribes: &mut Vec<Scribe>,
+) -> Scribe
     requires { AreRight sheaf.now scribes.old.items }
     ensures one { IsRight sheaf.now result }
     ensures rest { AreRight sheaf.now scribes.new.items }
 {
-    match scribes.pop() {
+    let mut scribe = match scribes.pop() {
         Some(scribe) => scribe,
         None => Scribe::new(alloc),
-    }
+    };
+    scribe.first = tasks.board.pieces().saturating_mul(scribes.len()) / workers.max(1);
+    scribe
 }
 
 /// Gives a scribe back. Where there is no memory for it, what it made is made again.
