@@ -40,8 +40,7 @@ not_begun workers until c known failures rest =
       has = tt;
       commits = ended workers until net net 0 (record { state = edge_of c.window; position = c.position }) known known known (Workers NoMemory) (wrote_none until net known) (wrote_no_more until net c.position known rest.committed, tt);
       stop = tt;
-      fault = tt;
-      full = λ is. absurd (cc);
+      fault = (tt, λ is. absurd (cc));
       failures_are = refl;
       groups = refl;
       ahead = refl;
@@ -69,8 +68,7 @@ module _ (until : ℕ) (began c : Course) (written : ℕ) (known now : Option (L
     has = tt;
     commits = ended workers until from w.net written (record { state = edge_of new.window; position = new.position }) known now later fault w.wrote broke;
     stop = tt;
-    fault = told_of workers until written w.net new.position now later fault broke;
-    full = told_full until from w.net written written known now fault w.wrote few full;
+    fault = (told_of workers until written w.net new.position now later fault broke, told_full until from w.net written written known now fault w.wrote few full);
     failures_are = fails ∙ ap (λ n. fails_after {T = ℕ} (Err fault) n) same ∙ fails_told Stop ℕ workers until written f fault now later w.net new.position broke;
     groups = groups ∙ w.groups;
     ahead = ahead ∙ w.ahead;
@@ -99,7 +97,6 @@ module _ (until : ℕ) (began c : Course) (written : ℕ) (known now : Option (L
         commits = committed until from (reached_in c.window) (record { state = edge_of new.window; position = new.position }) (written + bytes) known later stop all committed_is (ap (λ (v : WindowValue). edge_of v) window);
         stop = subst (λ (v : WindowValue). IsStop until (edge_of v) stop) (sym window) stops;
         fault = tt;
-        full = tt;
         failures_are = same;
         groups = groups ∙ w.groups;
         ahead = ahead ∙ w.ahead;

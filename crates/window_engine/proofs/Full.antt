@@ -1,8 +1,9 @@
 -- Pieces that are refused since there are as many events as there may be.
-use Rattle.std.proofs.Common.{◌≡◌, ℕ, suc, List, ◌∷◌, slice_get, Option, Some, None, Result, Ok, Err, IfErr, refl, ap, sym, subst, ◌∙◌}
+use Rattle.std.proofs.Common.{◌≡◌, ℕ, suc, List, ◌∷◌, slice_get, Option, Some, None, Result, Ok, Err, IfErr, IfSome, refl, ap, sym, subst, ◌∙◌}
 use Rattle.std.specs.Option.{option_or}
 use Rattle.node_group.specs.declared.group.GroupFault.{GroupFault}
 use Rattle.node_group.specs.declared.group.GroupFault.TheVariants as group
+use Rattle.window_core.specs.Faults.{IsFaultAt}
 use Rattle.window_core.specs.Group.{AfterFirings}
 use Rattle.work_board.specs.Pieces.{PieceState, IsTold}
 use Rattle.work_board.specs.Seats.{Began, Tells}
@@ -29,7 +30,7 @@ IsOfFull refusal all = refusal ≡ Some group.CountFull → SomeFull all
 
 full_or : (all : List Slot) (refusal : Option GroupFault) (q : PieceState) → IsOfFull refusal all → (j : ℕ) × (slice_get all j ≡ Some (Finished q)) → IsTold q → AfterFirings q.end q.began q.group → IsOfFull (option_or refusal q.fault) all
 full_or all (Some f) q was at told after e = was e
-full_or all None q was at told after e = record { place = at.0; piece = q; at = at.1; full = record { fault = e; told = told; after = after } }
+full_or all None q was at told after e = record { place = at.0; piece = q; at = at.1; full = record { full = subst (λ (o : Option GroupFault). IfSome o (IsFaultAt q.end q.group)) e told; after = after } }
 
 -- one finished piece more
 pub full_more : (all rest more : List Slot) (x : Slot) (refusal : Option GroupFault) (q : PieceState) → rest ≡ x ∷ more → x ≡ Finished q → AreAmong rest all → IsOfFull refusal all → IsTold q → AfterFirings q.end q.began q.group

@@ -15,3 +15,4 @@ pub mod Unwritten
 pub mod Filled
 pub mod Grouped
 pub mod Called
+pub mod Meant

@@ -1,18 +1,17 @@
 -- Where the workers' fault is that the count is full, the run has more events than there may be.
-use Rattle.std.proofs.Common.{◌≡◌, ◌≢◌, ◌≤◌, ◌<◌, ◌+◌, ◌-◌, ◌++◌, ℕ, List, length, map, true, Option, None, IsSome, refl, sym, ap, subst, ◌∙◌, arith, Some}
+use Rattle.std.proofs.Common.{◌≡◌, ◌≤◌, ◌<◌, ◌+◌, ◌-◌, ◌++◌, ℕ, List, length, map, Option, sym, ap, subst, ◌∙◌, arith, Some}
 use Rattle.std.proofs.lemmas.List.{length-map}
 use Rattle.std.proofs.lemmas.Option.{slice_get_within}
-use Rattle.node_group.specs.declared.group.GroupFault.{GroupFault}
-use Rattle.table_run.specs.State.{State, due, run}
+use Rattle.node_group.specs.declared.group.GroupFault.TheVariants as group
+use Rattle.table_run.specs.State.{State, run}
 use Rattle.table_run.proofs.Runs.{run_add}
 use Rattle.node_core.specs.TraceLine.{TraceLine}
 use Rattle.net_machine.specs.Run.{Reached}
-use Rattle.window_core.specs.Full.{HasTooMany, opening_at}
-use Rattle.window_core.specs.Group.{GroupValue, AfterFirings, state_of}
-use Rattle.window_core.specs.Groups.{up_to}
-use Rattle.window_core.specs.Window.{WindowValue, IsFrom, IsWindow, states_of, value_at}
-use Rattle.window_core.specs.Windows.{all_done, all_lines}
-use Rattle.window_core.proofs.TooMany.{full_group_has_too_many, full_turn_has_too_many}
+use Rattle.window_core.specs.Faults.{IsFaultAt}
+use Rattle.window_core.specs.Full.{HasTooMany, RunsTooLong, opening_at}
+use Rattle.window_core.specs.Group.{GroupValue, AfterFirings}
+use Rattle.window_core.specs.Window.{WindowValue, IsFrom, IsWindow, value_at}
+use Rattle.window_core.proofs.TooMany.{full_group_has_too_many}
 use Rattle.work_board.specs.Pieces.{PieceState}
 use Rattle.window_engine.specs.declared.fault.EngineFault.{EngineFault}
 use Rattle.window_engine.specs.declared.fault.EngineFault.TheVariants.{CountFull, Failed}
@@ -42,27 +41,22 @@ pieces_full w end lent laid lent_is ends laid_is some =
     let many : length laid ≡ length w.groups = ap length laid_is ∙ length-map lent (laid_for end) ∙ ap length lent_is in
     let began : p.began ≡ value_at w.groups n = some.began.2.1 ∙ ap (λ (q : PieceState). q.began) first ∙ ap (λ (l : List GroupValue). value_at l n) lent_is in
     let same_end : p.end ≡ w.until = some.began.2.0 ∙ ap (λ (q : PieceState). q.end) first ∙ ends in
-    let refused : IsSome p.fault = subst (λ (o : Option GroupFault). IsSome o) (sym some.full.fault) refl in
     record {
       number = n;
       group = p.group;
       within = omega (arith, within, many);
       after = subst (λ (e : ℕ). AfterFirings e (value_at w.groups n) p.group) same_end (subst (λ (g : GroupValue). AfterFirings p.end g p.group) began some.full.after);
-      due_there = subst (λ (e : ℕ). due (up_to e (state_of p.group)) ≢ None) same_end (some.full.told.due refused);
-      full = some.full.told.full some.full.fault;
+      full = subst (λ (e : ℕ). IsFaultAt e p.group group.CountFull) same_end some.full.full;
     }
 
 -- a group of a window that ends by a moment is full
 pub group_full : (v w : WindowValue) → IsAtEdge v → IsWindow v → IsWindow w → ((edge : State) → IsFrom edge v → IsFrom edge w) → w.position ≡ v.position → HasFullGroup w → HasTooMany (reached_in v)
 group_full v w at is is_w from position f =
-    at_edge v w is at position (full_group_has_too_many is.edge w is_w (from is.edge is.from) f.number f.group f.within f.after w.until (omega arith) f.due_there f.full)
+    at_edge v w is at position (full_group_has_too_many is.edge w is_w (from is.edge is.from) f.number f.group f.within f.after w.until (omega arith) f.full)
 
 -- a turn has too many lines
-pub turn_full : (v w : WindowValue) (until : ℕ) → IsAtEdge v → IsWindow v → IsDoneBy until v w → (all_done w.until (states_of w.groups) ≡ true) × (1000000000000000 < w.position + length (all_lines (states_of w.groups)))
-    → HasTooMany (reached_in v)
-turn_full v w until at is by full =
-    let fits = is.split.fits in
-    at_edge v w is at by.position (full_turn_has_too_many is.edge w (by.from is.edge is.from) (omega (arith, fits, by.position)) full.0 full.1)
+pub turn_full : (v w : WindowValue) (until : ℕ) → IsAtEdge v → IsWindow v → IsDoneBy until v w → RunsTooLong w → HasTooMany (reached_in v)
+turn_full v w until at is by long = at_edge v w is at by.position (long is.edge (by.from is.edge is.from))
 
 -- what is so after some lines of the run is so before them
 pub earlier_full : (from to : Reached) (lines : List TraceLine) → run from.state (length lines) ≡ Some (lines, to.state) → to.position ≡ from.position + length lines → to.position ≤ 1000000000000000 → HasTooMany to → HasTooMany from

@@ -17,12 +17,12 @@ use Rattle.window_engine.specs.declared.course.Course.{Course}
 use Rattle.window_engine.specs.declared.course.WriteFault.{WriteFault}
 use Rattle.window_engine.specs.declared.course.WriteFault.TheVariants.{Workers, Sink}
 use Rattle.window_engine.specs.declared.fault.EngineFault.{EngineFault}
-use Rattle.window_engine.specs.declared.fault.EngineFault.TheVariants.{CountFull, Sink as SinkFailed}
+use Rattle.window_engine.specs.declared.fault.EngineFault.TheVariants.{Sink as SinkFailed}
 use Rattle.window_engine.specs.declared.fault.Stop.{Stop}
 use Rattle.window_engine.specs.Edges.{IsAtEdge, edge_of, reached_in}
 use Rattle.window_engine.specs.Engines.{AreWhole, Commits, GoesOn, IsStop, sink_failures}
 use Rattle.window_engine.specs.Failures.{counted}
-use Rattle.window_engine.specs.Outcomes.{IsOfRun, IsOfWorkers}
+use Rattle.window_engine.specs.Outcomes.{IsOfWorkers, IsRunFault}
 use Rattle.window_engine.specs.Puts.{TakesFirst}
 use Rattle.window_engine.specs.Text.{text_from}
 
@@ -126,8 +126,7 @@ pub record HasEnded (workers until : ℕ) (began new : Course) (r : Result Stop 
   pub has : OnOk r (HasGroups new)
   pub commits : Commits until (reached_in began.window) r (record { state = edge_of new.window; position = new.position }) known now
   pub stop : IfOk r (IsStop until (edge_of new.window))
-  pub fault : IfErr r (IsOfRun workers)
-  pub full : IfErr r (λ fault. fault ≡ CountFull → HasTooMany (reached_in began.window))
+  pub fault : IfErr r (IsRunFault workers (HasTooMany (reached_in began.window)))
   pub failures_are : failed ≡ sink_failures r failures
   pub groups : new.groups ≡ began.groups
   pub ahead : new.ahead ≡ began.ahead

@@ -1,8 +1,9 @@
 -- The pieces that are laid out for a window's groups, and the groups that come back.
-use Rattle.std.specs.Prelude.{◌≡◌, ◌≢◌, ◌+◌, ◌<◌, ℕ, Bool, length, true, false, min, None}
-use Rattle.table_run.specs.State.{State, due}
-use Rattle.window_core.specs.Group.{GroupValue, AfterFirings, state_of}
-use Rattle.window_core.specs.Groups.{up_to}
+use Rattle.std.specs.Prelude.{◌≡◌, ◌<◌, ℕ, Bool, length, true, false, min, None}
+use Rattle.node_group.specs.declared.group.GroupFault.TheVariants.{CountFull}
+use Rattle.table_run.specs.State.{State}
+use Rattle.window_core.specs.Faults.{IsFaultAt}
+use Rattle.window_core.specs.Group.{GroupValue, AfterFirings}
 use Rattle.window_core.specs.Window.{WindowValue, IsFrom, states_of, value_at}
 use Rattle.window_core.specs.Windows.{all_done}
 use Rattle.work_board.specs.Pieces.{PieceState}
@@ -25,8 +26,7 @@ pub record HasFullGroup (v : WindowValue) : Type 0 where
   pub group : GroupValue
   pub within : number < length v.groups
   pub after : AfterFirings v.until (value_at v.groups number) group
-  pub due_there : due (up_to v.until (state_of group)) ≢ None
-  pub full : group.position + length group.lines ≡ 1000000000000000
+  pub full : IsFaultAt v.until group CountFull
 
 -- a window's groups ran up to its end or a bound, and none has an event left below: it is still one that opened where it did
 pub record IsDoneBy (until : ℕ) (old new : WindowValue) : Type 0 where

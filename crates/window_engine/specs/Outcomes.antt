@@ -3,8 +3,9 @@ use Rattle.std.specs.Prelude.{◌≡◌, ◌⊎◌, ◌<◌, ℕ, Bool, true, fa
 use Rattle.std.specs.Option.{option_or}
 use Rattle.node_group.specs.declared.group.GroupFault.{GroupFault}
 use Rattle.node_group.specs.declared.group.GroupFault.TheVariants as group
+use Rattle.window_core.specs.Faults.{IsFaultAt}
 use Rattle.window_core.specs.Group.{AfterFirings}
-use Rattle.work_board.specs.Pieces.{PieceState, IsDone, IsSettled, IsTold}
+use Rattle.work_board.specs.Pieces.{PieceState, IsDone, IsSettled}
 use Rattle.work_board.specs.Seats.{Began}
 use Rattle.work_board.specs.declared.slot.Slot.{Slot}
 use Rattle.work_board.specs.declared.slot.Slot.TheVariants.{Finished, Waiting, Out}
@@ -68,8 +69,7 @@ IsPiecesFault laid e = (e ≡ NoMemory) ⊎ ((e ≡ NoWorker) ⊎ StoppedBy laid
 
 -- a piece was refused since the count is full: its group stands after firings of its own below the piece's end, with one more event due
 pub record IsFull (q : PieceState) : Type 0 where
-  pub fault : q.fault ≡ Some group.CountFull
-  pub told : IsTold q
+  pub full : IsFaultAt q.end q.group group.CountFull
   pub after : AfterFirings q.end q.began q.group
 
 -- so was one of those that came back
@@ -98,3 +98,11 @@ IsOfWorkers workers (Sink written) = ⊥
 abbrev pub IsOfRun : ℕ → EngineFault → Type 0
 IsOfRun workers (Sink written) = Unit {0}
 IsOfRun workers fault = IsOfWorkers workers fault
+
+-- what a fault of so many workers means: it is theirs, and that the count is full is told only where this is so
+abbrev pub IsWorkersFault : ℕ → Type 0 → EngineFault → Type 0
+IsWorkersFault workers Full fault = IsOfWorkers workers fault × (fault ≡ CountFull → Full)
+
+-- and what a fault of a run means
+abbrev pub IsRunFault : ℕ → Type 0 → EngineFault → Type 0
+IsRunFault workers Full fault = IsOfRun workers fault × (fault ≡ CountFull → Full)

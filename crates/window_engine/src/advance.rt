@@ -11,7 +11,7 @@ ghost use Rattle.window_core.specs.Windows.{AreBelow};
 ghost use Rattle.work_board.specs.Pieces.{PieceState};
 ghost use Rattle.window_engine.specs.Edges.{IsAtEdge, StaysNet, edge_of, reached_in};
 ghost use Rattle.window_engine.specs.Engines.{GoesOn, IsNext, NoneBelow};
-ghost use Rattle.window_engine.specs.Outcomes.{IsOfWorkers};
+ghost use Rattle.window_engine.specs.Outcomes.{IsWorkersFault};
 ghost use Rattle.window_engine.specs.Parts.{AreRight};
 ghost use Rattle.window_engine.specs.Laid.{laid_for, HasRun, HasRunOr, HasFullGroup, IsDoneBy};
 
@@ -73,8 +73,7 @@ fn run_in_turn<G: Gate>(gate: &G, window: &mut Window) -> Result<(), EngineFault
     requires few { length window.old.groups ≤ 64 }
     ensures done { OnOk result (HasRun window.old window.new) }
     ensures stays { StaysNet window.old window.new }
-    ensures fault { IfErr result (IsOfWorkers 1) }
-    ensures full { IfErr result (λ fault. fault ≡ EngineFault.CountFull → HasFullGroup window.old) }
+    ensures fault { IfErr result (IsWorkersFault 1 (HasFullGroup window.old)) }
 {
     let before = Snapshot::of(window);
     for i in 0..window.groups() {
@@ -108,8 +107,7 @@ pub(crate) fn run_apart<G: Gate, R: Threads + Wait + Sync>(
     requires fits { sheaf.now.first + length (merged sheaf.now).lines < 2 ^ 63 }
     ensures done { OnOk result (HasRun window.old window.new) }
     ensures stays { StaysNet window.old window.new }
-    ensures fault { IfErr result (IsOfWorkers workers) }
-    ensures full { IfErr result (λ fault. fault ≡ EngineFault.CountFull → HasFullGroup window.old) }
+    ensures fault { IfErr result (IsWorkersFault workers (HasFullGroup window.old)) }
     ensures right { AreRight sheaf.now scribes.new.items }
 {
     let end = window.end();
@@ -136,8 +134,7 @@ fn run_rest<G: Gate, L: Lines>(
     requires stays { StaysNet before.now.value window.old }
     ensures done { OnOk result (IsDoneBy until before.now.value window.new) }
     ensures stays { StaysNet before.now.value window.new }
-    ensures fault { IfErr result (IsOfWorkers 1) }
-    ensures full { IfErr result (λ fault. fault ≡ EngineFault.CountFull → HasTooMany (reached_in before.now.value)) }
+    ensures fault { IfErr result (IsWorkersFault 1 (HasTooMany (reached_in before.now.value))) }
 {
     if ran {
         return Ok(());
@@ -167,16 +164,14 @@ pub(crate) fn finish<G: Gate, L: Lines>(
     requires workers { 0 < _workers }
     requires ran { IfOk ran (λ ran. HasRunOr ran until before.now.value window.old) }
     requires stays { StaysNet before.now.value window.old }
-    requires fault { IfErr ran (IsOfWorkers _workers) }
-    requires full { IfErr ran (λ fault. fault ≡ EngineFault.CountFull → HasTooMany (reached_in before.now.value)) }
+    requires fault { IfErr ran (IsWorkersFault _workers (HasTooMany (reached_in before.now.value))) }
     ensures edge { OnOk result (IsAtEdge window.new) }
     ensures gone { OnOk result (GoesOn (reached_in before.now.value) (L.told lines.new) (reached_in window.new)) }
     ensures none_left { OnOk result (NoneBelow (min before.now.value.until until) (edge_of window.new)) }
     ensures early { OnOk result (AreBelow (min before.now.value.until until) (L.told lines.new).lines) }
     ensures some { OnOk result ((time : ℕ) → IsNext until (edge_of before.now.value) time → 0 < length (L.told lines.new).lines) }
     ensures stays { StaysNet before.now.value window.new }
-    ensures fault { IfErr result (IsOfWorkers _workers) }
-    ensures full { IfErr result (λ fault. fault ≡ EngineFault.CountFull → HasTooMany (reached_in before.now.value)) }
+    ensures fault { IfErr result (IsWorkersFault _workers (HasTooMany (reached_in before.now.value))) }
 {
     let ran = ran?;
     run_rest(gate, ran, until, before, window, lines)?;

@@ -5,7 +5,7 @@ ghost use Rattle.window_core.specs.Partition.{groups_of};
 ghost use Rattle.window_core.specs.Sheaves.{merged};
 ghost use Rattle.window_engine.specs.Edges.{IsAtEdge, StaysNet, reached_in};
 ghost use Rattle.window_engine.specs.Laid.{HasRunOr};
-ghost use Rattle.window_engine.specs.Outcomes.{IsOfWorkers};
+ghost use Rattle.window_engine.specs.Outcomes.{IsWorkersFault};
 ghost use Rattle.window_engine.specs.Parts.{AreRight};
 
 use crate::advance::run_apart;
@@ -53,8 +53,7 @@ impl<'a, R: Threads + Wait + Sync, G: Gate> Crew<'a, R, G> {
         requires fits { sheaf.now.first + length (merged sheaf.now).lines < 2 ^ 63 }
         ensures ran { IfOk result (λ ran. HasRunOr ran until window.old window.new) }
         ensures stays { StaysNet window.old window.new }
-        ensures fault { IfErr result (IsOfWorkers self.now.workers) }
-        ensures full { IfErr result (λ fault. fault ≡ EngineFault.CountFull → HasTooMany (reached_in window.old)) }
+        ensures fault { IfErr result (IsWorkersFault self.now.workers (HasTooMany (reached_in window.old))) }
         ensures right { AreRight sheaf.now scribes.new.items }
     {
         let hands = hands(window, self.workers, self.gate.worth(), shared, until);

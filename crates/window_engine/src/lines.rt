@@ -1,20 +1,18 @@
 //! What a window's lines go to: a sheaf, where they stay group by group, or a batch, which has them in
 //! the order of their keys.
-ghost use Rattle.std.specs.Prelude.{◌≡◌, ◌<◌, ◌+◌};
-
 use crate::fault::EngineFault;
 use window_core::{Batch, Sheaf, TurnFault, Window};
 
 /// What a window's lines go to.
 pub(crate) trait Lines {
-    ghost use Rattle.std.specs.Prelude.{◌≡◌, ◌+◌, ◌<◌, length, true, false, IfErr, OnOk};
+    ghost use Rattle.std.specs.Prelude.{◌≡◌, true, false, IfErr, OnOk};
     ghost use Rattle.table_run.specs.State.{State};
     ghost use Rattle.window_core.specs.Batches.{BatchValue};
+    ghost use Rattle.window_core.specs.Full.{RunsTooLong};
     ghost use Rattle.window_core.specs.Window.{IsFrom, HasGoneOn, HasTurned, states_of};
-    ghost use Rattle.window_core.specs.Windows.{AreBelow, all_done, all_lines};
-    ghost use Rattle.window_engine.specs.declared.fault.EngineFault.TheVariants as fault;
+    ghost use Rattle.window_core.specs.Windows.{AreBelow, all_done};
     ghost use Rattle.window_engine.specs.Edges.{StaysNet};
-    ghost use Rattle.window_engine.specs.Outcomes.{IsOfWorkers};
+    ghost use Rattle.window_engine.specs.Outcomes.{IsWorkersFault};
 
     // The lines that it has.
     ghost told: { Self → BatchValue };
@@ -31,8 +29,7 @@ pub(crate) trait Lines {
         ensures turned { OnOk result (HasTurned window.old (told self.new) window.new) }
         ensures run { OnOk result ((edge : State) → IsFrom edge window.old → HasGoneOn edge (told self.new).lines window.new) }
         ensures below { OnOk result (AreBelow window.old.until (told self.new).lines) }
-        ensures fault { IfErr result (IsOfWorkers 1) }
-        ensures full { IfErr result (λ f. f ≡ fault.CountFull → 1000000000000000 < window.old.position + length (all_lines (states_of window.old.groups))) }
+        ensures fault { IfErr result (IsWorkersFault 1 (RunsTooLong window.old)) }
         ensures stays { StaysNet window.old window.new };
 }
 

@@ -12,7 +12,7 @@ ghost use Rattle.window_engine.specs.Courses.{AtRest, HasGroups, IsWriting, HasE
 ghost use Rattle.window_engine.specs.Edges.{StaysNet, edge_of, reached_in};
 ghost use Rattle.window_engine.specs.Engines.{GoesOn, IsNext, IsStop};
 ghost use Rattle.window_engine.specs.Laid.{HasRunOr};
-ghost use Rattle.window_engine.specs.Outcomes.{IsOfWorkers};
+ghost use Rattle.window_engine.specs.Outcomes.{IsWorkersFault};
 ghost use Rattle.window_engine.specs.Parts.{AreRight, IsWhole};
 
 use crate::advance::finish;
@@ -85,8 +85,7 @@ impl Course {
         requires bound { plan.now.bound ≤ until }
         requires ran { IfOk ran (λ ran. HasRunOr ran plan.now.bound now.now.value self.old.window) }
         requires stays { StaysNet now.now.value self.old.window }
-        requires fault { IfErr ran (IsOfWorkers workers) }
-        requires full { IfErr ran (λ fault. fault ≡ EngineFault.CountFull → HasTooMany (reached_in now.now.value)) }
+        requires fault { IfErr ran (IsWorkersFault workers (HasTooMany (reached_in now.now.value))) }
         ensures writing { OnOk result (IsWriting until began.now.value self.new written.new (S.contents known.now.value) (S.contents sink.new)) }
         ensures failures { OnOk result (S.failures sink.new ≡ S.failures known.now.value) }
         ensures slice { IfOk result (λ slice. 1 ≤ slice) }

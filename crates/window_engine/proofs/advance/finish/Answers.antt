@@ -1,3 +1,6 @@
+use Rattle.std.proofs.Common.{arith}
+use Rattle.window_core.specs.Full.{HasTooMany, RunsTooLong}
+use Rattle.window_engine.proofs.Meant.{meant_more}
 use Rattle.window_engine.proofs.Edge.{turned_edge, turned_stays, stays_both, turned_below, went_on, left_none}
 use Rattle.std.proofs.lemmas.Result.{err_from_is_err_and}
 use Rattle.window_engine.specs.Edges.{reached_in}
@@ -38,9 +41,19 @@ pub returns-clause-stays : goal.returns-clause-stays
 returns-clause-stays g c =
     stays_both c.args.before.now.value c.run_rest.new.window c.turn.new.window c.in_ok-run_rest.ensures.stays (turned_stays c.run_rest.new.window c.turn.new.window (g.L.Lines.told c.turn.new.self) c.in_ok-turn.ensures.turned)
 
-pub returns-in_err-turn-clause-full : goal.returns-in_err-turn-clause-full
-returns-in_err-turn-clause-full g c =
+pub returns-in_err-run_rest-clause-fault : goal.returns-in_err-run_rest-clause-fault
+returns-in_err-run_rest-clause-fault g c =
+    let many = HasTooMany (reached_in c.args.before.now.value) in
+    let some = c.requires.workers in
+    let p = err_from_is_err_and c.from_residual-in_err-run_rest.result c.from_residual-in_err-run_rest.ensures.1 in
+    rw (p.1, p.2)
+    (meant_more 1 c.args._workers many many c.in_err-run_rest.field-0.0 (omega (arith, some)) (λ full. full) c.in_err-run_rest.ensures.fault)
+
+pub returns-in_err-turn-clause-fault : goal.returns-in_err-turn-clause-fault
+returns-in_err-turn-clause-fault g c =
+    let v = c.args.before.now.value in
+    let w = c.run_rest.new.window in
+    let some = c.requires.workers in
     let p = err_from_is_err_and c.from_residual-in_err-turn.result c.from_residual-in_err-turn.ensures.1 in
     rw (p.1, p.2)
-    (λ is. turn_full c.args.before.now.value c.run_rest.new.window c.args.until c.requires.edge c.requires.is_window c.in_ok-run_rest.ensures.done
-    (c.in_ok-run_rest.ensures.done.done, c.in_err-turn.ensures.full is))
+    (meant_more 1 c.args._workers (RunsTooLong w) (HasTooMany (reached_in v)) c.in_err-turn.field-0.0 (omega (arith, some)) (λ long. turn_full v w c.args.until c.requires.edge c.requires.is_window c.in_ok-run_rest.ensures.done long) c.in_err-turn.ensures.fault)

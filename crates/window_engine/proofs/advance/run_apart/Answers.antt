@@ -3,6 +3,7 @@ use Rattle.std.proofs.lemmas.Result.{err_from_is_err_and}
 use Rattle.window_core.specs.Group.{GroupValue}
 use Rattle.window_core.specs.Window.{WindowValue, states_of}
 use Rattle.window_core.specs.Windows.{all_done}
+use Rattle.window_engine.proofs.Meant.{of_pieces}
 use Rattle.window_engine.proofs.Laying.{come_back, all_are_done}
 use Rattle.window_engine.proofs.TooMany.{pieces_full}
 use Rattle.window_engine.proofs.advance.run_apart.Goals as goal
@@ -33,8 +34,11 @@ returns-clause-done g c =
           ∙ done;
     }
 
-pub returns-in_err-done-clause-full : goal.returns-in_err-done-clause-full
-returns-in_err-done-clause-full g c =
+pub returns-in_err-done-clause-fault : goal.returns-in_err-done-clause-fault
+returns-in_err-done-clause-fault g c =
+    let w = c.args.window.now in
     let p = err_from_is_err_and c.from_residual-in_err-done.result c.from_residual-in_err-done.ensures.1 in
-    rw (p.1, p.2)
-    (λ is. pieces_full c.args.window.now c.end-end.result c.take_groups.result.items c.in_ok-pieces.pieces.items c.take_groups.ensures.groups c.end-end.ensures c.in_ok-pieces.ensures (c.in_err-done.ensures.full is))
+    rw (p.1, p.2) (
+      of_pieces c.args.workers c.in_ok-pieces.pieces.items c.in_err-done.field-0.0 c.requires.workers.0 c.in_err-done.ensures.err,
+      λ is. pieces_full w c.end-end.result c.take_groups.result.items c.in_ok-pieces.pieces.items c.take_groups.ensures.groups c.end-end.ensures c.in_ok-pieces.ensures (c.in_err-done.ensures.full is),
+    )

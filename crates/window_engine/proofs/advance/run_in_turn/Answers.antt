@@ -1,6 +1,12 @@
-use Rattle.std.proofs.Common.{ap, ◌∙◌, arith, ◌≤◌, ℕ, length}
-use Rattle.window_core.specs.Window.{WindowValue, states_of}
+use Rattle.std.proofs.Common.{ap, ◌∙◌, arith, ◌≡◌, ◌<◌, ◌≤◌, ℕ, length, subst}
+use Rattle.std.proofs.lemmas.Result.{IfErr-at_err}
+use Rattle.node_group.specs.declared.group.GroupFault.TheVariants as group
+use Rattle.window_core.specs.Faults.{IsFaultAt}
+use Rattle.window_core.specs.Group.{GroupValue, AfterFirings}
+use Rattle.window_core.specs.Window.{WindowValue, states_of, value_at}
 use Rattle.window_core.specs.Windows.{all_done}
+use Rattle.window_engine.specs.Laid.{HasFullGroup}
+use Rattle.window_engine.proofs.Meant.{group_meant}
 use Rattle.window_engine.proofs.Laying.{all_done_of}
 use Rattle.window_engine.proofs.advance.run_in_turn.Goals as goal
 
@@ -18,3 +24,23 @@ returns-clause-done g c =
           ap (λ (e : ℕ). all_done e (states_of c.loop-i.window.groups)) until_is
           ∙ all_done_of c.args.window.now.until c.loop-i.window.groups (λ n l. was.4 n (omega (arith, l, past)));
     }
+
+pub returns-in-Err-clause-fault : goal.returns-in-Err-clause-fault
+returns-in-Err-clause-fault g c =
+    let was = c.loop-i.invariant in
+    let v = c.args.window.now in
+    let u = c.loop-i.window in
+    let i = c.loop-i.i in
+    let ran = c.run_group-ran.new.self in
+    let it = value_at ran.groups i in
+    let until : u.until ≡ v.until = ap (λ (w : WindowValue). w.until) was.0 in
+    let same : value_at u.groups i ≡ value_at v.groups i = was.3 i (omega arith) in
+    let below : i < length v.groups = omega (arith, was.1, c.groups-i-end.ensures, c.loop-i-test.true) in
+    let at : IsFaultAt u.until it c.in-Err.fault = IfErr-at_err (IsFaultAt u.until it) c.in-Err.is c.run_group-ran.ensures.fault in
+    rw c.group_fault.ensures (group_meant 1 (HasFullGroup v) c.in-Err.fault (λ is. record {
+      number = i;
+      group = it;
+      within = below;
+      after = subst (λ (e : ℕ). AfterFirings e (value_at v.groups i) it) until (subst (λ (h : GroupValue). AfterFirings u.until h it) same c.run_group-ran.ensures.after);
+      full = subst (λ (e : ℕ). IsFaultAt e it group.CountFull) until (subst (IsFaultAt u.until it) is at);
+    }))

@@ -62,9 +62,9 @@ returns-in-Err-finish-clause-ended g c =
     let put = c.put_made.new.self in
     broken c.args.until c.args.began.now.value was c.args.written.now (contents c.args.known.now.value) (contents c.args.sink.now) w c.args.workers (record put { window = c.finish.new.window; sheaf = c.finish.new.lines }) (contents c.put_made.new.sink) (Workers c.in-Err-finish.fault) (failures c.args.known.now.value) (failures c.args.sink.now) (failures c.put_made.new.sink) (
       wrote_to_edge w.net was w.behind c.args.until put.position c.in-Ok.bytes (contents c.args.sink.now) (contents c.put_made.new.sink) c.in-Ok.ensures.position (c.in-Ok.ensures.wrote c.args.until w.net (reached_in now) w.early w.behind.gone),
-      c.in-Err-finish.ensures.fault,
+      c.in-Err-finish.ensures.fault.0,
     )
-    (workers_full w.net c.in-Err-finish.fault (λ is. full_before w.net was w.behind (c.in-Err-finish.ensures.full is))) c.requires.failures (c.put_made.ensures.failures ∙ ap (λ r. fails_after r (failures c.args.sink.now)) c.in-Ok.is) (ap (λ (x : Course). x.groups) c.put_made.ensures.rest) (ap (λ (x : Course). x.ahead) c.put_made.ensures.rest)
+    (workers_full w.net c.in-Err-finish.fault (λ is. full_before w.net was w.behind (c.in-Err-finish.ensures.fault.1 is))) c.requires.failures (c.put_made.ensures.failures ∙ ap (λ r. fails_after r (failures c.args.sink.now)) c.in-Ok.is) (ap (λ (x : Course). x.groups) c.put_made.ensures.rest) (ap (λ (x : Course). x.ahead) c.put_made.ensures.rest)
 
 pub choose-requires-clause-few : goal.choose-requires-clause-few
 choose-requires-clause-few g c = subst (λ (l : List ℕ). groups_of l ≤ 64) (sym c.finish.ensures.stays.entries) c.requires.writing.behind.groups

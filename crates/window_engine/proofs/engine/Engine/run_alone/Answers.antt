@@ -1,8 +1,10 @@
 use Rattle.std.proofs.Common.{◌≡◌, sym, subst, IfErr}
+use Rattle.std.proofs.lemmas.Result.{IfErr-weaker}
 use Rattle.net_machine.specs.Run.{Reached}
 use Rattle.window_core.specs.Full.{HasTooMany}
-use Rattle.window_engine.specs.Edges.{edge_of}
+use Rattle.window_engine.specs.Edges.{edge_of, reached_in}
 use Rattle.window_engine.specs.Engines.{Commits, EngineValue}
+use Rattle.window_engine.specs.Outcomes.{IsOfRun, IsRunFault}
 use Rattle.window_engine.specs.declared.fault.EngineFault.TheVariants.{CountFull}
 use Rattle.window_engine.proofs.Between.{commits_none, net_is}
 use Rattle.window_engine.proofs.engine.Engine.run_alone.Goals as goal
@@ -19,9 +21,16 @@ returns-clause-commits g c =
     let at : Reached → Type 0 = λ r. Commits c.args.until r c.write_alone-outcome.result (record { state = edge_of course.window; position = course.position }) (contents c.args.sink.now) (contents c.write_alone-outcome.new.sink) in
     subst (λ (v : EngineValue). at v.net) c.self.view_is (subst at (sym (net_is e.course.window e.course.position rest.committed)) c.write_alone-outcome.ensures.commits)
 
+pub returns-clause-fault : goal.returns-clause-fault
+returns-clause-fault g c _ =
+    let many = HasTooMany (reached_in c.self.inside.course.window) in
+    IfErr-weaker c.write_alone-outcome.result (IsRunFault 1 many) (IsOfRun 1) (λ fault is. is.0) c.write_alone-outcome.ensures.fault
+
 pub returns-clause-full : goal.returns-clause-full
 returns-clause-full g c =
     let e = c.self.inside in
     let rest = (c.self.invariant c.if-self.false).0 in
+    let many = HasTooMany (reached_in e.course.window) in
+    let full = IfErr-weaker c.write_alone-outcome.result (IsRunFault 1 many) (λ fault. fault ≡ CountFull → many) (λ fault is. is.1) c.write_alone-outcome.ensures.fault in
     subst (λ (v : EngineValue). IfErr c.write_alone-outcome.result (λ fault. fault ≡ CountFull → HasTooMany v.net)) c.self.view_is
-    (subst (λ (r : Reached). IfErr c.write_alone-outcome.result (λ fault. fault ≡ CountFull → HasTooMany r)) (sym (net_is e.course.window e.course.position rest.committed)) c.write_alone-outcome.ensures.full)
+    (subst (λ (r : Reached). IfErr c.write_alone-outcome.result (λ fault. fault ≡ CountFull → HasTooMany r)) (sym (net_is e.course.window e.course.position rest.committed)) full)

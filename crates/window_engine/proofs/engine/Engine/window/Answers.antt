@@ -35,7 +35,7 @@ returns-in-Err-finish-clause-full g c is =
     let e = c.self.inside in
     let rest = (c.self.invariant c.if-self.false).0 in
     subst (λ (v : EngineValue). HasTooMany v.net) c.self.view_is
-    (subst HasTooMany (c.part.ensures.same.net ∙ sym (net_is e.course.window e.course.position rest.committed)) (subst (λ (w : WindowValue). HasTooMany (reached_in w)) c.of-before.ensures (c.in-Err-finish.ensures.full is)))
+    (subst HasTooMany (c.part.ensures.same.net ∙ sym (net_is e.course.window e.course.position rest.committed)) (subst (λ (w : WindowValue). HasTooMany (reached_in w)) c.of-before.ensures (c.in-Err-finish.ensures.fault.1 is)))
 
 pub invariant_of-self-2 : goal.invariant_of-self-2
 invariant_of-self-2 g c _ =
