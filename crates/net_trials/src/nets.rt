@@ -2,7 +2,7 @@ mod by_nodes;
 mod copies;
 mod two_flows;
 
-use self::by_nodes::copied;
+use self::by_nodes::{copied, copied_in};
 use self::two_flows::runs_on;
 use crate::scenarios::net_of;
 use net_machine::{LinkEnds, Net, Place};
@@ -78,12 +78,13 @@ fn goes_on(rt: &impl Abort, alloc: Global, mut net: Net) {
 }
 
 #[test]
-fn a_copy_and_a_net_of_the_same_parts_go_on(rt: HostRuntime) {
+fn copies_and_a_net_of_the_same_parts_go_on(rt: HostRuntime) {
     let alloc = rt.alloc();
     let mut net = net_of(&rt, alloc, &[ONE_SEGMENT]);
     assert_eq!(rt; (net.end(), net.nodes().len()), (1_000_000_000, 2));
     let more = runs_on(&rt, &mut net, 2, &mut Vec::new(alloc));
     assert!(rt; more);
     goes_on(&rt, alloc, copied(&rt, &net));
+    goes_on(&rt, alloc, copied_in(&rt, &net, &[1, 7, 1]));
     goes_on(&rt, alloc, of_its_parts(&rt, net));
 }

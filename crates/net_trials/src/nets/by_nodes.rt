@@ -23,6 +23,14 @@ pub(super) fn copied(rt: &impl Abort, net: &Net) -> Net {
     }
 }
 
+/// The same, of whose nodes those of these numbers are copied first.
+pub(super) fn copied_in(rt: &impl Abort, net: &Net, order: &[u16]) -> Net {
+    match net.copy_in(order) {
+        Ok(copy) => copy,
+        Err(_) => net.copy_in(order).expect(rt, "one request is refused"),
+    }
+}
+
 // Room to rank so many nodes.
 fn room(rt: &impl Abort, alloc: Global, nodes: usize) -> Ranking
     requires { nodes ≤ 2 ^ 31 }
