@@ -14,7 +14,7 @@ use Rattle.ranking.proofs.Gathered.{rank-next, home_set, gathered-apply, gathere
 use Rattle.node_core.specs.declared.event.Event.{Event}
 use Rattle.node_core.specs.Pending.{Events, Change}
 use Rattle.node_core.specs.Node.{NodeState}
-use Rattle.net_machine.specs.Nodes.{no_node, node_at, pendings, net_pending, IsPlaced, IsRanked, IsFirst}
+use Rattle.net_machine.specs.Nodes.{no_node, node_at, pendings, next_keys, net_pending, IsPlaced, IsFirst}
 
 pub pending_at : (nodes : List NodeState) (i : ℕ) → map_at (pendings nodes) i ≡ (node_at nodes i).pending
 pending_at nodes i = get_or-map (λ (n : NodeState). n.pending) nodes i no_node
@@ -51,28 +51,28 @@ module _ (nodes : List NodeState) (placed : IsPlaced nodes) where
   pub node_key : (i : ℕ) (k : Key) (v : Event) → fin.get (node_at nodes i).pending k ≡ Some v → fin.get (net_pending nodes) k ≡ Some v
   node_key i k v there = gathered_has (λ q. q.node) (pendings nodes) placed.at_home i k v (ap (λ (m : Events). fin.get m k) (pending_at nodes i) ∙ there)
 
+-- the next key of each node, by its place
+pub next_at : (nodes : List NodeState) (i : ℕ) → rank_at (next_keys nodes) i ≡ next_key (node_at nodes i).pending
+next_at nodes i = rank-next (pendings nodes) i ∙ ap next_key (pending_at nodes i)
+
 -- the ranking follows a node
-pub ranked_set : (nodes : List NodeState) (ranks : List (Option Key)) (i : ℕ) (x : NodeState) → IsRanked nodes ranks → IsPlaced (set nodes i x) → IsRanked (set nodes i x) (set ranks i (next_key x.pending))
-ranked_set nodes ranks i x is placed = record {
-  ranked = ap (λ r. set r i (next_key x.pending)) is.ranked ∙ sym (map-set next_key (pendings nodes) i x.pending) ∙ ap (map next_key) (sym (map-set (λ (n : NodeState). n.pending) nodes i x));
-  placed = placed;
-}
+pub ranked_set : (nodes : List NodeState) (ranks : List (Option Key)) (i : ℕ) (x : NodeState) → ranks ≡ next_keys nodes → set ranks i (next_key x.pending) ≡ next_keys (set nodes i x)
+ranked_set nodes ranks i x is = ap (λ r. set r i (next_key x.pending)) is ∙ sym (map-set next_key (pendings nodes) i x.pending) ∙ ap (map next_key) (sym (map-set (λ (n : NodeState). n.pending) nodes i x))
 
 -- and stands where the node's next key does
-pub ranked_stays : (nodes : List NodeState) (ranks : List (Option Key)) (i : ℕ) (x : NodeState) → IsRanked nodes ranks → IsPlaced (set nodes i x) → next_key x.pending ≡ next_key (node_at nodes i).pending → IsRanked (set nodes i x) ranks
-ranked_stays nodes ranks i x is placed same = subst (IsRanked (set nodes i x))
-    (ap (set ranks i) (same ∙ ap next_key (sym (pending_at nodes i)) ∙ sym (rank-next (pendings nodes) i) ∙ ap (λ (r : List (Option Key)). rank_at r i) (sym is.ranked)) ∙ set-get_or ranks i None)
-    (ranked_set nodes ranks i x is placed)
+pub ranked_stays : (nodes : List NodeState) (ranks : List (Option Key)) (i : ℕ) (x : NodeState) → ranks ≡ next_keys nodes → next_key x.pending ≡ next_key (node_at nodes i).pending → ranks ≡ next_keys (set nodes i x)
+ranked_stays nodes ranks i x is same =
+    sym (ap (set ranks i) (same ∙ sym (next_at nodes i) ∙ ap (λ (r : List (Option Key)). rank_at r i) (sym is)) ∙ set-get_or ranks i None) ∙ ranked_set nodes ranks i x is
 
-module _ (nodes : List NodeState) (ranks : List (Option Key)) (is : IsRanked nodes ranks) where
-  pub net_none : ((place : ℕ) → rank_at ranks place ≡ None) → least (net_pending nodes) ≡ None
-  net_none none = none_gathered (λ k. k.node) (pendings nodes) is.placed.at_home (subst (λ (r : List (Option Key)). (place : ℕ) → rank_at r place ≡ None) is.ranked none)
+module _ (nodes : List NodeState) (placed : IsPlaced nodes) where
+  pub net_none : ((place : ℕ) → rank_at (next_keys nodes) place ≡ None) → least (net_pending nodes) ≡ None
+  net_none none = none_gathered (λ k. k.node) (pendings nodes) placed.at_home none
 
-  first_map : (i : ℕ) (key : Key) → Leads ranks i key → IsFirstMap (λ k. k.node) (pendings nodes) i key
-  first_map i key leads = is_first (λ k. k.node) (pendings nodes) is.placed.at_home i key (subst (λ (r : List (Option Key)). Leads r i key) is.ranked leads)
+  first_map : (i : ℕ) (key : Key) → Leads (next_keys nodes) i key → IsFirstMap (λ k. k.node) (pendings nodes) i key
+  first_map i key leads = is_first (λ k. k.node) (pendings nodes) placed.at_home i key leads
 
   -- the node that leads
-  pub first_node : (i : ℕ) (key : Key) → Leads ranks i key → IsFirst nodes i
+  pub first_node : (i : ℕ) (key : Key) → Leads (next_keys nodes) i key → IsFirst nodes i
   first_node i key leads =
       let first = first_map i key leads in
       record {
@@ -80,7 +80,7 @@ module _ (nodes : List NodeState) (ranks : List (Option Key)) (is : IsRanked nod
         same = first.same ∙ ap least (pending_at nodes i);
       }
 
-  pub first_key : (i : ℕ) (key : Key) → Leads ranks i key → Some key ≡ next_key (net_pending nodes)
+  pub first_key : (i : ℕ) (key : Key) → Leads (next_keys nodes) i key → Some key ≡ next_key (net_pending nodes)
   first_key i key leads =
       let first = first_map i key leads in
       sym first.next ∙ sym (ap (Rattle.std.specs.Option.option_map (λ (entry : Key × Event). entry.0)) first.same)

@@ -26,6 +26,10 @@ opening_nodes p = each (opening_node p) (enumerate_from 0 p.nodes)
 abbrev pub pendings : List NodeState → List Events
 pendings nodes = each (λ (n : NodeState). n.pending) nodes
 
+-- the next key of each
+abbrev pub next_keys : List NodeState → List (Option Key)
+next_keys nodes = each next_key (pendings nodes)
+
 -- what is pending at all of them
 abbrev pub net_pending : List NodeState → Events
 net_pending nodes = gathered (pendings nodes)
@@ -45,11 +49,6 @@ reached nodes end position = record { state = net_state nodes end; position = po
 pub record IsPlaced (nodes : List NodeState) : Type 0 where
   pub number : (i : ℕ) → i < length nodes → (node_at nodes i).number ≡ i
   pub at_home : AtHome (λ k. k.node) (pendings nodes)
-
--- the ranking has each node's next key
-pub record IsRanked (nodes : List NodeState) (ranks : List (Option Key)) : Type 0 where
-  pub ranked : ranks ≡ each next_key (pendings nodes)
-  pub placed : IsPlaced nodes
 
 -- what is pending first at a node is what is pending first at all
 pub record IsFirst (nodes : List NodeState) (place : ℕ) : Type 0 where

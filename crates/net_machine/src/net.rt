@@ -141,6 +141,7 @@ impl Net {
     }
 
     /// The least pending key, below the end or not.
+    #[inline(always)]
     pub fn first(&self) -> Option<Key>
         ensures { result ≡ next_key self.now.state.pending }
     {
@@ -155,7 +156,7 @@ impl Net {
     pub fn due_key(&self) -> Option<Key>
         ensures { result ≡ option_map (λ entry. entry.0) (due self.now.state) }
     {
-        let (_, key) = self.nodes.first()?;
+        let key = self.first()?;
         if key.time >= self.end {
             return None;
         }

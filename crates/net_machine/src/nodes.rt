@@ -1,8 +1,9 @@
-//! The nodes, ranked by their next keys.
-ghost use Rattle.std.specs.Prelude.{◌≡◌, ◌≢◌, ◌+◌, ◌<◌, ◌≤◌, ◌^◌, [], ℕ, All, IfOk, IfSome, OnOk, OnErr, MatchOption, Option, Some, None, length, map as each, slice_set, replicate};
+//! Nodes in a row, ranked by their next keys.
+ghost use Rattle.std.specs.Prelude.{◌≡◌, ◌≢◌, ◌+◌, ◌<◌, ◌≤◌, ◌^◌, [], ℕ, All, IfOk, IfSome, OnOk, OnErr, MatchOption, Option, Some, None, length, slice_set, replicate};
 ghost use Rattle.std.specs.Option.{option_map};
 ghost use Rattle.std.specs.List.Sorted.{IsStrictlyIncreasing};
 ghost use Rattle.sim_time.specs.declared.key.Key.{Key};
+ghost use Rattle.ranking.specs.Leading.{rank_at, Leads};
 ghost use Rattle.ranking.specs.Keyed.{least, next_key, EachKey};
 ghost use Rattle.node_core.specs.declared.event.Event.{Event};
 ghost use Rattle.node_core.specs.AgendaState.{incoming_at};
@@ -12,7 +13,7 @@ ghost use Rattle.node_core.specs.Row.{Leaving, row};
 ghost use Rattle.node_core.specs.Ready.{IsRunnable};
 ghost use Rattle.node_core.specs.TraceLine.{shown};
 ghost use Rattle.node_core.specs.Node.{delivered, HasFired};
-ghost use Rattle.net_machine.specs.Nodes.{node_at, pendings, net_pending, IsPlaced, IsFirst, AreCopies};
+ghost use Rattle.net_machine.specs.Nodes.{node_at, next_keys, AreCopies};
 
 use node_core::{Line, Node, Outbox};
 use packet_chain::PacketChain;
@@ -21,7 +22,7 @@ use sim_time::Key;
 use std::alloc::{AllocError, Global};
 use std::marker::Model;
 
-/// The nodes of a net, each at its number.
+/// Nodes of a net in a row: all of it, each at its number, or some of it.
 #[derive(Drop)]
 pub struct Nodes {
     nodes: Vec<Node>,
@@ -39,11 +40,12 @@ impl Model for Nodes {
 
     ghost coded = { nodes_code };
 
-    ghost use Rattle.net_machine.specs.Nodes.{IsRanked};
+    ghost use Rattle.std.specs.Prelude.{◌≡◌};
+    ghost use Rattle.net_machine.specs.Nodes.{next_keys};
 
     ghost view = { λ n. n.nodes.items };
 
-    ghost invariant = { λ n. IsRanked n.nodes.items n.ranking };
+    ghost invariant = { λ n. n.ranking ≡ next_keys n.nodes.items };
 }
 
 // Room for copies of so many nodes, of which there is none yet.
@@ -102,7 +104,7 @@ fn copies_in(alloc: Global, nodes: &[Node], order: &[u16]) -> Result<Vec<Node>, 
 // Ranks nodes by their next keys.
 fn rank(nodes: &[Node], ranking: &mut Ranking)
     requires { length ranking.old ≡ length nodes.now }
-    ensures { ranking.new ≡ each next_key (pendings nodes.now) }
+    ensures { ranking.new ≡ next_keys nodes.now }
 {
     for at in 0..nodes.len() {
         let node = &nodes[at];
@@ -111,20 +113,9 @@ fn rank(nodes: &[Node], ranking: &mut Ranking)
 }
 
 impl Nodes {
-    /// These nodes, each at its number.
-    pub fn new(alloc: Global, nodes: Vec<Node>) -> Result<Nodes, AllocError>
-        requires few { length nodes.items ≤ 2 ^ 31 }
-        requires placed { IsPlaced nodes.items }
-        ensures { IfOk result (λ all. all ≡ nodes.items) }
-    {
-        let ranking = Ranking::new(alloc, nodes.len())?;
-        Ok(Nodes::of_parts(nodes, ranking))
-    }
-
-    /// These nodes, each at its number, with a ranking of as many places, whatever it holds.
+    /// These nodes, with a ranking of as many places, whatever it holds. No memory is taken.
     pub fn of_parts(nodes: Vec<Node>, mut ranking: Ranking) -> Nodes
-        requires placed { IsPlaced nodes.items }
-        requires room { length ranking ≡ length nodes.items }
+        requires { length ranking ≡ length nodes.items }
         ensures { result ≡ nodes.items }
     {
         rank(&nodes, &mut ranking);
@@ -134,16 +125,15 @@ impl Nodes {
     /// The nodes, and their ranking.
     pub fn into_parts(self) -> (Vec<Node>, Ranking)
         ensures nodes { result.0.items ≡ self }
-        ensures placed { IsPlaced self }
         ensures room { length result.1 ≡ length self }
     {
         (self.nodes, self.ranking)
     }
 
-    /// The node at which the least key is pending, and the key.
+    /// The place of the node at which the least key is pending, and the key.
+    #[inline(always)]
     pub fn first(&self) -> Option<(usize, Key)>
-        ensures first { MatchOption result (least (net_pending self.now) ≡ None) (λ entry. IsFirst self.now entry.0) }
-        ensures key { option_map (λ entry. entry.1) result ≡ next_key (net_pending self.now) }
+        ensures { MatchOption result ((place : ℕ) → rank_at (next_keys self.now) place ≡ None) (λ entry. Leads (next_keys self.now) entry.0 entry.1) }
     {
         match self.ranking.first() {
             Some((place, key)) => Some((place, key)),
@@ -151,8 +141,9 @@ impl Nodes {
         }
     }
 
-    /// Runs the event of the least key of the node at which the least of all is pending. What it
-    /// says and promises is that of [`Node::fire_into`].
+    /// Runs the event of the least key of a node. What it says and promises is that of
+    /// [`Node::fire_into`].
+    #[inline(always)]
     pub fn fire_into(
         &mut self,
         place: usize,
@@ -166,7 +157,6 @@ impl Nodes {
         requires room { All (λ chain. length chain < 1000000000000000) out.old }
         ensures fired { OnOk result (HasFired (node_at self.old place) (node_at self.new place) out.old out.new (shown line.new)) }
         ensures others { OnOk result (self.new ≡ slice_set self.old place (node_at self.new place)) }
-        ensures placed { OnOk result (IsPlaced self.new) }
         ensures leaving { IfOk result (λ index. index ≡ option_map (λ (leaving : Leaving). leaving.index) (row (node_at self.old place).part line.new.key line.new.event).leaving) }
         ensures same { OnErr result (self.new ≡ self.old) }
         ensures same_out { OnErr result (out.new ≡ out.old) }
@@ -198,7 +188,6 @@ impl Nodes {
         requires later { All (λ stamp. EachKey (λ k. k.source ≡ (incoming_at (node_at self.old place).incoming index).link + 1 → k.time < stamp) (node_at self.old place).pending) (stamps_of chain.old) }
         requires few { (incoming_at (node_at self.old place).incoming index).came + length chain.old ≤ 2 ^ 50 }
         ensures nodes { self.new ≡ slice_set self.old place (delivered (node_at self.old place) index chain.old) }
-        ensures placed { IsPlaced self.new }
         ensures emptied { chain.new ≡ [] }
     {
         let node = &mut self.nodes[place];

@@ -1,7 +1,7 @@
 -- What nodes in a row, found by their numbers, have in their seats: who sits where, a change of one, and the least of all.
-use Rattle.std.proofs.Common.{◌≡◌, ◌≢◌, ℕ, ◌<◌, ◌≤◌, List, length, set, map, get_or, refl, sym, ap, subst, ◌∙◌, Some, None, Option, ⊎_elim, arith}
+use Rattle.std.proofs.Common.{◌≡◌, ◌≢◌, ℕ, ◌<◌, ◌≤◌, List, length, set, get_or, refl, sym, ap, subst, ◌∙◌, Some, None, Option, ⊎_elim, arith}
 use Rattle.std.proofs.lemmas.Bool.{cases_eq, cases_lt}
-use Rattle.std.proofs.lemmas.List.{get_or-set_same, get_or-set_other, get_or-map, get_or_past, length-set, length-map, map-set, set-get_or, ext_get_or}
+use Rattle.std.proofs.lemmas.List.{get_or-set_same, get_or-set_other, get_or-map, get_or_past, length-set, length-map, ext_get_or}
 use Rattle.std.proofs.lemmas.Option.{slice_get-get_or, slice_get_past, slice_get_within}
 use Rattle.std.proofs.Math.ListN.{get_or-eq_default}
 use Rattle.std.specs.List.{slice_get}
@@ -11,19 +11,15 @@ use Rattle.sim_time.specs.declared.key.Key.{Key}
 use Rattle.ranking.specs.Leading.{rank_at, Leads}
 use Rattle.ranking.specs.Keyed.{least, next_key}
 use Rattle.ranking.proofs.Maps.{not_some, least_is, next_some}
-use Rattle.ranking.proofs.Gathered.{rank-next, next_empty}
+use Rattle.ranking.proofs.Gathered.{next_empty}
 use Rattle.node_core.specs.declared.event.Event.{Event}
 use Rattle.node_core.specs.Pending.{Events}
 use Rattle.node_core.specs.Node.{NodeState}
-use Rattle.net_machine.specs.Nodes.{no_node, node_at, pendings, net_pending, IsPlaced, IsRanked, IsFirst}
-use Rattle.net_machine.proofs.AtNodes.{pending_at, first_node, first_key, net_none}
+use Rattle.net_machine.specs.Nodes.{no_node, node_at, next_keys, net_pending, IsPlaced, IsFirst}
+use Rattle.net_machine.proofs.AtNodes.{pending_at, next_at, first_node, first_key, net_none}
 use Rattle.node_group.specs.Seats.{absent, seated}
 use Rattle.node_group.specs.Numbered.{seats_of, AreFound, AreMembers}
 use Rattle.node_group.proofs.Seated.{length-seated, seated_at, seated_set, is_seated, nobody}
-
--- the next key of each node, by its place
-rank_node : (nodes : List NodeState) (i : ℕ) → rank_at (map next_key (pendings nodes)) i ≡ next_key (node_at nodes i).pending
-rank_node nodes i = rank-next (pendings nodes) i ∙ ap next_key (pending_at nodes i)
 
 slice_get_set_other : {X : Type 0} (xs : List X) (i j : ℕ) (x d : X) → j ≢ i → slice_get (set xs i x) j ≡ slice_get xs j
 slice_get_set_other xs i j x d apart = ⊎_elim
@@ -118,17 +114,8 @@ module _ (nodes : List NodeState) (index : List ℕ) where
             let size = length-set nodes k x in
             (λ j. get_or index (numbers_stay m j) (size j)) ∙ found m (subst (λ n. m < n) size before)
 
-        pub members_set : (ranks : List (Option Key)) → AreMembers nodes index ranks → AreMembers (set nodes k x) index (set ranks k (next_key x.pending))
-        members_set ranks is = record {
-          placed = subst IsPlaced (sym all_set) after;
-          found = found_set is.found;
-          ranked = ap (λ r. set r k (next_key x.pending)) is.ranked ∙ sym (map-set next_key (pendings nodes) k x.pending) ∙ ap (map next_key) (sym (map-set (λ (n : NodeState). n.pending) nodes k x));
-        }
-
-        pub members_stay : (ranks : List (Option Key)) → AreMembers nodes index ranks → next_key x.pending ≡ next_key (node_at nodes k).pending → AreMembers (set nodes k x) index ranks
-        members_stay ranks is same = subst (AreMembers (set nodes k x) index)
-            (ap (set ranks k) (same ∙ sym (rank_node nodes k) ∙ ap (λ (r : List (Option Key)). rank_at r k) (sym is.ranked)) ∙ set-get_or ranks k None)
-            (members_set ranks is)
+        pub members_set : AreMembers nodes index → AreMembers (set nodes k x) index
+        members_set is = record { placed = subst IsPlaced (sym all_set) after; found = found_set is.found }
 
   -- THE LEAST OF ALL
 
@@ -143,7 +130,7 @@ module _ (nodes : List NodeState) (index : List ℕ) where
       absurd (not_some (sym (next_empty Event) ∙ ap (λ (n : NodeState). next_key n.pending) (sym (get_or-eq_default (seated (seats_of nodes index)) no_node (subst (λ n. n ≤ i) (sym (length-seated (seats_of nodes index) ∙ many)) past))) ∙ next)))
       (cases_lt i (length index))
 
-  module _ (ranks : List (Option Key)) (is : AreMembers nodes index ranks) where
+  module _ (is : AreMembers nodes index) where
     number_in : (k : ℕ) → k < length nodes → (node_at nodes k).number < length index
     number_in k inside = ⊎_elim
         (λ (under : (node_at nodes k).number < length index). under)
@@ -163,50 +150,44 @@ module _ (nodes : List NodeState) (index : List ℕ) where
         let first = next_some (least (node_at (seated (seats_of nodes index)) i).pending) key next in
         is.placed.at_home i key first.0 (ap (λ (m : Events). fin.get m key) (pending_at (seated (seats_of nodes index)) i) ∙ (least_is (node_at (seated (seats_of nodes index)) i).pending key first.0 first.1).pending)
 
-    abbrev all_ranks : List (Option Key)
-    all_ranks = map next_key (pendings (seated (seats_of nodes index)))
+    held_here : (k : ℕ) (key : Key) → rank_at (next_keys nodes) k ≡ Some key → next_key (node_at nodes k).pending ≡ Some key
+    held_here k key held = sym (next_at nodes k) ∙ held
 
-    ranked_all : IsRanked (seated (seats_of nodes index)) all_ranks
-    ranked_all = record { ranked = refl; placed = is.placed }
-
-    held_here : (k : ℕ) (key : Key) → rank_at ranks k ≡ Some key → next_key (node_at nodes k).pending ≡ Some key
-    held_here k key held = sym (rank_node nodes k) ∙ ap (λ (r : List (Option Key)). rank_at r k) (sym is.ranked) ∙ held
-
-    within_nodes : (k : ℕ) (key : Key) → rank_at ranks k ≡ Some key → k < length nodes
+    within_nodes : (k : ℕ) (key : Key) → rank_at (next_keys nodes) k ≡ Some key → k < length nodes
     within_nodes k key held = ⊎_elim
         (λ (inside : k < length nodes). inside)
         (λ (past : length nodes ≤ k). absurd (not_some (sym (next_empty Event) ∙ ap (λ (n : NodeState). next_key n.pending) (sym (get_or-eq_default nodes no_node past)) ∙ held_here k key held)))
         (cases_lt k (length nodes))
 
-    there : (k : ℕ) (key : Key) → rank_at ranks k ≡ Some key → next_key (node_at (seated (seats_of nodes index)) (node_at nodes k).number).pending ≡ Some key
+    there : (k : ℕ) (key : Key) → rank_at (next_keys nodes) k ≡ Some key → next_key (node_at (seated (seats_of nodes index)) (node_at nodes k).number).pending ≡ Some key
     there k key held = ap (λ (n : NodeState). next_key n.pending) (seated_there k (within_nodes k key held)) ∙ held_here k key held
 
-    held_at_home : (k : ℕ) (key : Key) → rank_at ranks k ≡ Some key → next_key (node_at (seated (seats_of nodes index)) key.node).pending ≡ Some key
+    held_at_home : (k : ℕ) (key : Key) → rank_at (next_keys nodes) k ≡ Some key → next_key (node_at (seated (seats_of nodes index)) key.node).pending ≡ Some key
     held_at_home k key held = ap (λ i. next_key (node_at (seated (seats_of nodes index)) i).pending) (key_there (node_at nodes k).number key (there k key held)) ∙ there k key held
 
     -- the key that leads leads at its node's number
-    leads_there : (k : ℕ) (key : Key) → Leads ranks k key → Leads all_ranks key.node key
+    leads_there : (k : ℕ) (key : Key) → Leads (next_keys nodes) k key → Leads (next_keys (seated (seats_of nodes index))) key.node key
     leads_there k key leads = record {
-      held = rank_node (seated (seats_of nodes index)) key.node ∙ held_at_home k key leads.held;
+      held = next_at (seated (seats_of nodes index)) key.node ∙ held_at_home k key leads.held;
       none_less = λ other q next.
-          let among = next_among other q (sym (rank_node (seated (seats_of nodes index)) other) ∙ next) in
-          leads.none_less among.0 q (ap (λ (r : List (Option Key)). rank_at r among.0) is.ranked ∙ rank_node nodes among.0 ∙ among.1);
+          let among = next_among other q (sym (next_at (seated (seats_of nodes index)) other) ∙ next) in
+          leads.none_less among.0 q (next_at nodes among.0 ∙ among.1);
       none_lower = λ other lower next.
-          let at = key_there other key (sym (rank_node (seated (seats_of nodes index)) other) ∙ next) in
+          let at = key_there other key (sym (next_at (seated (seats_of nodes index)) other) ∙ next) in
           let no : ⊥ = omega (arith, at, lower) in no;
     }
 
-    pub first_member : (k : ℕ) (key : Key) → Leads ranks k key → IsFirst (seated (seats_of nodes index)) key.node
-    first_member k key leads = first_node (seated (seats_of nodes index)) all_ranks ranked_all key.node key (leads_there k key leads)
+    pub first_member : (k : ℕ) (key : Key) → Leads (next_keys nodes) k key → IsFirst (seated (seats_of nodes index)) key.node
+    first_member k key leads = first_node (seated (seats_of nodes index)) is.placed key.node key (leads_there k key leads)
 
-    pub first_key_of : (k : ℕ) (key : Key) → Leads ranks k key → Some key ≡ next_key (net_pending (seated (seats_of nodes index)))
-    first_key_of k key leads = first_key (seated (seats_of nodes index)) all_ranks ranked_all key.node key (leads_there k key leads)
+    pub first_key_of : (k : ℕ) (key : Key) → Leads (next_keys nodes) k key → Some key ≡ next_key (net_pending (seated (seats_of nodes index)))
+    first_key_of k key leads = first_key (seated (seats_of nodes index)) is.placed key.node key (leads_there k key leads)
 
-    pub none_pending : ((k : ℕ) → rank_at ranks k ≡ None) → least (net_pending (seated (seats_of nodes index))) ≡ None
-    none_pending none = net_none (seated (seats_of nodes index)) all_ranks ranked_all (λ i.
-        elim (next_key (node_at (seated (seats_of nodes index)) i).pending) as (λ o. next_key (node_at (seated (seats_of nodes index)) i).pending ≡ o → rank_at all_ranks i ≡ None) [
-          | None ↦ λ e. rank_node (seated (seats_of nodes index)) i ∙ e
+    pub none_pending : ((k : ℕ) → rank_at (next_keys nodes) k ≡ None) → least (net_pending (seated (seats_of nodes index))) ≡ None
+    none_pending none = net_none (seated (seats_of nodes index)) is.placed (λ i.
+        elim (next_key (node_at (seated (seats_of nodes index)) i).pending) as (λ o. next_key (node_at (seated (seats_of nodes index)) i).pending ≡ o → rank_at (next_keys (seated (seats_of nodes index))) i ≡ None) [
+          | None ↦ λ e. next_at (seated (seats_of nodes index)) i ∙ e
           | Some key ↦ λ e.
               let among = next_among i key e in
-              absurd (not_some (sym (none among.0) ∙ ap (λ (r : List (Option Key)). rank_at r among.0) is.ranked ∙ rank_node nodes among.0 ∙ among.1))
+              absurd (not_some (sym (none among.0) ∙ next_at nodes among.0 ∙ among.1))
         ] refl)

@@ -1,10 +1,8 @@
 -- The nodes of a group in a row, and for each number of the net which of them it is.
-use Rattle.std.specs.Prelude.{◌≡◌, ◌<◌, ℕ, List, map as each, length, slice_index_or, Option}
+use Rattle.std.specs.Prelude.{◌≡◌, ◌<◌, ℕ, List, map as each, length, slice_index_or}
 use Rattle.std.specs.List.{slice_get}
-use Rattle.sim_time.specs.declared.key.Key.{Key}
-use Rattle.ranking.specs.Keyed.{next_key}
 use Rattle.node_core.specs.Node.{NodeState}
-use Rattle.net_machine.specs.Nodes.{node_at, pendings, IsPlaced}
+use Rattle.net_machine.specs.Nodes.{node_at, IsPlaced}
 use Rattle.node_group.specs.Seats.{Seats, seated}
 
 -- so the seats: nobody is seated where the number is past the last of the nodes
@@ -15,8 +13,7 @@ seats_of nodes index = each (λ k. slice_get nodes k) index
 abbrev pub AreFound : List NodeState → List ℕ → Type 0
 AreFound nodes index = (k : ℕ) → k < length nodes → slice_index_or index (node_at nodes k).number (length nodes) ≡ k
 
--- each node sits at its number, each key names its node, and the ranking has each node's next key
-pub record AreMembers (nodes : List NodeState) (index : List ℕ) (ranks : List (Option Key)) : Type 0 where
+-- each node sits at its number, and each key names its node
+pub record AreMembers (nodes : List NodeState) (index : List ℕ) : Type 0 where
   pub placed : IsPlaced (seated (seats_of nodes index))
   pub found : AreFound nodes index
-  pub ranked : ranks ≡ each next_key (pendings nodes)

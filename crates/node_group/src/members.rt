@@ -1,5 +1,5 @@
 //! The nodes of a group, ranked by their next keys.
-ghost use Rattle.std.specs.Prelude.{◌≡◌, ◌≢◌, ◌==◌, ◌+◌, ◌<◌, ◌≤◌, ◌^◌, ◌++◌, ◌∷◌, [], ℕ, All, IfOk, OnOk, OnErr, MatchOption, Option, Some, None, is_some, length, map as each, slice_set, slice_index_or, replicate, count_by, vec_capacity};
+ghost use Rattle.std.specs.Prelude.{◌≡◌, ◌≢◌, ◌==◌, ◌+◌, ◌<◌, ◌≤◌, ◌^◌, ◌++◌, ◌∷◌, [], ℕ, All, IfOk, OnOk, OnErr, MatchOption, Option, Some, None, is_some, length, slice_set, slice_index_or, replicate, count_by, vec_capacity};
 ghost use Rattle.std.specs.Option.{option_map, option_copied};
 ghost use Rattle.std.specs.List.Sorted.{IsStrictlyIncreasing};
 ghost use Rattle.sim_time.specs.declared.key.Key.{Key};
@@ -12,10 +12,11 @@ ghost use Rattle.node_core.specs.Row.{Leaving, row};
 ghost use Rattle.node_core.specs.Ready.{IsRunnable};
 ghost use Rattle.node_core.specs.TraceLine.{shown};
 ghost use Rattle.node_core.specs.Node.{NodeState, delivered, HasFired};
-ghost use Rattle.net_machine.specs.Nodes.{node_at, pendings, net_pending, IsPlaced, IsFirst};
+ghost use Rattle.net_machine.specs.Nodes.{node_at, net_pending, IsPlaced, IsFirst};
 ghost use Rattle.node_group.specs.Seats.{seated, taken};
 ghost use Rattle.node_group.specs.Numbered.{seats_of, AreFound};
 
+use net_machine::Nodes;
 use net_partition::Partition;
 use node_core::{Line, Node, Outbox};
 use packet_chain::PacketChain;
@@ -43,12 +44,10 @@ pub struct MemberParts {
 #[derive(Drop)]
 pub struct Members {
     /// The nodes, and none of other groups between them.
-    nodes: Vec<Node>,
+    nodes: Nodes,
     /// For each node of the net, by its number, which of these it is; none of them where it is
     /// another group's.
     index: Vec<u32>,
-    /// The next key of each node.
-    ranking: Ranking,
 }
 
 impl Model for Members {
@@ -59,9 +58,9 @@ impl Model for Members {
 
     ghost coded = { seats_code };
 
-    ghost view = { λ m. seats_of m.nodes.items m.index.items };
+    ghost view = { λ m. seats_of m.nodes m.index.items };
 
-    ghost invariant = { λ m. AreMembers m.nodes.items m.index.items m.ranking };
+    ghost invariant = { λ m. AreMembers m.nodes m.index.items };
 }
 
 // How many nodes are in a group.
@@ -115,17 +114,6 @@ impl MemberParts {
     }
 }
 
-// Ranks nodes by their next keys.
-fn rank(nodes: &[Node], ranking: &mut Ranking)
-    requires { length ranking.old ≡ length nodes.now }
-    ensures { ranking.new ≡ each next_key (pendings nodes.now) }
-{
-    for at in 0..nodes.len() {
-        let node = &nodes[at];
-        ranking.set(at, node.least());
-    }
-}
-
 impl Members {
     /// The nodes of a group, all of which have joined. No memory is taken.
     pub(crate) fn of_parts(parts: MemberParts) -> Members
@@ -134,16 +122,9 @@ impl Members {
         requires room { length parts.ranking ≡ length parts.nodes.items }
         ensures { result ≡ seats_of parts.nodes.items parts.index.items }
     {
-        let MemberParts {
-            nodes,
-            index,
-            mut ranking,
-        } = parts;
-        rank(&nodes, &mut ranking);
         Members {
-            nodes,
-            index,
-            ranking,
+            nodes: Nodes::of_parts(parts.nodes, parts.ranking),
+            index: parts.index,
         }
     }
 
@@ -152,7 +133,7 @@ impl Members {
         requires { place < length self.now }
         ensures { option_copied result ≡ slice_index_or self.now place None }
     {
-        self.nodes.get(self.index[place] as usize)
+        self.nodes.as_slice().get(self.index[place] as usize)
     }
 
     /// Whether the node of a number is in the group.
@@ -161,7 +142,7 @@ impl Members {
         requires { place < length self.now }
         ensures { result ≡ is_some (slice_index_or self.now place None) }
     {
-        (self.index[place] as usize) < self.nodes.len()
+        (self.index[place] as usize) < self.nodes.as_slice().len()
     }
 
     /// The node at which the least key is pending, and the key.
@@ -170,7 +151,7 @@ impl Members {
         ensures first { MatchOption result (least (net_pending (seated self.now)) ≡ None) (λ entry. IsFirst (seated self.now) entry.0) }
         ensures key { option_map (λ entry. entry.1) result ≡ next_key (net_pending (seated self.now)) }
     {
-        match self.ranking.first() {
+        match self.nodes.first() {
             Some((_, key)) => Some((usize::from(key.node), key)),
             None => None,
         }
@@ -178,6 +159,7 @@ impl Members {
 
     /// Runs the event of the least key of a node. What it says and promises is that of
     /// [`Node::fire_into`].
+    #[inline(always)]
     pub(crate) fn fire_into(
         &mut self,
         place: usize,
@@ -197,11 +179,7 @@ impl Members {
         ensures same_out { OnErr result (out.new ≡ out.old) }
     {
         let at = self.index[place] as usize;
-        let node = &mut self.nodes[at];
-        let leaving = node.fire_into(out, line)?;
-        let next = node.least();
-        self.ranking.set(at, next);
-        Ok(leaving)
+        self.nodes.fire_into(at, out, line)
     }
 
     /// The number of an outgoing link of a node.
@@ -210,8 +188,8 @@ impl Members {
         requires index { index < length (node_at (seated self.now) place).part.links }
         ensures { result ≡ (link_at (node_at (seated self.now) place).part.links index).port.link }
     {
-        let node = &self.nodes[self.index[place] as usize];
-        node.link_number(index)
+        let at = self.index[place] as usize;
+        self.nodes.link_number(at, index)
     }
 
     /// Packets come to a node over one of its incoming links, after all that came over it before;
@@ -229,12 +207,6 @@ impl Members {
         ensures emptied { chain.new ≡ [] }
     {
         let at = self.index[place] as usize;
-        let node = &mut self.nodes[at];
-        // Packets that come behind others change nothing of the ranking.
-        if node.deliver_behind(index, chain) {
-            return;
-        }
-        let next = node.least();
-        self.ranking.set(at, next);
+        self.nodes.deliver(at, index, chain);
     }
 }

@@ -1,5 +1,5 @@
 //! A net is split into the shares of its groups.
-ghost use Rattle.std.specs.Prelude.{◌≡◌, ◌<◌, ◌≤◌, ◌==◌, ◌^◌, [], IfOk, length, count_by, vec_capacity};
+ghost use Rattle.std.specs.Prelude.{◌≡◌, ◌<◌, ◌≤◌, ◌^◌, [], IfOk, length, vec_capacity};
 ghost use Rattle.node_core.specs.Part.{link_at};
 ghost use Rattle.net_machine.specs.declared.places.LinkEnds.{LinkEnds};
 ghost use Rattle.net_machine.specs.Nodes.{IsPlaced};

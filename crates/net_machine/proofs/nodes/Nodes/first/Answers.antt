@@ -1,25 +1,11 @@
-use Rattle.std.proofs.Common.{List, sym, ap, subst, ◌∙◌}
-use Rattle.std.specs.Option.{option_map}
+use Rattle.std.proofs.Common.{◌≡◌, ℕ, List, None, Option, subst, ◌∙◌, ap}
 use Rattle.sim_time.specs.declared.key.Key.{Key}
-use Rattle.ranking.specs.Keyed.{least, next_key}
-use Rattle.node_core.specs.declared.event.Event.{Event}
-use Rattle.node_core.specs.Node.{NodeState}
-use Rattle.net_machine.specs.Nodes.{net_pending, IsFirst}
-use Rattle.net_machine.proofs.AtNodes.{first_node, first_key, net_none}
+use Rattle.ranking.specs.Leading.{rank_at, Leads}
+use Rattle.net_machine.specs.Nodes.{next_keys}
 use Rattle.net_machine.proofs.nodes.Nodes.first.Goals as goal
 
-pub returns-in-Some-clause-first : goal.returns-in-Some-clause-first
-returns-in-Some-clause-first c =
-    subst (λ (s : List NodeState). IsFirst s c.in-Some.place) c.self.view_is (first_node c.self.inside.nodes.items c.self.inside.ranking c.self.invariant c.in-Some.place c.in-Some.key c.in-Some.ensures)
+pub returns-in-Some : goal.returns-in-Some
+returns-in-Some c = subst (λ (ranks : List (Option Key)). Leads ranks c.in-Some.place c.in-Some.key) (c.self.invariant ∙ ap next_keys c.self.view_is) c.in-Some.ensures
 
-pub returns-in-Some-clause-key : goal.returns-in-Some-clause-key
-returns-in-Some-clause-key c =
-    first_key c.self.inside.nodes.items c.self.inside.ranking c.self.invariant c.in-Some.place c.in-Some.key c.in-Some.ensures ∙ ap (λ (s : List NodeState). next_key (net_pending s)) c.self.view_is
-
-pub returns-in-None-clause-first : goal.returns-in-None-clause-first
-returns-in-None-clause-first c =
-    ap (λ (s : List NodeState). least (net_pending s)) (sym c.self.view_is) ∙ net_none c.self.inside.nodes.items c.self.inside.ranking c.self.invariant c.in-None.ensures
-
-pub returns-in-None-clause-key : goal.returns-in-None-clause-key
-returns-in-None-clause-key c =
-    sym (ap (option_map (λ (entry : Key × Event). entry.0)) (ap (λ (s : List NodeState). least (net_pending s)) (sym c.self.view_is) ∙ net_none c.self.inside.nodes.items c.self.inside.ranking c.self.invariant c.in-None.ensures))
+pub returns-in-None : goal.returns-in-None
+returns-in-None c = subst (λ (ranks : List (Option Key)). (place : ℕ) → rank_at ranks place ≡ None) (c.self.invariant ∙ ap next_keys c.self.view_is) c.in-None.ensures

@@ -2,11 +2,14 @@ use Rattle.std.proofs.Common.{◌≡◌, ◌<◌, ◌≤◌, List, [], length, r
 use Rattle.std.proofs.lemmas.List.{get_or_read}
 use Rattle.sim_time.specs.declared.key.Key.{Key}
 use Rattle.packet_chain.specs.Stamped.{Stamped}
+use Rattle.ranking.specs.Leading.{Leads}
 use Rattle.ranking.specs.Keyed.{least, next_key}
+use Rattle.ranking.proofs.Maps.{not_some}
 use Rattle.node_core.specs.Ready.{IsRunnable}
 use Rattle.node_core.specs.Node.{NodeState}
-use Rattle.net_machine.specs.Nodes.{no_node, node_at, net_pending, IsFirst}
+use Rattle.net_machine.specs.Nodes.{no_node, node_at, next_keys, net_pending, IsFirst}
 use Rattle.net_machine.specs.NetOf.{IsNet}
+use Rattle.net_machine.proofs.AtNodes.{next_at, first_node, first_key}
 use Rattle.net_machine.proofs.Joined.{net_of}
 use Rattle.net_machine.proofs.Steps.{its_key, ready}
 use Rattle.net_trials.proofs.nets.by_nodes.runs_by_both.Goals as goal
@@ -14,13 +17,27 @@ use Rattle.net_trials.proofs.nets.by_nodes.runs_by_both.Goals as goal
 abbrev empty : List (List Stamped)
 empty = replicate 16 []
 
+pub fired-line-requires-clause-pending : goal.fired-line-requires-clause-pending
+fired-line-requires-clause-pending g c = λ none.
+    let p = c.into_parts-parts.result in
+    let place = c.in-Some.place in
+    let net : IsNet p.nodes.items p.links.items empty p.end p.position = net_of p.nodes.items p.links.items p.end p.position c.into_parts-parts.ensures.parts empty refl in
+    let leads : Leads (next_keys p.nodes.items) place c.in-Some.key = subst (λ (all : List NodeState). Leads (next_keys all) place c.in-Some.key) c.of_parts-all.ensures c.in-Some.ensures in
+    let first : IsFirst p.nodes.items place = first_node p.nodes.items net.placed place c.in-Some.key leads in
+    let same : c.into_parts-nodes.result.0.items ≡ p.nodes.items = c.into_parts-nodes.ensures.nodes ∙ c.of_parts-all.ensures in
+    let within : place < length c.into_parts-nodes.result.0.items = subst (λ (all : List NodeState). place < length all) (sym same) first.within in
+    let is : c.index_mut-node.result.now ≡ node_at p.nodes.items place =
+    get_or_read c.into_parts-nodes.result.0.items place c.index_mut-node.result.now within c.index_mut-node.ensures.value no_node ∙ ap (λ (all : List NodeState). node_at all place) same in
+    not_some (sym (ap (λ (n : NodeState). next_key n.pending) (sym is) ∙ none) ∙ sym (next_at p.nodes.items place) ∙ leads.held)
+
 pub fired-line-requires-clause-due : goal.fired-line-requires-clause-due
 fired-line-requires-clause-due g c = λ k v here.
     let p = c.into_parts-parts.result in
     let place = c.in-Some.place in
     let net : IsNet p.nodes.items p.links.items empty p.end p.position = net_of p.nodes.items p.links.items p.end p.position c.into_parts-parts.ensures.parts empty refl in
-    let first : IsFirst p.nodes.items place = subst (λ (all : List NodeState). IsFirst all place) c.of_parts-all.ensures c.in-Some.ensures.first in
-    let its : Some c.in-Some.key ≡ next_key (net_pending p.nodes.items) = subst (λ (all : List NodeState). Some c.in-Some.key ≡ next_key (net_pending all)) c.of_parts-all.ensures c.in-Some.ensures.key in
+    let leads : Leads (next_keys p.nodes.items) place c.in-Some.key = subst (λ (all : List NodeState). Leads (next_keys all) place c.in-Some.key) c.of_parts-all.ensures c.in-Some.ensures in
+    let first : IsFirst p.nodes.items place = first_node p.nodes.items net.placed place c.in-Some.key leads in
+    let its : Some c.in-Some.key ≡ next_key (net_pending p.nodes.items) = first_key p.nodes.items net.placed place c.in-Some.key leads in
     let same : c.into_parts-nodes.result.0.items ≡ p.nodes.items = c.into_parts-nodes.ensures.nodes ∙ c.of_parts-all.ensures in
     let within : place < length c.into_parts-nodes.result.0.items = subst (λ (all : List NodeState). place < length all) (sym same) first.within in
     let is : c.index_mut-node.result.now ≡ node_at p.nodes.items place =
@@ -37,7 +54,8 @@ fired-line-requires-clause-chains g c =
     let p = c.into_parts-parts.result in
     let place = c.in-Some.place in
     let net : IsNet p.nodes.items p.links.items empty p.end p.position = net_of p.nodes.items p.links.items p.end p.position c.into_parts-parts.ensures.parts empty refl in
-    let first : IsFirst p.nodes.items place = subst (λ (all : List NodeState). IsFirst all place) c.of_parts-all.ensures c.in-Some.ensures.first in
+    let leads : Leads (next_keys p.nodes.items) place c.in-Some.key = subst (λ (all : List NodeState). Leads (next_keys all) place c.in-Some.key) c.of_parts-all.ensures c.in-Some.ensures in
+    let first : IsFirst p.nodes.items place = first_node p.nodes.items net.placed place c.in-Some.key leads in
     let same : c.into_parts-nodes.result.0.items ≡ p.nodes.items = c.into_parts-nodes.ensures.nodes ∙ c.of_parts-all.ensures in
     let within : place < length c.into_parts-nodes.result.0.items = subst (λ (all : List NodeState). place < length all) (sym same) first.within in
     let is : c.index_mut-node.result.now ≡ node_at p.nodes.items place =

@@ -5,18 +5,17 @@ use Rattle.node_group.proofs.AtSeats.{with_link}
 use Rattle.node_group.proofs.AtNumber.{inside, node_is}
 use Rattle.node_group.proofs.members.Members.link_number.Goals as goal
 
-pub index-node-requires : goal.index-node-requires
-index-node-requires c =
-    subst (λ n. c.index.result.now < n) (sym c.self.inside.nodes.ok.0)
-    (inside c.self.inside.nodes.items c.self.inside.index.items c.self.inside.ranking c.self.invariant c.args.self.now c.self.view_is c.args.place c.requires.within c.index.result.now c.index.ensures (with_link c.args.self.now c.args.place c.requires.within c.args.index c.requires.index))
+pub link_number-requires-clause-within : goal.link_number-requires-clause-within
+link_number-requires-clause-within c =
+    inside c.self.inside.nodes c.self.inside.index.items c.self.invariant c.args.self.now c.self.view_is c.args.place c.requires.within c.index.result.now c.index.ensures (with_link c.args.self.now c.args.place c.requires.within c.args.index c.requires.index)
 
-pub link_number-requires : goal.link_number-requires
-link_number-requires c =
+pub link_number-requires-clause-index : goal.link_number-requires-clause-index
+link_number-requires-clause-index c =
     subst (λ (n : NodeState). c.args.index < length n.part.links)
-    (sym (node_is c.self.inside.nodes.items c.self.inside.index.items c.self.inside.ranking c.self.invariant c.args.self.now c.self.view_is c.args.place c.requires.within c.index.result.now c.index.ensures (with_link c.args.self.now c.args.place c.requires.within c.args.index c.requires.index) c.index-node.result.now c.index-node.ensures))
+    (sym (node_is c.self.inside.nodes c.self.inside.index.items c.self.invariant c.args.self.now c.self.view_is c.args.place c.requires.within c.index.result.now c.index.ensures (with_link c.args.self.now c.args.place c.requires.within c.args.index c.requires.index)))
     c.requires.index
 
 pub returns : goal.returns
 returns c =
     c.link_number.ensures
-    ∙ ap (λ (n : NodeState). (link_at n.part.links c.args.index).port.link) (node_is c.self.inside.nodes.items c.self.inside.index.items c.self.inside.ranking c.self.invariant c.args.self.now c.self.view_is c.args.place c.requires.within c.index.result.now c.index.ensures (with_link c.args.self.now c.args.place c.requires.within c.args.index c.requires.index) c.index-node.result.now c.index-node.ensures)
+    ∙ ap (λ (n : NodeState). (link_at n.part.links c.args.index).port.link) (node_is c.self.inside.nodes c.self.inside.index.items c.self.invariant c.args.self.now c.self.view_is c.args.place c.requires.within c.index.result.now c.index.ensures (with_link c.args.self.now c.args.place c.requires.within c.args.index c.requires.index))
