@@ -1,9 +1,9 @@
 -- The slots of a board, one after another.
-use Rattle.std.proofs.Common.{◌≡◌, ℕ, zero, suc, List, [], ◌∷◌, ◌++◌, ◌||◌, Bool, true, false, length, sym, refl, ap, ◌∙◌, subst, ◌⊎◌, inl, inr, ⊎_elim, arith, append_assoc, slice_get, Option, Some, None, unwrap_or, IsSome, option_map, if◌then◌else◌, IfOk, IfErr, Result, Ok, Err, Vec, Global}
-use Rattle.std.proofs.lemmas.Result.{IfOk-weaker}
+use Rattle.std.proofs.Common.{◌≡◌, ℕ, zero, suc, List, [], ◌∷◌, ◌++◌, ◌||◌, Bool, true, false, length, sym, refl, ap, ◌∙◌, subst, ◌⊎◌, inl, inr, ⊎_elim, arith, append_assoc, slice_get, All, map, Option, Some, None, unwrap_or, IsSome, option_map, if◌then◌else◌, IfOk, IfErr, OnOk, Result, Ok, Err, Vec, Global}
 use Rattle.std.proofs.lemmas.Option.{slice_get_within}
 use Rattle.std.specs.Option.{option_or}
 use Rattle.node_group.specs.declared.group.GroupFault.{GroupFault}
+use Rattle.window_core.specs.Group.{GroupValue, AfterFirings}
 use Rattle.work_board.specs.Pieces.{PieceState, IsDone, IsSettled}
 use Rattle.work_board.specs.Seats.{Tells}
 use Rattle.work_board.specs.declared.view.View.{View}
@@ -11,17 +11,26 @@ use Rattle.work_board.specs.declared.slot.Slot.{Slot}
 use Rattle.work_board.specs.declared.slot.Slot.TheVariants.{Finished, Waiting, Out}
 use Rattle.work_board.specs.Boards.{SeatState}
 use Rattle.window_engine.specs.Sweeps.{IsSwept}
-use Rattle.window_engine.specs.Outcomes.{AllDone, any_out, first_refusal, finished_of, NoneWaits, fault_of, as_fault, CameOf, StoppedBy}
+use Rattle.window_engine.specs.Outcomes.{AllDone, AllRan, any_out, first_refusal, finished_of, NoneWaits, fault_of, as_fault, CameOf, StoppedBy}
 use Rattle.window_engine.specs.declared.fault.EngineFault.{EngineFault}
+use Rattle.window_engine.proofs.Laying.{All-more}
 use Rattle.window_engine.specs.declared.fault.EngineFault.TheVariants.{Failed, NoMemory, NoWorker}
 
+-- a piece's group, and that it stands after firings of its own
+abbrev pub group_in : PieceState → GroupValue
+group_in p = p.group
+
+abbrev pub HasFired : PieceState → Type 0
+HasFired p = AfterFirings p.end p.began p.group
+
 -- what was gathered, with the rest, is what all slots say
-abbrev pub Goes : List Slot → List Slot → Bool → Option GroupFault → List PieceState → Type 0
-Goes all rest out refusal ps =
+abbrev pub Goes : List Slot → List Slot → Bool → Option GroupFault → List GroupValue → Type 0
+Goes all rest out refusal gs =
     ((out || any_out rest) ≡ any_out all)
     × (option_or refusal (first_refusal rest) ≡ first_refusal all)
-    × (ps ++ finished_of rest ≡ finished_of all)
+    × (gs ++ map group_in (finished_of rest) ≡ map group_in (finished_of all))
     × NoneWaits rest
+    × (All HasFired (finished_of rest) → All HasFired (finished_of all))
 
 or_assoc : (a b c : Option GroupFault) → option_or (option_or a b) c ≡ option_or a (option_or b c)
 or_assoc (Some f) b c = refl
@@ -34,17 +43,17 @@ or_true false c e = e
 later : (x : Slot) (more : List Slot) → NoneWaits (x ∷ more) → NoneWaits more
 later x more none i q at = none (suc i) q at
 
-pub next_finished : (all rest more : List Slot) (x : Slot) (out : Bool) (refusal : Option GroupFault) (ps : List PieceState) (q : PieceState) → rest ≡ x ∷ more → x ≡ Finished q
-    → Goes all rest out refusal ps → Goes all more out (option_or refusal q.fault) (ps ++ q ∷ [])
-next_finished all rest more x out refusal ps q is kind goes =
-    let g : Goes all (Finished q ∷ more) out refusal ps = subst (λ (l : List Slot). Goes all l out refusal ps) (is ∙ ap (λ (y : Slot). y ∷ more) kind) goes in
-    (g.0, or_assoc refusal q.fault (first_refusal more) ∙ g.1, append_assoc ps (q ∷ []) (finished_of more) ∙ g.2, later (Finished q) more g.3)
+pub next_finished : (all rest more : List Slot) (x : Slot) (out : Bool) (refusal : Option GroupFault) (gs : List GroupValue) (q : PieceState) → rest ≡ x ∷ more → x ≡ Finished q → HasFired q
+    → Goes all rest out refusal gs → Goes all more out (option_or refusal q.fault) (gs ++ q.group ∷ [])
+next_finished all rest more x out refusal gs q is kind fired goes =
+    let g : Goes all (Finished q ∷ more) out refusal gs = subst (λ (l : List Slot). Goes all l out refusal gs) (is ∙ ap (λ (y : Slot). y ∷ more) kind) goes in
+    (g.0, or_assoc refusal q.fault (first_refusal more) ∙ g.1, append_assoc gs (q.group ∷ []) (map group_in (finished_of more)) ∙ g.2, later (Finished q) more g.3, λ rest_fired. g.4 (All-more HasFired (q ∷ finished_of more) (finished_of more) q refl fired rest_fired))
 
-pub next_out : (all rest more : List Slot) (x : Slot) (out : Bool) (refusal : Option GroupFault) (ps : List PieceState) → rest ≡ x ∷ more → x ≡ Out
-    → Goes all rest out refusal ps → Goes all more true refusal ps
-next_out all rest more x out refusal ps is kind goes =
-    let g : Goes all (Out ∷ more) out refusal ps = subst (λ (l : List Slot). Goes all l out refusal ps) (is ∙ ap (λ (y : Slot). y ∷ more) kind) goes in
-    (or_true out (any_out all) g.0, g.1, g.2, later Out more g.3)
+pub next_out : (all rest more : List Slot) (x : Slot) (out : Bool) (refusal : Option GroupFault) (gs : List GroupValue) → rest ≡ x ∷ more → x ≡ Out
+    → Goes all rest out refusal gs → Goes all more true refusal gs
+next_out all rest more x out refusal gs is kind goes =
+    let g : Goes all (Out ∷ more) out refusal gs = subst (λ (l : List Slot). Goes all l out refusal gs) (is ∙ ap (λ (y : Slot). y ∷ more) kind) goes in
+    (or_true out (any_out all) g.0, g.1, g.2, later Out more g.3, g.4)
 
 pub never : (rest more : List Slot) (x : Slot) (q : PieceState) → rest ≡ x ∷ more → x ≡ Waiting q → NoneWaits rest → ⊥
 never rest more x q is kind none = none 0 q (ap (λ (l : List Slot). slice_get l 0) is ∙ ap (λ (y : Slot). Some y) kind)
@@ -92,10 +101,15 @@ all_done v slots got count waits tells quiet is = let q = quiet_if (any_out slot
 }
 
 -- what the last call answers
-pub ends_done : {E : Type 0} (r : Result (Vec PieceState Global) E) (laid : List PieceState) (v : View) (slots : List Slot) → v.laid ≡ laid → length slots ≡ length v.laid → NoneWaits slots
-    → ((i : ℕ) (x : Slot) → slice_get slots i ≡ Some x → Tells v i x) → IfOk r (λ got. (fault_of slots ≡ None) × (got.items ≡ finished_of slots)) → IfOk r (λ got. AllDone laid got.items)
-ends_done r laid v slots told count waits tells = IfOk-weaker r (λ got. (fault_of slots ≡ None) × (got.items ≡ finished_of slots)) (λ got. AllDone laid got.items)
-    (λ got q. let P : List PieceState → Type 0 = λ l. AllDone l got.items in subst P told (all_done v slots got.items count waits tells q.0 q.1))
+pub ends_done : {E : Type 0} (r : Result (Vec GroupValue Global) E) (laid : List PieceState) (v : View) (slots : List Slot) → v.laid ≡ laid → length slots ≡ length v.laid → NoneWaits slots
+    → ((i : ℕ) (x : Slot) → slice_get slots i ≡ Some x → Tells v i x) → IfOk r (λ back. (fault_of slots ≡ None) × (back.items ≡ map group_in (finished_of slots))) → OnOk r (All HasFired (finished_of slots)) → IfOk r (λ back. AllRan laid back.items)
+ends_done (Ok back) laid v slots told count waits tells ok after = record {
+  got = finished_of slots;
+  done = subst (λ (l : List PieceState). AllDone l (finished_of slots)) told (all_done v slots (finished_of slots) count waits tells ok.0 refl);
+  after = after;
+  groups_are = ok.1;
+}
+ends_done (Err e) laid v slots told count waits tells ok after = tt
 
 came_at : (v : View) (i : ℕ) (x : Slot) → Tells v i x → ((q : PieceState) → x ≡ Waiting q → ⊥) → CameOf v.laid i x
 came_at v i (Finished q) t waits = t

@@ -1,10 +1,10 @@
 -- What a window answers, by what became of its pieces.
-use Rattle.std.specs.Prelude.{◌≡◌, ◌⊎◌, ◌<◌, ℕ, Bool, true, false, List, [], ◌∷◌, length, slice_get, Option, Some, None, option_map, if◌then◌else◌}
+use Rattle.std.specs.Prelude.{◌≡◌, ◌⊎◌, ◌<◌, ℕ, Bool, true, false, All, List, [], ◌∷◌, map, length, slice_get, Option, Some, None, option_map, if◌then◌else◌}
 use Rattle.std.specs.Option.{option_or}
 use Rattle.node_group.specs.declared.group.GroupFault.{GroupFault}
 use Rattle.node_group.specs.declared.group.GroupFault.TheVariants as group
 use Rattle.window_core.specs.Faults.{IsFaultAt}
-use Rattle.window_core.specs.Group.{AfterFirings}
+use Rattle.window_core.specs.Group.{GroupValue, AfterFirings}
 use Rattle.work_board.specs.Pieces.{PieceState, IsDone, IsSettled}
 use Rattle.work_board.specs.Seats.{Began}
 use Rattle.work_board.specs.declared.slot.Slot.{Slot}
@@ -16,6 +16,13 @@ use Rattle.window_engine.specs.declared.fault.EngineFault.TheVariants.{NoMemory,
 pub record AllDone (laid got : List PieceState) : Type 0 where
   pub count : length got ≡ length laid
   pub each : (i : ℕ) (q : PieceState) → slice_get got i ≡ Some q → Began laid i q × IsDone q
+
+-- so, and these are their groups, each after firings of its own below its piece's end
+pub record AllRan (laid : List PieceState) (groups : List GroupValue) : Type 0 where
+  pub got : List PieceState
+  pub done : AllDone laid got
+  pub after : All (λ (p : PieceState). AfterFirings p.end p.began p.group) got
+  pub groups_are : groups ≡ map (λ (p : PieceState). p.group) got
 
 -- a piece did not come back
 abbrev pub any_out : List Slot → Bool

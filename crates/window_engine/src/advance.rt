@@ -2,13 +2,12 @@
 ghost use Rattle.std.specs.Prelude.{◌≡◌, ◌+◌, ◌<◌, ◌≤◌, ◌^◌, ℕ, All, List, length, map as each, min, true, false, None, IfOk, IfErr, OnOk};
 ghost use Rattle.table_run.specs.State.{due};
 ghost use Rattle.window_core.specs.Full.{HasTooMany};
-ghost use Rattle.window_core.specs.Group.{GroupValue, AfterFirings, state_of};
+ghost use Rattle.window_core.specs.Group.{GroupValue, state_of};
 ghost use Rattle.window_core.specs.Groups.{up_to};
 ghost use Rattle.window_core.specs.Partition.{groups_of};
 ghost use Rattle.window_core.specs.Sheaves.{merged};
 ghost use Rattle.window_core.specs.Window.{IsWindow, states_of, value_at};
 ghost use Rattle.window_core.specs.Windows.{AreBelow};
-ghost use Rattle.work_board.specs.Pieces.{PieceState};
 ghost use Rattle.window_engine.specs.Edges.{IsAtEdge, StaysNet, edge_of, reached_in};
 ghost use Rattle.window_engine.specs.Engines.{GoesOn, IsNext, NoneBelow};
 ghost use Rattle.window_engine.specs.Outcomes.{IsWorkersFault};
@@ -38,18 +37,6 @@ fn pieces_of(alloc: Global, groups: Vec<Group>, end: Time) -> Result<Vec<Piece>,
         pieces.push_reserved(Piece::new(group, end));
     }
     Ok(pieces)
-}
-
-/// The group of each piece.
-fn groups_of(alloc: Global, pieces: Vec<Piece>) -> Result<Vec<Group>, AllocError>
-    ensures groups { IfOk result (λ v. v.items ≡ each (λ (p : PieceState). p.group) pieces.items) }
-    ensures after { OnOk result (All (λ (p : PieceState). AfterFirings p.end p.began p.group) pieces.items) }
-{
-    let mut groups = Vec::with_capacity(alloc, pieces.len())?;
-    for piece in pieces {
-        groups.push_reserved(piece.into_group());
-    }
-    Ok(groups)
 }
 
 /// Tells the gate of a group that has not run: it is as it was before all of them.
@@ -112,8 +99,8 @@ pub(crate) fn run_apart<G: Gate, R: Threads + Wait + Sync>(
 {
     let end = window.end();
     let pieces = pieces_of(alloc, window.take_groups(), end)?;
-    let done = run_pieces(rt, alloc, workers, gate, pieces, sheaf, scribes)?;
-    window.put_groups(groups_of(alloc, done)?);
+    let groups = run_pieces(rt, alloc, workers, gate, pieces, sheaf, scribes)?;
+    window.put_groups(groups);
     Ok(())
 }
 

@@ -1,20 +1,24 @@
 //! What came back of a board's pieces.
-ghost use Rattle.std.specs.Prelude.{◌≡◌, ◌⊎◌, Some, None, IfOk, IfErr};
+ghost use Rattle.std.specs.Prelude.{◌≡◌, ◌⊎◌, All, map as each, Some, None, IfOk, IfErr, OnOk};
+ghost use Rattle.window_core.specs.Group.{AfterFirings};
+ghost use Rattle.work_board.specs.Pieces.{PieceState};
 ghost use Rattle.window_engine.specs.Outcomes.{NoneWaits, SomeFull, fault_of, finished_of};
 
 use crate::fault::{EngineFault, group_fault};
 use std::alloc::Global;
-use work_board::{Piece, Slot};
+use window_core::Group;
+use work_board::Slot;
 
-/// The pieces, where all came back and none is refused. A piece that did not come back is told
-/// before a refusal, and of several refusals the first.
-pub(crate) fn gather(alloc: Global, slots: Vec<Slot>) -> Result<Vec<Piece>, EngineFault>
+/// The groups of the pieces, where all came back and none is refused. A piece that did not come back is
+/// told before a refusal, and of several refusals the first.
+pub(crate) fn gather(alloc: Global, slots: Vec<Slot>) -> Result<Vec<Group>, EngineFault>
     requires { NoneWaits slots.items }
-    ensures ok { IfOk result (λ v. (fault_of slots.items ≡ None) × (v.items ≡ finished_of slots.items)) }
+    ensures ok { IfOk result (λ v. (fault_of slots.items ≡ None) × (v.items ≡ each (λ (p : PieceState). p.group) (finished_of slots.items))) }
+    ensures after { OnOk result (All (λ (p : PieceState). AfterFirings p.end p.began p.group) (finished_of slots.items)) }
     ensures err { IfErr result (λ e. (e ≡ EngineFault.NoMemory) ⊎ (fault_of slots.items ≡ Some e)) }
     ensures full { IfErr result (λ e. e ≡ EngineFault.CountFull → SomeFull slots.items) }
 {
-    let Ok(mut pieces) = Vec::with_capacity(alloc, slots.len()) else {
+    let Ok(mut groups) = Vec::with_capacity(alloc, slots.len()) else {
         return Err(EngineFault::NoMemory);
     };
     let mut refusal = None;
@@ -23,7 +27,7 @@ pub(crate) fn gather(alloc: Global, slots: Vec<Slot>) -> Result<Vec<Piece>, Engi
         match slot {
             Slot::Finished(piece) => {
                 refusal = refusal.or(piece.fault());
-                pieces.push_reserved(piece);
+                groups.push_reserved(piece.into_group());
             }
             Slot::Waiting(_) => unreachable!(),
             Slot::Out => any_out = true,
@@ -34,6 +38,6 @@ pub(crate) fn gather(alloc: Global, slots: Vec<Slot>) -> Result<Vec<Piece>, Engi
     }
     match refusal {
         Some(fault) => Err(group_fault(fault)),
-        None => Ok(pieces),
+        None => Ok(groups),
     }
 }

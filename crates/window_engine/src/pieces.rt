@@ -1,7 +1,7 @@
 //! A window's pieces, run by workers.
 ghost use Rattle.std.specs.Prelude.{◌≡◌, ◌+◌, ◌<◌, ◌≤◌, ◌^◌, length, IfOk, IfErr};
 ghost use Rattle.window_core.specs.Sheaves.{merged};
-ghost use Rattle.window_engine.specs.Outcomes.{AllDone, IsPiecesFault, SomeLaidFull};
+ghost use Rattle.window_engine.specs.Outcomes.{AllRan, IsPiecesFault, SomeLaidFull};
 ghost use Rattle.window_engine.specs.Parts.{AreRight};
 
 use crate::fault::EngineFault;
@@ -13,11 +13,11 @@ use crate::text::parts_for;
 use std::alloc::Global;
 use std::sync::Wait;
 use std::thread::Threads;
-use window_core::Sheaf;
+use window_core::{Group, Sheaf};
 use work_board::{Board, Piece};
 
 /// Runs the pieces by so many threads, which then make the text of a sheaf's lines. Then each piece
-/// is done, in its place. A refusal gives them up.
+/// is done, and its group comes back in its place. A refusal gives them up.
 pub(crate) fn run_pieces<G: Gate, R: Threads + Wait + Sync>(
     rt: &R,
     alloc: Global,
@@ -26,13 +26,13 @@ pub(crate) fn run_pieces<G: Gate, R: Threads + Wait + Sync>(
     pieces: Vec<Piece>,
     sheaf: &Sheaf,
     scribes: &mut Vec<Scribe>,
-) -> Result<Vec<Piece>, EngineFault>
+) -> Result<Vec<Group>, EngineFault>
     requires least { 0 < length pieces.items }
     requires most { length pieces.items ≤ 64 }
     requires workers { (0 < workers) × (workers ≤ 64) }
     requires right { AreRight sheaf.now scribes.old.items }
     requires fits { sheaf.now.first + length (merged sheaf.now).lines < 2 ^ 63 }
-    ensures done { IfOk result (λ v. AllDone pieces.items v.items) }
+    ensures done { IfOk result (λ v. AllRan pieces.items v.items) }
     ensures err { IfErr result (IsPiecesFault pieces.items) }
     ensures full { IfErr result (λ e. e ≡ EngineFault.CountFull → SomeLaidFull pieces.items) }
     ensures right { AreRight sheaf.now scribes.new.items }

@@ -12,8 +12,8 @@ pub put_groups-requires-clause-fired : goal.put_groups-requires-clause-fired
 put_groups-requires-clause-fired g c =
     let lent_is = ap (λ (w : WindowValue). w.groups) c.take_groups.ensures.state ∙ sym c.take_groups.ensures.groups in
     let ends : c.take_groups.new.self.until ≡ c.end-end.result = ap (λ (w : WindowValue). w.until) c.take_groups.ensures.state ∙ sym c.end-end.ensures in
-    let fired = come_back c.end-end.result c.take_groups.result.items c.in_ok-pieces.pieces.items c.in_ok-done.done.items c.in_ok-groups_of.field-0.items
-    c.in_ok-pieces.ensures c.in_ok-done.ensures.done c.in_ok-groups_of.ensures.groups c.in_ok-groups_of.ensures.after in
+    let back = c.in_ok-groups.ensures.done in
+    let fired = come_back c.end-end.result c.take_groups.result.items c.in_ok-pieces.pieces.items back.got c.in_ok-groups.groups.items c.in_ok-pieces.ensures back.done back.groups_are back.after in
     rw (lent_is, ends) fired
 
 pub returns-clause-done : goal.returns-clause-done
@@ -21,8 +21,8 @@ returns-clause-done g c =
     let until_is = ap (λ (w : WindowValue). w.until) c.put_groups.ensures.state ∙ ap (λ (w : WindowValue). w.until) c.take_groups.ensures.state in
     let groups_are = ap (λ (w : WindowValue). w.groups) c.put_groups.ensures.state in
     let ends : c.put_groups.new.self.until ≡ c.end-end.result = until_is ∙ sym c.end-end.ensures in
-    let done = all_are_done c.end-end.result c.take_groups.result.items c.in_ok-pieces.pieces.items c.in_ok-done.done.items c.in_ok-groups_of.field-0.items
-    c.in_ok-pieces.ensures c.in_ok-done.ensures.done c.in_ok-groups_of.ensures.groups in
+    let back = c.in_ok-groups.ensures.done in
+    let done = all_are_done c.end-end.result c.take_groups.result.items c.in_ok-pieces.pieces.items back.got c.in_ok-groups.groups.items c.in_ok-pieces.ensures back.done back.groups_are in
     record {
       inside = ap (λ (w : WindowValue). w.out) c.put_groups.ensures.state;
       until = until_is;
@@ -34,11 +34,11 @@ returns-clause-done g c =
           ∙ done;
     }
 
-pub returns-in_err-done-clause-fault : goal.returns-in_err-done-clause-fault
-returns-in_err-done-clause-fault g c =
+pub returns-in_err-groups-clause-fault : goal.returns-in_err-groups-clause-fault
+returns-in_err-groups-clause-fault g c =
     let w = c.args.window.now in
-    let p = err_from_is_err_and c.from_residual-in_err-done.result c.from_residual-in_err-done.ensures.1 in
+    let p = err_from_is_err_and c.from_residual-in_err-groups.result c.from_residual-in_err-groups.ensures.1 in
     rw (p.1, p.2) (
-      of_pieces c.args.workers c.in_ok-pieces.pieces.items c.in_err-done.field-0.0 c.requires.workers.0 c.in_err-done.ensures.err,
-      λ is. pieces_full w c.end-end.result c.take_groups.result.items c.in_ok-pieces.pieces.items c.take_groups.ensures.groups c.end-end.ensures c.in_ok-pieces.ensures (c.in_err-done.ensures.full is),
+      of_pieces c.args.workers c.in_ok-pieces.pieces.items c.in_err-groups.field-0.0 c.requires.workers.0 c.in_err-groups.ensures.err,
+      λ is. pieces_full w c.end-end.result c.take_groups.result.items c.in_ok-pieces.pieces.items c.take_groups.ensures.groups c.end-end.ensures c.in_ok-pieces.ensures (c.in_err-groups.ensures.full is),
     )

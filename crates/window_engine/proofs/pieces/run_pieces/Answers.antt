@@ -10,7 +10,7 @@ pub returns-clause-done : goal.returns-clause-done
 returns-clause-done g c =
     let count = c.in-Ok-clear.ensures.len ∙ sym (ap length c.in-Ok-sweep.ensures.board.laid) in let cleared = c.in-Ok-clear in
     let waits = none_waits c.in-Ok-sweep.seat cleared.slots.items c.in-Ok-sweep.ensures.swept count cleared.ensures.each in
-    ends_done c.gather.result c.args.pieces.items c.in-Ok-sweep.seat.view cleared.slots.items (c.in-Ok-sweep.ensures.board.laid ∙ c.in-Ok.ensures.pieces) count waits cleared.ensures.each c.gather.ensures.ok
+    ends_done c.gather.result c.args.pieces.items c.in-Ok-sweep.seat.view cleared.slots.items (c.in-Ok-sweep.ensures.board.laid ∙ c.in-Ok.ensures.pieces) count waits cleared.ensures.each c.gather.ensures.ok c.gather.ensures.after
 
 pub returns-clause-err : goal.returns-clause-err
 returns-clause-err g c =
