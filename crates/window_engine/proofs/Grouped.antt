@@ -15,7 +15,7 @@ use Rattle.window_core.specs.Sheaves.{SheafValue, merged}
 use Rattle.window_core.specs.Window.{WindowValue, IsFrom, setting_in, states_of}
 use Rattle.window_core.specs.Windows.{none_fired, window_end}
 use Rattle.window_engine.specs.declared.course.Course.{Course}
-use Rattle.window_engine.specs.Courses.{AtRest, HasGroups, IsApart, IsBehind, RunsIn, Wrote}
+use Rattle.window_engine.specs.Courses.{AtRest, HasGroups, IsApart, IsBehind, RunsIn}
 use Rattle.window_engine.specs.Edges.{IsAtEdge, IsSameNet, StaysNet, edge_of, reached_in}
 use Rattle.window_engine.specs.Engines.{GoesOn}
 use Rattle.window_engine.proofs.Between.{net_is, opened_net}

@@ -1,5 +1,5 @@
 //! Workers that run windows together.
-ghost use Rattle.std.specs.Prelude.{◌≡◌, ◌+◌, ◌<◌, ◌≤◌, ◌^◌, length, IfOk, IfErr};
+ghost use Rattle.std.specs.Prelude.{◌+◌, ◌<◌, ◌≤◌, ◌^◌, length, IfOk, IfErr};
 ghost use Rattle.window_core.specs.Full.{HasTooMany};
 ghost use Rattle.window_core.specs.Partition.{groups_of};
 ghost use Rattle.window_core.specs.Sheaves.{merged};
