@@ -155,7 +155,9 @@ class Typed:
             theirs, self.keys = os.pipe()
             self.screen, shown = os.pipe()
             ends = (theirs, shown)
-        self.program = subprocess.Popen([PROGRAM, 'debug', path, *options], stdin=ends[0], stdout=ends[1], stderr=told)
+        # A shell has what it runs behind itself ignore interrupts, and what that runs would too.
+        self.program = subprocess.Popen([PROGRAM, 'debug', path, *options], stdin=ends[0], stdout=ends[1], stderr=told,
+                                        preexec_fn=lambda: signal.signal(signal.SIGINT, signal.SIG_DFL))
         for end in {*ends, told}:
             os.close(end)
         self.seen = b''
