@@ -1,26 +1,13 @@
-use Rattle.std.proofs.Common.{◌≡◌, ◌<◌, ◌≤◌, ℕ, zero, suc, List, [], ◌∷◌, length, map, take, get_or, ltb, true, false, rules, refl, sym, ap, subst, ◌∙◌, arith}
+use Rattle.std.proofs.Common.{◌≡◌, ◌<◌, ◌≤◌, ℕ, List, [], ◌∷◌, length, map, take, ltb, true, false, rules, sym, ap, subst, ◌∙◌, arith}
 use Rattle.std.proofs.lemmas.Bool.{ltb-true, ltb-false}
 use Rattle.std.proofs.lemmas.List.{length-map}
 use Rattle.std.proofs.lemmas.List.Sorted.{IsPartitionPoint-from_clause, IsPartitionedBy-ltb}
-use Rattle.std.specs.List.Sorted.{IsNonDecreasingBy, IsPartitionedBy, IsPartitionPoint}
+use Rattle.std.specs.List.Sorted.{IsPartitionedBy, IsPartitionPoint}
 use Rattle.node_core.specs.declared.line.Line.{Line}
 use Rattle.node_core.specs.TraceLine.{shown}
-use Rattle.line_merge.specs.Merged.{line_in}
 use Rattle.line_merge.specs.Sheaves.{IsCut, IsRising}
-use Rattle.line_merge.proofs.Cuts.{times_rise}
+use Rattle.line_merge.proofs.Times.{time_at, times_of}
 use Rattle.line_merge.proofs.sheaf.lines.Lines.before.Goals as goal
-
-time_at : (lines : List Line) (i : ℕ) (d : Line) → i < length lines → (line_in (map shown lines) i).key.time ≡ (get_or lines i d).key.time
-time_at [] i d under = absurd (omega (arith, under))
-time_at (l ∷ lines) zero d under = refl
-time_at (l ∷ lines) (suc i) d under = time_at lines i d (omega (arith, under))
-
-times_of : (lines : List Line) → IsRising (map shown lines) → IsNonDecreasingBy (λ (l : Line). l.key.time) lines
-times_of lines rising i j d upto under =
-    let a = time_at lines i d (omega (arith, upto, under)) in
-    let b = time_at lines j d under in
-    let rise = times_rise (map shown lines) i j rising upto (let all = length-map lines shown in omega (arith, all, under)) in
-    omega (arith, a, b, rise)
 
 cut_of_point : (lines : List Line) (m n : ℕ) → n ≤ length lines → IsPartitionPoint (λ (l : Line). ltb l.key.time m ≡ true) (λ (l : Line). ltb l.key.time m ≡ false) lines n → IsCut m n (map shown lines)
 cut_of_point [] m n within point = record { before = λ i under. absurd (omega (arith, within, under)); behind = λ i upto under. absurd (omega (arith, under)) }
