@@ -5,3 +5,7 @@ pub mod Moments
 pub mod Replays
 pub mod Winners
 pub mod Rising
+pub mod Timed
+pub mod Climbing
+pub mod Searched
+pub mod Soonest

@@ -13,12 +13,12 @@ halves_first : (k x : ℕ) → halves k (x / 2) ≡ halves (suc k) x
 halves_first zero x = refl
 halves_first (suc k) x = ap (λ n. n / 2) (halves_first k x)
 
-halves_least : (k x : ℕ) → halves k x ≤ x
+pub halves_least : (k x : ℕ) → halves k x ≤ x
 halves_least zero x = omega arith
 halves_least (suc k) x = omega (arith, halves_least k x)
 
 -- what is on a node's way and not the node is on the way of its half
-to_half : (x j : ℕ) → j ≢ x → IsOnWay x j → IsOnWay (x / 2) j
+pub to_half : (x j : ℕ) → j ≢ x → IsOnWay x j → IsOnWay (x / 2) j
 to_half x j apart (zero, e) = absurd (apart (sym e))
 to_half x j apart (suc k, e) = (k, halves_first k x ∙ e)
 

@@ -29,7 +29,7 @@ fn winner(leaves: &[Standing], moments: &[u64], winners: &[u32], at: usize) -> u
 
 // The node that is below the same node as this one.
 #[inline(always)]
-fn beside(at: usize) -> usize
+pub(crate) fn beside(at: usize) -> usize
     ensures other { result ≢ at }
     ensures below { result / 2 ≡ at / 2 }
 {

@@ -16,5 +16,8 @@
 mod games;
 mod ranking;
 mod standing;
+mod timetable;
+mod words;
 
 pub use ranking::Ranking;
+pub use timetable::Timetable;
