@@ -7,14 +7,16 @@ use Rattle.std.specs.FinMap as fin
 use Rattle.std.specs.List.{AllByRecursion}
 use Rattle.sim_time.specs.declared.key.Key.{Key}
 use Rattle.ranking.specs.Leading.{rank_at, Leads}
+use Rattle.ranking.specs.Timed.{time_at, time_of, times_of}
 use Rattle.ranking.specs.Keyed.{apply, least, next_key, EachKey}
 use Rattle.ranking.specs.Gathered.{gathered, map_at, AtHome}
 use Rattle.ranking.proofs.Maps.{each_apply}
+use Rattle.ranking.proofs.Timed.{time-at, times_set}
 use Rattle.ranking.proofs.Gathered.{rank-next, home_set, gathered-apply, gathered_has, none_gathered, IsFirst as IsFirstMap, is_first}
 use Rattle.node_core.specs.declared.event.Event.{Event}
 use Rattle.node_core.specs.Pending.{Events, Change}
 use Rattle.node_core.specs.Node.{NodeState}
-use Rattle.net_machine.specs.Nodes.{no_node, node_at, pendings, next_keys, net_pending, IsPlaced, IsFirst}
+use Rattle.net_machine.specs.Nodes.{no_node, node_at, pendings, next_keys, next_times, net_pending, IsPlaced, IsFirst}
 
 pub pending_at : (nodes : List NodeState) (i : ℕ) → map_at (pendings nodes) i ≡ (node_at nodes i).pending
 pending_at nodes i = get_or-map (λ (n : NodeState). n.pending) nodes i no_node
@@ -55,14 +57,24 @@ module _ (nodes : List NodeState) (placed : IsPlaced nodes) where
 pub next_at : (nodes : List NodeState) (i : ℕ) → rank_at (next_keys nodes) i ≡ next_key (node_at nodes i).pending
 next_at nodes i = rank-next (pendings nodes) i ∙ ap next_key (pending_at nodes i)
 
--- the ranking follows a node
-pub ranked_set : (nodes : List NodeState) (ranks : List (Option Key)) (i : ℕ) (x : NodeState) → ranks ≡ next_keys nodes → set ranks i (next_key x.pending) ≡ next_keys (set nodes i x)
-ranked_set nodes ranks i x is = ap (λ r. set r i (next_key x.pending)) is ∙ sym (map-set next_key (pendings nodes) i x.pending) ∙ ap (map next_key) (sym (map-set (λ (n : NodeState). n.pending) nodes i x))
+-- and its time
+pub next_time_at : (nodes : List NodeState) (i : ℕ) → time_at (next_times nodes) i ≡ time_of (next_key (node_at nodes i).pending)
+next_time_at nodes i = time-at (next_keys nodes) i ∙ ap time_of (next_at nodes i)
 
--- and stands where the node's next key does
-pub ranked_stays : (nodes : List NodeState) (ranks : List (Option Key)) (i : ℕ) (x : NodeState) → ranks ≡ next_keys nodes → next_key x.pending ≡ next_key (node_at nodes i).pending → ranks ≡ next_keys (set nodes i x)
-ranked_stays nodes ranks i x is same =
-    sym (ap (set ranks i) (same ∙ sym (next_at nodes i) ∙ ap (λ (r : List (Option Key)). rank_at r i) (sym is)) ∙ set-get_or ranks i None) ∙ ranked_set nodes ranks i x is
+pub length-next_times : (nodes : List NodeState) → length (next_times nodes) ≡ length nodes
+length-next_times nodes = length-map (next_keys nodes) time_of ∙ length-map (pendings nodes) next_key ∙ length-map nodes (λ (n : NodeState). n.pending)
+
+-- the next keys follow a node
+next_set : (nodes : List NodeState) (i : ℕ) (x : NodeState) → next_keys (set nodes i x) ≡ set (next_keys nodes) i (next_key x.pending)
+next_set nodes i x = ap (map next_key) (map-set (λ (n : NodeState). n.pending) nodes i x) ∙ map-set next_key (pendings nodes) i x.pending
+
+-- so does the timetable
+pub timed_set : (nodes : List NodeState) (times : List (Option ℕ)) (i : ℕ) (x : NodeState) → times ≡ next_times nodes → set times i (time_of (next_key x.pending)) ≡ next_times (set nodes i x)
+timed_set nodes times i x is = ap (λ t. set t i (time_of (next_key x.pending))) is ∙ sym (ap times_of (next_set nodes i x) ∙ times_set (next_keys nodes) i (next_key x.pending))
+
+-- and it stands where the node's next key does
+pub timed_stays : (nodes : List NodeState) (times : List (Option ℕ)) (i : ℕ) (x : NodeState) → times ≡ next_times nodes → next_key x.pending ≡ next_key (node_at nodes i).pending → times ≡ next_times (set nodes i x)
+timed_stays nodes times i x is same = is ∙ ap times_of (sym (next_set nodes i x ∙ ap (set (next_keys nodes) i) (same ∙ sym (next_at nodes i)) ∙ set-get_or (next_keys nodes) i None))
 
 module _ (nodes : List NodeState) (placed : IsPlaced nodes) where
   pub net_none : ((place : ℕ) → rank_at (next_keys nodes) place ≡ None) → least (net_pending nodes) ≡ None

@@ -1,5 +1,7 @@
 pub mod Copies
 pub mod AtNodes
+pub mod InPlace
+pub mod Led
 pub mod First
 pub mod Home
 pub mod AfterEvent

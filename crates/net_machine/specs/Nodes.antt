@@ -3,6 +3,8 @@ use Rattle.std.specs.Prelude.{◌≡◌, ◌<◌, ℕ, List, [], map as each, le
 use Rattle.std.specs.List.{enumerate_from}
 use Rattle.sim_time.specs.declared.key.Key.{Key}
 use Rattle.scenario_image.specs.declared.parts.ScenarioParts.{ScenarioParts}
+use Rattle.ranking.specs.Leading.{Leads}
+use Rattle.ranking.specs.Timed.{times_of}
 use Rattle.ranking.specs.Keyed.{least, next_key, nothing_due}
 use Rattle.ranking.specs.Gathered.{gathered, AtHome}
 use Rattle.node_core.specs.declared.event.Event.{Event}
@@ -29,6 +31,16 @@ pendings nodes = each (λ (n : NodeState). n.pending) nodes
 -- the next key of each
 abbrev pub next_keys : List NodeState → List (Option Key)
 next_keys nodes = each next_key (pendings nodes)
+
+-- and its time
+abbrev pub next_times : List NodeState → List (Option ℕ)
+next_times nodes = times_of (next_keys nodes)
+
+-- a node has the key that leads, and that is of this time
+pub record LeadsAt (nodes : List NodeState) (place time : ℕ) : Type 0 where
+  pub key : Key
+  pub leads : Leads (next_keys nodes) place key
+  pub at_time : key.time ≡ time
 
 -- what is pending at all of them
 abbrev pub net_pending : List NodeState → Events

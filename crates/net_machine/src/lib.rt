@@ -1,4 +1,4 @@
-//! The network: its nodes, ranked by their next keys, and one event at a time.
+//! The network: its nodes, ranked by the times of their next keys, and one event at a time.
 #![tactic(auto)]
 
 pub mod net;

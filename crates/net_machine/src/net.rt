@@ -146,7 +146,7 @@ impl Net {
         ensures { result ≡ next_key self.now.state.pending }
     {
         match self.nodes.first() {
-            Some((_, key)) => Some(key),
+            Some((place, _)) => self.nodes.as_slice()[place].least(),
             None => None,
         }
     }
@@ -163,6 +163,18 @@ impl Net {
         Some(key)
     }
 
+    // The place of the node at which an event is due.
+    #[inline(always)]
+    fn due_place(&self) -> Option<usize>
+        ensures { result ≡ option_map (λ entry. entry.0.node) (due self.now.state) }
+    {
+        let (place, time) = self.nodes.first()?;
+        if time >= self.end {
+            return None;
+        }
+        Some(place)
+    }
+
     /// Runs the event that is due, at this node, and tells of it in `line`.
     #[inline(always)]
     pub fn fire_into(&mut self, node: u16, line: &mut Line) -> Result<(), AllocError>
@@ -171,7 +183,17 @@ impl Net {
         ensures ok { OnOk result (Stepped self.old (Some (shown line.new)) self.new) }
         ensures err { OnErr result (self.new ≡ self.old) }
     {
-        let place = usize::from(node);
+        self.fire_at(usize::from(node), line)
+    }
+
+    // The same, where the node is named by its place.
+    #[inline(always)]
+    fn fire_at(&mut self, place: usize, line: &mut Line) -> Result<(), AllocError>
+        requires due { option_map (λ entry. entry.0.node) (due self.old.state) ≡ Some place }
+        requires few { self.old.position < 1000000000000000 }
+        ensures ok { OnOk result (Stepped self.old (Some (shown line.new)) self.new) }
+        ensures err { OnErr result (self.new ≡ self.old) }
+    {
         run_event(&mut self.nodes, &mut self.out, &self.ends, place, line)?;
         self.position += 1;
         Ok(())
@@ -187,13 +209,13 @@ impl Net {
         ensures count { due self.old.state ≢ None → self.old.position ≡ 1000000000000000 → result ≡ Err StepFault.CountFull }
         ensures err { OnErr result (self.new ≡ self.old) }
     {
-        let Some(key) = self.due_key() else {
+        let Some(place) = self.due_place() else {
             return Ok(false);
         };
         if self.position == MOST_EVENTS {
             return Err(StepFault::CountFull);
         }
-        match self.fire_into(key.node, line) {
+        match self.fire_at(place, line) {
             Ok(()) => Ok(true),
             Err(_) => Err(StepFault::NoMemory),
         }

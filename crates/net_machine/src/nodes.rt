@@ -1,9 +1,10 @@
-//! Nodes in a row, ranked by their next keys.
+//! Nodes in a row, with a timetable of their next keys.
 ghost use Rattle.std.specs.Prelude.{◌≡◌, ◌≢◌, ◌+◌, ◌<◌, ◌≤◌, ◌^◌, [], ℕ, All, IfOk, IfSome, OnOk, OnErr, MatchOption, Option, Some, None, length, slice_set, replicate};
 ghost use Rattle.std.specs.Option.{option_map};
 ghost use Rattle.std.specs.List.Sorted.{IsStrictlyIncreasing};
 ghost use Rattle.sim_time.specs.declared.key.Key.{Key};
-ghost use Rattle.ranking.specs.Leading.{rank_at, Leads};
+ghost use Rattle.ranking.specs.Leading.{rank_at};
+ghost use Rattle.ranking.specs.Timed.{AreInPlace};
 ghost use Rattle.ranking.specs.Keyed.{least, next_key, EachKey};
 ghost use Rattle.node_core.specs.declared.event.Event.{Event};
 ghost use Rattle.node_core.specs.AgendaState.{incoming_at};
@@ -13,12 +14,12 @@ ghost use Rattle.node_core.specs.Row.{Leaving, row};
 ghost use Rattle.node_core.specs.Ready.{IsRunnable};
 ghost use Rattle.node_core.specs.TraceLine.{shown};
 ghost use Rattle.node_core.specs.Node.{delivered, HasFired};
-ghost use Rattle.net_machine.specs.Nodes.{node_at, next_keys, AreCopies};
+ghost use Rattle.net_machine.specs.Nodes.{node_at, next_keys, next_times, LeadsAt, AreCopies};
 
 use node_core::{Line, Node, Outbox};
 use packet_chain::PacketChain;
-use ranking::Ranking;
-use sim_time::Key;
+use ranking::Timetable;
+use sim_time::Time;
 use std::alloc::{AllocError, Global};
 use std::marker::Model;
 
@@ -26,8 +27,8 @@ use std::marker::Model;
 #[derive(Drop)]
 pub struct Nodes {
     nodes: Vec<Node>,
-    /// The next key of each node.
-    ranking: Ranking,
+    /// The time of each node's next key.
+    timetable: Timetable,
 }
 
 impl Model for Nodes {
@@ -41,11 +42,11 @@ impl Model for Nodes {
     ghost coded = { nodes_code };
 
     ghost use Rattle.std.specs.Prelude.{◌≡◌};
-    ghost use Rattle.net_machine.specs.Nodes.{next_keys};
+    ghost use Rattle.net_machine.specs.Nodes.{next_times};
 
     ghost view = { λ n. n.nodes.items };
 
-    ghost invariant = { λ n. n.ranking ≡ next_keys n.nodes.items };
+    ghost invariant = { λ n. n.timetable ≡ next_times n.nodes.items };
 }
 
 // Room for copies of so many nodes, of which there is none yet.
@@ -101,42 +102,44 @@ fn copies_in(alloc: Global, nodes: &[Node], order: &[u16]) -> Result<Vec<Node>, 
     Ok(copies)
 }
 
-// Ranks nodes by their next keys.
-fn rank(nodes: &[Node], ranking: &mut Ranking)
-    requires { length ranking.old ≡ length nodes.now }
-    ensures { ranking.new ≡ next_keys nodes.now }
+// Has the time of each node's next key in a timetable.
+fn set_times(nodes: &[Node], timetable: &mut Timetable)
+    requires { length timetable.old ≡ length nodes.now }
+    ensures { timetable.new ≡ next_times nodes.now }
 {
     for at in 0..nodes.len() {
         let node = &nodes[at];
-        ranking.set(at, node.least());
+        timetable.set(at, node.next_time());
     }
 }
 
 impl Nodes {
-    /// These nodes, with a ranking of as many places, whatever it holds. No memory is taken.
-    pub fn of_parts(nodes: Vec<Node>, mut ranking: Ranking) -> Nodes
-        requires { length ranking ≡ length nodes.items }
+    /// These nodes, with a timetable of as many places, whatever it holds. No memory is taken.
+    pub fn of_parts(nodes: Vec<Node>, mut timetable: Timetable) -> Nodes
+        requires { length timetable ≡ length nodes.items }
         ensures { result ≡ nodes.items }
     {
-        rank(&nodes, &mut ranking);
-        Nodes { nodes, ranking }
+        set_times(&nodes, &mut timetable);
+        Nodes { nodes, timetable }
     }
 
-    /// The nodes, and their ranking.
-    pub fn into_parts(self) -> (Vec<Node>, Ranking)
+    /// The nodes, and their timetable.
+    pub fn into_parts(self) -> (Vec<Node>, Timetable)
         ensures nodes { result.0.items ≡ self }
         ensures room { length result.1 ≡ length self }
     {
-        (self.nodes, self.ranking)
+        (self.nodes, self.timetable)
     }
 
-    /// The place of the node at which the least key is pending, and the key.
+    /// The place of the node at which the least key is pending, and its time. Of keys of one time the
+    /// one at the lowest place has to be the least.
     #[inline(always)]
-    pub fn first(&self) -> Option<(usize, Key)>
-        ensures { MatchOption result ((place : ℕ) → rank_at (next_keys self.now) place ≡ None) (λ entry. Leads (next_keys self.now) entry.0 entry.1) }
+    pub fn first(&self) -> Option<(usize, Time)>
+        requires in_place { AreInPlace (next_keys self.now) }
+        ensures { MatchOption result ((place : ℕ) → rank_at (next_keys self.now) place ≡ None) (λ entry. LeadsAt self.now entry.0 entry.1) }
     {
-        match self.ranking.first() {
-            Some((place, key)) => Some((place, key)),
+        match self.timetable.first() {
+            Some((place, time)) => Some((place, time)),
             None => None,
         }
     }
@@ -163,8 +166,8 @@ impl Nodes {
     {
         let node = &mut self.nodes[place];
         let leaving = node.fire_into(out, line)?;
-        let next = node.least();
-        self.ranking.set(place, next);
+        let next = node.next_time();
+        self.timetable.set(place, next);
         Ok(leaving)
     }
 
@@ -191,12 +194,12 @@ impl Nodes {
         ensures emptied { chain.new ≡ [] }
     {
         let node = &mut self.nodes[place];
-        // Packets that come behind others change nothing of the ranking.
+        // Packets that come behind others change no time.
         if node.deliver_behind(index, chain) {
             return;
         }
-        let next = node.least();
-        self.ranking.set(place, next);
+        let next = node.next_time();
+        self.timetable.set(place, next);
     }
 
     /// Nodes in the same states, with packets in cells of their own.
@@ -212,8 +215,8 @@ impl Nodes {
         ensures { IfOk result (λ copy. copy ≡ self.now) }
     {
         let nodes = copies_in(*self.nodes.allocator(), &self.nodes, order)?;
-        let ranking = self.ranking.copy()?;
-        Ok(Nodes { nodes, ranking })
+        let timetable = self.timetable.copy()?;
+        Ok(Nodes { nodes, timetable })
     }
 
     /// The nodes.

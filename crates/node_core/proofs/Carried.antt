@@ -1,13 +1,10 @@
 -- From what was decided and carried out to the rows.
-use Rattle.std.proofs.Common.{◌≡◌, ◌≢◌, ◌⊎◌, inl, inr, ℕ, suc, ◌+◌, ◌<◌, List, [], ◌∷◌, ◌++◌, get_or, set, length, Option, Some, None, refl, sym, ap, subst, ◌∙◌, arith, append-nil}
+use Rattle.std.proofs.Common.{◌≡◌, inl, inr, ℕ, ◌<◌, List, [], ◌∷◌, ◌++◌, get_or, set, length, Option, None, sym, ap, subst, ◌∙◌, arith, append-nil}
 use Rattle.std.specs.Option.{option_map}
 use Rattle.sim_time.specs.declared.key.Key.{Key}
-use Rattle.packet_chain.specs.declared.packet.Packet.{Packet}
 use Rattle.packet_chain.specs.Stamped.{Stamped}
 use Rattle.port.specs.declared.acts.Act.{Act}
-use Rattle.port.specs.Port.{PortState, PortStep, offered_all, taken}
-use Rattle.reno_sender.specs.declared.fields.SenderFields.{SenderFields}
-use Rattle.reno_receiver.specs.Received.{ReceiverState}
+use Rattle.port.specs.Port.{PortStep, offered_all, taken}
 use Rattle.node_core.specs.declared.alarm.Alarm.{Alarm}
 use Rattle.node_core.specs.declared.alarm.Alarm.TheVariants.{Retransmission, DelayedAcknowledgement}
 use Rattle.node_core.specs.declared.decision.Decision.{Decision}
@@ -26,7 +23,6 @@ use Rattle.node_core.specs.Passing.{passed, after_take, moved_to}
 use Rattle.node_core.specs.Row.{Effect, Leaving, leaving_over, quiet, row, timer_moved, with_step}
 use Rattle.node_core.specs.Node.{put_out}
 use Rattle.node_core.specs.Running.{HasRun, IsTimed, part}
-use Rattle.node_core.proofs.Follows.{index_left}
 use Rattle.node_core.proofs.Passages.{all_link, taken_link}
 use Rattle.node_core.proofs.Steps.{sender_runs, receiver_runs, pass_runs, arrival_alarms, free_alarms, quiet_runs}
 

@@ -1,9 +1,9 @@
 -- What the rows decide.
-use Rattle.std.proofs.Common.{◌≡◌, ℕ, ◌+◌, ◌<◌, ◌≤◌, Bool, true, false, List, [], ◌∷◌, map, length, Option, Some, None, Result, Ok, Err, refl, sym, ap, subst, ◌∙◌, arith}
+use Rattle.std.proofs.Common.{◌≡◌, ℕ, ◌<◌, ◌≤◌, Bool, true, false, List, [], map, length, Option, Some, None, Result, Ok, Err, refl, sym, ap, subst, ◌∙◌, arith}
 use Rattle.std.specs.Result.{IfOk, OnOk}
 use Rattle.sim_time.specs.declared.key.Key.{Key}
 use Rattle.packet_chain.specs.declared.packet.Packet.{Packet}
-use Rattle.port.specs.Port.{offered_one, offered_all}
+use Rattle.port.specs.Port.{offered_all}
 use Rattle.reno_sender.specs.declared.fields.SenderFields.{SenderFields}
 use Rattle.reno_sender.specs.Sending.{Planned}
 use Rattle.reno_receiver.specs.Received.{ReceiverState, Answered}
@@ -12,13 +12,13 @@ use Rattle.node_core.specs.declared.alarm.Alarm.TheVariants.{Retransmission, Del
 use Rattle.node_core.specs.declared.decision.Decision.{Decision}
 use Rattle.node_core.specs.declared.decision.Decision.TheVariants.{Leave, PassOn, TakeNext, Send}
 use Rattle.node_core.specs.declared.event.Event.{Event}
-use Rattle.node_core.specs.declared.event.Event.TheVariants.{Start, Rto, DelAck, Free, Arrive}
+use Rattle.node_core.specs.declared.event.Event.TheVariants.{Arrive}
 use Rattle.node_core.specs.declared.role.Role.{Role}
 use Rattle.node_core.specs.declared.role.Role.TheVariants.{Sends, Receives, Routes}
 use Rattle.node_core.specs.declared.routes.FlowExits.{FlowExits}
 use Rattle.node_core.specs.Alarms.{alarm_key, alarm_number}
-use Rattle.node_core.specs.Decided.{sent_by, timer_event, timer_of, CanMove, IsArrival, IsDecided, IsSent, IsRouted, OnSend, of_sender, of_receiver, route_of}
-use Rattle.node_core.specs.Part.{LinkState, PartState, link_at}
+use Rattle.node_core.specs.Decided.{timer_event, timer_of, CanMove, IsArrival, IsDecided, IsSent, IsRouted, OnSend, of_sender, of_receiver, route_of}
+use Rattle.node_core.specs.Part.{LinkState, link_at}
 use Rattle.node_core.specs.Ready.{CanRun}
 use Rattle.node_core.specs.Row.{row, sender_row, receiver_row, passed_on, data_packet, ack_of, with_step, timer_moved}
 use Rattle.node_core.specs.RouteTable.{exit_for}

@@ -1,15 +1,18 @@
 -- An agenda with nothing pending.
-use Rattle.std.proofs.Common.{◌≡◌, ℕ, ◌+◌, ◌-◌, ◌<◌, ◌≤◌, ◌∷◌, [], List, length, map, replicate, refl, sym, ap, ◌∙◌, None, Option, ⊎_elim, arith}
+use Rattle.std.proofs.Common.{◌≡◌, ℕ, ◌+◌, ◌-◌, ◌<◌, ◌≤◌, ◌∷◌, [], List, length, map, replicate, refl, sym, ap, subst, ◌∙◌, None, Option, ⊎_elim, arith}
 use Rattle.std.proofs.lemmas.Bool.{cases_lt}
 use Rattle.std.proofs.lemmas.List.{get_or-replicate, length-replicate, length-map, get_or-map, ext_get_or}
 use Rattle.std.proofs.Math.ListN.{get_or-eq_default}
+use Rattle.std.specs.List.Sorted.{IsStrictlyIncreasing}
 use Rattle.sim_time.specs.declared.key.Key.{Key}
 use Rattle.ranking.specs.Keyed.{next_key, nothing_due}
 use Rattle.ranking.specs.Gathered.{map_at}
+use Rattle.ranking.specs.Timed.{time_of, times_of}
+use Rattle.ranking.proofs.Timed.{time-at}
 use Rattle.ranking.proofs.Gathered.{none-gathered, rank-next, next_empty}
 use Rattle.node_core.specs.declared.event.Event.{Event}
 use Rattle.node_core.specs.WireState.{WireState, pending_on}
-use Rattle.node_core.specs.AgendaState.{Owner, alarm_map, slots, agenda_state, no_wire, wire_at, fresh_wire, fresh_agenda, incoming_of, IsAgenda, AreApart, index_of}
+use Rattle.node_core.specs.AgendaState.{Owner, alarm_map, slots, agenda_state, no_wire, wire_at, fresh_wire, fresh_agenda, incoming_of, IsAgenda}
 use Rattle.node_core.proofs.Slots.{length-slots, slots_at_alarm, slots_at_wire, same_agenda}
 
 fresh_links : (node : ℕ) (links : List ℕ) → map (λ (w : WireState). w.link) (map (fresh_wire node) links) ≡ links
@@ -51,18 +54,18 @@ module _ (owner : Owner) (links : List ℕ) where
   length_all : length (slots owner none_set wires) ≡ alarms + length links
   length_all = length-slots owner none_set wires ∙ omega (arith, length-replicate {A = Option ℕ} alarms None, length-map links (fresh_wire owner.node))
 
+  abbrev ranks : List (Option Key)
+  ranks = map next_key (slots owner none_set wires)
+
   pub fresh_state : agenda_state owner none_set wires ≡ fresh_agenda owner links
   fresh_state = same_agenda owner refl (fresh_incoming owner.node links) (none-gathered (slots owner none_set wires) none_at)
 
-  pub fresh_is : AreApart links → IsAgenda owner none_set wires (replicate (alarms + length links) None)
-  fresh_is apart = record {
-    ranked = ext_get_or None (replicate (alarms + length links) None) (map next_key (slots owner none_set wires))
-        (length-replicate {A = Option Key} (alarms + length links) None ∙ sym (length-map (slots owner none_set wires) next_key ∙ length_all))
-        (λ i under. get_or-replicate {A = Option Key} (alarms + length links) i None None (omega (arith, under, length-replicate {A = Option Key} (alarms + length links) None))
-        ∙ sym (rank-next (slots owner none_set wires) i ∙ ap next_key (none_at i) ∙ next_empty Event));
-    apart = λ j under.
-        let within : j < length links = omega (arith, under, length-map links (fresh_wire owner.node)) in
-        ap (λ ls. index_of ls (wire_at wires j).link) (fresh_links owner.node links)
-        ∙ ap (λ (w : WireState). index_of links w.link) (get_or-map (fresh_wire owner.node) links j 0 no_wire within) ∙ apart j within;
+  pub fresh_is : IsStrictlyIncreasing links → IsAgenda owner none_set wires (replicate (alarms + length links) None)
+  fresh_is rising = record {
+    ranked = ext_get_or None (replicate (alarms + length links) None) (times_of ranks)
+        (length-replicate {A = Option ℕ} (alarms + length links) None ∙ sym (length-map ranks time_of ∙ length-map (slots owner none_set wires) next_key ∙ length_all))
+        (λ i under. get_or-replicate {A = Option ℕ} (alarms + length links) i None None (omega (arith, under, length-replicate {A = Option ℕ} (alarms + length links) None))
+        ∙ sym (time-at ranks i ∙ ap time_of (rank-next (slots owner none_set wires) i ∙ ap next_key (none_at i) ∙ next_empty Event)));
+    rising = subst IsStrictlyIncreasing (sym (fresh_links owner.node links)) rising;
     at_node = λ j under. ap (λ (w : WireState). w.node) (get_or-map (fresh_wire owner.node) links j 0 no_wire (omega (arith, under, length-map links (fresh_wire owner.node))));
   }

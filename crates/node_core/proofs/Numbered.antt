@@ -2,11 +2,11 @@
 use Rattle.std.proofs.Common.{◌≡◌, ℕ, zero, suc, ◌+◌, ◌<◌, ◌≤◌, Bool, true, false, cond, List, [], ◌∷◌, ◌++◌, length, filter, find, map, get_or, drop, Option, Some, None, All, IsSome, option_to_list, not, rules, ⊎_elim, refl, sym, ap, subst, ◌∙◌, arith}
 use Rattle.std.specs.List.{enumerate_from, count_by, AllByRecursion, slice_get, position, position_or_len}
 use Rattle.std.specs.Prelude.{nat_lt}
+use Rattle.std.specs.List.Sorted.{IsStrictlyIncreasing}
 use Rattle.std.specs.Option.{option_map}
 use Rattle.std.proofs.lemmas.List.{drop_more, append_assoc, append-nil, drop_all, length-map}
 use Rattle.std.proofs.lemmas.List.Sums.{sum_by-cons}
-use Rattle.std.proofs.lemmas.Bool.{cases_lt, lt-ltb, le-ltb, eq-eqb, ne_eqb}
-use Rattle.node_core.specs.AgendaState.{index_of, AreApart}
+use Rattle.std.proofs.lemmas.Bool.{cases_lt, lt-ltb, le-ltb}
 
 module _ {X : Type 0} (p : X → Bool) where
   -- those that pass, numbered
@@ -133,21 +133,17 @@ module _ {X : Type 0} (p : X → Bool) where
         | false ↦ rest
       ]
 
-  first_apart : (base bound : ℕ) (ns : List ℕ) → AllByRecursion (λ n. (base + 1 ≤ n) × (n < bound)) ns → AreApart ns → AreApart (base ∷ ns)
-  first_apart base bound ns above apart zero under = ap (λ b. cond b 0 (index_of ns base + 1)) (eq-eqb base base refl)
-  first_apart base bound ns above apart (suc j) under =
-      let inside : j < length ns = omega (arith, under) in
-      let more : base + 1 ≤ get_or ns j 0 = (all_at (λ n. (base + 1 ≤ n) × (n < bound)) ns above j inside).0 in
-      let rest : index_of ns (get_or ns j 0) ≡ j = apart j inside in
-      ap (λ b. cond b 0 (index_of ns (get_or ns j 0) + 1)) (ne_eqb base (get_or ns j 0) (λ same. omega (arith, same, more))) ∙ omega (arith, rest)
+  first_rises : (base bound : ℕ) (ns : List ℕ) → AllByRecursion (λ n. (base + 1 ≤ n) × (n < bound)) ns → IsStrictlyIncreasing ns → IsStrictlyIncreasing (base ∷ ns)
+  first_rises base bound ns above rising zero under = let more : base + 1 ≤ get_or ns 0 0 = (all_at (λ n. (base + 1 ≤ n) × (n < bound)) ns above 0 (omega (arith, under))).0 in omega (arith, more)
+  first_rises base bound ns above rising (suc k) under = subst (λ n. get_or ns k 0 < get_or (base ∷ ns) n 0) {x = suc (k + 1)} {y = suc k + 1} (omega arith) (rising k (omega (arith, under)))
 
-  -- each stands once
-  pub numbers_apart : (base : ℕ) (xs : List X) → AreApart (numbers base xs)
-  numbers_apart base [] = λ j under. absurd (omega (arith, under))
-  numbers_apart base (x ∷ xs) =
-      elim (p x) as (λ b. AreApart (map (λ (x : ℕ × X). x.0) (cond b ((base, x) ∷ passing p (base + 1) xs) (passing p (base + 1) xs)))) [
-        | true ↦ first_apart base (base + 1 + length xs) (numbers (base + 1) xs) (numbers_within (base + 1) (base + 1 + length xs) xs (omega arith)) (numbers_apart (base + 1) xs)
-        | false ↦ numbers_apart (base + 1) xs
+  -- they rise
+  pub numbers_rising : (base : ℕ) (xs : List X) → IsStrictlyIncreasing (numbers base xs)
+  numbers_rising base [] = λ k under. absurd (omega (arith, under))
+  numbers_rising base (x ∷ xs) =
+      elim (p x) as (λ b. IsStrictlyIncreasing (map (λ (x : ℕ × X). x.0) (cond b ((base, x) ∷ passing p (base + 1) xs) (passing p (base + 1) xs)))) [
+        | true ↦ first_rises base (base + 1 + length xs) (numbers (base + 1) xs) (numbers_within (base + 1) (base + 1 + length xs) xs (omega arith)) (numbers_rising (base + 1) xs)
+        | false ↦ numbers_rising (base + 1) xs
       ]
 
 -- the first that passes is the first of those that pass

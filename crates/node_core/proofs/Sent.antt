@@ -1,6 +1,6 @@
 -- A line of the trace may go to another thread, and be shared: what it has for clauses alone owns nothing.
 use denote.Param.Send.{IsSend, IsSync, part_keyless, sendable, view_send, view_sync}
-use denote.Param.SendFields.{declared_send, declared_sync, variants_send, variants_sync}
+use denote.Param.SendFields.{declared_send, declared_sync}
 use Rattle.std.specs.contracts.snapshot.Snapshot as Snapshot
 use Rattle.sim_time.proofs.key.Key.TheSendSync as key
 use Rattle.reno_sender.specs.contracts.fields.SenderFields as SenderFields

@@ -1,24 +1,30 @@
--- The slots of an agenda: whose keys are where, and what a change of one slot does to the whole.
+-- The slots of an agenda: whose keys are where, in which order, and what a change of one slot does to the whole.
 use Rattle.std.proofs.Common.{◌≡◌, ◌≢◌, ℕ, zero, suc, ◌+◌, ◌-◌, ◌<◌, ◌≤◌, ◌==◌, Bool, true, false, cond, ◌∷◌, [], List, ◌++◌, length, get_or, set, map, refl, sym, ap, subst, ◌∙◌, Some, None, Option, ⊎_elim, arith}
-use Rattle.std.proofs.lemmas.Bool.{cases_lt, cases_eq, ne_eqb, eqb-true, eqb-false}
-use Rattle.std.proofs.lemmas.List.{get_or-set_same, get_or-set_other, length-set, length-map, map-set, get_or_append_left, set-get_or, get_or-append-add, set-append_left, set-append_right, length-append}
+use Rattle.std.proofs.lemmas.Bool.{cases_lt, cases_eq, eq-eqb, ne_eqb, eqb-true, eqb-false}
+use Rattle.std.proofs.lemmas.List.{get_or-set_same, get_or-set_other, length-set, length-map, map-set, get_or_append_left, get_or-append-add, set-append_left, set-append_right, length-append}
 use Rattle.std.proofs.Math.ListN.{get_or-map, get_or-eq_default}
 use Rattle.std.proofs.Math.Seq.{map-set_same}
 use Rattle.std.specs.Option.{option_map}
 use Rattle.std.specs.FinMap as fin
 use Rattle.std.specs.FinMap.{get-empty}
 use Rattle.std.specs.List.{AllByRecursion}
-use Rattle.std.specs.Ordering.{eq_by_cmp, is_gt}
+use Rattle.std.specs.List.Sorted.{IsStrictlyIncreasing}
+use Rattle.std.proofs.lemmas.List.Kept.{AllPairs-from_increasing}
+use Rattle.std.specs.Ordering.{eq_by_cmp, is_gt, nat_cmp, ordering_then}
+use Rattle.std.specs.Cmp.{nat_cmp_is}
+use Rattle.std.specs.declared.cmp.Ordering.TheVariants.{Less, Equal, Greater}
 use Rattle.std.proofs.lemmas.Cmp.{tied_itself}
 use Rattle.sim_time.specs.declared.key.Key.{Key}
 use Rattle.sim_time.specs.Keys.{key_cmp}
 use Rattle.sim_time.proofs.Order.{keys_total, exact_keys}
 use Rattle.ranking.specs.Leading.{rank_at, Leads}
+use Rattle.ranking.specs.Timed.{time_at, time_of, times_of, IsSoonest, AreInPlace}
+use Rattle.ranking.proofs.Timed.{led, none_led, times_set}
 use Rattle.packet_chain.specs.Stamped.{Stamped}
 use Rattle.ranking.specs.Keyed.{changed, apply, entering, least, next_key, EachKey, nothing_due}
 use Rattle.ranking.specs.Gathered.{gathered, map_at, AtHome}
 use Rattle.ranking.proofs.Maps.{not_some, same_some, is_equal, get_here, get-changed, each_changed, each_empty, remove_insert, is_least, next_some, least_is}
-use Rattle.ranking.proofs.Gathered.{rank-next, next_empty, gathered-apply, get-gathered, none_gathered, IsFirst, is_first}
+use Rattle.ranking.proofs.Gathered.{rank-next, next_empty, ranks_stay, gathered-apply, get-gathered, none_gathered, IsFirst, is_first}
 use Rattle.packet_chain.specs.declared.packet.Packet.{Packet}
 use Rattle.node_core.specs.declared.event.Event.{Event}
 use Rattle.node_core.specs.declared.event.Event.TheVariants.{Start, Rto, DelAck, Free, Arrive}
@@ -26,7 +32,7 @@ use Rattle.node_core.specs.Pending.{Events, Change}
 use Rattle.node_core.specs.Alarms.{numbered_key, alarm_cleared, alarm_set}
 use Rattle.node_core.specs.WireState.{WireState, pending_on, came_over, arrivals}
 use Rattle.node_core.specs.AgendaState.{Owner, Incoming, AgendaState, alarm_event, alarm_map, alarm_maps, slots, index_of, slot_of, no_wire, wire_at, IsAgenda, IsAlarm, IsDue, IsDueAs, cleared, agenda_state, incoming_of, incoming_at, come_over}
-use Rattle.node_core.proofs.Wires.{each_on, each_at, entering_sources, all_arrive}
+use Rattle.node_core.proofs.Wires.{increasing_rest, first_below, each_on, each_at, entering_sources, all_arrive}
 
 abbrev nothing : Events
 nothing = nothing_due Event
@@ -48,6 +54,10 @@ least_one k v = is_least (changed nothing k (Some v)) k v (record {
 pub next_alarm : (owner : Owner) (i : ℕ) (time : Option ℕ) → next_key (alarm_map owner i time) ≡ option_map (numbered_key owner.node i) time
 next_alarm owner i None = next_empty Event
 next_alarm owner i (Some t) = ap (option_map (λ (entry : Key × Event). entry.0)) (least_one (numbered_key owner.node i t) (alarm_event owner i))
+
+pub alarm_time : (owner : Owner) (i : ℕ) (time : Option ℕ) → time_of (next_key (alarm_map owner i time)) ≡ time
+alarm_time owner i None = ap time_of (next_alarm owner i None)
+alarm_time owner i (Some t) = ap time_of (next_alarm owner i (Some t))
 
 -- an alarm that moves, as a map
 alarm_moves : (owner : Owner) (i : ℕ) (old new : Option ℕ) → alarm_map owner i new ≡ apply (moved owner i old new) (alarm_map owner i old)
@@ -128,7 +138,114 @@ links_of = map (λ (w : WireState). w.link)
 abbrev pub home_of : List (Option ℕ) → List WireState → Key → ℕ
 home_of alarms wires = slot_of (length alarms) (links_of wires)
 
-module _ (owner : Owner) (alarms : List (Option ℕ)) (wires : List WireState) (ranks : List (Option Key)) (is : IsAgenda owner alarms wires ranks) where
+-- in rising numbers each stands first at its own place
+rising_apart : (links : List ℕ) → IsStrictlyIncreasing links → (j : ℕ) → j < length links → index_of links (get_or links j 0) ≡ j
+rising_apart [] rising j under = absurd (omega (arith, under))
+rising_apart (l ∷ links) rising zero under = ap (λ b. cond b 0 (index_of links l + 1)) (eq-eqb l l refl)
+rising_apart (l ∷ links) rising (suc j) under =
+    let inside : j < length links = omega (arith, under) in
+    let less : l < get_or links j 0 = first_below l links rising j inside in
+    let rest : index_of links (get_or links j 0) ≡ j = rising_apart links (increasing_rest l links rising) j inside in
+    ap (λ b. cond b 0 (index_of links (get_or links j 0) + 1)) (ne_eqb l (get_or links j 0) (λ same. omega (arith, same, less))) ∙ omega (arith, rest)
+
+-- of two keys of one time and node the one of the lesser source is less, and of one source the one of the lesser number
+same_part : (a b : Key) → a.time ≡ b.time → a.node ≡ b.node → key_cmp a b ≡ ordering_then (nat_cmp a.source b.source) (nat_cmp a.number b.number)
+same_part a b time node =
+    ap (λ o. ordering_then o (ordering_then (nat_cmp a.node b.node) (ordering_then (nat_cmp a.source b.source) (nat_cmp a.number b.number)))) (sym (nat_cmp_is a.time b.time Equal time))
+    ∙ ap (λ o. ordering_then o (ordering_then (nat_cmp a.source b.source) (nat_cmp a.number b.number))) (sym (nat_cmp_is a.node b.node Equal node))
+
+less_source : (a b : Key) → a.time ≡ b.time → a.node ≡ b.node → a.source < b.source → key_cmp a b ≡ Less
+less_source a b time node less = same_part a b time node ∙ ap (λ o. ordering_then o (nat_cmp a.number b.number)) (sym (nat_cmp_is a.source b.source Less less))
+
+less_number : (a b : Key) → a.time ≡ b.time → a.node ≡ b.node → a.source ≡ b.source → a.number < b.number → key_cmp a b ≡ Less
+less_number a b time node source less =
+    same_part a b time node ∙ ap (λ o. ordering_then o (nat_cmp a.number b.number)) (sym (nat_cmp_is a.source b.source Equal source))
+    ∙ sym (nat_cmp_is a.number b.number Less less)
+
+no_greater : Less ≡ Greater → ⊥
+no_greater e = cc
+
+-- the key of an alarm's slot, and of a link's
+record IsAlarmKey (owner : Owner) (i : ℕ) (k : Key) : Type 0 where
+  pub at_node : k.node ≡ owner.node
+  pub source : k.source ≡ 0
+  pub number : k.number ≡ i
+
+record IsWireKey (owner : Owner) (wires : List WireState) (j : ℕ) (k : Key) : Type 0 where
+  pub within : j < length wires
+  pub at_node : k.node ≡ owner.node
+  pub source : k.source ≡ (wire_at wires j).link + 1
+
+module _ (owner : Owner) (alarms : List (Option ℕ)) (wires : List WireState) (times : List (Option ℕ)) (is : IsAgenda owner alarms wires times) where
+  abbrev ranks : List (Option Key)
+  ranks = map next_key (slots owner alarms wires)
+
+  link_at : (j : ℕ) → get_or (links_of wires) j 0 ≡ (wire_at wires j).link
+  link_at j = get_or-map (λ (w : WireState). w.link) wires j no_wire
+
+  -- each link stands once
+  link_index : (j : ℕ) → j < length wires → index_of (links_of wires) (wire_at wires j).link ≡ j
+  link_index j within = ap (index_of (links_of wires)) (sym (link_at j)) ∙ rising_apart (links_of wires) is.rising j (omega (arith, within, length-map wires (λ (w : WireState). w.link)))
+
+  alarm_key_at : (i : ℕ) → i < length alarms → (k : Key) → rank_at ranks i ≡ Some k → IsAlarmKey owner i k
+  alarm_key_at i within k there =
+      at (get_or alarms i None) (sym (next_alarm owner i (get_or alarms i None)) ∙ ap next_key (sym (slots_at_alarm owner alarms wires i within)) ∙ sym (rank-next (slots owner alarms wires) i) ∙ there)
+    where
+      at : (time : Option ℕ) → option_map (numbered_key owner.node i) time ≡ Some k → IsAlarmKey owner i k
+      at None e = absurd (not_some e)
+      at (Some t) e = let same = same_some (numbered_key owner.node i t) k e in record { at_node = ap (λ (q : Key). q.node) (sym same); source = ap (λ (q : Key). q.source) (sym same); number = ap (λ (q : Key). q.number) (sym same) }
+
+  wire_key_at : (j : ℕ) (k : Key) → rank_at ranks (length alarms + j) ≡ Some k → IsWireKey owner wires j k
+  wire_key_at j k there =
+      let next : next_key (pending_on (wire_at wires j)) ≡ Some k = ap next_key (sym (slots_at_wire owner alarms wires j)) ∙ sym (rank-next (slots owner alarms wires) (length alarms + j)) ∙ there in
+      let found = next_some (least (pending_on (wire_at wires j))) k next in
+      let pending = (least_is (pending_on (wire_at wires j)) k found.0 found.1).pending in
+      let within : j < length wires =
+      ⊎_elim
+      (λ (inside : j < length wires). inside)
+      (λ (past : length wires ≤ j). absurd (not_some (sym (get-empty key_cmp k) ∙ ap (λ (w : WireState). fin.get (pending_on w) k) (sym (get_or-eq_default wires no_wire past)) ∙ pending)))
+      (cases_lt j (length wires)) in
+      record { within = within; at_node = each_at (wire_at wires j) k found.0 pending ∙ is.at_node j within; source = each_on (wire_at wires j) k found.0 pending }
+
+  wire_key_past : (i : ℕ) → length alarms ≤ i → (k : Key) → rank_at ranks i ≡ Some k → IsWireKey owner wires (i - length alarms) k
+  wire_key_past i past k there = wire_key_at (i - length alarms) k (ap (rank_at ranks) {x = length alarms + (i - length alarms)} {y = i} (omega (arith, past)) ∙ there)
+
+  key_node : (i : ℕ) (k : Key) → rank_at ranks i ≡ Some k → k.node ≡ owner.node
+  key_node i k there =
+      ⊎_elim
+      (λ (alarm : i < length alarms). (alarm_key_at i alarm k there).at_node)
+      (λ (past : length alarms ≤ i). (wire_key_past i past k there).at_node)
+      (cases_lt i (length alarms))
+
+  -- slots that are due at one time stand in the order of their keys
+  in_place : AreInPlace ranks
+  in_place i j a b before at_i at_j same greater =
+      ⊎_elim
+      (λ (alarm : j < length alarms).
+      let first = alarm_key_at i (omega (arith, before, alarm)) a at_i in
+      let second = alarm_key_at j alarm b at_j in
+      no_greater (sym (less_number a b same nodes (first.source ∙ sym second.source) (omega (arith, first.number, second.number, before))) ∙ greater))
+      (λ (past : length alarms ≤ j). no_greater (sym (less_source a b same nodes (lesser past (wire_key_past j past b at_j))) ∙ greater))
+      (cases_lt j (length alarms))
+    where
+      nodes : a.node ≡ b.node
+      nodes = key_node i a at_i ∙ sym (key_node j b at_j)
+
+      lesser : length alarms ≤ j → IsWireKey owner wires (j - length alarms) b → a.source < b.source
+      lesser past second =
+          ⊎_elim
+          (λ (alarm : i < length alarms). let first = alarm_key_at i alarm a at_i in omega (arith, first.source, second.source))
+          (λ (both : length alarms ≤ i).
+          let first = wire_key_past i both a at_i in
+          let rise : get_or (links_of wires) (i - length alarms) 0 < get_or (links_of wires) (j - length alarms) 0 =
+          AllPairs-from_increasing (links_of wires) is.rising (i - length alarms) (j - length alarms) 0 (omega (arith, before, both)) (omega (arith, second.within, length-map wires (λ (w : WireState). w.link))) in
+          omega (arith, rise, link_at (i - length alarms), link_at (j - length alarms), first.source, second.source))
+          (cases_lt i (length alarms))
+
+  -- the slot that is due first has the least key
+  lead : (slot time : ℕ) → IsSoonest times slot time → (key : Key) × ((Leads ranks slot key) × (key.time ≡ time))
+  lead slot time soonest = led ranks in_place slot time (subst (λ (r : List (Option ℕ)). IsSoonest r slot time) is.ranked soonest)
+
   pub slots_home : AtHome (home_of alarms wires) (slots owner alarms wires)
   slots_home i k v there =
       ⊎_elim
@@ -144,20 +261,27 @@ module _ (owner : Owner) (alarms : List (Option ℕ)) (wires : List WireState) (
           ⊎_elim
           (λ (within : j < length wires).
           slot_wire (length alarms) (links_of wires) k (wire_at wires j).link (each_on (wire_at wires j) k v here)
-          ∙ ap (λ n. length alarms + n) (is.apart j within) ∙ at)
+          ∙ ap (λ n. length alarms + n) (link_index j within) ∙ at)
           (λ (past : length wires ≤ j). absurd (not_some (sym (none_there k) ∙ ap (λ (w : WireState). fin.get (pending_on w) k) (sym (get_or-eq_default wires no_wire past)) ∙ here)))
           (cases_lt j (length wires))
         where
           none_there : (q : Key) → fin.get (pending_on no_wire) q ≡ None
           none_there q = get-empty key_cmp q
 
+  pub length_timed : length times ≡ length alarms + length wires
+  length_timed = ap length is.ranked ∙ length-map ranks time_of ∙ length-map (slots owner alarms wires) next_key ∙ length-slots owner alarms wires
+
+  -- a slot has another map
+  slot_timed : (i : ℕ) (m : Events) (new : List Events) → new ≡ set (slots owner alarms wires) i m → set times i (time_of (next_key m)) ≡ times_of (map next_key new)
+  slot_timed i m new same =
+      ap (λ r. set r i (time_of (next_key m))) is.ranked ∙ sym (times_set ranks i (next_key m))
+      ∙ ap times_of (sym (map-set next_key (slots owner alarms wires) i m) ∙ ap (map next_key) (sym same))
+
   -- an alarm is set or cleared
-  pub set_ranked : (i : ℕ) → i < length alarms → (time : Option ℕ) → IsAgenda owner (set alarms i time) wires (set ranks i (option_map (numbered_key owner.node i) time))
+  pub set_ranked : (i : ℕ) → i < length alarms → (time : Option ℕ) → IsAgenda owner (set alarms i time) wires (set times i time)
   set_ranked i within time = record {
-    ranked =
-        ap (λ r. set r i (option_map (numbered_key owner.node i) time)) is.ranked ∙ ap (set (map next_key (slots owner alarms wires)) i) (sym (next_alarm owner i time))
-        ∙ sym (map-set next_key (slots owner alarms wires) i (alarm_map owner i time)) ∙ ap (map next_key) (sym (slots_set_alarm owner alarms wires i within time));
-    apart = is.apart;
+    ranked = ap (set times i) (sym (alarm_time owner i time)) ∙ slot_timed i (alarm_map owner i time) (slots owner (set alarms i time) wires) (slots_set_alarm owner alarms wires i within time);
+    rising = is.rising;
     at_node = is.at_node;
   }
 
@@ -175,19 +299,10 @@ module _ (owner : Owner) (alarms : List (Option ℕ)) (wires : List WireState) (
     same_links : links_of (set wires j w) ≡ links_of wires
     same_links = map-set_same (λ (x : WireState). x.link) wires j w no_wire same_link
 
-    pub wire_ranked : IsAgenda owner alarms (set wires j w) (set ranks (length alarms + j) (next_key (pending_on w)))
+    pub wire_ranked : IsAgenda owner alarms (set wires j w) (set times (length alarms + j) (time_of (next_key (pending_on w))))
     wire_ranked = record {
-      ranked =
-          ap (λ r. set r (length alarms + j) (next_key (pending_on w))) is.ranked ∙ sym (map-set next_key (slots owner alarms wires) (length alarms + j) (pending_on w))
-          ∙ ap (map next_key) (sym (slots_set_wire owner alarms wires j w));
-      apart = λ i under.
-          let inside : i < length wires = subst (λ n. i < n) (length-set wires j w) under in
-          ap (λ l. index_of l (wire_at (set wires j w) i).link) same_links
-          ∙ ⊎_elim
-          (λ (at : i ≡ j). ap (λ (x : WireState). index_of (links_of wires) x.link) (ap (wire_at (set wires j w)) at ∙ get_or-set_same wires j w no_wire within)
-          ∙ ap (index_of (links_of wires)) same_link ∙ is.apart j within ∙ sym at)
-          (λ (apart : i ≢ j). ap (λ (x : WireState). index_of (links_of wires) x.link) (get_or-set_other wires j i w no_wire apart) ∙ is.apart i inside)
-          (cases_eq i j);
+      ranked = slot_timed (length alarms + j) (pending_on w) (slots owner alarms (set wires j w)) (slots_set_wire owner alarms wires j w);
+      rising = subst IsStrictlyIncreasing (sym same_links) is.rising;
       at_node = λ i under.
           let inside : i < length wires = subst (λ n. i < n) (length-set wires j w) under in
           ⊎_elim
@@ -205,20 +320,24 @@ module _ (owner : Owner) (alarms : List (Option ℕ)) (wires : List WireState) (
       where
         at_slot : (cs : List Change) → AllByRecursion (λ (c : Change). c.0.source ≡ (wire_at wires j).link + 1) cs → AllByRecursion (λ (c : Change). home_of alarms wires c.0 ≡ length alarms + j) cs
         at_slot [] all = tt
-        at_slot (c ∷ cs) all = (slot_wire (length alarms) (links_of wires) c.0 (wire_at wires j).link all.0 ∙ ap (λ n. length alarms + n) (is.apart j within), at_slot cs all.1)
+        at_slot (c ∷ cs) all = (slot_wire (length alarms) (links_of wires) c.0 (wire_at wires j).link all.0 ∙ ap (λ n. length alarms + n) (link_index j within), at_slot cs all.1)
 
-    -- a slot whose next key stays needs no new rank
-    pub still_ranked : next_key (pending_on w) ≡ next_key (pending_on (wire_at wires j)) → set ranks (length alarms + j) (next_key (pending_on w)) ≡ ranks
-    still_ranked same =
-        ap (set ranks (length alarms + j))
-        (same ∙ ap next_key (sym (slots_at_wire owner alarms wires j)) ∙ sym (rank-next (slots owner alarms wires) (length alarms + j)) ∙ ap (λ (r : List (Option Key)). rank_at r (length alarms + j)) (sym is.ranked))
-        ∙ set-get_or ranks (length alarms + j) None
+    -- a slot whose next key stays leaves all next keys, and needs no new time
+    pub same_ranks : next_key (pending_on w) ≡ next_key (pending_on (wire_at wires j)) → map next_key (slots owner alarms (set wires j w)) ≡ ranks
+    same_ranks same =
+        ap (map next_key) (slots_set_wire owner alarms wires j w)
+        ∙ ranks_stay (slots owner alarms wires) (length alarms + j) (pending_on w) (same ∙ ap next_key (sym (slots_at_wire owner alarms wires j)))
 
-  pub none_first : ((slot : ℕ) → rank_at ranks slot ≡ None) → least (gathered (slots owner alarms wires)) ≡ None
-  none_first none = none_gathered (home_of alarms wires) (slots owner alarms wires) slots_home (subst (λ (r : List (Option Key)). (slot : ℕ) → rank_at r slot ≡ None) is.ranked none)
+    pub still_ranked : next_key (pending_on w) ≡ next_key (pending_on (wire_at wires j)) → IsAgenda owner alarms (set wires j w) times
+    still_ranked same = record { ranked = is.ranked ∙ ap times_of (sym (same_ranks same)); rising = wire_ranked.rising; at_node = wire_ranked.at_node }
 
-  pub first_slot : (slot : ℕ) (key : Key) → Leads ranks slot key → IsFirst (home_of alarms wires) (slots owner alarms wires) slot key
-  first_slot slot key leads = is_first (home_of alarms wires) (slots owner alarms wires) slots_home slot key (subst (λ (r : List (Option Key)). Leads r slot key) is.ranked leads)
+  pub none_first : ((slot : ℕ) → time_at times slot ≡ None) → least (gathered (slots owner alarms wires)) ≡ None
+  none_first none =
+      none_gathered (home_of alarms wires) (slots owner alarms wires) slots_home
+      (none_led ranks (subst (λ (r : List (Option ℕ)). (slot : ℕ) → time_at r slot ≡ None) is.ranked none))
+
+  first_slot : (slot : ℕ) (key : Key) → Leads ranks slot key → IsFirst (home_of alarms wires) (slots owner alarms wires) slot key
+  first_slot slot key leads = is_first (home_of alarms wires) (slots owner alarms wires) slots_home slot key leads
 
   -- each key of what comes over a link is pending, with the link's source
   pub wire_keys : (j : ℕ) → j < length wires → (k : Key) (v : Event) → fin.get (pending_on (wire_at wires j)) k ≡ Some v → (fin.get (gathered (slots owner alarms wires)) k ≡ Some v) × (k.source ≡ (wire_at wires j).link + 1)
@@ -226,15 +345,20 @@ module _ (owner : Owner) (alarms : List (Option ℕ)) (wires : List WireState) (
       let source = each_on (wire_at wires j) k v there in (
         get-gathered (home_of alarms wires) (slots owner alarms wires) slots_home k
             ∙ ap (λ (m : Events). fin.get m k)
-            (ap (map_at (slots owner alarms wires)) (slot_wire (length alarms) (links_of wires) k (wire_at wires j).link source ∙ ap (λ n. length alarms + n) (is.apart j within)) ∙ slots_at_wire owner alarms wires j)
+            (ap (map_at (slots owner alarms wires)) (slot_wire (length alarms) (links_of wires) k (wire_at wires j).link source ∙ ap (λ n. length alarms + n) (link_index j within)) ∙ slots_at_wire owner alarms wires j)
             ∙ there,
         source,
       )
 
-  pub first_next : (slot : ℕ) (key : Key) → Leads ranks slot key → next_key (gathered (slots owner alarms wires)) ≡ Some key
-  first_next slot key leads =
-      let first = first_slot slot key leads in
-      ap (option_map (λ (entry : Key × Event). entry.0)) first.same ∙ first.next
+  -- the time at which a slot is due first is that of the least key of all
+  pub first_time : (slot time : ℕ) → IsSoonest times slot time → time_of (next_key (gathered (slots owner alarms wires))) ≡ Some time
+  first_time slot time soonest =
+      let found = lead slot time soonest in
+      let first = first_slot slot found.0 found.1.0 in
+      ap time_of (ap (option_map (λ (entry : Key × Event). entry.0)) first.same ∙ first.next) ∙ ap (λ t. Some t) found.1.1
+
+  pub none_time : ((slot : ℕ) → time_at times slot ≡ None) → time_of (next_key (gathered (slots owner alarms wires))) ≡ None
+  none_time none = ap (λ (o : Option (Key × Event)). time_of (option_map (λ (entry : Key × Event). entry.0) o)) (none_first none)
 
 pub same_agenda : (owner : Owner) {alarms alarms' : List (Option ℕ)} {incoming incoming' : List Incoming} {pending pending' : Events} → alarms ≡ alarms' → incoming ≡ incoming' → pending ≡ pending'
     → ◌≡◌ {A = AgendaState} (record { owner = owner; alarms = alarms; incoming = incoming; pending = pending }) (record { owner = owner; alarms = alarms'; incoming = incoming'; pending = pending' })
@@ -247,65 +371,68 @@ pub cleared_wire : (key : Key) (alarms : List (Option ℕ)) (link : ℕ) → key
 cleared_wire key alarms link source =
     ap (λ s. cond (s == 0) (set alarms key.number None) alarms) source ∙ ap (λ b. cond b (set alarms key.number None) alarms) (ne_eqb (link + 1) 0 (λ e. omega (arith, e)))
 
--- an alarm's slot leads
-pub record FirstAlarm (owner : Owner) (alarms : List (Option ℕ)) (wires : List WireState) (slot : ℕ) (key : Key) : Type 0 where
-  pub least_is : least (gathered (slots owner alarms wires)) ≡ Some (key, alarm_event owner slot)
-  pub source : key.source ≡ 0
-  pub number_is : key.number ≡ slot
-  pub node_is : key.node ≡ owner.node
-  pub set_for : get_or alarms slot None ≡ Some key.time
-  pub rest : gathered (slots owner (set alarms slot None) wires) ≡ fin.remove (gathered (slots owner alarms wires)) key
+-- an alarm's slot is due first
+pub record FirstAlarm (owner : Owner) (alarms : List (Option ℕ)) (wires : List WireState) (slot time : ℕ) : Type 0 where
+  pub least_is : least (gathered (slots owner alarms wires)) ≡ Some (numbered_key owner.node slot time, alarm_event owner slot)
+  pub set_for : get_or alarms slot None ≡ Some time
+  pub rest : gathered (slots owner (set alarms slot None) wires) ≡ fin.remove (gathered (slots owner alarms wires)) (numbered_key owner.node slot time)
 
--- an incoming link's slot leads
-pub record FirstWire (owner : Owner) (alarms : List (Option ℕ)) (wires : List WireState) (j : ℕ) (key : Key) : Type 0 where
+-- an incoming link's slot is
+pub record FirstWire (owner : Owner) (alarms : List (Option ℕ)) (wires : List WireState) (j : ℕ) : Type 0 where
   pub within : j < length wires
+  pub key : Key
+  pub event : Event
   pub least_is : least (gathered (slots owner alarms wires)) ≡ least (pending_on (wire_at wires j))
-  pub next : next_key (pending_on (wire_at wires j)) ≡ Some key
+  pub entry : least (pending_on (wire_at wires j)) ≡ Some (key, event)
   pub source : key.source ≡ (wire_at wires j).link + 1
   pub node_is : key.node ≡ owner.node
-  pub event : Event
-  pub entry : least (pending_on (wire_at wires j)) ≡ Some (key, event)
 
-module _ (owner : Owner) (alarms : List (Option ℕ)) (wires : List WireState) (ranks : List (Option Key)) (is : IsAgenda owner alarms wires ranks) (slot : ℕ) (key : Key) (leads : Leads ranks slot key) where
+module _ (owner : Owner) (alarms : List (Option ℕ)) (wires : List WireState) (times : List (Option ℕ)) (is : IsAgenda owner alarms wires times) (slot time : ℕ) (soonest : IsSoonest times slot time) where
+  abbrev found : (key : Key) × ((Leads (map next_key (slots owner alarms wires)) slot key) × (key.time ≡ time))
+  found = lead owner alarms wires times is slot time soonest
+
+  first_here : IsFirst (home_of alarms wires) (slots owner alarms wires) slot found.0
+  first_here = first_slot owner alarms wires times is slot found.0 found.1.0
+
   pub first_within : slot < length alarms + length wires
-  first_within = let h = (first_slot owner alarms wires ranks is slot key leads).within in omega (arith, h, length-slots owner alarms wires)
+  first_within = let h = first_here.within in omega (arith, h, length-slots owner alarms wires)
 
-  pub first_alarm : slot < length alarms → FirstAlarm owner alarms wires slot key
-  first_alarm within = at_time (get_or alarms slot None) refl (sym (next_alarm owner slot (get_or alarms slot None)) ∙ ap next_key (sym (slots_at_alarm owner alarms wires slot within)) ∙ (first_slot owner alarms wires ranks is slot key leads).next)
+  pub first_alarm : slot < length alarms → FirstAlarm owner alarms wires slot time
+  first_alarm within =
+      at_time (get_or alarms slot None) refl (sym (next_alarm owner slot (get_or alarms slot None)) ∙ ap next_key (sym (slots_at_alarm owner alarms wires slot within)) ∙ first_here.next)
     where
-      at_time : (time : Option ℕ) → get_or alarms slot None ≡ time → option_map (numbered_key owner.node slot) time ≡ Some key → FirstAlarm owner alarms wires slot key
+      at_time : (due : Option ℕ) → get_or alarms slot None ≡ due → option_map (numbered_key owner.node slot) due ≡ Some found.0 → FirstAlarm owner alarms wires slot time
       at_time None set_at e = absurd (not_some e)
       at_time (Some t) set_at e =
-          let key_is : numbered_key owner.node slot t ≡ key = same_some (numbered_key owner.node slot t) key e in
+          let same : t ≡ time = ap (λ (k : Key). k.time) (same_some (numbered_key owner.node slot t) found.0 e) ∙ found.1.1 in
+          let set_for : get_or alarms slot None ≡ Some time = set_at ∙ ap (λ n. Some n) same in
           record {
-            least_is = (first_slot owner alarms wires ranks is slot key leads).same ∙ ap least (slots_at_alarm owner alarms wires slot within ∙ ap (alarm_map owner slot) set_at) ∙ least_one (numbered_key owner.node slot t) (alarm_event owner slot)
-                ∙ ap (λ k. Some (k, alarm_event owner slot)) key_is;
-            source = ap (λ (k : Key). k.source) (sym key_is);
-            number_is = ap (λ (k : Key). k.number) (sym key_is);
-            node_is = ap (λ (k : Key). k.node) (sym key_is);
-            set_for = set_at ∙ ap (λ (k : Key). Some k.time) key_is;
-            rest = set_pending owner alarms wires ranks is slot within None
-                ∙ ap (λ (old : Option ℕ). apply (moved owner slot old None) (gathered (slots owner alarms wires))) set_at
-                ∙ ap (fin.remove (gathered (slots owner alarms wires))) key_is;
+            least_is = first_here.same ∙ ap least (slots_at_alarm owner alarms wires slot within ∙ ap (alarm_map owner slot) set_for) ∙ least_one (numbered_key owner.node slot time) (alarm_event owner slot);
+            set_for = set_for;
+            rest = set_pending owner alarms wires times is slot within None ∙ ap (λ (old : Option ℕ). apply (moved owner slot old None) (gathered (slots owner alarms wires))) set_for;
           }
 
-  pub first_wire : (j : ℕ) → length alarms + j ≡ slot → FirstWire owner alarms wires j key
+  pub first_wire : (j : ℕ) → length alarms + j ≡ slot → FirstWire owner alarms wires j
   first_wire j at =
-      let first = first_slot owner alarms wires ranks is slot key leads in
       let there : map_at (slots owner alarms wires) slot ≡ pending_on (wire_at wires j) = ap (map_at (slots owner alarms wires)) (sym at) ∙ slots_at_wire owner alarms wires j in
-      let next : next_key (pending_on (wire_at wires j)) ≡ Some key = ap next_key (sym there) ∙ first.next in
-      let found = next_some (least (pending_on (wire_at wires j))) key next in
-      let pending = (least_is (pending_on (wire_at wires j)) key found.0 found.1).pending in
-      let within : j < length wires = omega (arith, first_within, at) in
+      let entry = next_some (least (pending_on (wire_at wires j))) found.0 (ap next_key (sym there) ∙ first_here.next) in
+      let is_key = wire_key_at owner alarms wires times is j found.0 (ap (rank_at (map next_key (slots owner alarms wires))) at ∙ found.1.0.held) in
       record {
-        within = within;
-        least_is = first.same ∙ ap least there;
-        next = next;
-        source = each_on (wire_at wires j) key found.0 pending;
-        node_is = each_at (wire_at wires j) key found.0 pending ∙ is.at_node j within;
-        event = found.0;
-        entry = found.1;
+        within = is_key.within;
+        key = found.0;
+        event = entry.0;
+        least_is = first_here.same ∙ ap least there;
+        entry = entry.1;
+        source = is_key.source;
+        node_is = is_key.at_node;
       }
+
+-- then the least key of all is the link's first
+pub wire_key : (owner : Owner) (alarms : List (Option ℕ)) (wires : List WireState) (j : ℕ) (first : FirstWire owner alarms wires j) (key : Key) → next_key (gathered (slots owner alarms wires)) ≡ Some key
+    → (next_key (pending_on (wire_at wires j)) ≡ Some key) × (key.source ≡ (wire_at wires j).link + 1)
+wire_key owner alarms wires j first key next =
+    let there : next_key (pending_on (wire_at wires j)) ≡ Some key = ap (option_map (λ (entry : Key × Event). entry.0)) (sym first.least_is) ∙ next in
+    (there, ap (λ (k : Key). k.source) (sym (same_some first.key key (ap (option_map (λ (entry : Key × Event). entry.0)) (sym first.entry) ∙ there))) ∙ first.source)
 
 -- an alarm announces no arrival
 pub alarm_is_no_arrival : (owner : Owner) (i : ℕ) (packet : Packet) → alarm_event owner i ≡ Arrive packet → ⊥
@@ -321,40 +448,43 @@ pub same_incoming : {link link' came came' : ℕ} → link ≡ link' → came �
 same_incoming e f i = record { link = e i; came = f i }
 
 -- packets that join behind the others of a link join what is pending
-pub joined_state : (owner : Owner) (alarms : List (Option ℕ)) (wires : List WireState) (ranks : List (Option Key)) → IsAgenda owner alarms wires ranks → (j : ℕ) → j < length wires → (sent : List Stamped) (w : WireState)
+pub joined_state : (owner : Owner) (alarms : List (Option ℕ)) (wires : List WireState) (times : List (Option ℕ)) → IsAgenda owner alarms wires times → (j : ℕ) → j < length wires → (sent : List Stamped) (w : WireState)
     → w ≡ record (wire_at wires j) { under_way = (wire_at wires j).under_way ++ sent }
     → pending_on w ≡ apply (entering (arrivals (wire_at wires j).node (wire_at wires j).link (came_over (wire_at wires j)) sent)) (pending_on (wire_at wires j))
     → agenda_state owner alarms (set wires j w) ≡ come_over (agenda_state owner alarms wires) j sent
-joined_state owner alarms wires ranks is j within sent w same entered =
+joined_state owner alarms wires times is j within sent w same entered =
     let old = wire_at wires j in
     let over_is : incoming_at (map incoming_of wires) j ≡ incoming_of old = get_or-map incoming_of wires j no_wire in
     let longer : incoming_of w ≡ record { link = old.link; came = came_over old + length sent } =
     ap incoming_of same ∙ same_incoming refl (omega (arith, length-append old.under_way sent)) in
     same_agenda owner refl
     (map-set incoming_of wires j w ∙ ap (set (map incoming_of wires) j) longer ∙ ap (λ (over : Incoming). set (map incoming_of wires) j (record over { came = over.came + length sent })) (sym over_is))
-    (wire_pending owner alarms wires ranks is j within w (ap (λ (x : WireState). x.node) same) (ap (λ (x : WireState). x.link) same) (entering (arrivals old.node old.link (came_over old) sent)) (entering_sources old.node old.link (came_over old) sent) entered
+    (wire_pending owner alarms wires times is j within w (ap (λ (x : WireState). x.node) same) (ap (λ (x : WireState). x.link) same) (entering (arrivals old.node old.link (came_over old) sent)) (entering_sources old.node old.link (came_over old) sent) entered
     ∙ ap (λ n. apply (entering (arrivals n old.link (came_over old) sent)) (gathered (slots owner alarms wires))) (is.at_node j within)
     ∙ ap (λ (over : Incoming). apply (entering (arrivals owner.node over.link over.came sent)) (gathered (slots owner alarms wires))) (sym over_is))
 
--- the alarm of a slot that leads is due, by its number
-due_alarm : (owner : Owner) (alarms : List (Option ℕ)) (wires : List WireState) (slot : ℕ) (key : Key) → slot < length alarms → FirstAlarm owner alarms wires slot key → (a b c : Bool) → slot == 0 ≡ a → slot == 1 ≡ b → slot == 2 ≡ c
-    → IsDueAs (agenda_state owner alarms wires) key (cond a (Start owner.flow) (cond b (Rto owner.flow) (cond c (DelAck owner.flow) (Free (get_or owner.exits (slot - 3) 0)))))
-due_alarm owner alarms wires slot key within first a b c is0 is1 is2 = go a b c is0 is1 is2
+-- the alarm of a slot that is due first is due, by its number
+due_alarm : (owner : Owner) (alarms : List (Option ℕ)) (wires : List WireState) (slot time : ℕ) → slot < length alarms → FirstAlarm owner alarms wires slot time → (a b c : Bool) → slot == 0 ≡ a → slot == 1 ≡ b → slot == 2 ≡ c
+    → IsDueAs (agenda_state owner alarms wires) (numbered_key owner.node slot time) (cond a (Start owner.flow) (cond b (Rto owner.flow) (cond c (DelAck owner.flow) (Free (get_or owner.exits (slot - 3) 0)))))
+due_alarm owner alarms wires slot time within first a b c is0 is1 is2 = go a b c is0 is1 is2
   where
-    alarm : (n : ℕ) → slot ≡ n → IsAlarm (agenda_state owner alarms wires) key n
-    alarm n same = record { source = first.source; number_is = first.number_is ∙ same; within = omega (arith, within, same); set_for = ap (λ i. get_or alarms i None) (sym same) ∙ first.set_for }
+    alarm : (n : ℕ) → slot ≡ n → IsAlarm (agenda_state owner alarms wires) (numbered_key owner.node slot time) n
+    alarm n same = record { source = refl; number_is = same; within = omega (arith, within, same); set_for = ap (λ i. get_or alarms i None) (sym same) ∙ first.set_for }
 
-    go : (a b c : Bool) → slot == 0 ≡ a → slot == 1 ≡ b → slot == 2 ≡ c → IsDueAs (agenda_state owner alarms wires) key (cond a (Start owner.flow) (cond b (Rto owner.flow) (cond c (DelAck owner.flow) (Free (get_or owner.exits (slot - 3) 0)))))
+    go : (a b c : Bool) → slot == 0 ≡ a → slot == 1 ≡ b → slot == 2 ≡ c
+        → IsDueAs (agenda_state owner alarms wires) (numbered_key owner.node slot time) (cond a (Start owner.flow) (cond b (Rto owner.flow) (cond c (DelAck owner.flow) (Free (get_or owner.exits (slot - 3) 0)))))
     go true b c is0 is1 is2 = alarm 0 (eqb-true slot 0 is0)
     go false true c is0 is1 is2 = alarm 1 (eqb-true slot 1 is1)
     go false false true is0 is1 is2 = alarm 2 (eqb-true slot 2 is2)
-    go false false false is0 is1 is2 = (omega (arith, first.number_is, eqb-false slot 0 is0, eqb-false slot 1 is1, eqb-false slot 2 is2), alarm key.number (sym first.number_is))
+    go false false false is0 is1 is2 = (omega (arith, eqb-false slot 0 is0, eqb-false slot 1 is1, eqb-false slot 2 is2), alarm slot refl)
 
-pub alarm_is_due : (owner : Owner) (alarms : List (Option ℕ)) (wires : List WireState) (slot : ℕ) (key : Key) → slot < length alarms → FirstAlarm owner alarms wires slot key → IsDue (agenda_state owner alarms wires) key (alarm_event owner slot)
-alarm_is_due owner alarms wires slot key within first = record { at_node = first.node_is; due = due_alarm owner alarms wires slot key within first (slot == 0) (slot == 1) (slot == 2) refl refl refl }
+pub alarm_is_due : (owner : Owner) (alarms : List (Option ℕ)) (wires : List WireState) (slot time : ℕ) → slot < length alarms → FirstAlarm owner alarms wires slot time
+    → IsDue (agenda_state owner alarms wires) (numbered_key owner.node slot time) (alarm_event owner slot)
+alarm_is_due owner alarms wires slot time within first = record { at_node = refl; due = due_alarm owner alarms wires slot time within first (slot == 0) (slot == 1) (slot == 2) refl refl refl }
 
-pub wire_is_due : (owner : Owner) (alarms : List (Option ℕ)) (wires : List WireState) (j : ℕ) (key : Key) (first : FirstWire owner alarms wires j key) → IsDue (agenda_state owner alarms wires) key first.event
-wire_is_due owner alarms wires j key first = record {
+pub wire_is_due : (owner : Owner) (alarms : List (Option ℕ)) (wires : List WireState) (j : ℕ) (first : FirstWire owner alarms wires j) → IsDue (agenda_state owner alarms wires) first.key first.event
+wire_is_due owner alarms wires j first = record {
   at_node = first.node_is;
-  due = subst (IsDueAs (agenda_state owner alarms wires) key) (sym (all_arrive (wire_at wires j) key first.event (least_is (pending_on (wire_at wires j)) key first.event first.entry).pending).1) (λ zero. omega (arith, zero, first.source));
+  due = subst (IsDueAs (agenda_state owner alarms wires) first.key) (sym (all_arrive (wire_at wires j) first.key first.event (least_is (pending_on (wire_at wires j)) first.key first.event first.entry).pending).1)
+      (λ zero. omega (arith, zero, first.source));
 }

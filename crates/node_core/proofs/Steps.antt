@@ -1,8 +1,7 @@
 -- From what was done to a link and an agenda to the rows.
-use Rattle.std.proofs.Common.{◌≡◌, ◌≢◌, ◌⊎◌, ℕ, zero, suc, ◌+◌, ◌<◌, cond, true, false, List, [], ◌∷◌, ◌++◌, get_or, set, map, length, Option, Some, None, refl, sym, ap, subst, ◌∙◌, arith, append-nil, ⊎_elim}
+use Rattle.std.proofs.Common.{◌≡◌, ◌≢◌, ◌⊎◌, ℕ, zero, suc, ◌+◌, ◌<◌, cond, true, false, List, [], ◌∷◌, ◌++◌, get_or, set, length, Option, Some, None, refl, sym, ap, subst, ◌∙◌, arith, append-nil, ⊎_elim}
 use Rattle.std.proofs.lemmas.Bool.{ne_eqb}
 use Rattle.std.proofs.lemmas.List.{length-set, map-set, set-get_or, get_or-set_same, get_or-set_other, length-map}
-use Rattle.std.proofs.Math.ListN.{get_or-map}
 use Rattle.std.proofs.Math.Seq.{map-set_same}
 use Rattle.std.specs.FinMap as fin
 use Rattle.std.specs.Ordering.{eq_by_cmp}
@@ -13,8 +12,7 @@ use Rattle.ranking.specs.Keyed.{apply, changed}
 use Rattle.ranking.proofs.Maps.{same_at, get-changed}
 use Rattle.packet_chain.specs.declared.packet.Packet.{Packet}
 use Rattle.reno_sender.specs.declared.fields.SenderFields.{SenderFields}
-use Rattle.reno_receiver.specs.declared.reply.Reply.{Reply}
-use Rattle.reno_receiver.specs.Received.{ReceiverState, Answered}
+use Rattle.reno_receiver.specs.Received.{ReceiverState}
 use Rattle.port.specs.Port.{PortState, PortStep, Departure, departed, offered_one, offered_all}
 use Rattle.port.specs.declared.acts.Act.{Act}
 use Rattle.std.specs.Option.{option_or}
@@ -28,11 +26,10 @@ use Rattle.node_core.specs.AgendaState.{AgendaState, IsAlarm, cleared, alarm_eve
 use Rattle.node_core.specs.Part.{LinkState, link_at, no_link}
 use Rattle.node_core.specs.Passing.{busied, passed, after_take, moved_to}
 use Rattle.node_core.specs.InStep.{IsInStep, alarms_of, frees_of, deadline_of, delayed_of, flow_of, HasItsLink}
-use Rattle.node_core.specs.Row.{with_step, leaving_over, made_at_home, quiet, sender_row, receiver_row, timer_moved, data_packet, ack_of}
+use Rattle.node_core.specs.Row.{with_step, leaving_over, made_at_home, quiet, timer_moved}
 use Rattle.node_core.specs.Node.{put_out}
 use Rattle.node_core.specs.Running.{HasRun, IsTimed, part}
 use Rattle.node_core.proofs.Slots.{cleared_alarm, same_agenda}
-use Rattle.node_core.proofs.Passages.{all_link}
 
 pub apply-append : (cs ds : List Change) (m : Events) → apply (cs ++ ds) m ≡ apply ds (apply cs m)
 apply-append [] ds m = refl

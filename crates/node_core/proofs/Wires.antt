@@ -26,10 +26,10 @@ use Rattle.node_core.specs.declared.event.Event.TheVariants.{Arrive}
 use Rattle.node_core.specs.Alarms.{arrival_key}
 use Rattle.node_core.specs.WireState.{WireState, stamps_of, arrivals, arrivals_on, pending_on, came_over, IsWire, after_pop, without_first}
 
-increasing_rest : (x : ℕ) (xs : List ℕ) → IsStrictlyIncreasing (x ∷ xs) → IsStrictlyIncreasing xs
+pub increasing_rest : (x : ℕ) (xs : List ℕ) → IsStrictlyIncreasing (x ∷ xs) → IsStrictlyIncreasing xs
 increasing_rest x xs h k under = subst (λ n. get_or xs k 0 < get_or (x ∷ xs) n 0) {x = suc k + 1} {y = suc (k + 1)} (omega arith) (h (suc k) (omega (arith, under)))
 
-first_below : (x : ℕ) (xs : List ℕ) → IsStrictlyIncreasing (x ∷ xs) → (k : ℕ) → k < length xs → x < get_or xs k 0
+pub first_below : (x : ℕ) (xs : List ℕ) → IsStrictlyIncreasing (x ∷ xs) → (k : ℕ) → k < length xs → x < get_or xs k 0
 first_below x xs h k under = AllPairs-from_increasing (x ∷ xs) h 0 (suc k) 0 (omega arith) (omega (arith, under))
 
 -- numbers that rise, and others that rise past them all
@@ -94,6 +94,12 @@ head_on w = elim w.under_way as (λ q. option_map (λ (a : Stamped). (arrival_ke
 -- it is the least
 pub least_on : (w : WireState) → IsWire w → least (pending_on w) ≡ slice_get (arrivals_on w) 0
 least_on w is = least_first (arrivals_on w) (arrivals_in_order w.node w.link w.taken w.under_way is.rising)
+
+pub front_least : (w now : WireState) → w ≡ now → IsWire w → (front : Option Stamped) → front ≡ slice_get w.under_way 0
+    → least (pending_on now) ≡ option_map (λ (a : Stamped). (arrival_key w.node w.link a.1 (w.taken + 1), Arrive a.0)) front
+front_least w now same is front e =
+    ap (λ (s : WireState). least (pending_on s)) (sym same) ∙ least_on w is ∙ sym (head_on w)
+    ∙ ap (option_map (λ (a : Stamped). (arrival_key w.node w.link a.1 (w.taken + 1), Arrive a.0))) (sym e)
 
 abbrev pub wire : ℕ → ℕ → ℕ → List Stamped → WireState
 wire node link taken under_way = record { node = node; link = link; taken = taken; under_way = under_way }

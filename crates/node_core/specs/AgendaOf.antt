@@ -9,4 +9,4 @@ abbrev pub agenda_of : Inside → AgendaState
 agenda_of a = agenda_state (owner_of a) a.alarms.items a.wires.items
 
 abbrev pub IsAgendaInside : Inside → Type 0
-IsAgendaInside a = IsAgenda (owner_of a) a.alarms.items a.wires.items a.ranking
+IsAgendaInside a = IsAgenda (owner_of a) a.alarms.items a.wires.items a.timetable

@@ -6,6 +6,7 @@ use Rattle.sim_time.specs.declared.key.Key.{Key}
 use Rattle.packet_chain.specs.Stamped.{Stamped}
 use Rattle.ranking.specs.Keyed.{next_key, changed, apply, entering, nothing_due, EachKey}
 use Rattle.ranking.specs.Gathered.{gathered}
+use Rattle.ranking.specs.Timed.{times_of}
 use Rattle.node_core.specs.declared.event.Event.{Event}
 use Rattle.node_core.specs.declared.event.Event.TheVariants.{Start, Rto, DelAck, Free, Arrive}
 use Rattle.node_core.specs.Pending.{Events}
@@ -78,10 +79,10 @@ no_wire = record { node = 0; link = 0; taken = 0; under_way = [] }
 abbrev pub wire_at : List WireState → ℕ → WireState
 wire_at wires j = slice_index_or wires j no_wire
 
--- the ranking has each slot's next key, no link comes twice, and each link ends at the node
-pub record IsAgenda (owner : Owner) (alarms : List (Option ℕ)) (wires : List WireState) (ranks : List (Option Key)) : Type 0 where
-  pub ranked : ranks ≡ map next_key (slots owner alarms wires)
-  pub apart : (j : ℕ) → j < length wires → index_of (map (λ w. w.link) wires) (wire_at wires j).link ≡ j
+-- the timetable has the time of each slot's next key, the links' numbers rise, and each link ends at the node
+pub record IsAgenda (owner : Owner) (alarms : List (Option ℕ)) (wires : List WireState) (times : List (Option ℕ)) : Type 0 where
+  pub ranked : times ≡ times_of (map next_key (slots owner alarms wires))
+  pub rising : IsStrictlyIncreasing (map (λ (w : WireState). w.link) wires)
   pub at_node : (j : ℕ) → j < length wires → (wire_at wires j).node ≡ owner.node
 
 -- the alarms after the event of a key: its own is no longer set
@@ -115,15 +116,11 @@ come_over agenda index packets =
       pending = apply (entering (arrivals agenda.owner.node over.link over.came packets)) agenda.pending;
     }
 
--- each link stands once
-abbrev pub AreApart : List ℕ → Type 0
-AreApart links = (j : ℕ) → j < length links → index_of links (slice_index links j) ≡ j
-
--- links that can end at a node that has so many others: not too many, each with a number that fits, and each once
+-- links that can end at a node that has so many others: not too many, each with a number that fits, and in rising number
 pub record CanComeIn (exits : ℕ) (links : List ℕ) : Type 0 where
-  pub few : exits + length links ≤ 2 ^ 20
+  pub few : exits + length links ≤ 4093
   pub fit : EachIndex links (λ j. slice_index links j < 65535)
-  pub apart : AreApart links
+  pub rising : IsStrictlyIncreasing links
 
 -- packets have come over an incoming link, none is left of them; where others were under way before them, the least key is the one that was
 pub record HasCome (old new : AgendaState) (index : ℕ) (sent left : List Stamped) (behind : Bool) : Type 0 where

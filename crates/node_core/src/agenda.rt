@@ -1,9 +1,10 @@
-//! What is pending at a node: its alarms and what comes over its links, ranked by their next keys.
+//! What is pending at a node: its alarms and what comes over its links, ranked by when they are due.
 ghost use Rattle.std.specs.Prelude.{◌≡◌, ◌≢◌, ◌<◌, EachIndex, IfOk, Option, Some, None, length, map as each, replicate, slice_index, vec_len};
 ghost use Rattle.std.specs.Option.{option_map};
 ghost use Rattle.std.specs.FinMap as map;
 ghost use Rattle.sim_time.specs.declared.key.Key.{Key};
 ghost use Rattle.ranking.specs.Keyed.{least, next_key};
+ghost use Rattle.ranking.specs.Timed.{time_of};
 ghost use Rattle.node_core.specs.Alarms.{alarm_number, numbered_key};
 ghost use Rattle.node_core.specs.AgendaState.{alarm_event, cleared, incoming_at, entry_of, CanCome, HasCome, CanComeIn, fresh_wire, fresh_agenda, IsAlarm, IsDue};
 ghost use Rattle.node_core.specs.Passing.{after_take, moved_to};
@@ -15,7 +16,7 @@ use crate::alarm::{Alarm, FIRST_FREE};
 use crate::event::Event;
 use crate::wire::Wire;
 use packet_chain::{PacketCell, PacketChain};
-use ranking::Ranking;
+use ranking::Timetable;
 use sim_time::{Key, Time};
 use std::alloc::{AllocError, Global};
 use std::marker::Model;
@@ -33,8 +34,9 @@ pub struct Agenda {
     alarms: Vec<Option<Time>>,
     /// The incoming links.
     wires: Vec<Wire>,
-    /// The next key of each alarm, and behind them of each incoming link.
-    ranking: Ranking,
+    /// When each alarm is due, and behind them when the first packet of each incoming link arrives.
+    /// Slots that are due at one time stand in the order of their keys.
+    timetable: Timetable,
     /// What copies take their memory from.
     alloc: Global,
 }
@@ -55,19 +57,16 @@ impl Model for Agenda {
     ghost invariant = { IsAgendaInside };
 }
 
-// The key of an alarm of a node, where it is set.
+// The key of an alarm of a node that is set for this time.
 #[inline(always)]
-fn key_of(node: u16, number: usize, time: Option<Time>) -> Option<Key>
-    ensures { result ≡ option_map (numbered_key node number) time }
+fn alarm_key(node: u16, number: usize, time: Time) -> Key
+    ensures { result ≡ numbered_key node number time }
 {
-    match time {
-        Some(time) => Some(Key {
-            time,
-            node,
-            source: 0,
-            number: number as u64,
-        }),
-        None => None,
+    Key {
+        time,
+        node,
+        source: 0,
+        number: number as u64,
     }
 }
 
@@ -125,7 +124,7 @@ impl Agenda {
             exits,
             alarms: none_set(alloc, alarms)?,
             wires: wires_of(alloc, node, links)?,
-            ranking: Ranking::new(alloc, alarms + links.len())?,
+            timetable: Timetable::new(alloc, alarms + links.len())?,
             alloc,
         })
     }
@@ -178,7 +177,7 @@ impl Agenda {
             exits: self.exits.clone()?,
             alarms: self.alarms.clone()?,
             wires: copies_of(self.alloc, &self.wires)?,
-            ranking: self.ranking.copy()?,
+            timetable: self.timetable.copy()?,
             alloc: self.alloc,
         })
     }
@@ -187,8 +186,16 @@ impl Agenda {
     pub fn next_key(&self) -> Option<Key>
         ensures { result ≡ next_key self.now.pending }
     {
-        match self.ranking.first() {
-            Some((_, key)) => Some(key),
+        self.least().map(|(key, _)| key)
+    }
+
+    /// The time of the least key.
+    #[inline(always)]
+    pub fn next_time(&self) -> Option<Time>
+        ensures { result ≡ time_of (next_key self.now.pending) }
+    {
+        match self.timetable.first() {
+            Some((_, time)) => Some(time),
             None => None,
         }
     }
@@ -204,8 +211,7 @@ impl Agenda {
         if time.is_none() && self.alarms[which].is_none() {
             return;
         }
-        self.alarms[which] = time;
-        self.ranking.set(which, key_of(self.node, which, time));
+        self.move_alarm(which, time);
     }
 
     /// The event of a key, which is this alarm's, leaves, and the alarm is set to this time, or is
@@ -216,21 +222,28 @@ impl Agenda {
         requires alarm { IsAlarm self.old key (alarm_number alarm) }
         ensures { self.new ≡ moved_to (after_take self.old key) (alarm_number alarm) time }
     {
-        let which = alarm.number() as usize;
-        self.alarms[which] = time;
-        let next = key_of(self.node, which, time);
-        self.ranking.set(which, next);
+        self.move_alarm(alarm.number() as usize, time);
+    }
+
+    // Sets the alarm of a number to this time, or clears it.
+    #[inline(always)]
+    fn move_alarm(&mut self, number: usize, time: Option<Time>)
+        requires { number < length self.old.alarms }
+        ensures { self.new ≡ moved_to self.old number time }
+    {
+        self.alarms[number] = time;
+        self.timetable.set(number, time);
     }
 
     /// The event of the least key.
     pub fn least(&self) -> Option<(Key, Event)>
         ensures { result ≡ least self.now.pending }
     {
-        match self.ranking.first() {
-            Some((slot, key)) => {
+        match self.timetable.first() {
+            Some((slot, time)) => {
                 let alarms = self.alarms.len();
                 if slot < alarms {
-                    return Some((key, self.announced(slot)));
+                    return Some((alarm_key(self.node, slot, time), self.announced(slot)));
                 }
                 let wire = &self.wires[slot - alarms];
                 wire.head()
@@ -246,10 +259,10 @@ impl Agenda {
         ensures value { least self.now.pending ≡ Some (key.new, event.new) }
         ensures due { IsDue self.now key.new event.new }
     {
-        let (slot, first) = self.ranking.leader();
+        let (slot, time) = self.timetable.leader();
         let alarms = self.alarms.len();
         if slot < alarms {
-            *key = first;
+            *key = alarm_key(self.node, slot, time);
             *event = self.announced(slot);
             return;
         }
@@ -277,17 +290,17 @@ impl Agenda {
         ensures state { self.new ≡ record self.old { alarms = cleared key self.old.alarms; pending = map.remove self.old.pending key } }
         ensures packet { (packet : Packet) → least self.old.pending ≡ Some (key, Arrive packet) → option_map (λ cell. cell.0) result ≡ Some packet }
     {
-        let (slot, _) = self.ranking.leader();
+        let (slot, _) = self.timetable.leader();
         let alarms = self.alarms.len();
         if slot < alarms {
             self.alarms[slot] = None;
-            self.ranking.set(slot, None);
+            self.timetable.set(slot, None);
             return None;
         }
         let wire = &mut self.wires[slot - alarms];
         let cell = wire.pop();
-        let next = wire.next_key();
-        self.ranking.set(slot, next);
+        let next = wire.next_time();
+        self.timetable.set(slot, next);
         cell
     }
 
@@ -299,14 +312,14 @@ impl Agenda {
         ensures { HasCome self.old self.new index sent.old sent.new result }
     {
         let wire = &mut self.wires[index];
-        let waiting = wire.next_key().is_some();
+        let waiting = wire.next_time().is_some();
         wire.append(sent);
         if waiting {
             return true;
         }
-        let next = wire.next_key();
+        let next = wire.next_time();
         let slot = self.alarms.len() + index;
-        self.ranking.set(slot, next);
+        self.timetable.set(slot, next);
         false
     }
 }

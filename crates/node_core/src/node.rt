@@ -7,6 +7,7 @@ ghost use Rattle.std.specs.FinMap as map;
 ghost use Rattle.sim_time.specs.declared.key.Key.{Key};
 ghost use Rattle.packet_chain.specs.Stamped.{Stamped};
 ghost use Rattle.ranking.specs.Keyed.{least, next_key, EachKey};
+ghost use Rattle.ranking.specs.Timed.{time_of};
 ghost use Rattle.node_core.specs.declared.event.Event.{Event};
 ghost use Rattle.node_core.specs.AgendaState.{incoming_at, entry_of};
 ghost use Rattle.node_core.specs.WireState.{stamps_of};
@@ -30,7 +31,7 @@ use packet_chain::PacketChain;
 use reno_receiver::Receiver;
 use reno_sender::Sender;
 use scenario_image::scenario::Scenario;
-use sim_time::Key;
+use sim_time::{Key, Time};
 use std::alloc::{AllocError, Global};
 use std::marker::Model;
 
@@ -105,6 +106,14 @@ impl Node {
         ensures { result ≡ next_key self.now.pending }
     {
         self.agenda.next_key()
+    }
+
+    /// The time of the least key.
+    #[inline(always)]
+    pub fn next_time(&self) -> Option<Time>
+        ensures { result ≡ time_of (next_key self.now.pending) }
+    {
+        self.agenda.next_time()
     }
 
     /// How many outgoing links it has.

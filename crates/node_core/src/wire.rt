@@ -10,11 +10,12 @@ ghost use Rattle.std.specs.List.Sorted.{IsStrictlyIncreasing};
 ghost use Rattle.sim_time.specs.declared.key.Key.{Key};
 ghost use Rattle.packet_chain.specs.Stamped.{Stamped};
 ghost use Rattle.ranking.specs.Keyed.{least, next_key, apply, entering, EachKey};
+ghost use Rattle.ranking.specs.Timed.{time_of};
 ghost use Rattle.node_core.specs.WireState.{IsWire, arrivals, arrivals_on, pending_on, came_over, stamps_of, after_pop};
 
 use crate::event::Event;
 use packet_chain::{Iter, PacketCell, PacketChain};
-use sim_time::Key;
+use sim_time::{Key, Time};
 use std::alloc::{AllocError, Global};
 use std::marker::Model;
 
@@ -115,11 +116,15 @@ impl Wire {
         }
     }
 
-    /// The key of the first arrival.
-    pub fn next_key(&self) -> Option<Key>
-        ensures { result ≡ next_key (pending_on self.now) }
+    /// When the first packet arrives, in nanoseconds.
+    #[inline(always)]
+    pub fn next_time(&self) -> Option<Time>
+        ensures { result ≡ time_of (next_key (pending_on self.now)) }
     {
-        self.head().map(|(key, _)| key)
+        match self.under_way.front() {
+            Some((_, time)) => Some(time),
+            None => None,
+        }
     }
 
     /// Takes the first packet off, in its cell: it arrives.

@@ -11,8 +11,8 @@ use Rattle.scenario_image.specs.declared.parts.ScenarioParts.{ScenarioParts}
 use Rattle.scenario_image.specs.declared.parts.LinkPart.{LinkPart}
 use Rattle.scenario_image.specs.Scenario.{IsScenario}
 use Rattle.scenario_image.proofs.Courses.{all_at}
-use Rattle.ranking.specs.Keyed.{apply, changed, least, next_key, EachKey}
-use Rattle.ranking.proofs.Maps.{not_some, same_some, each_apply, least_is}
+use Rattle.ranking.specs.Keyed.{apply, changed, least, EachKey}
+use Rattle.ranking.proofs.Maps.{not_some, each_apply, least_is}
 use Rattle.node_core.specs.declared.event.Event.{Event}
 use Rattle.node_core.specs.Pending.{Events, Change}
 use Rattle.node_core.specs.Part.{PartState}
@@ -63,10 +63,6 @@ alarms p is_scenario k (c ∷ cs) made here = (
 )
 
 module _ (g : GroupValue) (is : IsGroup g) (on : IsOnRun g) (end : ℕ) (below : end ≤ g.until) (place : ℕ) (first : IsFirst (seated g.seats) place) where
-  -- the least key is the first node's
-  pub its_key : (key : Key) → Some key ≡ next_key (net_pending (seated g.seats)) → (k : Key) (v : Event) → least (member g place).pending ≡ Some (k, v) → key ≡ k
-  its_key key next k v here = same_some key k (next ∙ ap (option_map (λ (entry : Key × Event). entry.0)) (first.same ∙ here))
-
   module _ (k : Key) (v : Event) (here : least (member g place).pending ≡ Some (k, v)) (early : k.time < end) where
     pub due_by : (moment : ℕ) → k.time < moment → due (up_to moment (state_of g)) ≡ Some (k, v)
     due_by moment l = ap (below_end moment) (first.same ∙ here) ∙ ap (λ b. cond b (Some (k, v)) None) (lt-ltb k.time moment l)

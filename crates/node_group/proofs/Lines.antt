@@ -1,11 +1,12 @@
 -- The lines of a group among those that it has memory for: after no firing, and after one.
-use Rattle.std.proofs.Common.{◌≡◌, ℕ, ◌+◌, ◌<◌, ◌≤◌, List, [], ◌∷◌, ◌++◌, length, map, take, set, refl, sym, ap, subst, ◌∙◌, Some, Result, Ok, Err, false, true≢false, arith}
+use Rattle.std.proofs.Common.{◌≡◌, ℕ, ◌+◌, ◌<◌, ◌≤◌, List, [], ◌∷◌, ◌++◌, length, map, take, set, refl, sym, ap, subst, ◌∙◌, Some, Option, Result, Ok, Err, false, true≢false, arith}
 use Rattle.std.specs.Option.{option_map}
 use Rattle.std.specs.Result.{OnOk, is_err}
 use Rattle.std.proofs.lemmas.List.{length-map, length-take-le, map-append, take_more_set, take-set}
 use Rattle.sim_time.specs.declared.key.Key.{Key}
 use Rattle.ranking.specs.Keyed.{next_key}
-use Rattle.ranking.proofs.Maps.{not_some}
+use Rattle.ranking.specs.Timed.{time_of}
+use Rattle.ranking.proofs.Maps.{not_some, same_some}
 use Rattle.node_core.specs.declared.event.Event.{Event}
 use Rattle.node_core.specs.declared.line.Line.{Line}
 use Rattle.node_core.specs.TraceLine.{shown}
@@ -16,7 +17,6 @@ use Rattle.node_group.specs.declared.share.Share.TheInside.{Inside}
 use Rattle.node_group.specs.Group.{GroupValue, IsOnRun, AfterFirings, IsFiring, IsDueBelow}
 use Rattle.node_group.specs.Passing.{nodes_of, with_node, HasPassed}
 use Rattle.node_group.specs.ShareOf.{group_of, IsShare}
-use Rattle.node_group.proofs.Firing.{its_key}
 use Rattle.node_group.proofs.Endings.{has_fired}
 
 pub told_count : (lines : List Line) (count : ℕ) → count ≤ length lines → length (map shown (take count lines)) ≡ count
@@ -45,17 +45,15 @@ pub has_fired_into : (s : Inside) (end place : ℕ) → s.count ≤ length s.lin
 has_fired_into s end place within d made room kept line new has = has_fired d (shown line) new has (map shown (take (s.count + 1) (set made s.count line))) (told_more s.lines.items made s.count line room kept)
 
 -- the least event of a share is below a moment
-pub due_below : (s : Inside) → IsShare s → (g : GroupValue) → group_of s ≡ g → IsOnRun g → (end : ℕ) → end ≤ g.until → (place : ℕ) (key : Key) → IsFirst (nodes_of s.area) place → Some key ≡ next_key (net_pending (nodes_of s.area)) → key.time < end → s.position + s.count < 1000000000000000 → IsDueBelow end (group_of s) place
-due_below s is g same on end below place key first next soon few =
-    let on_here : IsOnRun (group_of s) = subst IsOnRun (sym same) on in
-    let below_here : end ≤ (group_of s).until = subst (λ (v : GroupValue). end ≤ v.until) (sym same) below in
+pub due_below : (s : Inside) → IsShare s → (g : GroupValue) → group_of s ≡ g → IsOnRun g → (end : ℕ) → end ≤ g.until → (place time : ℕ) → IsFirst (nodes_of s.area) place → Some time ≡ time_of (next_key (net_pending (nodes_of s.area))) → time < end → s.position + s.count < 1000000000000000 → IsDueBelow end (group_of s) place
+due_below s is g same on end below place time first next soon few =
     let told = told_count s.lines.items s.count is.count in
     record {
       is = is.is_group;
-      on = on_here;
-      below = below_here;
+      on = subst IsOnRun (sym same) on;
+      below = subst (λ (v : GroupValue). end ≤ v.until) (sym same) below;
       first = first;
       fits = omega (arith, told, few);
-      soon = λ k v here. subst (λ (q : Key). q.time < end) (its_key (group_of s) is.is_group on_here end below_here place first key next k v here) soon;
-      pending = λ none. not_some (sym (next ∙ ap (option_map (λ (entry : Key × Event). entry.0)) first.same ∙ none));
+      soon = λ k v here. subst (λ t. t < end) (same_some time k.time (next ∙ ap (λ (o : Option (Key × Event)). time_of (option_map (λ (entry : Key × Event). entry.0) o)) (first.same ∙ here))) soon;
+      pending = λ none. not_some (sym (next ∙ ap (λ (o : Option (Key × Event)). time_of (option_map (λ (entry : Key × Event). entry.0) o)) first.same ∙ ap time_of none));
     }

@@ -9,16 +9,18 @@ use Rattle.std.specs.FinMap as fin
 use Rattle.std.specs.Option.{unwrap_or}
 use Rattle.sim_time.specs.declared.key.Key.{Key}
 use Rattle.ranking.specs.Leading.{rank_at, Leads}
-use Rattle.ranking.specs.Keyed.{least, next_key}
+use Rattle.ranking.specs.Keyed.{least, next_key, EachKey}
+use Rattle.ranking.specs.Timed.{time_of, AreInPlace}
 use Rattle.ranking.proofs.Maps.{not_some, least_is, next_some}
 use Rattle.ranking.proofs.Gathered.{next_empty}
 use Rattle.node_core.specs.declared.event.Event.{Event}
 use Rattle.node_core.specs.Pending.{Events}
 use Rattle.node_core.specs.Node.{NodeState}
-use Rattle.net_machine.specs.Nodes.{no_node, node_at, next_keys, net_pending, IsPlaced, IsFirst}
+use Rattle.net_machine.specs.Nodes.{no_node, node_at, next_keys, net_pending, IsPlaced, IsFirst, LeadsAt}
 use Rattle.net_machine.proofs.AtNodes.{pending_at, next_at, first_node, first_key, net_none}
+use Rattle.net_machine.proofs.InPlace.{has_node, rising_in_place}
 use Rattle.node_group.specs.Seats.{absent, seated}
-use Rattle.node_group.specs.Numbered.{seats_of, AreFound, AreMembers}
+use Rattle.node_group.specs.Numbered.{seats_of, AreFound, AreRising, AreMembers}
 use Rattle.node_group.proofs.Seated.{length-seated, seated_at, seated_set, is_seated, nobody}
 
 slice_get_set_other : {X : Type 0} (xs : List X) (i j : ℕ) (x d : X) → j ≢ i → slice_get (set xs i x) j ≡ slice_get xs j
@@ -114,8 +116,15 @@ module _ (nodes : List NodeState) (index : List ℕ) where
             let size = length-set nodes k x in
             (λ j. get_or index (numbers_stay m j) (size j)) ∙ found m (subst (λ n. m < n) size before)
 
+        rising_set : AreRising nodes → AreRising (set nodes k x)
+        rising_set rising m n lower before =
+            let rises = rising m n lower (subst (λ size. n < size) (length-set nodes k x) before) in
+            let same_m = numbers_stay m in
+            let same_n = numbers_stay n in
+            omega (arith, rises, same_m, same_n)
+
         pub members_set : AreMembers nodes index → AreMembers (set nodes k x) index
-        members_set is = record { placed = subst IsPlaced (sym all_set) after; found = found_set is.found }
+        members_set is = record { placed = subst IsPlaced (sym all_set) after; found = found_set is.found; rising = rising_set is.rising }
 
   -- THE LEAST OF ALL
 
@@ -153,14 +162,8 @@ module _ (nodes : List NodeState) (index : List ℕ) where
     held_here : (k : ℕ) (key : Key) → rank_at (next_keys nodes) k ≡ Some key → next_key (node_at nodes k).pending ≡ Some key
     held_here k key held = sym (next_at nodes k) ∙ held
 
-    within_nodes : (k : ℕ) (key : Key) → rank_at (next_keys nodes) k ≡ Some key → k < length nodes
-    within_nodes k key held = ⊎_elim
-        (λ (inside : k < length nodes). inside)
-        (λ (past : length nodes ≤ k). absurd (not_some (sym (next_empty Event) ∙ ap (λ (n : NodeState). next_key n.pending) (sym (get_or-eq_default nodes no_node past)) ∙ held_here k key held)))
-        (cases_lt k (length nodes))
-
     there : (k : ℕ) (key : Key) → rank_at (next_keys nodes) k ≡ Some key → next_key (node_at (seated (seats_of nodes index)) (node_at nodes k).number).pending ≡ Some key
-    there k key held = ap (λ (n : NodeState). next_key n.pending) (seated_there k (within_nodes k key held)) ∙ held_here k key held
+    there k key held = ap (λ (n : NodeState). next_key n.pending) (seated_there k (has_node nodes k key held)) ∙ held_here k key held
 
     held_at_home : (k : ℕ) (key : Key) → rank_at (next_keys nodes) k ≡ Some key → next_key (node_at (seated (seats_of nodes index)) key.node).pending ≡ Some key
     held_at_home k key held = ap (λ i. next_key (node_at (seated (seats_of nodes index)) i).pending) (key_there (node_at nodes k).number key (there k key held)) ∙ there k key held
@@ -177,11 +180,25 @@ module _ (nodes : List NodeState) (index : List ℕ) where
           let no : ⊥ = omega (arith, at, lower) in no;
     }
 
-    pub first_member : (k : ℕ) (key : Key) → Leads (next_keys nodes) k key → IsFirst (seated (seats_of nodes index)) key.node
-    first_member k key leads = first_node (seated (seats_of nodes index)) is.placed key.node key (leads_there k key leads)
+    -- the keys of the nodes stand in their places
+    names : (k : ℕ) → k < length nodes → EachKey (λ q. q.node ≡ (node_at nodes k).number) (node_at nodes k).pending
+    names k inside =
+        subst (EachKey (λ q. q.node ≡ (node_at nodes k).number)) (pending_at (seated (seats_of nodes index)) (node_at nodes k).number ∙ ap (λ (n : NodeState). n.pending) (seated_there k inside))
+        (is.placed.at_home (node_at nodes k).number)
 
-    pub first_key_of : (k : ℕ) (key : Key) → Leads (next_keys nodes) k key → Some key ≡ next_key (net_pending (seated (seats_of nodes index)))
-    first_key_of k key leads = first_key (seated (seats_of nodes index)) is.placed key.node key (leads_there k key leads)
+    pub members_in_place : AreInPlace (next_keys nodes)
+    members_in_place = rising_in_place nodes (λ k. (node_at nodes k).number) names is.rising
+
+    module _ (k time : ℕ) (first : LeadsAt nodes k time) where
+      pub first_within : k < length nodes
+      first_within = has_node nodes k first.key first.leads.held
+
+      pub first_member : IsFirst (seated (seats_of nodes index)) (node_at nodes k).number
+      first_member = subst (IsFirst (seated (seats_of nodes index))) (key_there (node_at nodes k).number first.key (there k first.key first.leads.held))
+          (first_node (seated (seats_of nodes index)) is.placed first.key.node first.key (leads_there k first.key first.leads))
+
+      pub first_time_of : Some time ≡ time_of (next_key (net_pending (seated (seats_of nodes index))))
+      first_time_of = ap (λ t. Some t) (sym first.at_time) ∙ ap time_of (first_key (seated (seats_of nodes index)) is.placed first.key.node first.key (leads_there k first.key first.leads))
 
     pub none_pending : ((k : ℕ) → rank_at (next_keys nodes) k ≡ None) → least (net_pending (seated (seats_of nodes index))) ≡ None
     none_pending none = net_none (seated (seats_of nodes index)) is.placed (λ i.

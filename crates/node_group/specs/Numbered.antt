@@ -13,7 +13,12 @@ seats_of nodes index = each (λ k. slice_get nodes k) index
 abbrev pub AreFound : List NodeState → List ℕ → Type 0
 AreFound nodes index = (k : ℕ) → k < length nodes → slice_index_or index (node_at nodes k).number (length nodes) ≡ k
 
--- each node sits at its number, and each key names its node
+-- their numbers rise
+abbrev pub AreRising : List NodeState → Type 0
+AreRising nodes = (i j : ℕ) → i < j → j < length nodes → (node_at nodes i).number < (node_at nodes j).number
+
+-- each node sits at its number, in rising number, and each key names its node
 pub record AreMembers (nodes : List NodeState) (index : List ℕ) : Type 0 where
   pub placed : IsPlaced (seated (seats_of nodes index))
   pub found : AreFound nodes index
+  pub rising : AreRising nodes

@@ -1,5 +1,5 @@
 -- The shares of a net that is split into groups.
-use Rattle.std.specs.Prelude.{◌≡◌, ◌≢◌, ◌<◌, ◌≤◌, ◌+◌, ◌==◌, ◌^◌, ℕ, if◌then◌else◌, List, [], length, count_by, take, replicate, slice_index_or, vec_capacity, Some, None}
+use Rattle.std.specs.Prelude.{◌≡◌, ◌≢◌, ◌<◌, ◌≤◌, ◌==◌, ◌^◌, ℕ, if◌then◌else◌, List, [], length, count_by, take, replicate, slice_index_or, vec_capacity, Some, None}
 use Rattle.std.specs.List.{slice_get}
 use Rattle.node_core.specs.Node.{NodeState}
 use Rattle.node_core.specs.AgendaState.{incoming_at}
@@ -11,7 +11,7 @@ use Rattle.net_machine.specs.Wiring.{ends_at, place_at}
 use Rattle.node_group.specs.declared.share.ShareParts.{ShareParts}
 use Rattle.net_partition.specs.Partition.{group_in}
 use Rattle.node_group.specs.Seats.{Seats}
-use Rattle.node_group.specs.Numbered.{AreFound}
+use Rattle.node_group.specs.Numbered.{AreFound, AreRising}
 use Rattle.node_group.specs.Held.{wire_at}
 use Rattle.node_group.specs.Group.{GroupValue}
 
@@ -61,36 +61,39 @@ pub record IsRoom (entries : List ℕ) (links : List LinkEnds) (nodes : List Nod
   pub links_are : room.links.items ≡ links
   pub empty : room.members.nodes.items ≡ []
   pub nobody : room.members.index.items ≡ replicate (length entries) nowhere
-  pub size : length room.members.ranking ≡ size_of number entries
-  pub few : length room.members.ranking ≤ 2 ^ 31
-  pub capacity : length room.members.ranking ≤ vec_capacity room.members.nodes
+  pub size : length room.members.timetable ≡ size_of number entries
+  pub few : length room.members.timetable ≤ 2 ^ 12
+  pub capacity : length room.members.timetable ≤ vec_capacity room.members.nodes
   pub idle : AreIdle links nodes room.exits
   pub out_empty : room.out ≡ replicate 16 []
 
 abbrev pub AreRooms : List ℕ → List LinkEnds → List NodeState → List ShareParts → Type 0
 AreRooms entries links nodes rooms = (number : ℕ) (d : ShareParts) → number < length rooms → IsRoom entries links nodes number (slice_index_or rooms number d)
 
--- of the nodes of a group those from a number on have joined, and there is room for the others
-pub record HaveJoined (first : ℕ) (entries : List ℕ) (nodes : List NodeState) (number : ℕ) (joined : List NodeState) (index : List ℕ) (room : ℕ) : Type 0 where
+-- of the nodes of a group those below a number have joined, in rising number, and there is room for the others
+pub record HaveJoined (next : ℕ) (entries : List ℕ) (nodes : List NodeState) (number : ℕ) (joined : List NodeState) (index : List ℕ) (room : ℕ) : Type 0 where
   pub count : length index ≡ length entries
-  pub before : (i : ℕ) → i < length entries → i < first → slice_index_or index i nowhere ≡ nowhere
+  pub before : (i : ℕ) → i < length entries → i < next → group_in entries i ≡ number → slice_get joined (slice_index_or index i nowhere) ≡ Some (node_at nodes i)
   pub others : (i : ℕ) → i < length entries → group_in entries i ≢ number → slice_index_or index i nowhere ≡ nowhere
-  pub behind : (i : ℕ) → i < length entries → first ≤ i → group_in entries i ≡ number → slice_get joined (slice_index_or index i nowhere) ≡ Some (node_at nodes i)
+  pub behind : (i : ℕ) → i < length entries → next ≤ i → slice_index_or index i nowhere ≡ nowhere
   pub found : AreFound joined index
-  pub fits : length joined + size_of number (take first entries) ≡ room
-  pub few : room ≤ 2 ^ 31
+  pub rising : AreRising joined
+  pub below : (k : ℕ) → k < length joined → (node_at joined k).number < next
+  pub size : length joined ≡ size_of number (take next entries)
+  pub fits : size_of number entries ≡ room
+  pub few : room ≤ 2 ^ 12
 
--- a room in which the nodes from a number on have joined
-pub record IsSeatedFrom (first : ℕ) (entries : List ℕ) (links : List LinkEnds) (nodes : List NodeState) (number : ℕ) (room : ShareParts) : Type 0 where
+-- a room in which the nodes below a number have joined
+pub record IsSeatedBelow (next : ℕ) (entries : List ℕ) (links : List LinkEnds) (nodes : List NodeState) (number : ℕ) (room : ShareParts) : Type 0 where
   pub links_are : room.links.items ≡ links
-  pub joined : HaveJoined first entries nodes number room.members.nodes.items room.members.index.items (length room.members.ranking)
-  pub capacity : length room.members.ranking ≤ vec_capacity room.members.nodes
+  pub joined : HaveJoined next entries nodes number room.members.nodes.items room.members.index.items (length room.members.timetable)
+  pub capacity : length room.members.timetable ≤ vec_capacity room.members.nodes
   pub idle : AreIdle links nodes room.exits
   pub out_empty : room.out ≡ replicate 16 []
 
 -- so for the room of each group
-abbrev pub AreSeatedFrom : ℕ → List ℕ → List LinkEnds → List NodeState → List ShareParts → Type 0
-AreSeatedFrom first entries links nodes rooms = (number : ℕ) (d : ShareParts) → number < length rooms → IsSeatedFrom first entries links nodes number (slice_index_or rooms number d)
+abbrev pub AreSeatedBelow : ℕ → List ℕ → List LinkEnds → List NodeState → List ShareParts → Type 0
+AreSeatedBelow next entries links nodes rooms = (number : ℕ) (d : ShareParts) → number < length rooms → IsSeatedBelow next entries links nodes number (slice_index_or rooms number d)
 
 -- the share of a group, with nothing held back and no line
 pub record IsShareOf (entries : List ℕ) (links : List LinkEnds) (nodes : List NodeState) (until position number : ℕ) (g : GroupValue) : Type 0 where

@@ -1,9 +1,10 @@
-//! The nodes of a group, ranked by their next keys.
+//! The nodes of a group, with a timetable of their next keys.
 ghost use Rattle.std.specs.Prelude.{◌≡◌, ◌≢◌, ◌==◌, ◌+◌, ◌<◌, ◌≤◌, ◌^◌, ◌++◌, ◌∷◌, [], ℕ, All, IfOk, OnOk, OnErr, MatchOption, Option, Some, None, is_some, length, slice_set, slice_index_or, replicate, count_by, vec_capacity};
 ghost use Rattle.std.specs.Option.{option_map, option_copied};
 ghost use Rattle.std.specs.List.Sorted.{IsStrictlyIncreasing};
 ghost use Rattle.sim_time.specs.declared.key.Key.{Key};
 ghost use Rattle.ranking.specs.Keyed.{least, next_key, EachKey};
+ghost use Rattle.ranking.specs.Timed.{time_of};
 ghost use Rattle.node_core.specs.declared.event.Event.{Event};
 ghost use Rattle.node_core.specs.AgendaState.{incoming_at};
 ghost use Rattle.node_core.specs.WireState.{stamps_of};
@@ -14,14 +15,14 @@ ghost use Rattle.node_core.specs.TraceLine.{shown};
 ghost use Rattle.node_core.specs.Node.{NodeState, delivered, HasFired};
 ghost use Rattle.net_machine.specs.Nodes.{node_at, net_pending, IsPlaced, IsFirst};
 ghost use Rattle.node_group.specs.Seats.{seated, taken};
-ghost use Rattle.node_group.specs.Numbered.{seats_of, AreFound};
+ghost use Rattle.node_group.specs.Numbered.{seats_of, AreFound, AreRising};
 
 use net_machine::Nodes;
 use net_partition::Partition;
 use node_core::{Line, Node, Outbox};
 use packet_chain::PacketChain;
-use ranking::Ranking;
-use sim_time::Key;
+use ranking::Timetable;
+use sim_time::Time;
 use std::alloc::{AllocError, Global};
 use std::marker::Model;
 
@@ -36,8 +37,8 @@ pub struct MemberParts {
     /// For each node of the net, by its number, which of these it is; none of them where it has not
     /// joined.
     pub index: Vec<u32>,
-    /// A ranking of as many places as nodes are to join, whatever it holds.
-    pub ranking: Ranking,
+    /// A timetable of as many places as nodes are to join, whatever it holds.
+    pub timetable: Timetable,
 }
 
 /// The nodes of a group.
@@ -84,18 +85,18 @@ impl MemberParts {
         partition: &Partition,
         number: usize,
     ) -> Result<MemberParts, AllocError>
-        requires { length partition.now ≤ 2 ^ 31 }
+        requires { length partition.now ≤ 2 ^ 12 }
         ensures nodes { IfOk result (λ parts. parts.nodes.items ≡ []) }
         ensures index { IfOk result (λ parts. parts.index.items ≡ replicate (length partition.now) 4294967295) }
-        ensures size { IfOk result (λ parts. length parts.ranking ≡ count_by (λ entry. entry == number) partition.now) }
-        ensures few { IfOk result (λ parts. length parts.ranking ≤ 2 ^ 31) }
-        ensures capacity { IfOk result (λ parts. length parts.ranking ≤ vec_capacity parts.nodes) }
+        ensures size { IfOk result (λ parts. length parts.timetable ≡ count_by (λ entry. entry == number) partition.now) }
+        ensures few { IfOk result (λ parts. length parts.timetable ≤ 2 ^ 12) }
+        ensures capacity { IfOk result (λ parts. length parts.timetable ≤ vec_capacity parts.nodes) }
     {
         let size = size_of(partition, number);
         Ok(MemberParts {
             nodes: Vec::with_capacity(alloc, size)?,
             index: vec![in alloc; NOWHERE; partition.nodes()]?,
-            ranking: Ranking::new(alloc, size)?,
+            timetable: Timetable::new(alloc, size)?,
         })
     }
 
@@ -103,11 +104,11 @@ impl MemberParts {
     pub(crate) fn join(&mut self, number: usize, node: Node)
         requires within { number < length self.old.index.items }
         requires room { length self.old.nodes.items < vec_capacity self.old.nodes }
-        requires few { length self.old.nodes.items < 2 ^ 31 }
+        requires few { length self.old.nodes.items < 2 ^ 12 }
         ensures nodes { self.new.nodes.items ≡ self.old.nodes.items ++ node ∷ [] }
         ensures index { self.new.index.items ≡ slice_set self.old.index.items number (length self.old.nodes.items) }
         ensures capacity { vec_capacity self.new.nodes ≡ vec_capacity self.old.nodes }
-        ensures ranking { self.new.ranking ≡ self.old.ranking }
+        ensures timetable { self.new.timetable ≡ self.old.timetable }
     {
         self.index[number] = self.nodes.len() as u32;
         self.nodes.push_reserved(node);
@@ -119,11 +120,12 @@ impl Members {
     pub(crate) fn of_parts(parts: MemberParts) -> Members
         requires placed { IsPlaced (seated (seats_of parts.nodes.items parts.index.items)) }
         requires found { AreFound parts.nodes.items parts.index.items }
-        requires room { length parts.ranking ≡ length parts.nodes.items }
+        requires rising { AreRising parts.nodes.items }
+        requires room { length parts.timetable ≡ length parts.nodes.items }
         ensures { result ≡ seats_of parts.nodes.items parts.index.items }
     {
         Members {
-            nodes: Nodes::of_parts(parts.nodes, parts.ranking),
+            nodes: Nodes::of_parts(parts.nodes, parts.timetable),
             index: parts.index,
         }
     }
@@ -145,14 +147,17 @@ impl Members {
         (self.index[place] as usize) < self.nodes.as_slice().len()
     }
 
-    /// The node at which the least key is pending, and the key.
+    /// The node at which the least key is pending, and its time.
     #[inline(always)]
-    pub(crate) fn first(&self) -> Option<(usize, Key)>
+    pub(crate) fn first(&self) -> Option<(usize, Time)>
         ensures first { MatchOption result (least (net_pending (seated self.now)) ≡ None) (λ entry. IsFirst (seated self.now) entry.0) }
-        ensures key { option_map (λ entry. entry.1) result ≡ next_key (net_pending (seated self.now)) }
+        ensures time { option_map (λ entry. entry.1) result ≡ time_of (next_key (net_pending (seated self.now))) }
     {
         match self.nodes.first() {
-            Some((_, key)) => Some((usize::from(key.node), key)),
+            Some((at, time)) => {
+                let node = &self.nodes.as_slice()[at];
+                Some((usize::from(node.number()), time))
+            }
             None => None,
         }
     }

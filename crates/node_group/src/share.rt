@@ -14,7 +14,7 @@ ghost use Rattle.window_law.specs.Groups.{up_to};
 ghost use Rattle.window_law.specs.Windows.{first_time};
 ghost use Rattle.node_group.specs.Held.{HoldsNothing, IsReleased};
 ghost use Rattle.node_group.specs.Seats.{seated, taken};
-ghost use Rattle.node_group.specs.Numbered.{seats_of, AreFound};
+ghost use Rattle.node_group.specs.Numbered.{seats_of, AreFound, AreRising};
 ghost use Rattle.node_group.specs.Group.{GroupValue, state_of, group_from, group_to, member, came_in, IsGroup, IsOnRun, AfterFirings, Fired, IsDueBelow, IsFiring};
 
 use crate::area::Area;
@@ -111,7 +111,8 @@ impl Share {
     ) -> Share
         requires group { IsGroup (record { number = number; entries = partition.now; links = parts.links.items; seats = seats_of parts.members.nodes.items parts.members.index.items; held = parts.exits; lines = []; until = until; position = position }) }
         requires found { AreFound parts.members.nodes.items parts.members.index.items }
-        requires room { length parts.members.ranking ≡ length parts.members.nodes.items }
+        requires rising { AreRising parts.members.nodes.items }
+        requires room { length parts.members.timetable ≡ length parts.members.nodes.items }
         requires empty { parts.out ≡ replicate 16 [] }
         ensures { result ≡ record { number = number; entries = partition.now; links = parts.links.items; seats = seats_of parts.members.nodes.items parts.members.index.items; held = parts.exits; lines = []; until = until; position = position } }
     {
@@ -152,7 +153,7 @@ impl Share {
         ensures { result ≡ first_time (state_of self.now) }
     {
         match self.area.members.first() {
-            Some((_, key)) => Some(key.time),
+            Some((_, time)) => Some(time),
             None => None,
         }
     }
@@ -265,10 +266,10 @@ impl Share {
         ensures memory { IfErr result (λ fault. fault ≡ GroupFault.NoMemory → (due (up_to end (state_of self.old)) ≢ None) × (self.old.position + length self.old.lines < 1000000000000000)) }
         ensures err { OnErr result (self.new ≡ self.old) }
     {
-        let Some((place, key)) = self.area.members.first() else {
+        let Some((place, time)) = self.area.members.first() else {
             return Ok(false);
         };
-        if key.time >= end {
+        if time >= end {
             return Ok(false);
         }
         if self.position + self.count as u64 == MOST_EVENTS {

@@ -5,7 +5,7 @@ ghost use Rattle.net_machine.specs.declared.places.LinkEnds.{LinkEnds};
 ghost use Rattle.net_machine.specs.Nodes.{IsPlaced};
 ghost use Rattle.net_machine.specs.NetOf.{AreNetParts};
 ghost use Rattle.net_partition.specs.Partition.{groups_of};
-ghost use Rattle.node_group.specs.Shares.{AreJoined, AreIdle, IsRoom, AreRooms, AreSeatedFrom, AreSharesOf, HaveSent};
+ghost use Rattle.node_group.specs.Shares.{AreJoined, AreIdle, IsRoom, AreRooms, AreSeatedBelow, AreSharesOf, HaveSent};
 
 use crate::exits::Exits;
 use crate::held::Held;
@@ -85,7 +85,7 @@ fn room_of(
 ) -> Result<ShareParts, AllocError>
     requires joined { AreJoined links.now.items nodes.now }
     requires sent { HaveSent links.now.items nodes.now sent.now }
-    requires few { length partition.now ≤ 2 ^ 31 }
+    requires few { length partition.now ≤ 2 ^ 12 }
     ensures { IfOk result (λ room. IsRoom partition.now links.now.items nodes.now number room) }
 {
     Ok(ShareParts {
@@ -104,7 +104,7 @@ pub fn rooms_of(
     partition: &Partition,
 ) -> Result<Vec<ShareParts>, AllocError>
     requires joined { AreJoined links.now.items nodes.now }
-    requires few { length partition.now ≤ 2 ^ 31 }
+    requires few { length partition.now ≤ 2 ^ 12 }
     ensures count { IfOk result (λ rooms. length rooms.items ≡ groups_of partition.now) }
     ensures each { IfOk result (λ rooms. AreRooms partition.now links.now.items nodes.now rooms.items) }
 {
@@ -116,8 +116,8 @@ pub fn rooms_of(
     Ok(rooms)
 }
 
-// The nodes of a net, joined by these links, take their seats, each in its group's room. No memory
-// is taken.
+// The nodes of a net, joined by these links, take their seats in rising number, each in its group's
+// room. No memory is taken.
 fn seat_all(
     nodes: &mut Vec<Node>,
     _links: &[LinkEnds],
@@ -129,12 +129,13 @@ fn seat_all(
     requires few { length rooms.old ≤ 64 }
     requires size { length partition.now ≡ length nodes.old.items }
     requires placed { IsPlaced nodes.old.items }
-    ensures seated { AreSeatedFrom 0 partition.now _links.now nodes.old.items rooms.new }
+    ensures seated { AreSeatedBelow (length partition.now) partition.now _links.now nodes.old.items rooms.new }
     ensures count { length rooms.new ≡ length rooms.old }
     ensures nodes { nodes.new.items ≡ [] }
 {
+    nodes.reverse();
     while let Some(node) = nodes.pop() {
-        let place = nodes.len();
+        let place = usize::from(node.number());
         rooms[partition.group(place)].members.join(place, node);
     }
 }

@@ -52,7 +52,7 @@ fn under_way(rt: &impl Abort, alloc: Global) -> Wire {
 // The segment arrives next.
 fn expect_next(rt: &impl Abort, wire: &mut Wire, number: u64, time: Time, count: u64) {
     let (key, event) = arrival(rt, number, time, count);
-    assert_eq!(rt; wire.next_key(), Some(key));
+    assert_eq!(rt; wire.next_time(), Some(time));
     assert_eq!(rt; wire.head(), Some((key, event)));
     let cell = wire.pop().expect(rt, "under way");
     assert_eq!(rt; cell.packet().number, number);

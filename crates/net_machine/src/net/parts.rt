@@ -7,16 +7,16 @@ use super::{MOST_LINKS, Net};
 use crate::nodes::Nodes;
 use crate::places::LinkEnds;
 use node_core::{Node, Outbox};
-use ranking::Ranking;
+use ranking::Timetable;
 use sim_time::Time;
 use std::alloc::{AllocError, Global};
 use std::marker::Model;
 
-/// What a net needs beside its nodes and links, for so many nodes: room to rank them, and a chain
+/// What a net needs beside its nodes and links, for so many nodes: room for their times, and a chain
 /// for each outgoing link that a node can have, empty between steps.
 #[derive(Drop)]
 pub struct Spare {
-    ranking: Ranking,
+    timetable: Timetable,
     out: Outbox,
     alloc: Global,
 }
@@ -26,7 +26,7 @@ impl Model for Spare {
 
     ghost Value = { ℕ };
 
-    ghost view = { λ s. length s.ranking };
+    ghost view = { λ s. length s.timetable };
 
     ghost invariant = { λ s. s.out ≡ replicate 16 [] };
 }
@@ -34,11 +34,11 @@ impl Model for Spare {
 impl Spare {
     /// For so many nodes.
     pub fn new(alloc: Global, nodes: usize) -> Result<Spare, AllocError>
-        requires { nodes ≤ 2 ^ 31 }
+        requires { nodes ≤ 2 ^ 12 }
         ensures { IfOk result (λ spare. spare ≡ nodes) }
     {
         Ok(Spare {
-            ranking: Ranking::new(alloc, nodes)?,
+            timetable: Timetable::new(alloc, nodes)?,
             out: Outbox::new(alloc, MOST_LINKS)?,
             alloc,
         })
@@ -69,7 +69,7 @@ impl Net {
     {
         let spare = parts.spare;
         Net {
-            nodes: Nodes::of_parts(parts.nodes, spare.ranking),
+            nodes: Nodes::of_parts(parts.nodes, spare.timetable),
             ends: parts.links,
             end: parts.end,
             position: parts.position,
@@ -84,14 +84,14 @@ impl Net {
         ensures parts { AreNetParts result.nodes.items result.links.items result.end result.position }
         ensures room { result.spare ≡ length result.nodes.items }
     {
-        let (nodes, ranking) = self.nodes.into_parts();
+        let (nodes, timetable) = self.nodes.into_parts();
         NetParts {
             nodes,
             links: self.ends,
             end: self.end,
             position: self.position,
             spare: Spare {
-                ranking,
+                timetable,
                 out: self.out,
                 alloc: self.alloc,
             },

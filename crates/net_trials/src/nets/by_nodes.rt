@@ -11,7 +11,7 @@ use super::two_flows::{LOST, SLOW, opened, run_next};
 use net_machine::net::{MOST_EVENTS, Net};
 use net_machine::nodes::Nodes;
 use node_core::{Act, DropReason, Line, Node, Outbox, TakeDrop};
-use ranking::Ranking;
+use ranking::Timetable;
 use std::alloc::Global;
 use std::process::Abort;
 
@@ -31,14 +31,14 @@ pub(super) fn copied_in(rt: &impl Abort, net: &Net, order: &[u16]) -> Net {
     }
 }
 
-// Room to rank so many nodes.
-fn room(rt: &impl Abort, alloc: Global, nodes: usize) -> Ranking
-    requires { nodes ≤ 2 ^ 31 }
+// A timetable of so many nodes.
+fn room(rt: &impl Abort, alloc: Global, nodes: usize) -> Timetable
+    requires { nodes ≤ 2 ^ 12 }
     ensures { length result ≡ nodes }
 {
-    match Ranking::new(alloc, nodes) {
-        Ok(ranking) => ranking,
-        Err(_) => Ranking::new(alloc, nodes).expect(rt, "one request is refused"),
+    match Timetable::new(alloc, nodes) {
+        Ok(timetable) => timetable,
+        Err(_) => Timetable::new(alloc, nodes).expect(rt, "one request is refused"),
     }
 }
 
@@ -76,15 +76,15 @@ fn fired(rt: &impl Abort, node: &mut Node, out: &mut Outbox) -> Line
 fn runs_by_both(rt: &impl Abort, alloc: Global, net: &mut Net, told: &mut Line) -> bool {
     let parts = copied(rt, net).into_parts();
     assert!(rt; parts.nodes.len() <= 256);
-    let ranking = room(rt, alloc, parts.nodes.len());
-    let all = Nodes::of_parts(parts.nodes, ranking);
-    let Some((place, key)) = all.first() else {
+    let timetable = room(rt, alloc, parts.nodes.len());
+    let all = Nodes::of_parts(parts.nodes, timetable);
+    let Some((place, time)) = all.first() else {
         return false;
     };
-    if key.time >= parts.end || parts.position == MOST_EVENTS {
+    if time >= parts.end || parts.position == MOST_EVENTS {
         return false;
     }
-    let (mut nodes, _ranking) = all.into_parts();
+    let (mut nodes, _timetable) = all.into_parts();
     let mut out = outbox(rt, alloc);
     let node = &mut nodes[place];
     let line = fired(rt, node, &mut out);

@@ -45,7 +45,7 @@ fn room_for(
     partition: &Partition,
 ) -> Result<Room, AllocError>
     requires joined { AreJoined links.now.items nodes.now }
-    requires few { length partition.now ≤ 2 ^ 31 }
+    requires few { length partition.now ≤ 2 ^ 12 }
     ensures rooms { IfOk result (λ room. length room.rooms.items ≡ groups_of partition.now) }
     ensures each { IfOk result (λ room. AreRooms partition.now links.now.items nodes.now room.rooms.items) }
     ensures shares { IfOk result (λ room. (room.shares.items ≡ []) × (groups_of partition.now ≤ vec_capacity room.shares)) }

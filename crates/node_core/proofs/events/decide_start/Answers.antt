@@ -1,6 +1,5 @@
-use Rattle.std.proofs.Common.{false, refl, sym, ap, subst}
+use Rattle.std.proofs.Common.{false, sym, ap, subst}
 use Rattle.reno_sender.specs.PlanView.{planned_of}
-use Rattle.node_core.specs.declared.decision.Decision.{Decision}
 use Rattle.node_core.specs.declared.event.Event.TheVariants.{Start}
 use Rattle.node_core.specs.declared.role.Role.{Role}
 use Rattle.node_core.specs.declared.role.Role.TheVariants.{Sends}

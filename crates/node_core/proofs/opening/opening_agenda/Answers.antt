@@ -1,12 +1,13 @@
 use Rattle.std.proofs.Common.{◌≡◌, ◌==◌, ℕ, ◌<◌, ◌≤◌, length, get_or, sym, ap, subst, ◌∙◌, arith, List}
 use Rattle.std.proofs.lemmas.List.{length-map}
 use Rattle.std.proofs.lemmas.List.Sums.{count_by-le-length}
+use Rattle.std.specs.List.Sorted.{IsStrictlyIncreasing}
 use Rattle.scenario_image.specs.declared.parts.LinkPart.{LinkPart}
 use Rattle.scenario_image.specs.declared.parts.FlowPart.{FlowPart}
-use Rattle.node_core.specs.AgendaState.{AgendaState, AreApart, fresh_agenda}
+use Rattle.node_core.specs.AgendaState.{AgendaState, fresh_agenda}
 use Rattle.node_core.specs.Opening.{coming_links}
 use Rattle.node_core.specs.OpeningAgenda.{numbers_of, start_at}
-use Rattle.node_core.proofs.Numbered.{all_at, numbers_within, numbers_apart, passing_count}
+use Rattle.node_core.proofs.Numbered.{all_at, numbers_within, numbers_rising, passing_count}
 use Rattle.node_core.proofs.AtFirst.{opened_agenda, with_start, same_owner}
 use Rattle.node_core.proofs.opening.opening_agenda.Goals as goal
 
@@ -32,7 +33,7 @@ new-requires c =
     record {
       few = (let numbers = ap length same in omega (arith, numbers, few_come all c.args.node, links, c.requires.at.few, c.args.leaving.ok.0));
       fit = subst (λ (ns : List ℕ). (i : ℕ) → i < length ns → get_or ns i 0 < 65535) (sym same) (within all c.args.node links);
-      apart = subst AreApart (sym same) (numbers_apart (λ (link : LinkPart). link.to == c.args.node) 0 all);
+      rising = subst IsStrictlyIncreasing (sym same) (numbers_rising (λ (link : LinkPart). link.to == c.args.node) 0 all);
     }
 
 pub returns : goal.returns

@@ -1,9 +1,8 @@
-use Rattle.std.proofs.Common.{◌≡◌, ◌+◌, ◌<◌, ◌++◌, ℕ, List, Option, None, Some, length, get_or, cond, sym, ap, subst, ◌∙◌, arith}
+use Rattle.std.proofs.Common.{◌≡◌, ◌++◌, Option, length, cond, sym, ap, ◌∙◌, arith}
 use Rattle.std.proofs.lemmas.List.{get_or_read, length-set}
 use Rattle.std.specs.Prelude.{option_to_list}
 use Rattle.packet_chain.specs.declared.packet.Packet.{Packet}
 use Rattle.port.specs.Port.{PortState, PortStep, departed, offered_all}
-use Rattle.node_core.specs.declared.event.Event.{Event}
 use Rattle.node_core.specs.AgendaState.{AgendaState}
 use Rattle.node_core.specs.Alarms.{alarm_number}
 use Rattle.node_core.specs.Decided.{sent_by}

@@ -1,5 +1,5 @@
-use Rattle.std.proofs.Common.{Some, sym, ap, ◌∙◌}
-use Rattle.node_core.proofs.Decisions.{no_route_decides, route_decides}
+use Rattle.std.proofs.Common.{sym, ◌∙◌}
+use Rattle.node_core.proofs.Decisions.{route_decides}
 use Rattle.node_core.proofs.router_node.pass_packet.Goals as goal
 
 pub returns-clause-decided : goal.returns-clause-decided

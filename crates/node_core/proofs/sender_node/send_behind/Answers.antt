@@ -1,4 +1,4 @@
-use Rattle.std.proofs.Common.{◌≡◌, ◌≤◌, ◌+◌, ◌++◌, length, map, refl, ap, arith}
+use Rattle.std.proofs.Common.{map, refl, ap, arith}
 use Rattle.reno_sender.specs.declared.fields.SenderFields.{SenderFields}
 use Rattle.reno_sender.specs.PlanView.{sent_of}
 use Rattle.node_core.specs.Row.{data_packet}

@@ -1,7 +1,7 @@
 use Rattle.std.proofs.Common.{◌≡◌, ◌+◌, ◌++◌, ◌∷◌, [], length, sym, ap, subst, ◌∙◌, arith, length-append}
 use Rattle.std.specs.Option.{option_to_list}
 use Rattle.net_partition.specs.Partition.{groups_of}
-use Rattle.node_group.specs.Shares.{IsSeatedFrom}
+use Rattle.node_group.specs.Shares.{IsSeatedBelow}
 use Rattle.node_group.proofs.SharedOut.{seats_in, front_seated, last_seated, none_missing, room_is_group, room_share, made_more, made_all}
 use Rattle.node_group.proofs.sharing.share_out.Goals as goal
 
@@ -11,13 +11,19 @@ new-requires-clause-group c =
     let more : c.loop-room.rooms.items ≡ before ++ c.in-Some.room ∷ [] = c.pop.ensures.items ∙ ap (λ o. before ++ option_to_list o) c.in-Some.is in
     let here = last_seated c.args.partition.now c.args.links.now c.args.nodes.items c.loop-room.rooms.items before c.in-Some.room more c.loop-room.invariant.seated in
     room_is_group c.args.nodes.items c.args.links.now c.args.end c.args.position c.requires.net c.args.partition.now c.requires.size c.len-number.result c.args.end c.in-Some.room
-    (subst (λ n. IsSeatedFrom 0 c.args.partition.now c.args.links.now c.args.nodes.items n c.in-Some.room) (sym (c.len-number.ensures ∙ c.pop.new.self.ok.0)) here)
+    (subst (λ n. IsSeatedBelow (length c.args.partition.now) c.args.partition.now c.args.links.now c.args.nodes.items n c.in-Some.room) (sym (c.len-number.ensures ∙ c.pop.new.self.ok.0)) here)
 
 pub new-requires-clause-found : goal.new-requires-clause-found
 new-requires-clause-found c =
     let before = c.pop.new.self.items in
     let more : c.loop-room.rooms.items ≡ before ++ c.in-Some.room ∷ [] = c.pop.ensures.items ∙ ap (λ o. before ++ option_to_list o) c.in-Some.is in
     (last_seated c.args.partition.now c.args.links.now c.args.nodes.items c.loop-room.rooms.items before c.in-Some.room more c.loop-room.invariant.seated).joined.found
+
+pub new-requires-clause-rising : goal.new-requires-clause-rising
+new-requires-clause-rising c =
+    let before = c.pop.new.self.items in
+    let more : c.loop-room.rooms.items ≡ before ++ c.in-Some.room ∷ [] = c.pop.ensures.items ∙ ap (λ o. before ++ option_to_list o) c.in-Some.is in
+    (last_seated c.args.partition.now c.args.links.now c.args.nodes.items c.loop-room.rooms.items before c.in-Some.room more c.loop-room.invariant.seated).joined.rising
 
 pub new-requires-clause-room : goal.new-requires-clause-room
 new-requires-clause-room c =

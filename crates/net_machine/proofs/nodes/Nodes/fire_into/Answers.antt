@@ -6,7 +6,7 @@ use Rattle.node_core.specs.declared.event.Event.{Event}
 use Rattle.node_core.specs.Ready.{IsRunnable}
 use Rattle.node_core.specs.Node.{NodeState}
 use Rattle.net_machine.specs.Nodes.{no_node, node_at}
-use Rattle.net_machine.proofs.AtNodes.{ranked_set}
+use Rattle.net_machine.proofs.AtNodes.{timed_set}
 use Rattle.net_machine.proofs.nodes.Nodes.fire_into.Goals as goal
 
 pub fire_into-requires-clause-due : goal.fire_into-requires-clause-due
@@ -19,5 +19,5 @@ fire_into-requires-clause-due c =
 
 pub invariant_of-self-2 : goal.invariant_of-self-2
 invariant_of-self-2 c =
-    c.set.ensures ∙ ap (set c.self.inside.ranking c.args.place) c.least-next.ensures
-    ∙ ranked_set c.self.inside.nodes.items c.self.inside.ranking c.args.place c.fire_into.new.self c.self.invariant
+    c.set.ensures ∙ ap (set c.self.inside.timetable c.args.place) c.next_time-next.ensures
+    ∙ timed_set c.self.inside.nodes.items c.self.inside.timetable c.args.place c.fire_into.new.self c.self.invariant

@@ -5,10 +5,11 @@ use Rattle.std.proofs.lemmas.List.{length-map, get_or_read}
 use Rattle.std.proofs.Math.ListN.{get_or-map}
 use Rattle.sim_time.specs.declared.key.Key.{Key}
 use Rattle.ranking.specs.Keyed.{next_key, apply, entering, EachKey}
+use Rattle.ranking.specs.Timed.{time_of}
 use Rattle.node_core.specs.WireState.{WireState, pending_on, came_over, arrivals, stamps_of}
 use Rattle.node_core.specs.AgendaState.{AgendaState, Incoming, IsAgenda, slots, no_wire, wire_at, incoming_of, incoming_at, come_over}
 use Rattle.node_core.specs.AgendaOf.{owner_of}
-use Rattle.node_core.proofs.Slots.{still_ranked, length-slots, slots_home, home_of, wire_ranked, wire_keys, joined_state}
+use Rattle.node_core.proofs.Slots.{still_ranked, same_ranks, length_timed, slots_home, home_of, wire_ranked, wire_keys, joined_state}
 use Rattle.node_core.proofs.Stays.{same_next}
 use Rattle.node_core.proofs.agenda.Agenda.append_behind.Goals as goal
 
@@ -39,15 +40,14 @@ append-requires-clause-later c = λ i d under k v there.
     let within : j < length a.wires.items = omega (arith, among, length-map a.wires.items incoming_of) in
     let is : c.index_mut-wire.result.now ≡ wire_at a.wires.items j = get_or_read a.wires.items j c.index_mut-wire.result.now within c.index_mut-wire.ensures.value no_wire in
     let later = subst (λ (s : AgendaState). All (λ stamp. EachKey (λ q. q.source ≡ (incoming_at s.incoming j).link + 1 → q.time < stamp) s.pending) (stamps_of c.args.sent.now)) (sym c.self.view_is) c.requires.later in
-    let key = wire_keys (owner_of a) a.alarms.items a.wires.items a.ranking c.self.invariant j within k v (ap (λ (w : WireState). fin.get (pending_on w) k) (sym is) ∙ there) in
+    let key = wire_keys (owner_of a) a.alarms.items a.wires.items a.timetable c.self.invariant j within k v (ap (λ (w : WireState). fin.get (pending_on w) k) (sym is) ∙ there) in
     later i d under k v key.0 (key.1 ∙ ap (λ (over : Incoming). over.link + 1) (sym (get_or-map incoming_of a.wires.items j no_wire)))
 
 pub set-requires : goal.set-requires
 set-requires c =
     let a = c.self.inside in
     let among : c.args.index < length (each incoming_of a.wires.items) = subst (λ (s : AgendaState). c.args.index < length s.incoming) (sym c.self.view_is) c.requires.within in
-    let ranked : length a.ranking ≡ length (slots (owner_of a) a.alarms.items a.wires.items) = ap length c.self.invariant.ranked ∙ length-map (slots (owner_of a) a.alarms.items a.wires.items) next_key in
-    omega (arith, among, length-map a.wires.items incoming_of, ranked, length-slots (owner_of a) a.alarms.items a.wires.items, c.len.ensures, a.alarms.ok.0)
+    omega (arith, among, length-map a.wires.items incoming_of, length_timed (owner_of a) a.alarms.items a.wires.items a.timetable c.self.invariant, c.len.ensures, a.alarms.ok.0)
 
 pub invariant_of-self-2 : goal.invariant_of-self-2
 invariant_of-self-2 c =
@@ -59,8 +59,8 @@ invariant_of-self-2 c =
     let new : c.append.new.self ≡ record (wire_at a.wires.items j) { under_way = (wire_at a.wires.items j).under_way ++ c.args.sent.now } =
     c.append.ensures.state ∙ ap (λ (w : WireState). record w { under_way = w.under_way ++ c.args.sent.now }) is in
     let slot : length a.alarms.items + j ≡ c.len.result + j = omega (arith, c.len.ensures, a.alarms.ok.0) in
-    subst (IsAgenda (owner_of a) a.alarms.items (set a.wires.items j c.append.new.self)) (ap (λ i. set a.ranking i (next_key (pending_on c.append.new.self))) slot ∙ sym (c.set.ensures ∙ ap (set a.ranking (c.len.result + j)) c.next_key-next.ensures))
-    (wire_ranked (owner_of a) a.alarms.items a.wires.items a.ranking c.self.invariant j within c.append.new.self (ap (λ (w : WireState). w.node) new) (ap (λ (w : WireState). w.link) new))
+    subst (IsAgenda (owner_of a) a.alarms.items (set a.wires.items j c.append.new.self)) (ap (λ i. set a.timetable i (time_of (next_key (pending_on c.append.new.self)))) slot ∙ sym (c.set.ensures ∙ ap (set a.timetable (c.len.result + j)) c.next_time-next.ensures))
+    (wire_ranked (owner_of a) a.alarms.items a.wires.items a.timetable c.self.invariant j within c.append.new.self (ap (λ (w : WireState). w.node) new) (ap (λ (w : WireState). w.link) new))
 
 pub returns : goal.returns
 returns c =
@@ -70,7 +70,7 @@ returns c =
     let within : j < length a.wires.items = omega (arith, among, length-map a.wires.items incoming_of) in
     let is : c.index_mut-wire.result.now ≡ wire_at a.wires.items j = get_or_read a.wires.items j c.index_mut-wire.result.now within c.index_mut-wire.ensures.value no_wire in
     record {
-      state = joined_state (owner_of a) a.alarms.items a.wires.items a.ranking c.self.invariant j within c.args.sent.now c.append.new.self
+      state = joined_state (owner_of a) a.alarms.items a.wires.items a.timetable c.self.invariant j within c.args.sent.now c.append.new.self
           (c.append.ensures.state ∙ ap (λ (w : WireState). record w { under_way = w.under_way ++ c.args.sent.now }) is)
           (c.append.ensures.pending ∙ ap (λ (w : WireState). apply (entering (arrivals w.node w.link (came_over w) c.args.sent.now)) (pending_on w)) is)
           ∙ ap (λ (s : AgendaState). come_over s j c.args.sent.now) c.self.view_is;
@@ -90,14 +90,13 @@ invariant_of-self c =
     let is : c.index_mut-wire.result.now ≡ wire_at a.wires.items j = get_or_read a.wires.items j c.index_mut-wire.result.now within c.index_mut-wire.ensures.value no_wire in
     let new : c.append.new.self ≡ record (wire_at a.wires.items j) { under_way = (wire_at a.wires.items j).under_way ++ c.args.sent.now } =
     c.append.ensures.state ∙ ap (λ (w : WireState). record w { under_way = w.under_way ++ c.args.sent.now }) is in
-    let some : is_some (next_key (pending_on c.index_mut-wire.result.now)) ≡ true = ap is_some (sym c.next_key.ensures) ∙ sym c.is_some-waiting.ensures ∙ c.if-waiting.true in
+    let some : is_some (time_of (next_key (pending_on c.index_mut-wire.result.now))) ≡ true = ap is_some (sym c.next_time.ensures) ∙ sym c.is_some-waiting.ensures ∙ c.if-waiting.true in
     let stays : next_key (pending_on c.append.new.self) ≡ next_key (pending_on (wire_at a.wires.items j)) = c.append.ensures.next (made (next_key (pending_on c.index_mut-wire.result.now)) some) ∙ ap (λ (w : WireState). next_key (pending_on w)) is in
     let node = ap (λ (w : WireState). w.node) new in
     let link = ap (λ (w : WireState). w.link) new in
-    subst (IsAgenda (owner_of a) a.alarms.items (set a.wires.items j c.append.new.self)) (still_ranked (owner_of a) a.alarms.items a.wires.items a.ranking c.self.invariant j within c.append.new.self node link stays)
-    (wire_ranked (owner_of a) a.alarms.items a.wires.items a.ranking c.self.invariant j within c.append.new.self node link)
+    still_ranked (owner_of a) a.alarms.items a.wires.items a.timetable c.self.invariant j within c.append.new.self node link stays
   where
-    made : (o : Option Key) → is_some o ≡ true → IsSome o
+    made : (o : Option Key) → is_some (time_of o) ≡ true → IsSome o
     made o e = search rules
 
 pub returns-then-waiting : goal.returns-then-waiting
@@ -113,22 +112,22 @@ returns-then-waiting c =
     let is : c.index_mut-wire.result.now ≡ wire_at wires j = get_or_read wires j c.index_mut-wire.result.now within c.index_mut-wire.ensures.value no_wire in
     let new : w ≡ record (wire_at wires j) { under_way = (wire_at wires j).under_way ++ c.args.sent.now } =
     c.append.ensures.state ∙ ap (λ (x : WireState). record x { under_way = x.under_way ++ c.args.sent.now }) is in
-    let some : is_some (next_key (pending_on c.index_mut-wire.result.now)) ≡ true = ap is_some (sym c.next_key.ensures) ∙ sym c.is_some-waiting.ensures ∙ c.if-waiting.true in
+    let some : is_some (time_of (next_key (pending_on c.index_mut-wire.result.now))) ≡ true = ap is_some (sym c.next_time.ensures) ∙ sym c.is_some-waiting.ensures ∙ c.if-waiting.true in
     let stays : next_key (pending_on w) ≡ next_key (pending_on (wire_at wires j)) = c.append.ensures.next (made (next_key (pending_on c.index_mut-wire.result.now)) some) ∙ ap (λ (x : WireState). next_key (pending_on x)) is in
     let node = ap (λ (x : WireState). x.node) new in
     let link = ap (λ (x : WireState). x.link) new in
-    let again : IsAgenda owner alarms (set wires j w) a.ranking = subst (IsAgenda owner alarms (set wires j w)) (still_ranked owner alarms wires a.ranking c.self.invariant j within w node link stays)
-    (wire_ranked owner alarms wires a.ranking c.self.invariant j within w node link) in
+    let again = still_ranked owner alarms wires a.timetable c.self.invariant j within w node link stays in
     record {
-      state = joined_state owner alarms wires a.ranking c.self.invariant j within c.args.sent.now w new
+      state = joined_state owner alarms wires a.timetable c.self.invariant j within c.args.sent.now w new
           (c.append.ensures.pending ∙ ap (λ (x : WireState). apply (entering (arrivals x.node x.link (came_over x) c.args.sent.now)) (pending_on x)) is)
           ∙ ap (λ (s : AgendaState). come_over s j c.args.sent.now) c.self.view_is;
       emptied = c.append.ensures.sent;
       stays = λ _.
           same_next (home_of alarms wires) (home_of alarms (set wires j w)) (slots owner alarms wires) (slots owner alarms (set wires j w))
-          (slots_home owner alarms wires a.ranking c.self.invariant) (slots_home owner alarms (set wires j w) a.ranking again) (sym c.self.invariant.ranked ∙ again.ranked)
+          (slots_home owner alarms wires a.timetable c.self.invariant) (slots_home owner alarms (set wires j w) a.timetable again)
+          (sym (same_ranks owner alarms wires a.timetable c.self.invariant j within w node link stays))
           ∙ ap (λ (s : AgendaState). next_key s.pending) c.self.view_is;
     }
   where
-    made : (o : Option Key) → is_some o ≡ true → IsSome o
+    made : (o : Option Key) → is_some (time_of o) ≡ true → IsSome o
     made o e = search rules

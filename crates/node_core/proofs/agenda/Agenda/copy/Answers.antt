@@ -1,6 +1,5 @@
 use Rattle.std.proofs.Common.{◌≡◌, ℕ, List, Option, sym, subst, ◌∙◌, rules}
 use Rattle.std.proofs.lemmas.List.Elements.{same_from_all_zip}
-use Rattle.sim_time.specs.declared.key.Key.{Key}
 use Rattle.node_core.specs.WireState.{WireState}
 use Rattle.node_core.specs.AgendaState.{agenda_state, IsAgenda}
 use Rattle.node_core.proofs.agenda.Agenda.copy.Goals as goal
@@ -15,12 +14,12 @@ wires_are : (c : goal.After-result-2-1) → c.in_ok-copies_of.field-0.items ≡ 
 wires_are c = c.in_ok-copies_of.ensures ∙ c.deref.ensures.value
 
 -- an agenda of the same parts
-copied : (node flow : ℕ) {exits exits' : List ℕ} {alarms alarms' : List (Option ℕ)} {wires wires' : List WireState} {ranks ranks' : List (Option Key)} → exits' ≡ exits → alarms' ≡ alarms → wires' ≡ wires → ranks' ≡ ranks
-    → IsAgenda (record { node = node; flow = flow; exits = exits }) alarms wires ranks → IsAgenda (record { node = node; flow = flow; exits = exits' }) alarms' wires' ranks'
-copied node flow {exits} {exits'} {alarms} {alarms'} {wires} {wires'} {ranks} {ranks'} e f g h is =
-    subst (λ (x : List ℕ). IsAgenda (record { node = node; flow = flow; exits = x }) alarms' wires' ranks') (sym e)
-    (subst (λ (x : List (Option ℕ)). IsAgenda (record { node = node; flow = flow; exits = exits }) x wires' ranks') (sym f)
-    (subst (λ (x : List WireState). IsAgenda (record { node = node; flow = flow; exits = exits }) alarms x ranks') (sym g)
+copied : (node flow : ℕ) {exits exits' : List ℕ} {alarms alarms' : List (Option ℕ)} {wires wires' : List WireState} {times times' : List (Option ℕ)} → exits' ≡ exits → alarms' ≡ alarms → wires' ≡ wires → times' ≡ times
+    → IsAgenda (record { node = node; flow = flow; exits = exits }) alarms wires times → IsAgenda (record { node = node; flow = flow; exits = exits' }) alarms' wires' times'
+copied node flow {exits} {exits'} {alarms} {alarms'} {wires} {wires'} {times} {times'} e f g h is =
+    subst (λ (x : List ℕ). IsAgenda (record { node = node; flow = flow; exits = x }) alarms' wires' times') (sym e)
+    (subst (λ (x : List (Option ℕ)). IsAgenda (record { node = node; flow = flow; exits = exits }) x wires' times') (sym f)
+    (subst (λ (x : List WireState). IsAgenda (record { node = node; flow = flow; exits = exits }) alarms x times') (sym g)
     (subst (IsAgenda (record { node = node; flow = flow; exits = exits }) alarms wires) (sym h) is)))
 
 same_state : (node flow : ℕ) {exits exits' : List ℕ} {alarms alarms' : List (Option ℕ)} {wires wires' : List WireState} → exits' ≡ exits → alarms' ≡ alarms → wires' ≡ wires

@@ -1,5 +1,4 @@
 use Rattle.std.proofs.Common.{◌≡◌, ◌+◌, ℕ, List, Option, None, length, replicate, sym, ap, subst, ◌∙◌, arith}
-use Rattle.sim_time.specs.declared.key.Key.{Key}
 use Rattle.node_core.specs.WireState.{WireState}
 use Rattle.node_core.specs.AgendaState.{Owner, agenda_state, IsAgenda}
 use Rattle.node_core.proofs.Fresh.{fresh_state, fresh_is}
@@ -14,15 +13,15 @@ exits_are c = omega (arith, c.len-alarms.ensures, c.args.exits.ok.0)
 alarms_are : (c : goal.In_ok-new) → c.in_ok-none_set.field-0.items ≡ replicate (3 + length c.args.exits.items) None
 alarms_are c = c.in_ok-none_set.ensures ∙ ap (λ n. replicate {A = Option ℕ} (3 + n) None) (exits_are c)
 
-ranks_are : (c : goal.In_ok-new) → c.in_ok-new.field-0 ≡ replicate ((3 + length c.args.exits.items) + length c.args.links.now) None
-ranks_are c = c.in_ok-new.ensures ∙ ap (λ n. replicate {A = Option Key} ((3 + n) + length c.args.links.now) None) (exits_are c)
+times_are : (c : goal.In_ok-new) → c.in_ok-new.field-0 ≡ replicate ((3 + length c.args.exits.items) + length c.args.links.now) None
+times_are c = c.in_ok-new.ensures ∙ ap (λ n. replicate {A = Option ℕ} ((3 + n) + length c.args.links.now) None) (exits_are c)
 
 pub invariant_of-result : goal.invariant_of-result
 invariant_of-result c =
-    subst (IsAgenda (owner c) c.in_ok-none_set.field-0.items c.in_ok-wires_of.field-0.items) (sym (ranks_are c))
+    subst (IsAgenda (owner c) c.in_ok-none_set.field-0.items c.in_ok-wires_of.field-0.items) (sym (times_are c))
     (subst (λ (a : List (Option ℕ)). IsAgenda (owner c) a c.in_ok-wires_of.field-0.items (replicate ((3 + length c.args.exits.items) + length c.args.links.now) None)) (sym (alarms_are c))
     (subst (λ (w : List WireState). IsAgenda (owner c) (replicate (3 + length c.args.exits.items) None) w (replicate ((3 + length c.args.exits.items) + length c.args.links.now) None)) (sym c.in_ok-wires_of.ensures)
-    (fresh_is (owner c) c.args.links.now c.requires.apart)))
+    (fresh_is (owner c) c.args.links.now c.requires.rising)))
 
 pub returns : goal.returns
 returns c =

@@ -1,9 +1,10 @@
 use Rattle.std.proofs.Common.{◌≡◌, ◌+◌, ◌-◌, ◌<◌, [], ◌∷◌, None, length, set, refl, sym, ap, subst, ◌∙◌, arith}
-use Rattle.std.proofs.lemmas.List.{length-map, get_or_read}
+use Rattle.std.proofs.lemmas.List.{get_or_read}
 use Rattle.std.proofs.Math.Seq.{map-set_same}
 use Rattle.std.specs.FinMap as fin
 use Rattle.std.specs.Option.{option_map}
-use Rattle.ranking.specs.Leading.{Leads}
+use Rattle.ranking.specs.Gathered.{gathered}
+use Rattle.ranking.specs.Timed.{time_of}
 use Rattle.ranking.specs.Keyed.{least, next_key}
 use Rattle.ranking.proofs.Maps.{not_some, same_some}
 use Rattle.sim_time.specs.declared.key.Key.{Key}
@@ -11,15 +12,16 @@ use Rattle.node_core.specs.declared.event.Event.{Event}
 use Rattle.node_core.specs.declared.event.Event.TheVariants.{Arrive}
 use Rattle.node_core.specs.WireState.{WireState, pending_on, after_pop}
 use Rattle.node_core.specs.AgendaState.{AgendaState, IsAgenda, slots, alarm_event, no_wire, wire_at, cleared, incoming_of}
+use Rattle.node_core.specs.Alarms.{numbered_key}
 use Rattle.node_core.specs.AgendaOf.{owner_of}
 use Rattle.node_core.proofs.Wires.{popped_node, popped_link, popped_came}
-use Rattle.node_core.proofs.Slots.{length-slots, none_first, first_next, first_alarm, first_wire, first_within, set_ranked, wire_ranked, wire_pending, cleared_alarm, cleared_wire, same_agenda, same_incoming, alarm_is_no_arrival}
+use Rattle.node_core.proofs.Slots.{length_timed, none_first, first_alarm, first_wire, wire_key, first_within, set_ranked, wire_ranked, wire_pending, cleared_alarm, cleared_wire, same_agenda, same_incoming, alarm_is_no_arrival}
 use Rattle.node_core.proofs.agenda.Agenda.take.Goals as goal
 
 pub leader-slot-requires : goal.leader-slot-requires
 leader-slot-requires c = λ none.
     let a = c.self.inside in
-    not_some (ap (option_map (λ (entry : Key × Event). entry.0)) (sym (none_first (owner_of a) a.alarms.items a.wires.items a.ranking c.self.invariant none)) ∙ ap (λ (s : AgendaState). next_key s.pending) c.self.view_is ∙ c.requires)
+    not_some (ap (option_map (λ (entry : Key × Event). entry.0)) (sym (none_first (owner_of a) a.alarms.items a.wires.items a.timetable c.self.invariant none)) ∙ ap (λ (s : AgendaState). next_key s.pending) c.self.view_is ∙ c.requires)
 
 pub index_mut-requires : goal.index_mut-requires
 index_mut-requires c = omega (arith, c.if-slot-alarms.true, c.len-alarms.ensures, c.self.inside.alarms.ok.0)
@@ -27,45 +29,46 @@ index_mut-requires c = omega (arith, c.if-slot-alarms.true, c.len-alarms.ensures
 pub set-requires : goal.set-requires
 set-requires c =
     let a = c.self.inside in
-    let ranked : length a.ranking ≡ length (slots (owner_of a) a.alarms.items a.wires.items) = ap length c.self.invariant.ranked ∙ length-map (slots (owner_of a) a.alarms.items a.wires.items) next_key in
-    omega (arith, c.if-slot-alarms.true, c.len-alarms.ensures, a.alarms.ok.0, ranked, length-slots (owner_of a) a.alarms.items a.wires.items)
+    omega (arith, c.if-slot-alarms.true, c.len-alarms.ensures, a.alarms.ok.0, length_timed (owner_of a) a.alarms.items a.wires.items a.timetable c.self.invariant)
 
 pub set-requires-2 : goal.set-requires-2
 set-requires-2 c =
     let a = c.self.inside in
-    let within : c.leader-slot.result.0 < length a.alarms.items + length a.wires.items = first_within (owner_of a) a.alarms.items a.wires.items a.ranking c.self.invariant c.leader-slot.result.0 c.leader-slot.result.1 c.leader-slot.ensures in
-    let ranked : length a.ranking ≡ length (slots (owner_of a) a.alarms.items a.wires.items) = ap length c.self.invariant.ranked ∙ length-map (slots (owner_of a) a.alarms.items a.wires.items) next_key in
-    omega (arith, within, ranked, length-slots (owner_of a) a.alarms.items a.wires.items)
+    let within : c.leader-slot.result.0 < length a.alarms.items + length a.wires.items = first_within (owner_of a) a.alarms.items a.wires.items a.timetable c.self.invariant c.leader-slot.result.0 c.leader-slot.result.1 c.leader-slot.ensures in
+    omega (arith, within, length_timed (owner_of a) a.alarms.items a.wires.items a.timetable c.self.invariant)
 
 pub invariant_of-self : goal.invariant_of-self
 invariant_of-self c =
     let a = c.self.inside in
     let within : c.leader-slot.result.0 < length a.alarms.items = omega (arith, c.if-slot-alarms.true, c.len-alarms.ensures, a.alarms.ok.0) in
-    subst (IsAgenda (owner_of a) (set a.alarms.items c.leader-slot.result.0 None) a.wires.items) (sym c.set.ensures) (set_ranked (owner_of a) a.alarms.items a.wires.items a.ranking c.self.invariant c.leader-slot.result.0 within None)
+    subst (IsAgenda (owner_of a) (set a.alarms.items c.leader-slot.result.0 None) a.wires.items) (sym c.set.ensures) (set_ranked (owner_of a) a.alarms.items a.wires.items a.timetable c.self.invariant c.leader-slot.result.0 within None)
 
 pub returns-then-slot-alarms-clause-state : goal.returns-then-slot-alarms-clause-state
 returns-then-slot-alarms-clause-state c =
     let a = c.self.inside in
-    let within : c.leader-slot.result.0 < length a.alarms.items = omega (arith, c.if-slot-alarms.true, c.len-alarms.ensures, a.alarms.ok.0) in
-    let key_is : c.leader-slot.result.1 ≡ c.args.key =
-    same_some c.leader-slot.result.1 c.args.key (sym (first_next (owner_of a) a.alarms.items a.wires.items a.ranking c.self.invariant c.leader-slot.result.0 c.leader-slot.result.1 c.leader-slot.ensures) ∙ ap (λ (s : AgendaState). next_key s.pending) c.self.view_is ∙ c.requires) in
-    let leads = subst (Leads a.ranking c.leader-slot.result.0) key_is c.leader-slot.ensures in
-    let first = first_alarm (owner_of a) a.alarms.items a.wires.items a.ranking c.self.invariant c.leader-slot.result.0 c.args.key leads within in
-    same_agenda (owner_of a) (sym (cleared_alarm c.args.key a.alarms.items c.leader-slot.result.0 first.source first.number_is)) refl first.rest
+    let slot = c.leader-slot.result.0 in
+    let within : slot < length a.alarms.items = omega (arith, c.if-slot-alarms.true, c.len-alarms.ensures, a.alarms.ok.0) in
+    let first = first_alarm (owner_of a) a.alarms.items a.wires.items a.timetable c.self.invariant slot c.leader-slot.result.1 c.leader-slot.ensures within in
+    let key_is : numbered_key a.node slot c.leader-slot.result.1 ≡ c.args.key =
+    same_some (numbered_key a.node slot c.leader-slot.result.1) c.args.key (ap (option_map (λ (entry : Key × Event). entry.0)) (sym first.least_is) ∙ ap (λ (s : AgendaState). next_key s.pending) c.self.view_is ∙ c.requires) in
+    same_agenda (owner_of a) (sym (cleared_alarm c.args.key a.alarms.items slot (ap (λ (k : Key). k.source) (sym key_is)) (ap (λ (k : Key). k.number) (sym key_is)))) refl
+    (first.rest ∙ ap (fin.remove (gathered (slots (owner_of a) a.alarms.items a.wires.items))) key_is)
     ∙ ap (λ (s : AgendaState). record s { alarms = cleared c.args.key s.alarms; pending = fin.remove s.pending c.args.key }) c.self.view_is
 
 pub returns-then-slot-alarms-clause-packet : goal.returns-then-slot-alarms-clause-packet
 returns-then-slot-alarms-clause-packet c = λ packet e.
     let a = c.self.inside in
-    let within : c.leader-slot.result.0 < length a.alarms.items = omega (arith, c.if-slot-alarms.true, c.len-alarms.ensures, a.alarms.ok.0) in
-    let first = first_alarm (owner_of a) a.alarms.items a.wires.items a.ranking c.self.invariant c.leader-slot.result.0 c.leader-slot.result.1 c.leader-slot.ensures within in
-    absurd (alarm_is_no_arrival (owner_of a) c.leader-slot.result.0 packet
-    (ap (λ (entry : Key × Event). entry.1) (same_some {A = Key × Event} (c.leader-slot.result.1, alarm_event (owner_of a) c.leader-slot.result.0) (c.args.key, Arrive packet) (sym first.least_is ∙ ap (λ (s : AgendaState). least s.pending) c.self.view_is ∙ e))))
+    let slot = c.leader-slot.result.0 in
+    let within : slot < length a.alarms.items = omega (arith, c.if-slot-alarms.true, c.len-alarms.ensures, a.alarms.ok.0) in
+    let first = first_alarm (owner_of a) a.alarms.items a.wires.items a.timetable c.self.invariant slot c.leader-slot.result.1 c.leader-slot.ensures within in
+    absurd (alarm_is_no_arrival (owner_of a) slot packet
+    (ap (λ (entry : Key × Event). entry.1)
+    (same_some {A = Key × Event} (numbered_key a.node slot c.leader-slot.result.1, alarm_event (owner_of a) slot) (c.args.key, Arrive packet) (sym first.least_is ∙ ap (λ (s : AgendaState). least s.pending) c.self.view_is ∙ e))))
 
 pub index_mut-wire-requires : goal.index_mut-wire-requires
 index_mut-wire-requires c =
     let a = c.self.inside in
-    let within : c.leader-slot.result.0 < length a.alarms.items + length a.wires.items = first_within (owner_of a) a.alarms.items a.wires.items a.ranking c.self.invariant c.leader-slot.result.0 c.leader-slot.result.1 c.leader-slot.ensures in
+    let within : c.leader-slot.result.0 < length a.alarms.items + length a.wires.items = first_within (owner_of a) a.alarms.items a.wires.items a.timetable c.self.invariant c.leader-slot.result.0 c.leader-slot.result.1 c.leader-slot.ensures in
     omega (arith, within, c.if-slot-alarms.false, c.len-alarms.ensures, a.alarms.ok.0, a.wires.ok.0)
 
 pub invariant_of-self-2 : goal.invariant_of-self-2
@@ -73,30 +76,28 @@ invariant_of-self-2 c =
     let a = c.self.inside in
     let j = c.leader-slot.result.0 - c.len-alarms.result in
     let at : length a.alarms.items + j ≡ c.leader-slot.result.0 = omega (arith, c.if-slot-alarms.false, c.len-alarms.ensures, a.alarms.ok.0) in
-    let first = first_wire (owner_of a) a.alarms.items a.wires.items a.ranking c.self.invariant c.leader-slot.result.0 c.leader-slot.result.1 c.leader-slot.ensures j at in
+    let first = first_wire (owner_of a) a.alarms.items a.wires.items a.timetable c.self.invariant c.leader-slot.result.0 c.leader-slot.result.1 c.leader-slot.ensures j at in
     let is : c.index_mut-wire.result.now ≡ wire_at a.wires.items j = get_or_read a.wires.items j c.index_mut-wire.result.now first.within c.index_mut-wire.ensures.value no_wire in
     let new : c.pop-cell.new.self ≡ after_pop (wire_at a.wires.items j) = c.pop-cell.ensures.state ∙ ap after_pop is in
-    subst (IsAgenda (owner_of a) a.alarms.items (set a.wires.items j c.pop-cell.new.self)) (ap (λ i. set a.ranking i (next_key (pending_on c.pop-cell.new.self))) at ∙ sym (c.set-2.ensures ∙ ap (set a.ranking c.leader-slot.result.0) c.next_key-next.ensures))
-    (wire_ranked (owner_of a) a.alarms.items a.wires.items a.ranking c.self.invariant j first.within c.pop-cell.new.self (ap (λ (w : WireState). w.node) new ∙ popped_node (wire_at a.wires.items j)) (ap (λ (w : WireState). w.link) new ∙ popped_link (wire_at a.wires.items j)))
+    subst (IsAgenda (owner_of a) a.alarms.items (set a.wires.items j c.pop-cell.new.self)) (ap (λ i. set a.timetable i (time_of (next_key (pending_on c.pop-cell.new.self)))) at ∙ sym (c.set-2.ensures ∙ ap (set a.timetable c.leader-slot.result.0) c.next_time-next.ensures))
+    (wire_ranked (owner_of a) a.alarms.items a.wires.items a.timetable c.self.invariant j first.within c.pop-cell.new.self (ap (λ (w : WireState). w.node) new ∙ popped_node (wire_at a.wires.items j)) (ap (λ (w : WireState). w.link) new ∙ popped_link (wire_at a.wires.items j)))
 
 pub returns-clause-state : goal.returns-clause-state
 returns-clause-state c =
     let a = c.self.inside in
     let j = c.leader-slot.result.0 - c.len-alarms.result in
     let at : length a.alarms.items + j ≡ c.leader-slot.result.0 = omega (arith, c.if-slot-alarms.false, c.len-alarms.ensures, a.alarms.ok.0) in
-    let key_is : c.leader-slot.result.1 ≡ c.args.key =
-    same_some c.leader-slot.result.1 c.args.key (sym (first_next (owner_of a) a.alarms.items a.wires.items a.ranking c.self.invariant c.leader-slot.result.0 c.leader-slot.result.1 c.leader-slot.ensures) ∙ ap (λ (s : AgendaState). next_key s.pending) c.self.view_is ∙ c.requires) in
-    let leads = subst (Leads a.ranking c.leader-slot.result.0) key_is c.leader-slot.ensures in
-    let first = first_wire (owner_of a) a.alarms.items a.wires.items a.ranking c.self.invariant c.leader-slot.result.0 c.args.key leads j at in
+    let first = first_wire (owner_of a) a.alarms.items a.wires.items a.timetable c.self.invariant c.leader-slot.result.0 c.leader-slot.result.1 c.leader-slot.ensures j at in
+    let leaves = wire_key (owner_of a) a.alarms.items a.wires.items j first c.args.key (ap (λ (s : AgendaState). next_key s.pending) c.self.view_is ∙ c.requires) in
     let is : c.index_mut-wire.result.now ≡ wire_at a.wires.items j = get_or_read a.wires.items j c.index_mut-wire.result.now first.within c.index_mut-wire.ensures.value no_wire in
     let new : c.pop-cell.new.self ≡ after_pop (wire_at a.wires.items j) = c.pop-cell.ensures.state ∙ ap after_pop is in
     let node = ap (λ (w : WireState). w.node) new ∙ popped_node (wire_at a.wires.items j) in
     let link = ap (λ (w : WireState). w.link) new ∙ popped_link (wire_at a.wires.items j) in
     let change : pending_on c.pop-cell.new.self ≡ fin.remove (pending_on (wire_at a.wires.items j)) c.args.key =
-    c.pop-cell.ensures.pending c.args.key (ap (λ (w : WireState). next_key (pending_on w)) is ∙ first.next) ∙ ap (λ (w : WireState). fin.remove (pending_on w) c.args.key) is in
-    same_agenda (owner_of a) (sym (cleared_wire c.args.key a.alarms.items (wire_at a.wires.items j).link first.source))
+    c.pop-cell.ensures.pending c.args.key (ap (λ (w : WireState). next_key (pending_on w)) is ∙ leaves.0) ∙ ap (λ (w : WireState). fin.remove (pending_on w) c.args.key) is in
+    same_agenda (owner_of a) (sym (cleared_wire c.args.key a.alarms.items (wire_at a.wires.items j).link leaves.1))
     (map-set_same incoming_of a.wires.items j c.pop-cell.new.self no_wire (ap incoming_of new ∙ same_incoming (popped_link (wire_at a.wires.items j)) (popped_came (wire_at a.wires.items j))))
-    (wire_pending (owner_of a) a.alarms.items a.wires.items a.ranking c.self.invariant j first.within c.pop-cell.new.self node link ((c.args.key, None) ∷ []) (first.source, tt) change)
+    (wire_pending (owner_of a) a.alarms.items a.wires.items a.timetable c.self.invariant j first.within c.pop-cell.new.self node link ((c.args.key, None) ∷ []) (leaves.1, tt) change)
     ∙ ap (λ (s : AgendaState). record s { alarms = cleared c.args.key s.alarms; pending = fin.remove s.pending c.args.key }) c.self.view_is
 
 pub returns-clause-packet : goal.returns-clause-packet
@@ -104,6 +105,6 @@ returns-clause-packet c = λ packet e.
     let a = c.self.inside in
     let j = c.leader-slot.result.0 - c.len-alarms.result in
     let at : length a.alarms.items + j ≡ c.leader-slot.result.0 = omega (arith, c.if-slot-alarms.false, c.len-alarms.ensures, a.alarms.ok.0) in
-    let first = first_wire (owner_of a) a.alarms.items a.wires.items a.ranking c.self.invariant c.leader-slot.result.0 c.leader-slot.result.1 c.leader-slot.ensures j at in
+    let first = first_wire (owner_of a) a.alarms.items a.wires.items a.timetable c.self.invariant c.leader-slot.result.0 c.leader-slot.result.1 c.leader-slot.ensures j at in
     let is : c.index_mut-wire.result.now ≡ wire_at a.wires.items j = get_or_read a.wires.items j c.index_mut-wire.result.now first.within c.index_mut-wire.ensures.value no_wire in
     c.pop-cell.ensures.packet c.args.key packet (ap (λ (w : WireState). least (pending_on w)) is ∙ sym first.least_is ∙ ap (λ (s : AgendaState). least s.pending) c.self.view_is ∙ e)

@@ -8,4 +8,4 @@ fire_at-requires c =
     let s = c.self.inside in
     let told = told_count s.lines.items s.count c.self.invariant.count in
     subst (λ (v : GroupValue). IsDueBelow c.args.end v c.in-Some.place) c.self.view_is
-    (due_below s c.self.invariant c.args.self.now c.self.view_is c.requires.on_run c.args.end c.requires.within c.in-Some.place c.in-Some.key c.in-Some.ensures.first c.in-Some.ensures.key (omega (arith, c.if-key-end.false)) (omega (arith, c.self.invariant.is_group.fits, told, c.if-self-eq-MOST_EVENTS.false)))
+    (due_below s c.self.invariant c.args.self.now c.self.view_is c.requires.on_run c.args.end c.requires.within c.in-Some.place c.in-Some.time c.in-Some.ensures.first c.in-Some.ensures.time (omega (arith, c.if-time-end.false)) (omega (arith, c.self.invariant.is_group.fits, told, c.if-self-eq-MOST_EVENTS.false)))
