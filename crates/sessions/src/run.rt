@@ -14,7 +14,7 @@ use crate::rest::no_run_left;
 use crate::sharing::Sharing;
 use crate::trace::run_scenario;
 use crate::why::why_groups;
-use crate::workers::{WindowRun, open_run, run_alone};
+use crate::workers::{WindowRun, open_run};
 use scenario_image::Scenario;
 use window_core::Partition;
 use window_engine::{Gate, Sink};
@@ -58,8 +58,8 @@ pub(crate) fn told_groups<G, N: Notes>(
     found
 }
 
-/// Runs a scenario to its end, and writes its trace: one event at a time where all nodes are in one
-/// group, and else by windows. A run by several workers is left.
+/// Runs a scenario to its end, and writes its trace: one event at a time where there is one worker, or
+/// all nodes are in one group. A run by several workers, which goes by windows, is left.
 pub(crate) fn begin_run<W: Sink, G: Gate, N: Notes>(
     means: &Means<G>,
     sharing: Sharing,
@@ -71,14 +71,10 @@ pub(crate) fn begin_run<W: Sink, G: Gate, N: Notes>(
     ensures failures { W.failures writer.new ≡ writes_after result (W.failures writer.old) }
 {
     let partition = told_groups(means, &sharing, scenario, notes)?;
-    if !is_parted(&partition) {
+    let workers = sharing.workers();
+    if is_alone(workers, &partition) {
         return no_run_left(run_scenario(means.alloc, means.wishes, scenario, writer, notes));
     }
-    let workers = sharing.workers();
     let run = open_run(means, workers, scenario, partition)?;
-    if workers == 1 {
-        no_run_left(run_alone(means, run, writer, notes))
-    } else {
-        Ok(Some(run))
-    }
+    Ok(Some(run))
 }

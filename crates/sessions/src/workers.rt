@@ -56,34 +56,8 @@ pub(crate) fn open_run<G: Gate>(
     })
 }
 
-/// Runs an engine to a moment on the calling thread, from one hundredth of it to the next where it
-/// is told how far it is.
-fn run_in_turn<W: Sink, G: Gate, N: Notes>(
-    gate: &G,
-    progress: &Progress,
-    engine: &mut Engine,
-    writer: &mut W,
-    notes: &mut N,
-) -> Result<Stop, EngineFault>
-    requires first { engine.old.net.position ≡ 0 }
-    ensures runs { RunsTo engine.old.net.state result engine.new.net (W.contents writer.old) (W.contents writer.new) }
-    ensures stop { IfOk result (IsStop progress.now.end engine.new.net.state) }
-    ensures full { IfErr result (λ fault. fault ≡ EngineFault.CountFull → HasTooMany engine.old.net) }
-    ensures failed { engine.new.failed ≡ is_err result }
-    ensures failures { W.failures writer.new ≡ sink_failures result (W.failures writer.old) }
-{
-    for percent in progress.first()..WHOLE {
-        let moment = hundredths(progress.end, percent);
-        let stop = engine.run_alone(gate, moment, writer)?;
-        let events = engine.position();
-        if stop == Stop::Until {
-            progress.say(percent, events, notes);
-        }
-    }
-    engine.run_alone(gate, progress.end, writer)
-}
-
-/// The same by several workers, for which it may wait.
+/// Runs an engine to a moment by several workers, for which it may wait, from one hundredth of it to
+/// the next where it is told how far it is.
 pub(crate) fn run_by_workers<W: Sink, G: Gate, H: Threads + Wait + Sync, N: Notes>(
     crew: &Crew<H, G>,
     workers: usize,
@@ -155,20 +129,4 @@ pub(crate) fn end_run<W: Sink, N: Notes>(
     run.progress.ends(ended.is_ok(), events, notes);
     drop(run);
     ended
-}
-
-/// Runs a scenario by windows to its end on the calling thread, and writes its trace.
-pub(crate) fn run_alone<W: Sink, G: Gate, N: Notes>(
-    means: &Means<G>,
-    run: WindowRun,
-    writer: &mut W,
-    notes: &mut N,
-) -> Result<(), SessionFault>
-    requires { IsAtStart run }
-    ensures output { Writes (IsRunOutput run.engine.net.state result) (W.contents writer.old) (W.contents writer.new) }
-    ensures failures { W.failures writer.new ≡ writes_after result (W.failures writer.old) }
-{
-    let mut run = run;
-    let ran = run_in_turn(means.gate, &run.progress, &mut run.engine, writer, notes);
-    end_run(means.alloc, ran, run, writer, notes)
 }

@@ -19,15 +19,15 @@ returns-in_err-partition-clause-output g c =
     let P : Ended → Option (List ℕ) → Type 0 = λ ended after. Writes (IsSharedOutput c.args.sharing.groups c.args.scenario.now ended) known after in
     subst (λ (b : Result (Option WindowRun) SessionFault). BeginsRun P b known) (sym is) (not_shared c.args.sharing.groups c.args.scenario.now fault known c.in_err-partition.ensures.faults)
 
-pub returns-then-not-is_parted-clause-output : goal.returns-then-not-is_parted-clause-output
-returns-then-not-is_parted-clause-output g c =
+pub returns-then-is_alone-clause-output : goal.returns-then-is_alone-clause-output
+returns-then-is_alone-clause-output g c =
     let old = g.W.Sink.contents c.args.writer.now in
     let new = g.W.Sink.contents c.run_scenario.new.writer in
     ended_run (λ ended after. Writes (IsSharedOutput c.args.sharing.groups c.args.scenario.now ended) old after) c.run_scenario.result c.no_run_left.result new c.no_run_left.ensures
     (ran_shared c.args.sharing.groups c.args.scenario.now c.run_scenario.result old new c.in_ok-partition.ensures.named c.run_scenario.ensures.output)
 
-pub returns-then-not-is_parted-clause-failures : goal.returns-then-not-is_parted-clause-failures
-returns-then-not-is_parted-clause-failures g c =
+pub returns-then-is_alone-clause-failures : goal.returns-then-is_alone-clause-failures
+returns-then-is_alone-clause-failures g c =
     ended_writes c.run_scenario.result c.no_run_left.result (g.W.Sink.failures c.args.writer.now) (g.W.Sink.failures c.run_scenario.new.writer) c.no_run_left.ensures c.run_scenario.ensures.failures
 
 pub returns-in_err-run-clause-output : goal.returns-in_err-run-clause-output
@@ -37,22 +37,10 @@ returns-in_err-run-clause-output g c =
     let P : Ended → Option (List ℕ) → Type 0 = λ ended after. Writes (IsSharedOutput c.args.sharing.groups c.args.scenario.now ended) known after in
     subst (λ (b : Result (Option WindowRun) SessionFault). BeginsRun P b known) (sym is) (not_shared c.args.sharing.groups c.args.scenario.now NoMemory known tt)
 
-pub returns-then-workers-eq1-clause-output : goal.returns-then-workers-eq1-clause-output
-returns-then-workers-eq1-clause-output g c =
-    let old = g.W.Sink.contents c.args.writer.now in
-    let new = g.W.Sink.contents c.run_alone.new.writer in
-    let made = subst (λ (s : State). Writes (IsRunOutput s c.run_alone.result) old new) c.in_ok-run.ensures.state c.run_alone.ensures.output in
-    ended_run (λ ended after. Writes (IsSharedOutput c.args.sharing.groups c.args.scenario.now ended) old after) c.run_alone.result c.no_run_left-then-workers-eq1.result new c.no_run_left-then-workers-eq1.ensures
-    (ran_shared c.args.sharing.groups c.args.scenario.now c.run_alone.result old new c.in_ok-partition.ensures.named made)
-
-pub returns-then-workers-eq1-clause-failures : goal.returns-then-workers-eq1-clause-failures
-returns-then-workers-eq1-clause-failures g c =
-    ended_writes c.run_alone.result c.no_run_left-then-workers-eq1.result (g.W.Sink.failures c.args.writer.now) (g.W.Sink.failures c.run_alone.new.writer) c.no_run_left-then-workers-eq1.ensures c.run_alone.ensures.failures
-
-pub returns-else-workers-eq1-clause-output : goal.returns-else-workers-eq1-clause-output
-returns-else-workers-eq1-clause-output g c =
+pub returns-clause-output : goal.returns-clause-output
+returns-clause-output g c =
     let old = g.W.Sink.contents c.args.writer.now in (
-      record { start = c.in_ok-run.ensures.start; several = omega (arith, c.in_ok-run.ensures.shared, c.workers-workers.ensures.few.0, c.if-workers-eq1.false) },
+      record { start = c.in_ok-run.ensures.start; several = omega (arith, c.in_ok-run.ensures.shared, c.workers-workers.ensures.few.0, c.is_alone.ensures c.if-is_alone.false) },
       λ ended after wrote.
           ran_shared c.args.sharing.groups c.args.scenario.now ended old after c.in_ok-partition.ensures.named (subst (λ (s : State). Writes (IsRunOutput s ended) old after) c.in_ok-run.ensures.state wrote),
     )
