@@ -2,11 +2,11 @@
 """Measures runs by workers and groups and writes that section of bench/RESULTS.md:
 bench/workers.py [--program PATH] [--rounds N] [--priority P] [--found]
 
-`bench/measure.py` writes the section too. Instructions are counted by valgrind, with one worker, and do
+`bench/measure.py` writes the section too. Instructions are counted by valgrind, where no thread is started, and do
 not depend on the machine's speed. Seconds are whole runs, their trace thrown away, each kind of run in
 turn in each round, so that what else the machine does disturbs them alike; the least of all rounds counts.
 On a machine with other work a real-time priority keeps the cores for them (as root). With strace windows
-are counted by the writes of one worker, and the threads that four start. It wants valgrind, strace, taskset
+are counted by the writes of two workers, and the threads that four start. It wants valgrind, strace, taskset
 and GNU time. With --found only the table of the groups that `--groups auto` finds is made, and printed.
 """
 import argparse
@@ -64,7 +64,7 @@ def counted(program):
         many = windows(program, path_of(name + ' short', scenario()), ('--groups', 'each'))
         events = events_of(program, path_of(name + ' short', scenario()))
         plain, *grouped = (cost(program, name, words) for words in
-                           ((), ('--workers', '1', '--groups', 'one'), ('--workers', '1', '--groups', 'each')))
+                           ((), ('--workers', '2', '--groups', 'one'), ('--workers', '2', '--groups', 'each')))
         yield Counted(name, events / many, plain, *grouped)
 
 
@@ -74,8 +74,8 @@ def events_of(program, path):
 
 
 def windows(program, path, groups):
-    """How many windows of a run by one worker have lines: those of each are one write."""
-    return ran(program, path, groups, ('strace', '-qq', '-e', 'trace=write')).count('write(')
+    """How many windows of a run by two workers have lines: those of each are one write."""
+    return ran(program, path, ('--workers', '2', *groups), ('strace', '-qq', '-e', 'trace=write')).count('write(')
 
 
 def threads(program, path, groups):
@@ -199,10 +199,11 @@ def shown(words):
 
 def section(program, rounds, before):
     yield HEAD
-    yield ('Instructions of a run by one worker, those of its start taken off, beside those of `run` without options; '
-           f'`--groups one` is to cost {ONE} times as much at most, `--groups each` {EACH} times. With one group the program '
-           'runs one event at a time.\n')
-    yield from table(('Scenario', '`run`', '`--workers 1 --groups one`', 'times', '`--workers 1 --groups each`', 'times', 'events a window'),
+    yield ('Instructions of a run by two workers whose windows are so small that the calling thread runs them all, those of '
+           'its start taken off, beside those of `run` without options; '
+           f'`--groups one` is to cost {ONE} times as much at most, `--groups each` {EACH} times. With one worker, or one '
+           'group, the program runs one event at a time.\n')
+    yield from table(('Scenario', '`run`', '`--workers 2 --groups one`', 'times', '`--workers 2 --groups each`', 'times', 'events a window'),
                      [(f'`{c.name}`', f'{c.plain:,}', f'{c.one:,}', f'{c.one / c.plain:.2f}', f'{c.each:,}', f'{c.each / c.plain:.2f}',
                        f'{c.a_window:,.0f}')
                       for c in counted(program)])
