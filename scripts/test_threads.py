@@ -85,16 +85,17 @@ class Threads(unittest.TestCase):
             for workers in ('2', '3'):
                 self.assertGreater(self.run_of(text, '--groups', groups, '--workers', workers), 0)
 
-    def test_threads_tell_the_progress_of_one_worker(self):
-        """A window ends at each hundredth of a run that is told."""
+    def test_threads_tell_of_each_hundredth(self):
+        """A window ends at each hundredth of a run that is told. One worker tells of those that an event passes."""
         text, words = self.text_of(WIDE), ('run', '--progress', '--groups', self.parts(), '--workers')
         trace, told, none = self.ran(text, *words, '1')
-        self.assertEqual((none, told.count('% of 2 s simulated')), (0, 100))
-        for workers in ('2', '4'):
-            found, noted, threads = self.ran(text, *words, workers)
+        self.assertEqual((none, told), (0, self.ran(text, 'run', '--progress')[1]))
+        noted = [self.ran(text, *words, workers) for workers in ('2', '4')]
+        for found, said, threads in noted:
             self.assertGreater(threads, 0)
             self.assertTrue(found == trace)
-            self.assertEqual(noted, told)
+            self.assertEqual(said.count('% of 2 s simulated'), 100)
+        self.assertEqual(noted[0][1], noted[1][1])
 
     def test_one_worker_or_one_group_starts_none(self):
         text = self.text_of(WIDE)
