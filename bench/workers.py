@@ -74,7 +74,7 @@ def events_of(program, path):
 
 
 def windows(program, path, groups):
-    """How many windows of a run by two workers have lines: those of each are one write."""
+    """How many windows of a run by two workers have lines: those of each are one write, where the calling thread runs it."""
     return ran(program, path, ('--workers', '2', *groups), ('strace', '-qq', '-e', 'trace=write')).count('write(')
 
 
@@ -140,7 +140,7 @@ def said(rows, kind):
     return f'{hold} of {len(rows)} {kind}.\n'
 
 
-Found = namedtuple('Found', 'name events groups a_window threads plain auto by_hand')
+Found = namedtuple('Found', 'name events groups threads plain auto by_hand')
 
 
 def found(program, rounds, before):
@@ -152,10 +152,9 @@ def found(program, rounds, before):
         kinds = [(program, path, (), '0-3'), (program, path, (*crew, *auto), '0-3')]
         if name in BY_HAND:
             kinds.append((program, path, (*crew, '--groups', BY_HAND[name](scenario)), '0-3'))
-        took, events = seconds(kinds, rounds, before), events_of(program, path)
-        many = windows(program, path, ('--groups', ','.join(map(str, groups)))) if max(groups) else 0
-        yield Found(name, events, len(set(groups)), events / many if many else None, threads(program, path, auto),
-                    *took[:2], took[2] if len(took) > 2 else None)
+        took = seconds(kinds, rounds, before)
+        yield Found(name, events_of(program, path), len(set(groups)), threads(program, path, auto), *took[:2],
+                    took[2] if len(took) > 2 else None)
 
 
 def found_table(rows):
@@ -163,9 +162,9 @@ def found_table(rows):
            f'`run` without options and of four workers with groups by hand. `run` is to take at least {FOUND_LEAST} times as long, '
            f'groups that are found at most {FOUND_MOST} times as long as those by hand or as `run`, whichever is less. With one '
            'group the program runs one event at a time, on no thread of its own.\n')
-    yield from table(('Scenario', 'Events', 'Groups found', 'Events a window', 'Threads', '`run`', 'found', 'by hand', '`run` to found',
+    yield from table(('Scenario', 'Events', 'Groups found', 'Threads', '`run`', 'found', 'by hand', '`run` to found',
                       'found to the best', 'Within'),
-                     [(f'`{r.name}`', f'{r.events:,}', f'{r.groups}', f'{r.a_window:,.0f}' if r.a_window else '-', f'{r.threads:,}',
+                     [(f'`{r.name}`', f'{r.events:,}', f'{r.groups}', f'{r.threads:,}',
                        f'{r.plain:.3f}', f'{r.auto:.3f}', f'{r.by_hand:.3f}' if r.by_hand else '-', f'{r.plain / r.auto:.2f}',
                        f'{r.auto / min(r.plain, r.by_hand or r.plain):.2f}',
                        'yes' if r.plain / r.auto >= FOUND_LEAST and r.auto / min(r.plain, r.by_hand or r.plain) <= FOUND_MOST
