@@ -157,14 +157,14 @@ fn no_places_have_no_first_time(rt: HostRuntime) {
     assert!(rt; both.timetable.first().is_none());
 }
 
-// Times about the last one that a word tells, that one itself, and those past it.
+// Times about the first one that no word tells, that one itself, and those past it.
 #[test]
 fn times_that_no_word_tells_lead_too(rt: HostRuntime) {
-    let last = (1 << 52) - 1;
+    let first = (1 << 52) - 2;
     let far = [
         None,
-        Some(last),
-        Some(last + 1),
+        Some(first),
+        Some(first + 1),
         Some(1 << 62),
         Some(u64::MAX - 1),
         Some(u64::MAX),
@@ -173,10 +173,10 @@ fn times_that_no_word_tells_lead_too(rt: HostRuntime) {
         None,
         Some(0),
         Some(9),
-        Some(last - 2),
-        Some(last - 1),
-        Some(last),
-        Some(last + 1),
+        Some(first - 2),
+        Some(first - 1),
+        Some(first),
+        Some(first + 1),
         Some(u64::MAX),
     ];
     for places in 1..40 {

@@ -1,10 +1,9 @@
 -- A word goes up the tree, node by node.
-use Rattle.std.proofs.Common.{◌≡◌, ◌≢◌, ℕ, zero, suc, ◌+◌, ◌*◌, ◌/◌, ◌<◌, ◌≤◌, List, Option, length, set, refl, sym, ap, subst, ◌∙◌, ⊎_elim, arith, min}
+use Rattle.std.proofs.Common.{◌≡◌, ◌≢◌, ℕ, ◌+◌, ◌*◌, ◌/◌, ◌<◌, ◌≤◌, List, length, set, sym, ap, subst, ◌∙◌, ⊎_elim, arith, min}
 use Rattle.std.proofs.lemmas.Bool.{cases_eq}
 use Rattle.std.proofs.lemmas.List.{length-set, get_or-set_same, get_or-set_other}
 use Rattle.std.specs.Prelude.{slice_index}
-use Rattle.ranking.specs.Timed.{time_at}
-use Rattle.ranking.specs.Words.{word_of, IsLesser, AllLesser, LesserBut, IsClimbing, IsTimetable}
+use Rattle.ranking.specs.Words.{IsLesser, AllLesser, LesserBut, AreSameLeaves, IsClimbing}
 use Rattle.ranking.proofs.Replays.{halves_least, to_half}
 
 -- a node's word was chosen: only those above it may still be wrong
@@ -28,18 +27,17 @@ chosen tree at word some inner is but j positive inside off =
     (cases_eq j at)
 
 -- the node above one, against the node beside it
-pub climbed : (times : List (Option ℕ)) (tree : List ℕ) (at word beside least : ℕ) → IsClimbing times tree at word → 1 < at → beside ≢ at → beside / 2 ≡ at / 2
-    → least ≡ min word (slice_index tree beside) → IsClimbing times (set tree (at / 2) least) (at / 2) least
-climbed times tree at word beside least kept inner apart below is =
+pub climbed : (tree : List ℕ) (at word beside least : ℕ) → IsClimbing tree at word → 1 < at → beside ≢ at → beside / 2 ≡ at / 2
+    → least ≡ min word (slice_index tree beside) → IsClimbing (set tree (at / 2) least) (at / 2) least
+climbed tree at word beside least kept inner apart below is =
     let half = at / 2 in
     let same : length (set tree half least) ≡ length tree = length-set tree half least in
     let some : 0 < half = omega (arith, inner) in
-    let inside : 2 * half + 1 < length tree = omega (arith, kept.inside, kept.size) in
+    let inside : 2 * half + 1 < length tree = omega (arith, kept.inside, kept.paired) in
     record {
-      size = same ∙ kept.size;
+      paired = omega (arith, same, kept.paired);
       some = some;
       inside = omega (arith, same, inside);
-      words = λ p under. get_or-set_other tree half (length times + p) least 0 (λ e. absurd (omega (arith, e, kept.inside, kept.size))) ∙ kept.words p under;
       here = get_or-set_same tree half least 0 (omega (arith, inside));
       lesser = chosen tree half least some inside pair kept.lesser;
     }
@@ -57,37 +55,39 @@ climbed times tree at word beside least kept inner apart below is =
         (cases_eq at (2 * (at / 2)))
 
 -- a word that has come to the root
-pub at_root : (times : List (Option ℕ)) (tree : List ℕ) (at word : ℕ) → at < 2 → IsClimbing times tree at word → AllLesser tree
-at_root times tree at word root kept j some inner = kept.lesser j some inner (λ way. omega (arith, some, halves_least way.0 (at / 2), way.1, root))
+pub at_root : (tree : List ℕ) (at word : ℕ) → at < 2 → IsClimbing tree at word → AllLesser tree
+at_root tree at word root kept j some inner = kept.lesser j some inner (λ way. omega (arith, some, halves_least way.0 (at / 2), way.1, root))
 
 -- a place's word has changed: only nodes above it may be wrong
-pub begun : (times : List (Option ℕ)) (tree : List ℕ) (place : ℕ) (time : Option ℕ) (word at : ℕ) → IsTimetable times tree → place < length times → word ≡ word_of time place → at ≡ length times + place
-    → IsClimbing (set times place time) (set tree at word) at word
-begun times tree place time word at t within is leaf =
-    let new = set tree at word in
-    let same : length new ≡ length tree = length-set tree at word in
-    let size : length tree ≡ 2 * length times = t.size (omega (arith, within)) in
-    let many : length (set times place time) ≡ length times = length-set times place time in
-    let inside : at < length tree = omega (arith, leaf, within, size) in
+pub begun : (tree : List ℕ) (places place word : ℕ) → length tree ≡ 2 * places → place < places → AllLesser tree → IsClimbing (set tree (places + place) word) (places + place) word
+begun tree places place word size within old =
+    let leaf = places + place in
+    let new = set tree leaf word in
+    let same : length new ≡ length tree = length-set tree leaf word in
+    let inside : leaf < length tree = omega (arith, size, within) in
     record {
-      size = omega (arith, same, many, size);
-      some = omega (arith, leaf, within);
+      paired = omega (arith, same, size);
+      some = omega (arith, within);
       inside = omega (arith, same, inside);
-      words = λ p under.
-          let before : p < length times = omega (arith, under, many) in
-          ap (λ n. slice_index new (n + p)) many ∙
-          ⊎_elim
-          (λ (here : p ≡ place).
-          ap (slice_index new) {x = length times + p} {y = at} (omega (arith, leaf, here)) ∙ get_or-set_same tree at word 0 inside ∙ is
-          ∙ ap (λ o. word_of o place) (sym (get_or-set_same times place time Rattle.std.proofs.Common.None within)) ∙ ap (λ q. word_of (time_at (set times place time) q) q) (sym here))
-          (λ (apart : p ≢ place).
-          get_or-set_other tree at (length times + p) word 0 (λ e. apart (omega (arith, e, leaf))) ∙ t.words p before ∙ ap (λ o. word_of o p) (sym (get_or-set_other times place p time Rattle.std.proofs.Common.None apart)))
-          (cases_eq p place);
-      here = get_or-set_same tree at word 0 inside;
+      here = get_or-set_same tree leaf word 0 inside;
       lesser = λ j some inner off.
-          let left : slice_index new (2 * j) ≡ slice_index tree (2 * j) = get_or-set_other tree at (2 * j) word 0 (λ e. off (0, omega (arith, e))) in
-          let right : slice_index new (2 * j + 1) ≡ slice_index tree (2 * j + 1) = get_or-set_other tree at (2 * j + 1) word 0 (λ e. off (0, omega (arith, e))) in
-          let here : slice_index new j ≡ slice_index tree j = get_or-set_other tree at j word 0 (λ e. absurd (omega (arith, e, leaf, inner, same, size))) in
-          let old : IsLesser tree j = t.lesser j some (omega (arith, inner, same)) in
-          omega (arith, left, right, here, old);
+          let left : slice_index new (2 * j) ≡ slice_index tree (2 * j) = get_or-set_other tree leaf (2 * j) word 0 (λ e. off (0, omega (arith, e))) in
+          let right : slice_index new (2 * j + 1) ≡ slice_index tree (2 * j + 1) = get_or-set_other tree leaf (2 * j + 1) word 0 (λ e. off (0, omega (arith, e))) in
+          let here : slice_index new j ≡ slice_index tree j = get_or-set_other tree leaf j word 0 (λ e. absurd (omega (arith, e, inner, same, size))) in
+          let chosen : IsLesser tree j = old j some (omega (arith, inner, same)) in
+          omega (arith, left, right, here, chosen);
     }
+
+-- leaves that stay, and stay again
+pub leaves_on : (a b c : List ℕ) → AreSameLeaves a b → AreSameLeaves b c → AreSameLeaves a c
+leaves_on a b c first then = record {
+  size = then.size ∙ first.size;
+  each = λ p outer. then.each p (omega (arith, outer, first.size)) ∙ first.each p outer;
+}
+
+-- the root's word is chosen
+pub rooted : (tree : List ℕ) (at word beside least : ℕ) → IsClimbing tree at word → 2 ≤ at → at < 4 → beside ≢ at → beside / 2 ≡ at / 2 → least ≡ min word (slice_index tree beside) → AllLesser (set tree 1 least)
+rooted tree at word beside least kept inner near apart below is =
+    let half : at / 2 ≡ 1 = omega (arith, inner, near) in
+    subst (λ node. AllLesser (set tree node least)) half
+    (at_root (set tree (at / 2) least) (at / 2) least (omega (arith, half)) (climbed tree at word beside least kept (omega (arith, inner)) apart below is))

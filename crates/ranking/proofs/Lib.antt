@@ -8,4 +8,5 @@ pub mod Rising
 pub mod Timed
 pub mod Climbing
 pub mod Searched
+pub mod Told
 pub mod Soonest

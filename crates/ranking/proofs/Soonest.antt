@@ -1,10 +1,12 @@
 -- What the root of a tree of words says of the times.
-use Rattle.std.proofs.Common.{◌≡◌, ◌≢◌, ℕ, zero, suc, ◌+◌, ◌-◌, ◌*◌, ◌/◌, ◌<◌, ◌≤◌, List, Option, Some, None, length, sym, ap, subst, ◌∙◌, ⊎_elim, arith}
+use Rattle.std.proofs.Common.{◌≡◌, ◌≢◌, ℕ, zero, suc, ◌+◌, ◌-◌, ◌*◌, ◌/◌, ◌<◌, ◌≤◌, List, Some, None, length, refl, sym, ap, subst, ◌∙◌, ⊎_elim, arith}
 use Rattle.std.proofs.lemmas.Bool.{cases_lt, cases_eq}
+use Rattle.std.proofs.Math.ListN.{get_or-eq_default}
 use Rattle.std.specs.Prelude.{slice_index}
 use Rattle.ranking.specs.Timed.{time_at, IsSoonest}
-use Rattle.ranking.specs.Words.{last_time, cut_time, word_of, AllLesser, IsTimetable}
+use Rattle.ranking.specs.Words.{late_time, told_at, times_told, AllLesser, IsTimetable}
 use Rattle.ranking.proofs.Searched.{held_within}
+use Rattle.ranking.proofs.Told.{places_of, time-at, early, none, upto}
 
 module _ (tree : List ℕ) (places : ℕ) (size : length tree ≡ 2 * places) (lesser : AllLesser tree) where
   -- no node has a lesser word than the root
@@ -41,59 +43,49 @@ module _ (tree : List ℕ) (places : ℕ) (size : length tree ≡ 2 * places) (l
       (λ (outer : length tree ≤ 2 * j). (j - places, (omega (arith, within, size, outer), ap (slice_index tree) {x = j} {y = places + (j - places)} (omega (arith, size, outer)))))
       (cases_lt (2 * j) (length tree))
 
-cut_within : (time : Option ℕ) → cut_time time ≤ last_time
-cut_within None = omega arith
-cut_within (Some time) = omega arith
+module _ (late tree : List ℕ) (t : IsTimetable late tree) where
+  -- a place's time is not before what its word tells
+  told_upto : (p time : ℕ) → time_at (times_told late tree) p ≡ Some time → (p < length late) × (told_at tree (length late + p) ≤ time)
+  told_upto p time there =
+      let under : p < length late = omega (arith, held_within (times_told late tree) p time there, places_of late tree (times_told late tree) refl) in (
+        under,
+        upto (told_at tree (length late + p)) (slice_index late p) time (t.words p under).is_late (sym (time-at late tree p under) ∙ there),
+      )
 
--- a time that its word tells
-cut_exact : (time : Option ℕ) (t : ℕ) → cut_time time ≡ t → t < last_time → time ≡ Some t
-cut_exact None t is before = absurd (omega (arith, is, before))
-cut_exact (Some time) t is before = ap (λ x. Some x) (omega (arith, is, before))
+  module _ (some : 0 < length late) where
+    home : (p : ℕ) × ((p < length late) × (slice_index tree 1 ≡ slice_index tree (length late + p)))
+    home = has_place tree (length late) (t.size some) t.lesser (length tree) 1 (omega arith) (omega arith) t.rooted
 
--- equal numbers of units, and less than a unit beside: the lesser word has the lesser place
-cut_upto : (time : Option ℕ) (t : ℕ) → time ≡ Some t → cut_time time ≤ t
-cut_upto time t is = subst (λ (o : Option ℕ). cut_time o ≤ t) (sym is) (omega arith)
-
-module _ (times : List (Option ℕ)) (tree : List ℕ) (t : IsTimetable times tree) where
-  module _ (some : 0 < length times) where
-    root : ℕ
-    root = slice_index tree 1
-
-    home : (p : ℕ) × ((p < length times) × (slice_index tree 1 ≡ slice_index tree (length times + p)))
-    home = has_place tree (length times) (t.size some) t.lesser (length tree) 1 (omega arith) (omega arith) t.rooted
-
-    root_is : slice_index tree 1 ≡ word_of (time_at times home.0) home.0
-    root_is = home.1.1 ∙ t.words home.0 home.1.0
-
-    root_upto : (p : ℕ) → p < length times → slice_index tree 1 ≤ word_of (time_at times p) p
-    root_upto p under = subst (λ w. slice_index tree 1 ≤ w) (t.words p under) (root_least tree (length times) (t.size some) t.lesser (length times + p) (length times + p) (omega arith) (omega (arith, under)) (omega (arith, under, t.size some)))
+    root_upto : (p : ℕ) → p < length late → slice_index tree 1 ≤ slice_index tree (length late + p)
+    root_upto p under = root_least tree (length late) (t.size some) t.lesser (length late + p) (length late + p) (omega arith) (omega (arith, under)) (omega (arith, under, t.size some))
 
     -- the time and the place that the root tells
-    module _ (time place : ℕ) (told : slice_index tree 1 / 4096 ≡ time) (rest : time * 4096 + place ≡ slice_index tree 1) where
-      time_is : cut_time (time_at times home.0) ≡ time
-      time_is = omega (arith, root_is, told, home.1.0, t.few)
+    module _ (time place : ℕ) (told : told_at tree 1 ≡ time) (rest : time * 4096 + place ≡ slice_index tree 1) where
+      time_is : told_at tree (length late + home.0) ≡ time
+      time_is = ap (λ w. w / 4096) (sym home.1.1) ∙ told
 
       place_is : place ≡ home.0
-      place_is = omega (arith, rest, root_is, time_is)
+      place_is = omega (arith, rest, home.1.1, (t.words home.0 home.1.0).numbered, time_is)
 
-      -- where that is before the last that words tell, it is the least
-      pub soonest : time < last_time → IsSoonest times place time
+      -- where that is a time, it is the least
+      pub soonest : time < late_time → IsSoonest (times_told late tree) place time
       soonest before = record {
-        held = ap (time_at times) place_is ∙ cut_exact (time_at times home.0) time time_is before;
-        none_sooner = λ other o e. upto other o e;
+        held = ap (time_at (times_told late tree)) place_is ∙ time-at late tree home.0 home.1.0
+            ∙ early (told_at tree (length late + home.0)) (slice_index late home.0) (omega (arith, time_is, before)) ∙ ap (λ n. Some n) time_is;
+        none_sooner = λ other o e.
+            let most = told_upto other o e in
+            omega (arith, root_upto other most.0, told, most.1);
         none_lower = λ other lower e.
-            let under = held_within times other time e in
-            let word = root_upto other under in
-            let cut = cut_upto (time_at times other) time e in
-            absurd (let no : ⊥ = omega (arith, word, cut, rest, lower) in no);
+            let most = told_upto other time e in
+            let word = root_upto other most.0 in
+            absurd (let no : ⊥ = omega (arith, word, (t.words other most.0).numbered, most.1, rest, lower) in no);
       }
-        where
-          upto : (other o : ℕ) → time_at times other ≡ Some o → time ≤ o
-          upto other o e = ⊎_elim
-              (λ (less : o < time).
-              let under = held_within times other o e in
-              let word = root_upto other under in
-              let cut = cut_upto (time_at times other) o e in
-              absurd (let no : ⊥ = omega (arith, word, cut, less, rest, under, t.few) in no))
-              (λ (most : time ≤ o). most)
-              (cases_lt o time)
+
+  -- where the root tells of none, there is none
+  pub none_told : late_time < told_at tree 1 → (p : ℕ) → time_at (times_told late tree) p ≡ None
+  none_told after p = ⊎_elim
+      (λ (under : p < length late).
+      let least = root_upto (omega (arith, under)) p under in
+      time-at late tree p under ∙ none (told_at tree (length late + p)) (slice_index late p) (omega (arith, after, least)))
+      (λ (past : length late ≤ p). get_or-eq_default (times_told late tree) None (omega (arith, past, places_of late tree (times_told late tree) refl)))
+      (cases_lt p (length late))

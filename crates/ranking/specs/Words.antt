@@ -1,27 +1,45 @@
 -- The tree of a timetable: a word tells a time and a place, and each node has the lesser of the two below it.
-use Rattle.std.specs.Prelude.{◌≡◌, ◌<◌, ◌≤◌, ◌+◌, ◌*◌, ◌/◌, ◌^◌, min, ℕ, List, length, Option, None, Some, slice_index}
+use Rattle.std.specs.Prelude.{◌≡◌, ◌<◌, ◌≤◌, ◌+◌, ◌*◌, ◌/◌, ◌^◌, min, ℕ, nat_lt, if◌then◌else◌, List, map, length, Option, None, Some, slice_index}
+use Rattle.std.specs.List.{range_with_len}
 use Rattle.ranking.specs.Replayed.{IsOnWay}
-use Rattle.ranking.specs.Timed.{time_at}
 
--- the last time that a word tells, whose lower 12 bits tell the place: 2^52 - 1
-abbrev pub last_time : ℕ
-last_time = 4503599627370495
+-- what a word tells in the place of a time where there is none: 2^52 - 1, since its lower 12 bits tell the place
+abbrev pub no_time : ℕ
+no_time = 4503599627370495
 
--- a time, at most the last; the last where there is none
-abbrev pub cut_time : Option ℕ → ℕ
-cut_time None = last_time
-cut_time (Some time) = min time last_time
+-- and in the place of this time and of each later one, which stand apart: 2^52 - 2
+abbrev pub late_time : ℕ
+late_time = 4503599627370494
 
-abbrev pub word_of : Option ℕ → ℕ → ℕ
-word_of time place = cut_time time * 4096 + place
+abbrev pub word_of : ℕ → ℕ → ℕ
+word_of told place = told * 4096 + place
 
--- the last nodes have the words of the places
-abbrev pub AreWords : List (Option ℕ) → List ℕ → Type 0
-AreWords times tree = (p : ℕ) → p < length times → slice_index tree (length times + p) ≡ word_of (time_at times p) p
+-- the time of a place, by what its word tells and by the time that stands apart
+abbrev pub time_by : ℕ → ℕ → Option ℕ
+time_by told apart = if nat_lt told late_time then Some told else if nat_lt late_time told then None else Some apart
+
+-- what the word of a node tells
+abbrev pub told_at : List ℕ → ℕ → ℕ
+told_at tree node = slice_index tree node / 4096
+
+-- the time of a place, whose word the last nodes have
+abbrev pub time_told : List ℕ → List ℕ → ℕ → Option ℕ
+time_told late tree place = time_by (told_at tree (length late + place)) (slice_index late place)
+
+abbrev pub times_told : List ℕ → List ℕ → List (Option ℕ)
+times_told late tree = map (time_told late tree) (range_with_len 0 (length late))
+
+-- a place's word tells the place, and a late time that stands apart is late
+pub record IsWordAt (late tree : List ℕ) (place : ℕ) : Type 0 where
+  pub numbered : slice_index tree (length late + place) ≡ word_of (told_at tree (length late + place)) place
+  pub is_late : told_at tree (length late + place) ≡ late_time → late_time ≤ slice_index late place
+
+abbrev pub AreWords : List ℕ → List ℕ → Type 0
+AreWords late tree = (p : ℕ) → p < length late → IsWordAt late tree p
 
 -- of so many places none has a time
 abbrev pub AreVacant : ℕ → List ℕ → Type 0
-AreVacant places tree = (p : ℕ) → p < places → slice_index tree (places + p) ≡ word_of None p
+AreVacant places tree = (p : ℕ) → p < places → slice_index tree (places + p) ≡ word_of no_time p
 
 -- a node has the lesser of the words of the two below it
 abbrev pub IsLesser : List ℕ → ℕ → Type 0
@@ -35,20 +53,28 @@ AllLesser tree = (j : ℕ) → 0 < j → 2 * j < length tree → IsLesser tree j
 abbrev pub LesserBut : List ℕ → ℕ → Type 0
 LesserBut tree at = (j : ℕ) → 0 < j → 2 * j < length tree → (IsOnWay at j → ⊥) → IsLesser tree j
 
+-- each node but the first has one beside it
+abbrev pub IsPaired : List ℕ → Type 0
+IsPaired tree = length tree ≡ 2 * (length tree / 2)
+
+-- two trees of one size, whose leaves have the same words
+pub record AreSameLeaves (before after : List ℕ) : Type 0 where
+  pub size : length after ≡ length before
+  pub each : (p : ℕ) → length before ≤ 2 * p → slice_index after p ≡ slice_index before p
+
 -- the nodes below a node are played, and those above it are not; it has this word
-pub record IsClimbing (times : List (Option ℕ)) (tree : List ℕ) (at word : ℕ) : Type 0 where
-  pub size : length tree ≡ 2 * length times
+pub record IsClimbing (tree : List ℕ) (at word : ℕ) : Type 0 where
+  pub paired : IsPaired tree
   pub some : 0 < at
   pub inside : at < length tree
-  pub words : AreWords times tree
   pub here : slice_index tree at ≡ word
   pub lesser : LesserBut tree (at / 2)
 
 -- there is a root even where there is no place
-pub record IsTimetable (times : List (Option ℕ)) (tree : List ℕ) : Type 0 where
+pub record IsTimetable (late tree : List ℕ) : Type 0 where
   pub rooted : 1 < length tree
-  pub size : 0 < length times → length tree ≡ 2 * length times
-  pub none : length times ≡ 0 → slice_index tree 1 / 4096 ≡ last_time
-  pub few : length times ≤ 2 ^ 12
-  pub words : AreWords times tree
+  pub size : 0 < length late → length tree ≡ 2 * length late
+  pub none : length late ≡ 0 → told_at tree 1 ≡ no_time
+  pub few : length late ≤ 2 ^ 12
+  pub words : AreWords late tree
   pub lesser : AllLesser tree

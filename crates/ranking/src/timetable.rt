@@ -1,9 +1,9 @@
 //! The places with their times, and the least of them.
-ghost use Rattle.std.specs.Prelude.{◌≡◌, ◌+◌, ◌*◌, ◌^◌, ◌<◌, ◌≤◌, ℕ, length, replicate, slice_set, IfOk, IfSome, MatchOption, Some, None};
-ghost use Rattle.std.specs.Option.{option_map};
+ghost use Rattle.std.specs.Prelude.{◌≡◌, ◌^◌, ◌<◌, ◌≤◌, ℕ, length, replicate, slice_set, IfOk, IfSome, MatchOption, Some, None, true};
 ghost use Rattle.ranking.specs.Timed.{time_at, IsSoonest, IsSoonestOrPast};
+ghost use Rattle.ranking.specs.Words.{late_time};
 
-use crate::words::{Climb, LAST_TIME, no_times, rise_up, told, word_of};
+use crate::words::{LATE_TIME, NO_TIME, change, no_times, time_by, told};
 use sim_time::Time;
 use std::alloc::{AllocError, Global};
 use std::marker::Model;
@@ -12,51 +12,21 @@ use std::marker::Model;
 /// place: for keys that at one time stand in the order of their places.
 #[derive(Debug, Drop)]
 pub struct Timetable {
-    /// What each place has.
-    times: Vec<Option<Time>>,
-    /// The words that tell the times and their places, as far as words can.
+    /// The words that tell the times and their places, and which places have none or a late one.
     tree: Vec<u64>,
+    /// The time of each place that has a late one, which no word tells, and of the others any.
+    late: Vec<Time>,
 }
 
 impl Model for Timetable {
     ghost use Rattle.std.specs.Prelude.{List, Option, ℕ};
-    ghost use Rattle.ranking.specs.Words.{IsTimetable};
+    ghost use Rattle.ranking.specs.Words.{times_told, IsTimetable};
 
     ghost Value = { List (Option ℕ) };
 
-    ghost view = { λ t. t.times.items };
+    ghost view = { λ t. times_told t.late.items t.tree.items };
 
-    ghost invariant = { λ t. IsTimetable t.times.items t.tree.items };
-}
-
-// So many places with no time.
-fn vacancies(alloc: Global, places: usize) -> Result<Vec<Option<Time>>, AllocError>
-    ensures { IfOk result (λ times. times.items ≡ replicate places None) }
-{
-    let mut times: Vec<Option<Time>> = Vec::new(alloc);
-    for _place in 0..places {
-        times.push(None)?;
-    }
-    Ok(times)
-}
-
-// The place of the least time, the lowest such place, and the time, by a look at each; where there is
-// none, how many places there are.
-#[cold]
-#[inline(never)]
-fn search(times: &[Option<Time>]) -> (usize, Time)
-    ensures { IsSoonestOrPast times.now result.0 result.1 }
-{
-    let mut first: Option<(usize, Time)> = None;
-    for place in 0..times.len() {
-        if let Some(time) = times[place] {
-            first = sooner(first, place, time);
-        }
-    }
-    match first {
-        Some(entry) => entry,
-        None => (times.len(), 0),
-    }
+    ghost invariant = { λ t. IsTimetable t.late.items t.tree.items };
 }
 
 // The first entry, or this one where it is sooner or there is none.
@@ -77,16 +47,16 @@ impl Timetable {
         requires { places ≤ 2 ^ 12 }
         ensures { IfOk result (λ timetable. timetable ≡ replicate places None) }
     {
-        let times = vacancies(alloc, places)?;
+        let late = vec![in alloc; 0u64; places]?;
         let tree = no_times(alloc, places)?;
-        Ok(Timetable { times, tree })
+        Ok(Timetable { tree, late })
     }
 
     /// How many places.
     pub fn places(&self) -> usize
         ensures { result ≡ length self.now }
     {
-        self.times.len()
+        self.late.len()
     }
 
     /// Gives a place this time, or none.
@@ -107,7 +77,22 @@ impl Timetable {
         requires { place < length self.old }
         ensures { self.new ≡ slice_set self.old place (Some time) }
     {
-        self.put(place, Some(time));
+        if time >= LATE_TIME {
+            return self.hold_late(place, time);
+        }
+        change(&mut self.tree, self.late.len(), place, time);
+    }
+
+    // The same with a time that no word tells.
+    #[cold]
+    #[inline(never)]
+    fn hold_late(&mut self, place: usize, time: Time)
+        requires place { place < length self.old }
+        requires late { late_time ≤ time }
+        ensures { self.new ≡ slice_set self.old place (Some time) }
+    {
+        self.late[place] = time;
+        change(&mut self.tree, self.late.len(), place, LATE_TIME);
     }
 
     // Takes a place's time away.
@@ -116,20 +101,35 @@ impl Timetable {
         requires { place < length self.old }
         ensures { self.new ≡ slice_set self.old place None }
     {
-        self.put(place, None);
+        change(&mut self.tree, self.late.len(), place, NO_TIME);
     }
 
-    // The same as `set`.
-    #[inline(always)]
-    fn put(&mut self, place: usize, time: Option<Time>)
-        requires { place < length self.old }
-        ensures { self.new ≡ slice_set self.old place time }
+    // The time of a place, or none.
+    fn time(&self, place: usize) -> Option<Time>
+        requires { place < length self.now }
+        ensures { result ≡ time_at self.now place }
     {
-        self.times[place] = time;
-        let word = word_of(time, place);
-        let at = self.times.len() + place;
-        self.tree[at] = word;
-        rise_up(&self.times, &mut self.tree, Climb { at, word });
+        let (time, _place) = told(self.tree[self.late.len() + place]);
+        time_by(time, self.late[place])
+    }
+
+    // The place of the least time, the lowest such place, and the time, by a look at each; where there is
+    // none, how many places there are.
+    #[cold]
+    #[inline(never)]
+    fn search(&self) -> (usize, Time)
+        ensures { IsSoonestOrPast self.now result.0 result.1 }
+    {
+        let mut first: Option<(usize, Time)> = None;
+        for place in 0..self.places() {
+            if let Some(time) = self.time(place) {
+                first = sooner(first, place, time);
+            }
+        }
+        match first {
+            Some(entry) => entry,
+            None => (self.places(), 0),
+        }
     }
 
     // The place of the least time, the lowest such place, and the time, where the root's word tells them.
@@ -138,11 +138,16 @@ impl Timetable {
         ensures { IfSome result (λ entry. IsSoonest self.now entry.0 entry.1) }
     {
         let (time, place) = told(self.tree[1]);
-        if time < LAST_TIME {
-            Some((place, time))
-        } else {
-            None
-        }
+        (time < LATE_TIME).then_some((place, time))
+    }
+
+    // Whether no place has a time.
+    #[inline(always)]
+    fn is_empty(&self) -> bool
+        ensures { result ≡ true → (place : ℕ) → time_at self.now place ≡ None }
+    {
+        let (time, _place) = told(self.tree[1]);
+        time > LATE_TIME
     }
 
     /// The place of the least time, the lowest such place, and the time.
@@ -153,8 +158,11 @@ impl Timetable {
         if let Some(entry) = self.at_root() {
             return Some(entry);
         }
-        let entry = search(&self.times);
-        if entry.0 < self.times.len() {
+        if self.is_empty() {
+            return None;
+        }
+        let entry = self.search();
+        if entry.0 < self.places() {
             Some(entry)
         } else {
             None
@@ -169,7 +177,7 @@ impl Timetable {
     {
         match self.at_root() {
             Some(entry) => entry,
-            None => search(&self.times),
+            None => self.search(),
         }
     }
 
@@ -178,8 +186,8 @@ impl Timetable {
         ensures { IfOk result (λ timetable. timetable ≡ self.now) }
     {
         Ok(Timetable {
-            times: self.times.clone()?,
             tree: self.tree.clone()?,
+            late: self.late.clone()?,
         })
     }
 }

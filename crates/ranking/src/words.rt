@@ -1,7 +1,7 @@
 //! A tree of words, flat: a word tells a time and a place, node j has the lesser of the words of nodes 2j and
 //! 2j + 1, and the last half of the nodes have those of the places themselves.
-ghost use Rattle.std.specs.Prelude.{◌≡◌, ◌+◌, ◌*◌, ◌/◌, ◌^◌, ◌<◌, ◌≤◌, ℕ, length, slice_index, IfOk};
-ghost use Rattle.ranking.specs.Words.{last_time, cut_time, word_of as word_is, AreWords, AreVacant, AllLesser, IsClimbing};
+ghost use Rattle.std.specs.Prelude.{◌≡◌, ◌+◌, ◌*◌, ◌/◌, ◌^◌, ◌<◌, ◌≤◌, ℕ, length, slice_index, slice_set, IfOk};
+ghost use Rattle.ranking.specs.Words.{no_time, late_time, word_of as word_is, time_by as time_is, told_at, AreVacant, AreSameLeaves, AllLesser, IsClimbing};
 
 use crate::games::beside;
 use sim_time::Time;
@@ -10,31 +10,24 @@ use std::alloc::{AllocError, Global};
 /// How many places a word tells apart: by its lower 12 bits.
 const PLACES: u64 = 4096;
 
-/// The last time that a word tells, in nanoseconds. It stands for all later ones too, and for none.
-pub(crate) const LAST_TIME: Time = (1 << 52) - 1;
+/// What a word tells in the place of a time where there is none: the last that it can.
+pub(crate) const NO_TIME: Time = (1 << 52) - 1;
 
-// The time that a word tells of this one, or of none.
+/// What a word tells in the place of this time and of each later one, which stand apart: the last before that.
+pub(crate) const LATE_TIME: Time = (1 << 52) - 2;
+
+// The word that tells this time, or what stands in the place of one, at a place. Of two words the lesser
+// tells the lesser, or of the same the lower place.
 #[inline(always)]
-fn cut(time: Option<Time>) -> Time
-    ensures { result ≡ cut_time time }
+fn word_of(told: Time, place: usize) -> u64
+    requires place { place < 4096 }
+    requires told { told ≤ no_time }
+    ensures { result ≡ word_is told place }
 {
-    match time {
-        Some(time) => time.min(LAST_TIME),
-        None => LAST_TIME,
-    }
+    told * PLACES + place as u64
 }
 
-/// The word of a time, or none, at a place. Of two words the lesser has the lesser time, as far as
-/// words tell it, or of the same the lower place.
-#[inline(always)]
-pub(crate) fn word_of(time: Option<Time>, place: usize) -> u64
-    requires { place < 4096 }
-    ensures { result ≡ word_is time place }
-{
-    cut(time) * PLACES + place as u64
-}
-
-/// The time that a word tells, and its place.
+/// What a word tells, and its place.
 #[inline(always)]
 pub(crate) fn told(word: u64) -> (Time, usize)
     ensures time { result.0 ≡ word / 4096 }
@@ -43,41 +36,56 @@ pub(crate) fn told(word: u64) -> (Time, usize)
     (word / PLACES, (word % PLACES) as usize)
 }
 
-/// How far the words of the nodes above a place are chosen.
+/// The time of a place, or none, by what its word tells and by the time that stands apart.
+pub(crate) fn time_by(told: Time, apart: Time) -> Option<Time>
+    ensures { result ≡ time_is told apart }
+{
+    if told < LATE_TIME {
+        Some(told)
+    } else if told > LATE_TIME {
+        None
+    } else {
+        Some(apart)
+    }
+}
+
+// How far the words of the nodes above a place are chosen.
 #[derive(Clone, Copy)]
-pub(crate) struct Climb {
-    /// The node whose word was chosen last.
-    pub(crate) at: usize,
-    /// The word that it has.
-    pub(crate) word: u64,
+struct Climb {
+    // The node whose word was chosen last.
+    at: usize,
+    // The word that it has.
+    word: u64,
 }
 
 // Chooses the word of the next node.
 #[inline(always)]
-fn rise(_times: &[Option<Time>], tree: &mut [u64], climb: Climb) -> Climb
+fn rise(tree: &mut [u64], climb: Climb) -> Climb
     requires inner { 1 < climb.at }
-    requires climbing { IsClimbing _times.now tree.old climb.at climb.word }
+    requires climbing { IsClimbing tree.old climb.at climb.word }
     ensures half { result.at ≡ climb.at / 2 }
-    ensures climbing { IsClimbing _times.now tree.new result.at result.word }
+    ensures leaves { AreSameLeaves tree.old tree.new }
+    ensures climbing { IsClimbing tree.new result.at result.word }
 {
     // Which is less cannot be guessed, so it is chosen with no branch.
     let word = climb.word.min(tree[beside(climb.at)]);
-    let at = climb.at / 2;
-    tree[at] = word;
-    Climb { at, word }
+    let node = climb.at / 2;
+    tree[node] = word;
+    Climb { at: node, word }
 }
 
 // Chooses the word of the next node where the last node is not below this one.
 #[inline(always)]
-fn rise_below(times: &[Option<Time>], tree: &mut [u64], climb: Climb, bound: usize) -> Climb
+fn rise_below(tree: &mut [u64], climb: Climb, bound: usize) -> Climb
     requires bound { 1 < bound }
     requires near { climb.at < 2 * bound }
-    requires climbing { IsClimbing times.now tree.old climb.at climb.word }
+    requires climbing { IsClimbing tree.old climb.at climb.word }
     ensures below { result.at < bound }
-    ensures climbing { IsClimbing times.now tree.new result.at result.word }
+    ensures leaves { AreSameLeaves tree.old tree.new }
+    ensures climbing { IsClimbing tree.new result.at result.word }
 {
     if climb.at >= bound {
-        rise(times, tree, climb)
+        rise(tree, climb)
     } else {
         climb
     }
@@ -85,46 +93,93 @@ fn rise_below(times: &[Option<Time>], tree: &mut [u64], climb: Climb, bound: usi
 
 // Chooses words until the last node is below 128.
 #[inline(always)]
-fn rise_far(times: &[Option<Time>], tree: &mut [u64], start: Climb) -> Climb
-    requires climbing { IsClimbing times.now tree.old start.at start.word }
+fn rise_far(tree: &mut [u64], start: Climb) -> Climb
+    requires climbing { IsClimbing tree.old start.at start.word }
     ensures below { result.at < 128 }
-    ensures climbing { IsClimbing times.now tree.new result.at result.word }
+    ensures leaves { AreSameLeaves tree.old tree.new }
+    ensures climbing { IsClimbing tree.new result.at result.word }
 {
     let mut climb = start;
     while climb.at >= 128 {
-        climb = rise(times, tree, climb);
+        climb = rise(tree, climb);
     }
     climb
 }
 
 // Chooses words until the last node is below 16.
 #[inline(always)]
-fn rise_high(times: &[Option<Time>], tree: &mut [u64], climb: Climb) -> Climb
-    requires climbing { IsClimbing times.now tree.old climb.at climb.word }
+fn rise_high(tree: &mut [u64], climb: Climb) -> Climb
+    requires climbing { IsClimbing tree.old climb.at climb.word }
     ensures below { result.at < 16 }
-    ensures climbing { IsClimbing times.now tree.new result.at result.word }
+    ensures leaves { AreSameLeaves tree.old tree.new }
+    ensures climbing { IsClimbing tree.new result.at result.word }
 {
     if climb.at < 16 {
         return climb;
     }
-    let climb = rise_far(times, tree, climb);
-    let climb = rise_below(times, tree, climb, 64);
-    let climb = rise_below(times, tree, climb, 32);
-    rise_below(times, tree, climb, 16)
+    let climb = rise_far(tree, climb);
+    let climb = rise_below(tree, climb, 64);
+    let climb = rise_below(tree, climb, 32);
+    rise_below(tree, climb, 16)
 }
 
-/// Chooses the words of all nodes above one. Each of the last levels has a branch of its own, since
-/// how many there are differs from timetable to timetable, and the end of one loop for all could not be guessed.
+// Chooses words until the last node is below 8. Most trees are small, so that is looked for first.
 #[inline(always)]
-pub(crate) fn rise_up(times: &[Option<Time>], tree: &mut [u64], climb: Climb)
-    requires climbing { IsClimbing times.now tree.old climb.at climb.word }
-    ensures words { AreWords times.now tree.new }
+fn rise_to_small(tree: &mut [u64], climb: Climb) -> Climb
+    requires climbing { IsClimbing tree.old climb.at climb.word }
+    ensures below { result.at < 8 }
+    ensures leaves { AreSameLeaves tree.old tree.new }
+    ensures climbing { IsClimbing tree.new result.at result.word }
+{
+    if climb.at < 8 {
+        return climb;
+    }
+    let climb = rise_high(tree, climb);
+    rise_below(tree, climb, 8)
+}
+
+// Chooses the root's word, where the last node is not the root itself. The root has its number here, which costs less
+// than half of another.
+#[inline(always)]
+fn end_at_root(tree: &mut [u64], climb: Climb)
+    requires near { climb.at < 4 }
+    requires climbing { IsClimbing tree.old climb.at climb.word }
+    ensures leaves { AreSameLeaves tree.old tree.new }
     ensures lesser { AllLesser tree.new }
 {
-    let climb = rise_high(times, tree, climb);
-    let climb = rise_below(times, tree, climb, 8);
-    let climb = rise_below(times, tree, climb, 4);
-    let _root = rise_below(times, tree, climb, 2);
+    if climb.at >= 2 {
+        tree[1] = climb.word.min(tree[beside(climb.at)]);
+    }
+}
+
+// Chooses the words of all nodes above one. Each of the last levels has a branch of its own, since
+// how many there are differs from timetable to timetable, and the end of one loop for all could not be guessed.
+#[inline(always)]
+fn rise_up(tree: &mut [u64], climb: Climb)
+    requires climbing { IsClimbing tree.old climb.at climb.word }
+    ensures leaves { AreSameLeaves tree.old tree.new }
+    ensures lesser { AllLesser tree.new }
+{
+    let climb = rise_to_small(tree, climb);
+    let climb = rise_below(tree, climb, 4);
+    end_at_root(tree, climb);
+}
+
+/// Has the word of a place, of so many, tell this, and chooses the words of all nodes above it.
+#[inline(always)]
+pub(crate) fn change(tree: &mut [u64], places: usize, place: usize, told: Time)
+    requires place { place < places }
+    requires few { places ≤ 2 ^ 12 }
+    requires size { length tree.old ≡ 2 * places }
+    requires told { told ≤ no_time }
+    requires lesser { AllLesser tree.old }
+    ensures leaves { AreSameLeaves (slice_set tree.old (places + place) (word_is told place)) tree.new }
+    ensures lesser { AllLesser tree.new }
+{
+    let word = word_of(told, place);
+    let leaf = places + place;
+    tree[leaf] = word;
+    rise_up(tree, Climb { at: leaf, word });
 }
 
 /// The tree of so many places with no time. It has a root even where there is no place.
@@ -132,14 +187,14 @@ pub(crate) fn no_times(alloc: Global, places: usize) -> Result<Vec<u64>, AllocEr
     requires few { places ≤ 2 ^ 12 }
     ensures rooted { IfOk result (λ tree. 1 < length tree.items) }
     ensures size { 0 < places → IfOk result (λ tree. length tree.items ≡ 2 * places) }
-    ensures none { places ≡ 0 → IfOk result (λ tree. slice_index tree.items 1 / 4096 ≡ last_time) }
+    ensures none { places ≡ 0 → IfOk result (λ tree. told_at tree.items 1 ≡ no_time) }
     ensures words { IfOk result (λ tree. AreVacant places tree.items) }
     ensures lesser { IfOk result (λ tree. AllLesser tree.items) }
 {
     let leaves = places.max(1);
     let mut tree = vec![in alloc; 0u64; leaves]?;
     for place in 0..leaves {
-        tree.push(word_of(None, place))?;
+        tree.push(word_of(NO_TIME, place))?;
     }
     choose_all(leaves, &mut tree);
     Ok(tree)

@@ -1,19 +1,29 @@
-use Rattle.std.proofs.Common.{◌≡◌, ◌<◌, ◌≤◌, ◌/◌, sym, ap, subst, ◌∙◌, length, ⊎_elim, arith}
-use Rattle.std.proofs.lemmas.Bool.{cases_lt}
+use Rattle.std.proofs.Common.{◌≡◌, ◌<◌, ◌≤◌, ◌/◌, Bool, true, false, refl, sym, ap, subst, ◌∙◌, length, ⊎_elim, arith}
+use Rattle.std.proofs.lemmas.Bool.{cases_lt, ltb-true}
 use Rattle.std.proofs.lemmas.List.{get_or_read}
-use Rattle.std.specs.Prelude.{slice_index}
+use Rattle.std.specs.Prelude.{slice_index, nat_lt, IfSome}
+use Rattle.std.specs.Bool.{then_some}
 use Rattle.ranking.specs.Timed.{IsSoonest}
+use Rattle.ranking.specs.Words.{late_time, told_at}
 use Rattle.ranking.proofs.Soonest.{soonest}
 use Rattle.ranking.proofs.timetable.Timetable.at_root.Goals as goal
 
-pub returns-then-time-lt-LAST_TIME : goal.returns-then-time-lt-LAST_TIME
-returns-then-time-lt-LAST_TIME c =
+where_true : {A : Type 0} (b : Bool) (entry : A) (P : A → Type 0) → (b ≡ true → P entry) → IfSome (then_some b entry) P
+where_true true entry P told = told refl
+where_true false entry P told = tt
+
+pub returns : goal.returns
+returns c =
     let t = c.self.inside in
+    let time = c.told-time.result.0 in
+    let place = c.told-time.result.1 in
     let root : c.index.result.now ≡ slice_index t.tree.items 1 = get_or_read t.tree.items 1 c.index.result.now c.self.invariant.rooted c.index.ensures 0 in
-    let told : slice_index t.tree.items 1 / 4096 ≡ c.told-time.result.0 = ap (λ w. w / 4096) (sym root) ∙ sym c.told-time.ensures.time in
-    let some : 0 < length t.times.items = ⊎_elim
-    (λ (some : 0 < length t.times.items). some)
-    (λ (empty : length t.times.items ≤ 0). absurd (let no : ⊥ = omega (arith, c.self.invariant.none (omega (arith, empty)), told, c.if-time-lt-LAST_TIME.true) in no))
-    (cases_lt 0 (length t.times.items)) in
-    subst (λ times. IsSoonest times c.told-time.result.1 c.told-time.result.0) c.self.view_is
-    (soonest t.times.items t.tree.items c.self.invariant some c.told-time.result.0 c.told-time.result.1 told (c.told-time.ensures.place ∙ root) c.if-time-lt-LAST_TIME.true)
+    let told : told_at t.tree.items 1 ≡ time = ap (λ w. w / 4096) (sym root) ∙ sym c.told-time.ensures.time in
+    subst (λ found. IfSome found (λ entry. IsSoonest c.args.self.now entry.0 entry.1)) (sym c.then_some.ensures)
+    (where_true (nat_lt time late_time) (place, time) (λ entry. IsSoonest c.args.self.now entry.0 entry.1) (λ early.
+    let before : time < late_time = ltb-true time late_time early in
+    let some : 0 < length t.late.items = ⊎_elim
+    (λ (some : 0 < length t.late.items). some)
+    (λ (empty : length t.late.items ≤ 0). absurd (let no : ⊥ = omega (arith, c.self.invariant.none (omega (arith, empty)), told, before) in no))
+    (cases_lt 0 (length t.late.items)) in
+    subst (λ times. IsSoonest times place time) c.self.view_is (soonest t.late.items t.tree.items c.self.invariant some time place told (c.told-time.ensures.place ∙ root) before)))
