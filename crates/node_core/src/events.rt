@@ -18,6 +18,7 @@ use crate::receiver_node::{answer_data, answer_delayed};
 use crate::role::Role;
 use crate::router_node::{free_link, pass_packet};
 use crate::sender_node::{send_for_ack, send_plan};
+use crate::spares::Spares;
 use packet_chain::{Kind, Packet};
 use port::Acts;
 use sim_time::Key;
@@ -26,6 +27,7 @@ use std::alloc::{AllocError, Global};
 /// The flow starts.
 pub(crate) fn decide_start(
     alloc: Global,
+    spares: &mut Spares,
     role: &mut Role,
     key: Key,
     acts: &mut Acts,
@@ -38,7 +40,7 @@ pub(crate) fn decide_start(
     match role {
         Role::Sends(flow, sender) => {
             let plan = sender.start(key.time);
-            send_plan(Origin { alloc, flow: *flow }, sender, &plan, acts)
+            send_plan(Origin { alloc, flow: *flow }, spares, sender, &plan, acts)
         }
         Role::Receives(_, _) | Role::Routes(_) => Ok(Decision::Leave),
     }
@@ -47,6 +49,7 @@ pub(crate) fn decide_start(
 /// The retransmission timer ends.
 pub(crate) fn decide_timeout(
     alloc: Global,
+    spares: &mut Spares,
     role: &mut Role,
     key: Key,
     acts: &mut Acts,
@@ -60,7 +63,7 @@ pub(crate) fn decide_timeout(
     match role {
         Role::Sends(flow, sender) => {
             let plan = sender.on_rto(key.time);
-            send_plan(Origin { alloc, flow: *flow }, sender, &plan, acts)
+            send_plan(Origin { alloc, flow: *flow }, spares, sender, &plan, acts)
         }
         Role::Receives(_, _) | Role::Routes(_) => Ok(Decision::Leave),
     }
@@ -69,6 +72,7 @@ pub(crate) fn decide_timeout(
 /// A delayed acknowledgement is due.
 pub(crate) fn decide_delayed(
     alloc: Global,
+    spares: &mut Spares,
     role: &mut Role,
     acts: &mut Acts,
 ) -> Result<Decision, AllocError>
@@ -79,7 +83,7 @@ pub(crate) fn decide_delayed(
 {
     match role {
         Role::Receives(flow, receiver) => {
-            answer_delayed(Origin { alloc, flow: *flow }, receiver, acts)
+            answer_delayed(Origin { alloc, flow: *flow }, spares, receiver, acts)
         }
         Role::Sends(_, _) | Role::Routes(_) => Ok(Decision::Leave),
     }
@@ -89,6 +93,7 @@ pub(crate) fn decide_delayed(
 #[inline(always)]
 pub(crate) fn decide_arrival(
     alloc: Global,
+    spares: &mut Spares,
     role: &mut Role,
     packet: Packet,
     key: Key,
@@ -105,7 +110,7 @@ pub(crate) fn decide_arrival(
         Role::Sends(flow, sender) => match packet.kind {
             Kind::Ack => {
                 let origin = Origin { alloc, flow: *flow };
-                send_for_ack(origin, sender, packet.number, key.time, acts)
+                send_for_ack(origin, spares, sender, packet.number, key.time, acts)
             }
             Kind::Data => Ok(Decision::Leave),
         },
@@ -124,6 +129,7 @@ pub(crate) fn decide_arrival(
 #[inline(always)]
 pub(crate) fn decide(
     alloc: Global,
+    spares: &mut Spares,
     role: &mut Role,
     links: &Vec<Link>,
     line: &mut Line,
@@ -138,10 +144,10 @@ pub(crate) fn decide(
     let key = line.key;
     let acts = &mut line.acts;
     match &line.event {
-        Event::Start(_) => decide_start(alloc, role, key, acts),
-        Event::Rto(_) => decide_timeout(alloc, role, key, acts),
-        Event::DelAck(_) => decide_delayed(alloc, role, acts),
+        Event::Start(_) => decide_start(alloc, spares, role, key, acts),
+        Event::Rto(_) => decide_timeout(alloc, spares, role, key, acts),
+        Event::DelAck(_) => decide_delayed(alloc, spares, role, acts),
         Event::Free(_) => Ok(Decision::TakeNext(free_link(links, key, acts)?)),
-        Event::Arrive(packet) => decide_arrival(alloc, role, *packet, key, acts),
+        Event::Arrive(packet) => decide_arrival(alloc, spares, role, *packet, key, acts),
     }
 }

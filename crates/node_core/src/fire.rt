@@ -35,7 +35,7 @@ pub(crate) fn carry_out(
 {
     match decision {
         Decision::Leave => {
-            let _cell = agenda.take(line.key);
+            out.spares.keep(agenda.take(line.key));
             None
         }
         Decision::PassOn(index) => pass_on(index, links, agenda, line, out),
@@ -58,7 +58,7 @@ fn run_decided(
     ensures ran { IfOk result (IsRun role.old role.new links.old.items links.new.items agenda.old agenda.new out.old out.new line.old line.new) }
     ensures same { OnErr result (IsAsBefore role.old role.new links.old.items links.new.items agenda.old agenda.new out.old out.new) }
 {
-    let decision = decide(agenda.alloc(), role, links, line)?;
+    let decision = decide(agenda.alloc(), &mut out.spares, role, links, line)?;
     Ok(carry_out(decision, links, agenda, line, out))
 }
 

@@ -22,6 +22,7 @@ mod router_node;
 pub mod routes;
 mod sender_node;
 pub mod shown;
+mod spares;
 pub mod wire;
 
 pub use alarm::Alarm;

@@ -2,15 +2,19 @@
 ghost use Rattle.std.specs.Prelude.{◌≡◌, ◌==◌, ◌<◌, [], IfOk, length, replicate, slice_index_or};
 ghost use Rattle.std.specs.Borrow.{sem};
 
+use crate::spares::Spares;
 use packet_chain::PacketChain;
 use std::alloc::{AllocError, Global};
 use std::marker::Model;
 
 /// For each outgoing link of a node, by its index, the packets that left over it and were not yet
-/// brought to the link's end, stamped with their arrivals.
+/// brought to the link's end, stamped with their arrivals. It goes with every event, and so keeps the cells too
+/// that packets have left.
 #[derive(Drop)]
 pub struct Outbox {
     chains: Vec<PacketChain>,
+    /// What the next packets take before they ask for memory.
+    pub(crate) spares: Spares,
 }
 
 impl Model for Outbox {
@@ -33,7 +37,8 @@ impl Outbox {
         for _link in 0..ports {
             chains.push(PacketChain::new(alloc))?;
         }
-        Ok(Outbox { chains })
+        let spares = Spares::new(alloc)?;
+        Ok(Outbox { chains, spares })
     }
 
     /// For how many links.

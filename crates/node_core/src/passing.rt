@@ -18,6 +18,7 @@ use crate::decision::Sending;
 use crate::line::Line;
 use crate::link::Link;
 use crate::outbox::Outbox;
+use crate::spares::Spares;
 use packet_chain::{Packet, PacketCell};
 use sim_time::Time;
 
@@ -91,12 +92,21 @@ pub(crate) fn take_next(
     left_over(index, next_free)
 }
 
-// The last packet of an end, if it has no cell, in that of the packet that has arrived.
-fn in_cell(last: Option<Packet>, arrived: Option<PacketCell>) -> Option<PacketCell>
+// The last packet of an end, if it has no cell, in that of the packet that has arrived. A cell that is not needed
+// is kept.
+#[inline(always)]
+fn in_cell(
+    last: Option<Packet>,
+    arrived: Option<PacketCell>,
+    spares: &mut Spares,
+) -> Option<PacketCell>
     requires { (packet : Packet) → last ≡ Some packet → IsSome arrived }
     ensures { option_map (λ cell. cell.0) result ≡ last }
 {
-    let packet = last?;
+    let Some(packet) = last else {
+        spares.keep(arrived);
+        return None;
+    };
     let mut cell = arrived.unwrap();
     cell.set_packet(packet);
     Some(cell)
@@ -124,7 +134,7 @@ pub(crate) fn send(
     } = sending;
     let arrived = agenda.take(line.key);
     agenda.set_alarm(alarm, time);
-    let last = in_cell(last, arrived);
+    let last = in_cell(last, arrived, &mut out.spares);
     let link = &mut links[0];
     let was_busy = link.is_busy();
     let chain = out.chain(0);

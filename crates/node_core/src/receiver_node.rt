@@ -7,9 +7,10 @@ ghost use Rattle.node_core.specs.Decided.{IsSent, OnSend};
 ghost use Rattle.node_core.specs.Row.{ack_of};
 
 use crate::alarm::Alarm;
-use crate::cells::{Origin, acknowledgement};
+use crate::cells::{Origin, acknowledgement, alone};
 use crate::decision::{Decision, Sending};
-use packet_chain::{Packet, PacketCell, PacketChain};
+use crate::spares::Spares;
+use packet_chain::{Packet, PacketChain};
 use port::Acts;
 use reno_receiver::{Receiver, Reply};
 use sim_time::Time;
@@ -55,6 +56,7 @@ pub(crate) fn answer_data(
 /// A delayed acknowledgement is due: it gets a cell of its own.
 pub(crate) fn answer_delayed(
     origin: Origin,
+    spares: &mut Spares,
     receiver: &mut Receiver,
     acts: &mut Acts,
 ) -> Result<Decision, AllocError>
@@ -64,9 +66,8 @@ pub(crate) fn answer_delayed(
     ensures acts { acts.new.acts ≡ acts.old.acts }
 {
     acts.reserve(1)?;
-    let cell = PacketCell::new(origin.alloc, acknowledgement(origin.flow, receiver.next()))?;
-    let mut cells = PacketChain::new(origin.alloc);
-    cells.push_back(cell);
+    let packet = acknowledgement(origin.flow, receiver.next());
+    let cells = alone(origin, spares, packet)?;
     let _number = receiver.on_delack();
     Ok(Decision::Send(Sending {
         cells,

@@ -11,6 +11,7 @@ ghost use Rattle.node_core.specs.Row.{data_packet};
 use crate::alarm::Alarm;
 use crate::cells::{Origin, but_last, run_but_last, segments};
 use crate::decision::{Decision, Sending};
+use crate::spares::Spares;
 use port::Acts;
 use reno_sender::{Plan, Sender};
 use sim_time::Time;
@@ -20,6 +21,7 @@ use std::alloc::AllocError;
 /// taken before the sender takes the event.
 pub(crate) fn send_plan(
     origin: Origin,
+    spares: &mut Spares,
     sender: &mut Sender,
     plan: &Plan,
     acts: &mut Acts,
@@ -32,7 +34,14 @@ pub(crate) fn send_plan(
 {
     acts.reserve(plan.count() as usize + 1)?;
     let mss = plan.as_fields().mss;
-    let cells = segments(origin, mss, plan.resent(), plan.first(), plan.count())?;
+    let cells = segments(
+        origin,
+        spares,
+        mss,
+        plan.resent(),
+        plan.first(),
+        plan.count(),
+    )?;
     sender.commit_lent(plan);
     Ok(Decision::Send(Sending {
         cells,
@@ -45,6 +54,7 @@ pub(crate) fn send_plan(
 // A row at which a packet arrives: the last segment of its plan takes that packet's cell.
 fn send_behind(
     origin: Origin,
+    spares: &mut Spares,
     sender: &mut Sender,
     plan: &Plan,
     acts: &mut Acts,
@@ -56,7 +66,7 @@ fn send_behind(
     ensures acts { acts.new.acts ≡ acts.old.acts }
 {
     acts.reserve(plan.count() as usize + 1)?;
-    let (cells, last) = but_last(origin, plan)?;
+    let (cells, last) = but_last(origin, spares, plan)?;
     sender.commit_lent(plan);
     Ok(Decision::Send(Sending {
         cells,
@@ -70,6 +80,7 @@ fn send_behind(
 #[inline(always)]
 pub(crate) fn send_for_ack(
     origin: Origin,
+    spares: &mut Spares,
     sender: &mut Sender,
     number: u64,
     now: Time,
@@ -84,11 +95,11 @@ pub(crate) fn send_for_ack(
 {
     let Some(run) = sender.run_for(number) else {
         let plan = sender.on_ack(number, now);
-        return send_behind(origin, sender, &plan, acts);
+        return send_behind(origin, spares, sender, &plan, acts);
     };
     let mss = sender.as_fields().mss;
     acts.reserve(run.count as usize)?;
-    let (cells, last) = run_but_last(origin, mss, run)?;
+    let (cells, last) = run_but_last(origin, spares, mss, run)?;
     sender.take_run(number, now, run);
     Ok(Decision::Send(Sending {
         cells,

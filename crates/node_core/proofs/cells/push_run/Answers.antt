@@ -16,6 +16,6 @@ loop-made-preserved c =
       numbers = number_fits c.loop-made.number c.args.mss c.loop-made._made c.args.count _ within kept.numbers;
       longer = omega (arith, pushed, length-append c.loop-made.cells (c.in_ok-cell.cell ∷ []), kept.longer);
       whole = ap (λ (q : List Stamped). packets_of q ++ map f (spaced (c.loop-made.number + c.args.mss) c.args.mss (c.args.count - (c.loop-made._made + 1)))) c.push_back.ensures
-          ∙ one_made f c.loop-made.cells c.in_ok-cell.cell c.loop-made.number c.args.mss c.loop-made._made c.args.count within (ap (λ (x : Stamped). x.0) c.in_ok-cell.ensures.ok ∙ c.segment.ensures)
+          ∙ one_made f c.loop-made.cells c.in_ok-cell.cell c.loop-made.number c.args.mss c.loop-made._made c.args.count within (c.in_ok-cell.ensures ∙ c.segment.ensures)
           ∙ kept.whole;
     }

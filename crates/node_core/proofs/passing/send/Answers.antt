@@ -44,7 +44,7 @@ returns-clause-passed c =
     let key = c.args.line.now.key in
     let event = c.args.line.now.event in
     let agenda = c.args.agenda.now in
-    let chains = c.args.out.now in
+    let chains = c.out.inside.chains.items in
     let sending = c.args.sending in
     let now = key.time in
     let next = c.requires.next in
@@ -56,13 +56,13 @@ returns-clause-passed c =
     let moved : c.set_alarm.new.self ≡ middle = c.set_alarm.ensures ∙ ap (λ (s : AgendaState). moved_to s (alarm_number sending.alarm) sending.time) c.take-arrived.ensures.state in
     let was = c.is_busy-was_busy.ensures in
     let free = c.next_free.ensures ∙ ap (λ (p : PortState). p.next_free) c.port.ensures.value ∙ ap (λ (l : LinkState). l.port.next_free) c.offer_behind.ensures.link_is ∙ ap (λ (s : PortStep). s.port.next_free) same in
-    let alarm = timer_apart (after_take agenda key) (alarm_number sending.alarm) sending.time can.timer ∙ link_alarm_stays agenda key event sending.alarm next.due can.moves ∙ next_alarm key event links agenda chains next 0 ∙ ap (λ (l : LinkState). l.port.next_free) (sym is) in
-    let exit = next_exit key event links agenda chains next 0 ∙ ap (λ (l : LinkState). l.port.link) (sym is) in
-    has_passed 0 (λ (p : PortState). offered_all now p (sent_by sending)) links old c.offer_behind.new.self middle c.follow.new.agenda chains c.chain-chain.result.now c.offer_behind.new.out c.args.line.now.acts.acts c.offer_behind.new.acts.acts c.follow.result is
+    let alarm = timer_apart (after_take agenda key) (alarm_number sending.alarm) sending.time can.timer ∙ link_alarm_stays agenda key event sending.alarm next.due can.moves ∙ next_alarm key event links agenda c.args.out.now next 0 ∙ ap (λ (l : LinkState). l.port.next_free) (sym is) in
+    let exit = next_exit key event links agenda c.args.out.now next 0 ∙ ap (λ (l : LinkState). l.port.link) (sym is) in
+    rw (← c.out.view_is) (has_passed 0 (λ (p : PortState). offered_all now p (sent_by sending)) links old c.offer_behind.new.self middle c.follow.new.agenda chains c.chain-chain.result.now c.offer_behind.new.out c.args.line.now.acts.acts c.offer_behind.new.acts.acts c.follow.result is
     (c.offer_behind.ensures.link_is ∙ ap (λ (s : PortStep). record old { port = s.port }) same)
     c.chain-chain.ensures.value
     (c.offer_behind.ensures.out_is ∙ ap (λ (s : PortStep). c.chain-chain.result.now ++ departed s.departure) same)
     (c.offer_behind.ensures.acts_are ∙ ap (λ (s : PortStep). c.args.line.now.acts.acts ++ s.acts) same)
     (offered_follows middle c.follow.new.agenda 0 now old.port (sent_by sending) c.is_busy-was_busy.result c.next_free.result alarm exit was free
     (c.follow.ensures.agenda ∙ ap (λ (s : AgendaState). cond c.is_busy-was_busy.result s (moved_to s 3 c.next_free.result)) moved))
-    (offered_left 0 now old.port (sent_by sending) c.is_busy-was_busy.result c.next_free.result c.follow.result was free c.follow.ensures.left)
+    (offered_left 0 now old.port (sent_by sending) c.is_busy-was_busy.result c.next_free.result c.follow.result was free c.follow.ensures.left))
