@@ -81,36 +81,38 @@ module _ {S : Type 0} (nodes : S → List NodeState) (put : S → ℕ → NodeSt
     put_is : after ≡ put_out (Some it.packet) out
     put_is = has.out ∙ ap (λ o. put_out o out) it.is
 
-    pub has_link : index < length (node_at (nodes mid) place).part.links
-    has_link = subst (λ (n : NodeState). index < length n.part.links) (sym has.node) (subst (λ n. n < length eff.part.links) it.at over.has_link)
-
-    link_same : (link_at (node_at (nodes mid) place).part.links index).port.link ≡ link_left eff it.packet
-    link_same = ap (λ (n : NodeState). (link_at n.part.links index).port.link) has.node ∙ ap (λ i. (link_at eff.part.links i).port.link) (sym it.at)
-
     pub chain_within : index < length after
     chain_within = subst (λ (all : List (List Stamped)). index < length all) (sym put_is) (subst (λ i. i < length (put_out (Some it.packet) out)) it.at (has_chain out empty it.packet over.has_chain))
 
     pub all_emptied : set after index [] ≡ replicate 16 []
     all_emptied = (λ i. set (put_is i) (sym it.at i) []) ∙ emptied out empty it.packet over.has_chain
 
-    -- its link, and the chain
-    module _ (link : ℕ) (packets : List Stamped) (link_is : link ≡ (link_at (node_at (nodes mid) place).part.links index).port.link) (packets_are : packets ≡ get_or after index []) where
-      link_its : link ≡ link_left eff it.packet
-      link_its = link_is ∙ link_same
+    -- the number that its node has where it stands, which is the one that it had
+    module _ (number : ℕ) (stays : number ≡ place) where
+      node_stays : node_at (nodes mid) number ≡ node_after (nodes old) place line.key line.event
+      node_stays = ap (node_at (nodes mid)) stays ∙ has.node
 
-      packets_its : packets ≡ packet_left it.packet
-      packets_its = packets_are ∙ (λ i. get_or (put_is i) (sym it.at i) []) ∙ chain_is out empty it.packet over.has_chain
+      pub has_link : index < length (node_at (nodes mid) number).part.links
+      has_link = subst (λ (n : NodeState). index < length n.part.links) (sym node_stays) (subst (λ n. n < length eff.part.links) it.at over.has_link)
 
-      pub link_known : link < length links
-      link_known = subst (λ n. n < length links) (sym link_its) over.known
+      -- its link, and the chain
+      module _ (link read : ℕ) (packets : List Stamped) (link_is : link ≡ read) (read_is : read ≡ (link_at (node_at (nodes mid) number).part.links index).port.link) (packets_are : packets ≡ get_or after index []) where
+        link_its : link ≡ link_left eff it.packet
+        link_its = link_is ∙ read_is ∙ ap (λ (n : NodeState). (link_at n.part.links index).port.link) node_stays ∙ ap (λ i. (link_at eff.part.links i).port.link) (sym it.at)
 
-      pub may_go : can_take mid link packets
-      may_go = subst (λ (s : S). can_take s link packets) (sym mid_is)
-          (subst (λ n. can_take (put old place (node_after (nodes old) place line.key line.event)) n packets) (sym link_its)
-          (subst (can_take (put old place (node_after (nodes old) place line.key line.event)) (link_left eff it.packet)) (sym packets_its) (can_go line.key line.event it.packet has.is_least it.is)))
+        packets_its : packets ≡ packet_left it.packet
+        packets_its = packets_are ∙ (λ i. get_or (put_is i) (sym it.at i) []) ∙ chain_is out empty it.packet over.has_chain
 
-      pub gone_happened : (new : S) → takes mid link packets new → HasHappened nodes put takes old new place line
-      gone_happened new gone = happened new (subst (λ o. GoneOn takes eff o (put old place (node_after (nodes old) place line.key line.event)) new) (sym it.is)
-          (subst (λ (s : S). takes s (link_left eff it.packet) (packet_left it.packet) new) mid_is
-          (subst (λ n. takes mid n (packet_left it.packet) new) link_its
-          (subst (λ (all : List Stamped). takes mid link all new) packets_its gone))))
+        pub link_known : link < length links
+        link_known = subst (λ n. n < length links) (sym link_its) over.known
+
+        pub may_go : can_take mid link packets
+        may_go = subst (λ (s : S). can_take s link packets) (sym mid_is)
+            (subst (λ n. can_take (put old place (node_after (nodes old) place line.key line.event)) n packets) (sym link_its)
+            (subst (can_take (put old place (node_after (nodes old) place line.key line.event)) (link_left eff it.packet)) (sym packets_its) (can_go line.key line.event it.packet has.is_least it.is)))
+
+        pub gone_happened : (new : S) → takes mid link packets new → HasHappened nodes put takes old new place line
+        gone_happened new gone = happened new (subst (λ o. GoneOn takes eff o (put old place (node_after (nodes old) place line.key line.event)) new) (sym it.is)
+            (subst (λ (s : S). takes s (link_left eff it.packet) (packet_left it.packet) new) mid_is
+            (subst (λ n. takes mid n (packet_left it.packet) new) link_its
+            (subst (λ (all : List Stamped). takes mid link all new) packets_its gone))))

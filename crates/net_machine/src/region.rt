@@ -9,7 +9,8 @@ use node_core::{Line, Outbox};
 use packet_chain::PacketChain;
 use std::alloc::AllocError;
 
-/// Some of a net's nodes, each at its number, and where packets go that leave one of them.
+/// Some of a net's nodes, in a row, and where packets go that leave one of them. Clauses speak of a
+/// node by its number in the net; what runs it goes by its place in the row.
 pub trait Region {
     ghost use Rattle.std.specs.Prelude.{◌≡◌, ◌≢◌, ◌<◌, ◌≤◌, [], ℕ, List, All, IfOk, OnOk, OnErr, Some, None, length};
     ghost use Rattle.std.specs.Option.{option_map};
@@ -29,6 +30,9 @@ pub trait Region {
     // The nodes, by number.
     ghost nodes: { Self → List NodeState };
 
+    // The number of the node at a place of the row.
+    ghost number_at: { Self → ℕ → ℕ };
+
     // A node in the place of that of its number.
     ghost put: { Self → ℕ → NodeState → Self };
 
@@ -38,31 +42,32 @@ pub trait Region {
     // They have gone on.
     ghost takes: { List LinkEnds → Self → ℕ → List Stamped → Self → Type 0 };
 
-    /// Runs the event of the least key of a node. What it says and promises is that of
+    /// Runs the event of the least key of the node at a place. What it says and promises is that of
     /// [`node_core::Node::fire_into`].
     fn run_at(
         &mut self,
-        place: usize,
+        at: usize,
         out: &mut Outbox,
         line: &mut Line,
     ) -> Result<Option<u16>, AllocError>
-        requires within { place < length (nodes self.old) }
-        requires pending { next_key (node_at (nodes self.old) place).pending ≢ None }
-        requires due { (k : Key) (v : Event) → least (node_at (nodes self.old) place).pending ≡ Some (k, v) → IsRunnable (node_at (nodes self.old) place).part k v }
-        requires chains { length (node_at (nodes self.old) place).part.links ≤ length out.old }
+        requires within { number_at self.old at < length (nodes self.old) }
+        requires pending { next_key (node_at (nodes self.old) (number_at self.old at)).pending ≢ None }
+        requires due { let node = node_at (nodes self.old) (number_at self.old at) in (k : Key) (v : Event) → least node.pending ≡ Some (k, v) → IsRunnable node.part k v }
+        requires chains { length (node_at (nodes self.old) (number_at self.old at)).part.links ≤ length out.old }
         requires room { All (λ chain. length chain < 1000000000000000) out.old }
-        ensures fired { OnOk result (HasFired (node_at (nodes self.old) place) (node_at (nodes self.new) place) out.old out.new (shown line.new)) }
-        ensures put { OnOk result (self.new ≡ put self.old place (node_at (nodes self.new) place)) }
+        ensures fired { let number = number_at self.old at in OnOk result (HasFired (node_at (nodes self.old) number) (node_at (nodes self.new) number) out.old out.new (shown line.new)) }
+        ensures put { let number = number_at self.old at in OnOk result (self.new ≡ put self.old number (node_at (nodes self.new) number)) }
         ensures count { OnOk result (length (nodes self.new) ≡ length (nodes self.old)) }
-        ensures leaving { IfOk result (λ index. index ≡ option_map (λ (leaving : Leaving). leaving.index) (effect_at (nodes self.old) place line.new.key line.new.event).leaving) }
+        ensures stays { OnOk result (number_at self.new at ≡ number_at self.old at) }
+        ensures leaving { IfOk result (λ index. index ≡ option_map (λ (leaving : Leaving). leaving.index) (effect_at (nodes self.old) (number_at self.old at) line.new.key line.new.event).leaving) }
         ensures same { OnErr result (self.new ≡ self.old) }
         ensures same_out { OnErr result (out.new ≡ out.old) };
 
-    /// The number of an outgoing link of a node.
-    fn link_of(&self, place: usize, index: usize) -> u16
-        requires within { place < length (nodes self.now) }
-        requires index { index < length (node_at (nodes self.now) place).part.links }
-        ensures { result ≡ (link_at (node_at (nodes self.now) place).part.links index).port.link };
+    /// The number of an outgoing link of the node at a place.
+    fn link_of(&self, at: usize, index: usize) -> u16
+        requires within { number_at self.now at < length (nodes self.now) }
+        requires index { index < length (node_at (nodes self.now) (number_at self.now at)).part.links }
+        ensures { result ≡ (link_at (node_at (nodes self.now) (number_at self.now at)).part.links index).port.link };
 
     /// Packets that left over a link go on: to the node at its end, or they are held back for it. The
     /// chain is then empty. It takes no memory.
@@ -79,7 +84,9 @@ impl Region for Nodes {
 
     ghost nodes = { λ n. n };
 
-    ghost put = { λ n place node. slice_set n place node };
+    ghost number_at = { λ n at. at };
+
+    ghost put = { λ n number node. slice_set n number node };
 
     ghost can_take = { λ links n link packets. CanCome links n link packets };
 
@@ -88,16 +95,16 @@ impl Region for Nodes {
     #[inline(always)]
     fn run_at(
         &mut self,
-        place: usize,
+        at: usize,
         out: &mut Outbox,
         line: &mut Line,
     ) -> Result<Option<u16>, AllocError> {
-        self.fire_into(place, out, line)
+        self.fire_into(at, out, line)
     }
 
     #[inline(always)]
-    fn link_of(&self, place: usize, index: usize) -> u16 {
-        self.link_number(place, index)
+    fn link_of(&self, at: usize, index: usize) -> u16 {
+        self.link_number(at, index)
     }
 
     #[inline(always)]
@@ -107,27 +114,28 @@ impl Region for Nodes {
     }
 }
 
-/// Runs the event of the least key of a node of a region, and tells of it in `line`: what leaves the
-/// node goes on. Where memory is refused, the region is as it was. `out` is empty before and after.
+/// Runs the event of the least key of the node at a place of a region's row, and tells of it in
+/// `line`: what leaves the node goes on. Where memory is refused, the region is as it was. `out` is
+/// empty before and after.
 #[inline(always)]
 pub fn run_event<R: Region>(
     region: &mut R,
     out: &mut Outbox,
     links: &[LinkEnds],
-    place: usize,
+    at: usize,
     line: &mut Line,
 ) -> Result<(), AllocError>
-    requires can_run { CanRun links.now (R.nodes region.old) place }
-    requires can_go_on { CanGoOn R.nodes R.put (R.can_take links.now) region.old place }
+    requires can_run { CanRun links.now (R.nodes region.old) (R.number_at region.old at) }
+    requires can_go_on { CanGoOn R.nodes R.put (R.can_take links.now) region.old (R.number_at region.old at) }
     requires empty { out.old ≡ replicate 16 [] }
-    ensures ok { OnOk result (HasHappened R.nodes R.put (R.takes links.now) region.old region.new place (shown line.new)) }
+    ensures ok { OnOk result (HasHappened R.nodes R.put (R.takes links.now) region.old region.new (R.number_at region.old at) (shown line.new)) }
     ensures err { OnErr result (region.new ≡ region.old) }
     ensures empty { out.new ≡ replicate 16 [] }
 {
-    match region.run_at(place, out, line)? {
+    match region.run_at(at, out, line)? {
         Some(index) => {
             let index = usize::from(index);
-            let link = usize::from(region.link_of(place, index));
+            let link = usize::from(region.link_of(at, index));
             let packets = out.chain(index);
             region.pass_on(links, link, packets);
             Ok(())

@@ -17,10 +17,6 @@ module _ (seats : Seats) (place : ℕ) (within : place < length seats) where
   pub with_event : (next_key (node_at (seated seats) place).pending ≡ None → ⊥) → get_or seats place None ≡ None → ⊥
   with_event off none = off (ap (λ (n : NodeState). next_key n.pending) (nobody seats place within none) ∙ next_empty Event)
 
-  -- an incoming link
-  pub with_incoming : (index : ℕ) → index < length (node_at (seated seats) place).incoming → get_or seats place None ≡ None → ⊥
-  with_incoming index under none = let size : length (node_at (seated seats) place).incoming ≡ 0 = ap (λ (n : NodeState). length n.incoming) (nobody seats place within none) in omega (arith, under, size)
-
   -- an outgoing link
   pub with_link : (index : ℕ) → index < length (node_at (seated seats) place).part.links → get_or seats place None ≡ None → ⊥
   with_link index under none = let size : length (node_at (seated seats) place).part.links ≡ 0 = ap (λ (n : NodeState). length n.part.links) (nobody seats place within none) in omega (arith, under, size)

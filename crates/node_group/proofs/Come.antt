@@ -1,12 +1,13 @@
 -- Packets that come to a node of a group: what is pending over each link stays counted, and the group one of its net.
-use Rattle.std.proofs.Common.{◌≡◌, ◌≢◌, ℕ, ◌+◌, ◌<◌, ◌≤◌, List, [], ◌∷◌, length, set, All, refl, sym, ap, subst, ◌∙◌, arith}
+use Rattle.std.proofs.Common.{◌≡◌, ◌≢◌, ℕ, ◌+◌, ◌<◌, ◌≤◌, ◌^◌, true, List, [], ◌∷◌, length, set, All, refl, sym, ap, subst, ◌∙◌, true≢false, eq-eqb, arith}
+use Rattle.std.specs.List.Sorted.{IsStrictlyIncreasing}
 use Rattle.std.specs.List.{AllByRecursion}
 use Rattle.packet_chain.specs.Stamped.{Stamped}
 use Rattle.ranking.specs.Keyed.{apply, entering, EachKey}
 use Rattle.ranking.proofs.Maps.{each_apply}
 use Rattle.node_core.specs.Pending.{Change}
 use Rattle.node_core.specs.AgendaState.{incoming_at}
-use Rattle.node_core.specs.WireState.{arrivals}
+use Rattle.node_core.specs.WireState.{arrivals, stamps_of}
 use Rattle.node_core.specs.Part.{PartState, link_at}
 use Rattle.node_core.specs.Node.{NodeState, delivered}
 use Rattle.table_run.proofs.Lists.{all_map}
@@ -18,10 +19,12 @@ use Rattle.net_machine.proofs.AtNodes.{node_key}
 use Rattle.net_machine.proofs.Home.{come_pending}
 use Rattle.net_partition.specs.Partition.{group_in}
 use Rattle.node_group.specs.Seats.{Seats, seated, taken}
-use Rattle.node_group.specs.Group.{GroupValue, group_from, group_to, member, exit_at, IsGroup}
+use Rattle.node_group.specs.declared.area.Area.{Area}
+use Rattle.node_group.specs.Passing.{is_seated, CanPass, HasCome, HasPassed}
+use Rattle.node_group.specs.Group.{GroupValue, group_from, group_to, member, exit_at, came_in, IsGroup}
 use Rattle.net_machine.proofs.AfterEvent.{same_itself, same_part, coming_count, coming_link, coming_others, coming_here, coming_more}
 use Rattle.node_group.proofs.Seated.{length-seated}
-use Rattle.node_group.proofs.GroupKept.{seat_count, own_exit, same_entry, kept}
+use Rattle.node_group.proofs.GroupKept.{seat_count, seat_taken, own_exit, same_entry, kept}
 
 -- how many packets have come to the end of a link
 abbrev pub came_at : List LinkEnds → List NodeState → ℕ → ℕ
@@ -110,13 +113,36 @@ module _ (g : GroupValue) (is : IsGroup g) (link : ℕ) (known : link < length g
     fits = is.fits;
   }
 
--- what comes later than all that is pending over the link comes later than that at its end
-pub later_there : (g : GroupValue) (is : IsGroup g) (link : ℕ) (known : link < length g.links) (to_this : group_to g link ≡ g.number) (stamps : List ℕ) → All (λ stamp. EachKey (λ k. k.source ≡ link + 1 → k.time < stamp) (net_pending (seated g.seats))) stamps
-    → (at over : ℕ) → at ≡ (place_at g.links link).node → over ≡ (place_at g.links link).index → All (λ stamp. EachKey (λ k. k.source ≡ (incoming_at (member g at).incoming over).link + 1 → k.time < stamp) (member g at).pending) stamps
-later_there g is link known to_this stamps later at over node_is index_is i d under k v there source =
-    later i d under k v (node_key (seated g.seats) is.placed at k v there)
-    (source ∙ ap (λ n. n + 1) ((λ j. (incoming_at (member g (node_is j)).incoming (index_is j)).link) ∙ (is.entries_are link known to_this).over))
-
 -- a link's end is one of the nodes
 pub end_seated : (g : GroupValue) (is : IsGroup g) (link : ℕ) → link < length g.links → (place_at g.links link).node < length (seated g.seats)
 end_seated g is link known = let end = is.ends_known link known in let size = seat_count g is in let all = length-seated g.seats in omega (arith, end, size, all)
+
+-- over a link that ends inside the group
+module _ (g : GroupValue) (is : IsGroup g) (link : ℕ) (known : link < length g.links) (to_this : group_to g link ≡ g.number) where
+  end_within : (place_at g.links link).node < length g.seats
+  end_within = let end = is.ends_known link known in let size = seat_count g is in omega (arith, end, size)
+
+  -- a node of the group is there
+  pub end_taken : is_seated g.seats (place_at g.links link).node ≡ true
+  end_taken = seat_taken g is (place_at g.links link).node end_within ∙ eq-eqb (group_to g link) g.number to_this
+
+  -- what comes later than all that is pending over the link can go on
+  pub can_come_in : (packets : List Stamped) → IsStrictlyIncreasing (stamps_of packets) → All (λ stamp. EachKey (λ k. k.source ≡ link + 1 → k.time < stamp) (net_pending (seated g.seats))) (stamps_of packets) → came_in g link + length packets ≤ 2 ^ 50
+      → CanPass g.links record { members = g.seats; exits = g.held } link packets
+  can_come_in packets rising later few =
+      let entry = is.entries_are link known to_this in
+      record {
+        end_known = end_within;
+        inside = λ here. record {
+          there = end_seated g is link known;
+          within = entry.within;
+          rising = rising;
+          later = λ i d under k v there source. later i d under k v (node_key (seated g.seats) is.placed (place_at g.links link).node k v there) (source ∙ ap (λ n. n + 1) entry.over);
+          few = few;
+        };
+        across = λ off. absurd (true≢false (sym end_taken ∙ off));
+      }
+
+  -- what has gone on has come there
+  pub has_come_in : (packets : List Stamped) (new : Area) → HasPassed g.links record { members = g.seats; exits = g.held } link packets new → HasCome g.links g.seats new.members link packets × (new.exits ≡ g.held)
+  has_come_in packets new has = (has.come end_taken, has.exits_stay end_taken)

@@ -1,7 +1,8 @@
 pub mod Seated
 pub mod Numbered
+pub mod InRow
 pub mod AtSeats
-pub mod AtNumber
+pub mod AtPlace
 pub mod HeldBack
 pub mod Listed
 pub mod Made

@@ -2,7 +2,7 @@
 use Rattle.std.proofs.Common.{◌≡◌, ◌≢◌, ℕ, ◌<◌, ◌≤◌, List, length, set, get_or, refl, sym, ap, subst, ◌∙◌, Some, None, Option, ⊎_elim, arith}
 use Rattle.std.proofs.lemmas.Bool.{cases_eq, cases_lt}
 use Rattle.std.proofs.lemmas.List.{get_or-set_same, get_or-set_other, get_or-map, get_or_past, length-set, length-map, ext_get_or}
-use Rattle.std.proofs.lemmas.Option.{slice_get-get_or, slice_get_past, slice_get_within}
+use Rattle.std.proofs.lemmas.Option.{slice_get-get_or, slice_get_past}
 use Rattle.std.proofs.Math.ListN.{get_or-eq_default}
 use Rattle.std.specs.List.{slice_get}
 use Rattle.std.specs.FinMap as fin
@@ -21,7 +21,7 @@ use Rattle.net_machine.proofs.AtNodes.{pending_at, next_at, first_node, first_ke
 use Rattle.net_machine.proofs.InPlace.{has_node, rising_in_place}
 use Rattle.node_group.specs.Seats.{absent, seated}
 use Rattle.node_group.specs.Numbered.{seats_of, AreFound, AreRising, AreMembers}
-use Rattle.node_group.proofs.Seated.{length-seated, seated_at, seated_set, is_seated, nobody}
+use Rattle.node_group.proofs.Seated.{length-seated, seated_at, seated_set, nobody}
 
 slice_get_set_other : {X : Type 0} (xs : List X) (i j : ℕ) (x d : X) → j ≢ i → slice_get (set xs i x) j ≡ slice_get xs j
 slice_get_set_other xs i j x d apart = ⊎_elim
@@ -41,12 +41,7 @@ module _ (nodes : List NodeState) (index : List ℕ) where
   pub seat_at : (i : ℕ) → i < length index → get_or (seats_of nodes index) i None ≡ slice_get nodes (get_or index i (length nodes))
   seat_at i under = get_or-map (λ k. slice_get nodes k) index i (length nodes) None under
 
-  -- somebody: it is one of the nodes
-  pub is_among : (i : ℕ) → i < length index → (get_or (seats_of nodes index) i None ≡ None → ⊥) → get_or index i (length nodes) < length nodes
-  is_among i under off =
-      let there = is_seated (seats_of nodes index) i (subst (λ n. i < n) (sym many) under) off in
-      slice_get_within nodes (get_or index i (length nodes)) there.0 (sym (seat_at i under) ∙ there.1.0)
-
+  -- one of the nodes
   pub node_among : (i : ℕ) → i < length index → get_or index i (length nodes) < length nodes → node_at (seated (seats_of nodes index)) i ≡ node_at nodes (get_or index i (length nodes))
   node_among i under inside =
       seated_at (seats_of nodes index) i (subst (λ n. i < n) (sym many) under)
@@ -58,7 +53,7 @@ module _ (nodes : List NodeState) (index : List ℕ) where
       nobody (seats_of nodes index) i (subst (λ n. i < n) (sym many) under) (seat_at i under ∙ slice_get_past nodes (get_or index i (length nodes)) past)
 
   module _ (placed : IsPlaced (seated (seats_of nodes index))) where
-    number_among : (i : ℕ) → i < length index → get_or index i (length nodes) < length nodes → (node_at nodes (get_or index i (length nodes))).number ≡ i
+    pub number_among : (i : ℕ) → i < length index → get_or index i (length nodes) < length nodes → (node_at nodes (get_or index i (length nodes))).number ≡ i
     number_among i under inside =
         ap (λ (n : NodeState). n.number) (sym (node_among i under inside))
         ∙ placed.number i (subst (λ n. i < n) (sym (length-seated (seats_of nodes index) ∙ many)) under)
@@ -140,7 +135,7 @@ module _ (nodes : List NodeState) (index : List ℕ) where
       (cases_lt i (length index))
 
   module _ (is : AreMembers nodes index) where
-    number_in : (k : ℕ) → k < length nodes → (node_at nodes k).number < length index
+    pub number_in : (k : ℕ) → k < length nodes → (node_at nodes k).number < length index
     number_in k inside = ⊎_elim
         (λ (under : (node_at nodes k).number < length index). under)
         (λ (past : length index ≤ (node_at nodes k).number).

@@ -10,19 +10,22 @@ use Rattle.net_machine.specs.Nodes.{node_at, IsPlaced}
 use Rattle.net_machine.specs.Wiring.{place_at}
 use Rattle.net_machine.specs.Region.{CanCome}
 use Rattle.node_group.specs.declared.area.Area.{Area}
-use Rattle.node_group.specs.Seats.{Seats, seated, taken}
+use Rattle.node_group.specs.Seats.{Seats, seated, taken, number_at}
 use Rattle.node_group.specs.Held.{wire_at, held_on}
 
 -- whether a node is the group's
 abbrev pub is_seated : Seats → ℕ → Bool
 is_seated seats node = is_some (slice_index_or seats node None)
 
--- the nodes of an area, and a node of it in its place
+-- the nodes of an area, the number of the one at a place of its row, and a node in the place of that of its number
 abbrev pub nodes_of : Area → List NodeState
 nodes_of a = seated a.members
 
+abbrev pub number_of : Area → ℕ → ℕ
+number_of a at = number_at a.members at
+
 abbrev pub with_node : Area → ℕ → NodeState → Area
-with_node a place node = record a { members = slice_set a.members place (Some node) }
+with_node a number node = record a { members = slice_set a.members number (Some node) }
 
 -- packets can be held back behind the others of a link
 pub record CanWait (held : List WireState) (link : ℕ) (packets : List Stamped) : Type 0 where

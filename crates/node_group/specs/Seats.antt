@@ -1,5 +1,5 @@
 -- The nodes of a group, each at its number, and how what is missing is read.
-use Rattle.std.specs.Prelude.{ℕ, ◌+◌, Bool, List, [], ◌∷◌, map as each, is_some, Option}
+use Rattle.std.specs.Prelude.{ℕ, zero, suc, ◌+◌, Bool, true, false, List, [], ◌∷◌, map as each, is_some, Option}
 use Rattle.std.specs.Coded.{Coded, coded_list, coded_option}
 use Rattle.std.specs.Option.{unwrap_or}
 use Rattle.ranking.specs.Keyed.{nothing_due}
@@ -30,3 +30,14 @@ seated seats = seated_from 0 seats
 -- which nodes are the group's
 abbrev pub taken : Seats → List Bool
 taken seats = each (λ (seat : Option NodeState). is_some seat) seats
+
+-- the number of the seat that is taken after so many others; past the last taken one the count of all seats
+abbrev pub nth_taken : List Bool → ℕ → ℕ
+nth_taken [] others = 0
+nth_taken (true ∷ rest) zero = 0
+nth_taken (true ∷ rest) (suc others) = 1 + nth_taken rest others
+nth_taken (false ∷ rest) others = 1 + nth_taken rest others
+
+-- a group's nodes stand in a row, in rising number: the number of the one at a place
+abbrev pub number_at : Seats → ℕ → ℕ
+number_at seats at = nth_taken (taken seats) at

@@ -17,11 +17,13 @@ pub struct Area {
 }
 
 impl Region for Area {
-    ghost use Rattle.node_group.specs.Passing.{nodes_of, with_node, CanPass, HasPassed};
+    ghost use Rattle.node_group.specs.Passing.{nodes_of, number_of, with_node, CanPass, HasPassed};
 
     ghost nodes = { λ a. nodes_of a };
 
-    ghost put = { λ a place node. with_node a place node };
+    ghost number_at = { λ a at. number_of a at };
+
+    ghost put = { λ a number node. with_node a number node };
 
     ghost can_take = { λ links a link packets. CanPass links a link packets };
 
@@ -30,26 +32,24 @@ impl Region for Area {
     #[inline(always)]
     fn run_at(
         &mut self,
-        place: usize,
+        at: usize,
         out: &mut Outbox,
         line: &mut Line,
     ) -> Result<Option<u16>, AllocError> {
-        self.members.fire_into(place, out, line)
+        self.members.fire_into(at, out, line)
     }
 
     #[inline(always)]
-    fn link_of(&self, place: usize, index: usize) -> u16 {
-        self.members.link_number(place, index)
+    fn link_of(&self, at: usize, index: usize) -> u16 {
+        self.members.link_number(at, index)
     }
 
     #[inline(always)]
     fn pass_on(&mut self, links: &[LinkEnds], link: usize, packets: &mut PacketChain) {
         let end = links[link].to;
-        let node = usize::from(end.node);
-        if self.members.has(node) {
-            self.members.deliver(node, usize::from(end.index), packets);
-        } else {
-            self.exits.hold(link, packets);
+        match self.members.place(usize::from(end.node)) {
+            Some(at) => self.members.deliver(at, usize::from(end.index), packets),
+            None => self.exits.hold(link, packets),
         }
     }
 }

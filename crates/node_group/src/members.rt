@@ -1,5 +1,5 @@
 //! The nodes of a group, with a timetable of their next keys.
-ghost use Rattle.std.specs.Prelude.{◌≡◌, ◌≢◌, ◌==◌, ◌+◌, ◌<◌, ◌≤◌, ◌^◌, ◌++◌, ◌∷◌, [], ℕ, All, IfOk, OnOk, OnErr, MatchOption, Option, Some, None, is_some, length, slice_set, slice_index_or, replicate, count_by, vec_capacity};
+ghost use Rattle.std.specs.Prelude.{◌≡◌, ◌≢◌, ◌==◌, ◌+◌, ◌<◌, ◌≤◌, ◌^◌, ◌++◌, ◌∷◌, [], ℕ, All, IfOk, IfSome, OnOk, OnErr, MatchOption, Option, Some, None, is_some, length, slice_set, slice_index_or, replicate, count_by, vec_capacity};
 ghost use Rattle.std.specs.Option.{option_map, option_copied};
 ghost use Rattle.std.specs.List.Sorted.{IsStrictlyIncreasing};
 ghost use Rattle.sim_time.specs.declared.key.Key.{Key};
@@ -14,7 +14,7 @@ ghost use Rattle.node_core.specs.Ready.{IsRunnable};
 ghost use Rattle.node_core.specs.TraceLine.{shown};
 ghost use Rattle.node_core.specs.Node.{NodeState, delivered, HasFired};
 ghost use Rattle.net_machine.specs.Nodes.{node_at, net_pending, IsPlaced, IsFirst};
-ghost use Rattle.node_group.specs.Seats.{seated, taken};
+ghost use Rattle.node_group.specs.Seats.{seated, taken, number_at};
 ghost use Rattle.node_group.specs.Numbered.{seats_of, AreFound, AreRising};
 
 use net_machine::Nodes;
@@ -44,7 +44,7 @@ pub struct MemberParts {
 /// The nodes of a group.
 #[derive(Drop)]
 pub struct Members {
-    /// The nodes, and none of other groups between them.
+    /// The nodes, in rising number, and none of other groups between them.
     nodes: Nodes,
     /// For each node of the net, by its number, which of these it is; none of them where it is
     /// another group's.
@@ -131,87 +131,85 @@ impl Members {
     }
 
     /// The node of a number, where it is in the group.
-    pub(crate) fn node(&self, place: usize) -> Option<&Node>
-        requires { place < length self.now }
-        ensures { option_copied result ≡ slice_index_or self.now place None }
+    pub(crate) fn node(&self, number: usize) -> Option<&Node>
+        requires { number < length self.now }
+        ensures { option_copied result ≡ slice_index_or self.now number None }
     {
-        self.nodes.as_slice().get(self.index[place] as usize)
+        self.nodes.as_slice().get(self.index[number] as usize)
     }
 
-    /// Whether the node of a number is in the group.
+    /// The place of the node of a number, where it is in the group.
     #[inline(always)]
-    pub(crate) fn has(&self, place: usize) -> bool
-        requires { place < length self.now }
-        ensures { result ≡ is_some (slice_index_or self.now place None) }
+    pub(crate) fn place(&self, number: usize) -> Option<usize>
+        requires { number < length self.now }
+        ensures has { is_some result ≡ is_some (slice_index_or self.now number None) }
+        ensures place { IfSome result (λ at. number_at self.now at ≡ number) }
     {
-        (self.index[place] as usize) < self.nodes.as_slice().len()
-    }
-
-    /// The node at which the least key is pending, and its time.
-    #[inline(always)]
-    pub(crate) fn first(&self) -> Option<(usize, Time)>
-        ensures first { MatchOption result (least (net_pending (seated self.now)) ≡ None) (λ entry. IsFirst (seated self.now) entry.0) }
-        ensures time { option_map (λ entry. entry.1) result ≡ time_of (next_key (net_pending (seated self.now))) }
-    {
-        match self.nodes.first() {
-            Some((at, time)) => {
-                let node = &self.nodes.as_slice()[at];
-                Some((usize::from(node.number()), time))
-            }
-            None => None,
+        let at = self.index[number] as usize;
+        if at < self.nodes.as_slice().len() {
+            Some(at)
+        } else {
+            None
         }
     }
 
-    /// Runs the event of the least key of a node. What it says and promises is that of
+    /// The place of the node at which the least key is pending, and its time.
+    #[inline(always)]
+    pub(crate) fn first(&self) -> Option<(usize, Time)>
+        ensures first { MatchOption result (least (net_pending (seated self.now)) ≡ None) (λ entry. IsFirst (seated self.now) (number_at self.now entry.0)) }
+        ensures time { option_map (λ entry. entry.1) result ≡ time_of (next_key (net_pending (seated self.now))) }
+    {
+        self.nodes.first()
+    }
+
+    /// Runs the event of the least key of the node at a place. What it says and promises is that of
     /// [`Node::fire_into`].
     #[inline(always)]
     pub(crate) fn fire_into(
         &mut self,
-        place: usize,
+        at: usize,
         out: &mut Outbox,
         line: &mut Line,
     ) -> Result<Option<u16>, AllocError>
-        requires within { place < length self.old }
-        requires pending { next_key (node_at (seated self.old) place).pending ≢ None }
-        requires due { (k : Key) (v : Event) → least (node_at (seated self.old) place).pending ≡ Some (k, v) → IsRunnable (node_at (seated self.old) place).part k v }
-        requires chains { length (node_at (seated self.old) place).part.links ≤ length out.old }
+        requires within { number_at self.old at < length self.old }
+        requires pending { next_key (node_at (seated self.old) (number_at self.old at)).pending ≢ None }
+        requires due { let node = node_at (seated self.old) (number_at self.old at) in (k : Key) (v : Event) → least node.pending ≡ Some (k, v) → IsRunnable node.part k v }
+        requires chains { length (node_at (seated self.old) (number_at self.old at)).part.links ≤ length out.old }
         requires room { All (λ chain. length chain < 1000000000000000) out.old }
-        ensures fired { OnOk result (HasFired (node_at (seated self.old) place) (node_at (seated self.new) place) out.old out.new (shown line.new)) }
-        ensures put { OnOk result (self.new ≡ slice_set self.old place (Some (node_at (seated self.new) place))) }
+        ensures fired { let number = number_at self.old at in OnOk result (HasFired (node_at (seated self.old) number) (node_at (seated self.new) number) out.old out.new (shown line.new)) }
+        ensures put { let number = number_at self.old at in OnOk result (self.new ≡ slice_set self.old number (Some (node_at (seated self.new) number))) }
         ensures count { OnOk result (length (seated self.new) ≡ length (seated self.old)) }
-        ensures leaving { IfOk result (λ index. index ≡ option_map (λ (leaving : Leaving). leaving.index) (row (node_at (seated self.old) place).part line.new.key line.new.event).leaving) }
+        ensures taken { OnOk result (taken self.new ≡ taken self.old) }
+        ensures leaving { IfOk result (λ index. index ≡ option_map (λ (leaving : Leaving). leaving.index) (row (node_at (seated self.old) (number_at self.old at)).part line.new.key line.new.event).leaving) }
         ensures same { OnErr result (self.new ≡ self.old) }
         ensures same_out { OnErr result (out.new ≡ out.old) }
     {
-        let at = self.index[place] as usize;
         self.nodes.fire_into(at, out, line)
     }
 
-    /// The number of an outgoing link of a node.
-    pub(crate) fn link_number(&self, place: usize, index: usize) -> u16
-        requires within { place < length self.now }
-        requires index { index < length (node_at (seated self.now) place).part.links }
-        ensures { result ≡ (link_at (node_at (seated self.now) place).part.links index).port.link }
+    /// The number of an outgoing link of the node at a place.
+    pub(crate) fn link_number(&self, at: usize, index: usize) -> u16
+        requires within { number_at self.now at < length self.now }
+        requires index { index < length (node_at (seated self.now) (number_at self.now at)).part.links }
+        ensures { result ≡ (link_at (node_at (seated self.now) (number_at self.now at)).part.links index).port.link }
     {
-        let at = self.index[place] as usize;
         self.nodes.link_number(at, index)
     }
 
-    /// Packets come to a node over one of its incoming links, after all that came over it before;
-    /// the chain is then empty. It takes no memory.
+    /// Packets come to the node at a place over one of its incoming links, after all that came over
+    /// it before; the chain is then empty. It takes no memory.
     #[inline(always)]
-    pub(crate) fn deliver(&mut self, place: usize, index: usize, chain: &mut PacketChain)
-        requires place { place < length self.old }
-        requires within { index < length (node_at (seated self.old) place).incoming }
+    pub(crate) fn deliver(&mut self, at: usize, index: usize, chain: &mut PacketChain)
+        requires place { number_at self.old at < length self.old }
+        requires within { index < length (node_at (seated self.old) (number_at self.old at)).incoming }
         requires rising { IsStrictlyIncreasing (stamps_of chain.old) }
-        requires later { All (λ stamp. EachKey (λ k. k.source ≡ (incoming_at (node_at (seated self.old) place).incoming index).link + 1 → k.time < stamp) (node_at (seated self.old) place).pending) (stamps_of chain.old) }
-        requires few { (incoming_at (node_at (seated self.old) place).incoming index).came + length chain.old ≤ 2 ^ 50 }
-        ensures nodes { seated self.new ≡ slice_set (seated self.old) place (delivered (node_at (seated self.old) place) index chain.old) }
+        requires later { let node = node_at (seated self.old) (number_at self.old at) in All (λ stamp. EachKey (λ k. k.source ≡ (incoming_at node.incoming index).link + 1 → k.time < stamp) node.pending) (stamps_of chain.old) }
+        requires few { (incoming_at (node_at (seated self.old) (number_at self.old at)).incoming index).came + length chain.old ≤ 2 ^ 50 }
+        ensures nodes { let number = number_at self.old at in seated self.new ≡ slice_set (seated self.old) number (delivered (node_at (seated self.old) number) index chain.old) }
         ensures placed { IsPlaced (seated self.new) }
         ensures taken { taken self.new ≡ taken self.old }
         ensures emptied { chain.new ≡ [] }
     {
-        let at = self.index[place] as usize;
         self.nodes.deliver(at, index, chain);
     }
 }

@@ -13,7 +13,7 @@ ghost use Rattle.net_machine.specs.Wiring.{place_at};
 ghost use Rattle.window_law.specs.Groups.{up_to};
 ghost use Rattle.window_law.specs.Windows.{first_time};
 ghost use Rattle.node_group.specs.Held.{HoldsNothing, IsReleased};
-ghost use Rattle.node_group.specs.Seats.{seated, taken};
+ghost use Rattle.node_group.specs.Seats.{seated, taken, number_at};
 ghost use Rattle.node_group.specs.Numbered.{seats_of, AreFound, AreRising};
 ghost use Rattle.node_group.specs.Group.{GroupValue, state_of, group_from, group_to, member, came_in, IsGroup, IsOnRun, AfterFirings, Fired, IsDueBelow, IsFiring};
 
@@ -21,7 +21,7 @@ use crate::area::Area;
 use crate::exits::Exits;
 use crate::group::GroupFault;
 use crate::members::{MemberParts, Members};
-use net_machine::{LinkEnds, run_event};
+use net_machine::{LinkEnds, Region, run_event};
 use net_partition::Partition;
 use node_core::{Line, Node, Outbox};
 use packet_chain::PacketChain;
@@ -234,22 +234,20 @@ impl Share {
         ensures seats_stay { taken self.new.seats ≡ taken self.old.seats }
         ensures emptied { packets.new ≡ [] }
     {
-        let end = self.links[link].to;
-        self.area
-            .members
-            .deliver(usize::from(end.node), usize::from(end.index), packets);
+        self.area.pass_on(&self.links, link, packets);
     }
 
-    // Runs the event of the least key of a node, the least of all, which is below a moment.
+    // Runs the event of the least key of the node at a place, the least of all, which is below a
+    // moment.
     #[inline(always)]
-    fn fire_at(&mut self, place: usize, _end: Time) -> Result<(), AllocError>
-        requires { IsDueBelow _end self.old place }
+    fn fire_at(&mut self, at: usize, _end: Time) -> Result<(), AllocError>
+        requires { IsDueBelow _end self.old (number_at self.old.seats at) }
         ensures ok { OnOk result (IsFiring _end self.old self.new) }
         ensures err { OnErr result (self.new ≡ self.old) }
     {
         make_room(&mut self.lines, self.count, self.alloc)?;
         let line = &mut self.lines[self.count];
-        run_event(&mut self.area, &mut self.out, &self.links, place, line)?;
+        run_event(&mut self.area, &mut self.out, &self.links, at, line)?;
         self.count += 1;
         Ok(())
     }
@@ -266,7 +264,7 @@ impl Share {
         ensures memory { IfErr result (λ fault. fault ≡ GroupFault.NoMemory → (due (up_to end (state_of self.old)) ≢ None) × (self.old.position + length self.old.lines < 1000000000000000)) }
         ensures err { OnErr result (self.new ≡ self.old) }
     {
-        let Some((place, time)) = self.area.members.first() else {
+        let Some((at, time)) = self.area.members.first() else {
             return Ok(false);
         };
         if time >= end {
@@ -275,7 +273,7 @@ impl Share {
         if self.position + self.count as u64 == MOST_EVENTS {
             return Err(GroupFault::CountFull);
         }
-        match self.fire_at(place, end) {
+        match self.fire_at(at, end) {
             Ok(()) => Ok(true),
             Err(_) => Err(GroupFault::NoMemory),
         }
