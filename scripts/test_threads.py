@@ -16,6 +16,8 @@ PROGRAM = os.path.join(TOP, 'crates', 'tcpsim', 'out', 'tcpsim')
 NET = os.path.join(TOP, 'scripts', 'net.py')
 # Four parts with a bottleneck each, joined by cables of 40 ms: each part has thousands of events in a window.
 WIDE = ('islands', '--islands', '4', '--flows', '10', '--rate', '200M', '--between', '40ms', '--end', '2s')
+# The same for longer: some hundred and fifty windows that threads would share.
+LONG = (*WIDE[:-1], '6s')
 # One flow over links of 1 ms: a window holds a few events.
 SMALL = ('chain', '--hops', '3', '--flows', '1', '--rate', '10M', '--segments', '2000', '--end', '20s')
 
@@ -35,28 +37,28 @@ class Threads(unittest.TestCase):
     def text_of(self, shape):
         return subprocess.run([sys.executable, NET, *shape], check=True, capture_output=True, text=True).stdout
 
-    def ran(self, text, *words):
-        """What the program writes, and what beside it, and how many threads it started; `at_once` is then how many
-        of them there were at a time at most."""
+    def ran(self, text, *words, late=0):
+        """What the program writes, and what beside it, and how many threads it started, each of which waits for so
+        many microseconds first; `at_once` is then how many of them there were at a time at most."""
         counts = os.path.join(self.folder.name, 'counts')
         with open(counts, 'wb'):
             pass
-        env = {**os.environ, 'LD_PRELOAD': self.library, 'THREADS': counts}
+        env = {**os.environ, 'LD_PRELOAD': self.library, 'THREADS': counts, **({'THREADS_LATE': str(late)} if late else {})}
         done = subprocess.run([PROGRAM, *words], input=text, capture_output=True, text=True, env=env, check=True)
         with open(counts, 'rb') as file:
             marks = file.read()
         self.at_once = max(accumulate((1 if mark == ord('t') else -1 for mark in marks), initial=0))
         return done.stdout, done.stderr, marks.count(b't')
 
-    def counted(self, text, *words):
+    def counted(self, text, *words, late=0):
         """What the program writes, and how many threads it started."""
-        written, _, threads = self.ran(text, *words)
+        written, _, threads = self.ran(text, *words, late=late)
         return written, threads
 
-    def run_of(self, text, *words):
+    def run_of(self, text, *words, late=0):
         """How many threads a run starts; its trace is that of a run without options."""
         plain, none = self.counted(text, 'run')
-        trace, threads = self.counted(text, 'run', *words)
+        trace, threads = self.counted(text, 'run', *words, late=late)
         self.assertEqual(none, 0)
         self.assertTrue(trace == plain)
         return threads
@@ -114,11 +116,12 @@ class Threads(unittest.TestCase):
             self.assertGreater(self.run_of(text, '--groups', self.parts(), '--workers', str(workers)), 0)
             self.assertEqual(self.at_once, min(workers, 4) - 1)
 
-    def test_no_more_threads_than_groups(self):
-        """With 64 workers no window of four groups starts more than with four."""
-        text = self.text_of(WIDE)
-        four = self.run_of(text, '--groups', self.parts(), '--workers', '4')
-        self.assertEqual(self.run_of(text, '--groups', self.parts(), '--workers', '64'), four)
+    def test_threads_that_come_late_are_started_rarely(self):
+        """Threads that start 200 ms late find nothing to run: after four such windows all nodes go on in one group, and
+        few windows have threads from then on."""
+        threads = self.run_of(self.text_of(LONG), '--groups', self.parts(), '--workers', '4', late=200_000)
+        self.assertGreaterEqual(threads, 4)
+        self.assertLess(threads, 16 * 3)
 
     def test_the_debugger_goes_by_the_same_rule(self):
         text = self.text_of(SMALL) + '---\nuntil 19000000000\n'

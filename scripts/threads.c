@@ -1,6 +1,7 @@
 /* Tells of the threads that a program starts: a library for LD_PRELOAD. Each that is started adds a t to the
-   file that THREADS names, and each that is waited for a j. scripts/test_threads.py and
-   scripts/refuse_memory.sh build it. */
+   file that THREADS names, and each that is waited for a j. With THREADS_LATE each waits for so many
+   microseconds before it works, as on a machine whose processors have other work. scripts/test_threads.py
+   and scripts/refuse_memory.sh build it. */
 #define _GNU_SOURCE
 #include <dlfcn.h>
 #include <fcntl.h>
@@ -18,9 +19,27 @@ static void tell(const char *mark) {
   close(file);
 }
 
+/* What a thread that comes late is to run. */
+struct late {
+  void *(*run)(void *);
+  void *with;
+  useconds_t time;
+};
+
+static void *run_late(void *given) {
+  struct late late = *(struct late *)given;
+  free(given);
+  usleep(late.time);
+  return late.run(late.with);
+}
+
 int pthread_create(pthread_t *thread, const pthread_attr_t *how, void *(*run)(void *), void *with) {
   create *real = (create *)dlsym(RTLD_NEXT, "pthread_create");
-  int status = real(thread, how, run, with);
+  const char *time = getenv("THREADS_LATE");
+  struct late *late = time ? malloc(sizeof *late) : NULL;
+  if (time && !late) abort();
+  if (late) *late = (struct late){run, with, (useconds_t)atoi(time)};
+  int status = late ? real(thread, how, run_late, late) : real(thread, how, run, with);
   if (!status) tell("t");
   return status;
 }

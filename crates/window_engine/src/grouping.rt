@@ -5,6 +5,7 @@ ghost use Rattle.window_engine.specs.Courses.{HasGroups, IsApart, RunsIn};
 ghost use Rattle.window_engine.specs.Edges.{IsAtEdge, IsSameNet};
 
 use crate::course::Course;
+use crate::pace::Turnout;
 use std::alloc::AllocError;
 use window_core::{Partition, Window};
 
@@ -88,11 +89,11 @@ impl Course {
         }
     }
 
-    /// After a window, which ended by the lookahead or sooner, has all nodes in one group where the
-    /// last windows held few events, and after a while in their own again, to see what windows hold
-    /// then; and always in their own for a gate that asks for all workers in each window. Where memory
-    /// is refused they stay where they are.
-    pub(crate) fn choose(&mut self, worth: usize, whole: bool)
+    /// After a window, which ended by the lookahead or sooner and of whose groups threads ran so many, has
+    /// all nodes in one group where the last windows held few events or threads came late to them, and
+    /// after a while in their own again, to see how it is then; and always in their own for a gate that
+    /// asks for all workers in each window. Where memory is refused they stay where they are.
+    pub(crate) fn choose(&mut self, worth: usize, whole: bool, turnout: Turnout)
         requires edge { IsAtEdge self.old.window }
         requires few { groups_of self.old.window.entries ≤ 64 }
         requires groups { HasGroups self.old }
@@ -104,7 +105,13 @@ impl Course {
             let _ = self.part();
             return;
         }
-        self.pace.count(self.sheaf.len(), whole);
+        let turnout = if self.sheaf.beside_most() < worth {
+            // There was less to share than a thread is worth.
+            Turnout::none()
+        } else {
+            turnout
+        };
+        self.pace.count(self.sheaf.len(), whole, turnout);
         let (nodes, groups) = (self.groups.nodes(), self.window.groups());
         if !self.pace.is_to_change(nodes, groups) {
             return;

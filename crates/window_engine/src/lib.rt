@@ -27,7 +27,7 @@ pub use engine::Engine;
 pub use fault::{EngineFault, Stop};
 pub use gate::{Gate, OpenGate};
 pub use meeting::Meeting;
-pub use pace::{Load, load_of, next_stretch};
+pub use pace::{Load, Turnout, is_late, lateness, load_of, next_stretch};
 pub use put::put_all;
 pub use sink::{OverWrite, Sink, SinkFail};
 pub use slice::{FIRST_SLICE, WORTH, next_slice};

@@ -1,5 +1,6 @@
 //! When all nodes of the net go on in one group for a while: where windows hold few events, since each
-//! of them costs something for every group.
+//! of them costs something for every group, and where the threads that are to share a window come to it
+//! late, since the calling thread then runs it and has to wait for them.
 ghost use Rattle.std.specs.Prelude.{◌≡◌, false};
 
 /// Over how many windows it is asked how many events they hold.
@@ -16,6 +17,26 @@ const EACH: u64 = 32;
 
 /// and for at most so many.
 const LONGEST: u64 = 1_048_576;
+
+/// All nodes go into one group once threads came late so often more than in time. One is then taken off, so that
+/// one late window more is enough.
+const LATE: u64 = 4;
+
+/// How many groups of a window threads ran.
+#[derive(Clone, Copy, Debug, PartialEq, Eq, Drop)]
+pub struct Turnout {
+    /// How many the thread ran that ran most of them.
+    pub most: usize,
+    /// How many all threads ran: none, where the calling thread ran the window.
+    pub all: usize,
+}
+
+impl Turnout {
+    /// That of a window which threads did not share.
+    pub(crate) fn none() -> Turnout {
+        Turnout { most: 0, all: 0 }
+    }
+}
 
 /// What windows held.
 #[derive(Clone, Copy, Debug, PartialEq, Eq)]
@@ -41,15 +62,33 @@ pub fn load_of(windows: u64, events: u64, groups: usize) -> Load {
     }
 }
 
+/// Whether threads came late to a window that they were to share: so late that one of them ran all of its groups. On a
+/// machine with other work a thread that is started may wait for a processor longer than the window takes.
+pub fn is_late(turnout: Turnout) -> bool {
+    turnout.all > 1 && turnout.most == turnout.all
+}
+
+/// How often threads came late, less how often they were in time, after one more window, from 0 to `LATE`. One that
+/// the calling thread ran says nothing of it.
+pub fn lateness(before: u64, turnout: Turnout) -> u64 {
+    if turnout.all == 0 {
+        before
+    } else if is_late(turnout) {
+        before.saturating_add(1).min(LATE)
+    } else {
+        before.saturating_sub(1)
+    }
+}
+
 /// For how many events so many nodes of so many groups are to be in one, where it was for so many the
-/// last time and windows held few again; 0 where it is the first time.
+/// last time and windows held few again, or threads came late; 0 where it is the first time.
 pub fn next_stretch(last: u64, nodes: usize, groups: usize) -> u64 {
     let pairs = (nodes as u64).saturating_mul(groups as u64);
     let least = SHORTEST.max(pairs.saturating_mul(EACH));
     last.saturating_mul(2).max(least).min(LONGEST)
 }
 
-/// Whether all nodes are in one group, and what windows held since that was chosen.
+/// Whether all nodes are in one group, what windows held since that was chosen, and how often threads came late.
 #[derive(Clone, Copy, Debug, Drop)]
 pub(crate) struct Pace {
     /// Whether all nodes are in one group.
@@ -59,8 +98,10 @@ pub(crate) struct Pace {
     /// How many events all windows held.
     events: u64,
     /// For how many events all nodes are in one group, or were the last time; 0 where windows held many
-    /// since then.
+    /// since then, with no late one left to make up for.
     stretch: u64,
+    /// How often threads came late to a window, less how often they were in time.
+    late: u64,
 }
 
 impl Pace {
@@ -73,15 +114,18 @@ impl Pace {
             windows: 0,
             events: 0,
             stretch: 0,
+            late: 0,
         }
     }
 
-    /// Counts a window of so many events, which ended by the lookahead or sooner.
-    pub(crate) fn count(&mut self, events: usize, whole: bool)
+    /// Counts a window of so many events, which ended by the lookahead or sooner, and of whose groups threads ran
+    /// so many.
+    pub(crate) fn count(&mut self, events: usize, whole: bool, turnout: Turnout)
         ensures { self.new.joined ≡ self.old.joined }
     {
         self.windows = self.windows.saturating_add(u64::from(whole));
         self.events = self.events.saturating_add(events as u64);
+        self.late = lateness(self.late, turnout);
     }
 
     /// Forgets the windows that were counted.
@@ -92,21 +136,38 @@ impl Pace {
         self.events = 0;
     }
 
+    /// All nodes are to be in one group, twice as long as the last time.
+    fn stretch_out(&mut self, nodes: usize, groups: usize)
+        ensures { self.new.joined ≡ self.old.joined }
+    {
+        self.clear();
+        self.stretch = next_stretch(self.stretch, nodes, groups);
+    }
+
     /// Whether so many nodes of so many groups, which are in their groups, are to be in one.
     fn is_to_join(&mut self, nodes: usize, groups: usize) -> bool
         ensures { self.new.joined ≡ self.old.joined }
     {
-        let load = load_of(self.windows, self.events, groups);
-        if load == Load::Unknown {
-            return false;
+        if self.late == LATE {
+            // One late window more is then enough.
+            self.late = LATE - 1;
+            self.stretch_out(nodes, groups);
+            return true;
         }
-        self.clear();
-        if load == Load::Many {
-            self.stretch = 0;
-            return false;
+        match load_of(self.windows, self.events, groups) {
+            Load::Unknown => false,
+            Load::Few => {
+                self.stretch_out(nodes, groups);
+                true
+            }
+            Load::Many => {
+                self.clear();
+                if self.late == 0 {
+                    self.stretch = 0;
+                }
+                false
+            }
         }
-        self.stretch = next_stretch(self.stretch, nodes, groups);
-        true
     }
 
     /// Whether nodes that are in one group are to be in their own.

@@ -92,6 +92,7 @@ impl Course {
         ensures some { OnOk result ((time : ℕ) → IsNext plan.now.bound (edge_of now.now.value) time → now.now.value.position < self.new.window.position) }
         ensures ended { IfErr result (λ fault. HasEnded workers until began.now.value self.new (Err fault) (S.contents known.now.value) (S.contents sink.new) (S.failures known.now.value) (S.failures sink.new)) }
     {
+        let turnout = text.turnout();
         let made = text.complete(&self.sheaf);
         match self.put_made(made, text, sink) {
             Ok(bytes) => *written += bytes,
@@ -112,7 +113,7 @@ impl Course {
         }
         let _turned = self.window.position();
         let slice = self.slice_after(plan, workers);
-        self.choose(gate.worth(), plan.whole);
+        self.choose(gate.worth(), plan.whole, turnout);
         Ok(slice)
     }
 
@@ -193,7 +194,7 @@ impl Course {
 
     /// Has a crew run windows, and writes the lines of each while the next one runs, up to the run's end or
     /// until no event is left below a moment. Nothing is left to write where they end. Where windows hold
-    /// few events, all nodes are in one group for a while.
+    /// few events, or threads come late to them, all nodes are in one group for a while.
     pub(crate) fn write_together<G: Gate, S: Sink, R: Threads + Wait + Sync>(
         &mut self,
         crew: &Crew<R, G>,

@@ -63,6 +63,8 @@ pub(crate) struct Part {
 pub(crate) struct Scribe {
     /// The group's piece that the thread tries first, before it makes text.
     pub first: usize,
+    /// How many groups of the next window the thread ran, before it made text.
+    pub ran: usize,
     /// The text of its parts, one after another.
     pub text: Pad,
     /// Its parts.
@@ -113,6 +115,7 @@ impl Scribe {
     {
         Scribe {
             first: 0,
+            ran: 0,
             text: Pad::new(alloc),
             parts: Vec::new(alloc),
         }
@@ -123,6 +126,7 @@ impl Scribe {
         ensures text { self.new.text ≡ [] }
         ensures parts { self.new.parts.items ≡ [] }
     {
+        self.ran = 0;
         self.text.clear();
         self.parts.clear();
     }

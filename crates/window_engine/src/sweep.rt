@@ -57,8 +57,8 @@ fn leave<G: Gate>(gate: &G, _seat: &Seat, piece: usize)
     gate.leave(piece as u64);
 }
 
-/// Tries a piece, and runs it where the seat claimed it.
-fn meet<G: Gate>(board: &Board, seat: &mut Seat, gate: &G, piece: usize)
+/// Tries a piece, and runs it where the seat claimed it: then it is counted.
+fn meet<G: Gate>(board: &Board, seat: &mut Seat, gate: &G, piece: usize, ran: &mut usize)
     requires board { IsOf board.now seat.old }
     requires idle { HoldsNothing seat.old }
     requires piece { piece < length board.now.pieces }
@@ -72,12 +72,13 @@ fn meet<G: Gate>(board: &Board, seat: &mut Seat, gate: &G, piece: usize)
         seat.held(board, piece).run();
         board.finish(seat, piece);
         leave(gate, seat, piece);
+        *ran = ran.saturating_add(1);
     }
 }
 
-/// Tries every piece, from one on and then those before it, and runs those that it claimed. So a worker that begins
-/// where it did in the window before meets groups that its core's cache has.
-fn work<G: Gate>(board: &Board, seat: Seat, first: usize, gate: &G) -> Seat
+/// Tries every piece, from one on and then those before it, so that a worker that begins where it did in the window
+/// before meets groups that its core's cache has. It runs those that it claimed, and counts them.
+fn work<G: Gate>(board: &Board, seat: Seat, first: usize, gate: &G, ran: &mut usize) -> Seat
     requires board { IsOf board.now seat }
     requires idle { HoldsNothing seat }
     ensures board { IsOf board.now result }
@@ -86,10 +87,10 @@ fn work<G: Gate>(board: &Board, seat: Seat, first: usize, gate: &G) -> Seat
     let mut seat = seat;
     let first = first.min(board.pieces());
     for piece in first..board.pieces() {
-        meet(board, &mut seat, gate, piece);
+        meet(board, &mut seat, gate, piece, ran);
     }
     for before in 0..first {
-        meet(board, &mut seat, gate, before);
+        meet(board, &mut seat, gate, before, ran);
     }
     seat
 }
@@ -105,8 +106,11 @@ fn serve<G: Gate>(tasks: &Tasks, gate: &G, sheaf: &Sheaf, shift: Shift) -> Shift
     ensures right { IsRight sheaf.now result.scribe }
 {
     let Shift { seat, mut scribe } = shift;
-    let seat = work(&tasks.board, seat, scribe.first, gate);
+    let mut ran = 0;
+    let seat = work(&tasks.board, seat, scribe.first, gate, &mut ran);
     scribe.make_parts(sheaf, &tasks.parts);
+    // Set last: a scribe that is refused memory forgets all.
+    scribe.ran = ran;
     Shift { seat, scribe }
 }
 

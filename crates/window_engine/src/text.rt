@@ -6,6 +6,7 @@ ghost use Rattle.window_engine.specs.Failures.{failures_after};
 ghost use Rattle.window_engine.specs.Parts.{IsInside, AreRight, HasText, IsPlaceAt, IsRight, IsWhole, bytes_at, text_of};
 ghost use Rattle.window_engine.specs.Puts.{TakesFirst};
 
+use crate::pace::Turnout;
 use crate::put::put_all;
 use crate::scribe::{Part, Scribe};
 use crate::sink::Sink;
@@ -120,6 +121,16 @@ impl Text {
         ensures { AreRight sheaf.now self.new.scribes.items }
     {
         clear_all(sheaf, self.scribes.as_mut_slice());
+    }
+
+    /// How many groups threads ran of the window that follows the text's.
+    pub(crate) fn turnout(&self) -> Turnout {
+        let mut turnout = Turnout::none();
+        for scribe in &self.scribes {
+            turnout.most = turnout.most.max(scribe.ran);
+            turnout.all = turnout.all.saturating_add(scribe.ran);
+        }
+        turnout
     }
 
     /// Puts the parts in the order of their lines. The answer is whether all lines are there.

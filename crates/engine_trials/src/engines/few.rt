@@ -1,4 +1,5 @@
-//! Where windows hold few events all nodes are in one group for a while: the lines are the same.
+//! Where windows hold few events, or threads come late to them, all nodes are in one group for a while: the lines
+//! are the same.
 
 use super::nets::steady_flows;
 use super::{engine_of, run_to, text_of, whole_text, window};
@@ -9,7 +10,9 @@ use std::sync::Wait;
 use std::sync::atomic::AtomicU64;
 use std::sync::atomic::Ordering::SeqCst;
 use std::thread::Threads;
-use window_engine::{Gate, Load, OverWrite, Stop, WORTH, load_of, next_stretch};
+use window_engine::{
+    Gate, Load, OverWrite, Stop, Turnout, WORTH, is_late, lateness, load_of, next_stretch,
+};
 
 // Four groups, so that each window of theirs has four pieces.
 const GROUPS: [u8; 4] = [0, 1, 2, 3];
@@ -123,4 +126,36 @@ fn one_group_lasts_twice_as_long_each_time(rt: HostRuntime) {
     expect_stretch(&rt, 524_288, (256, 64), 1_048_576);
     expect_stretch(&rt, 1_048_576, (4, 4), 1_048_576);
     expect_stretch(&rt, u64::MAX, (256, 64), 1_048_576);
+}
+
+// Whether threads came late to a window of which one of them ran so many groups of so many.
+fn expect_late(rt: &impl Abort, most: usize, all: usize, late: bool) {
+    assert_eq!(rt; is_late(Turnout { most, all }), late);
+}
+
+#[test]
+fn threads_are_late_where_one_ran_all_groups(rt: HostRuntime) {
+    expect_late(&rt, 0, 0, false);
+    expect_late(&rt, 1, 1, false);
+    expect_late(&rt, 1, 2, false);
+    expect_late(&rt, 2, 2, true);
+    expect_late(&rt, 3, 4, false);
+    expect_late(&rt, 4, 4, true);
+    expect_late(&rt, 63, 64, false);
+    expect_late(&rt, 64, 64, true);
+}
+
+// How often threads came late, less how often they were in time, after one more window.
+fn expect_lateness(rt: &impl Abort, before: u64, (most, all): (usize, usize), after: u64) {
+    assert_eq!(rt; lateness(before, Turnout { most, all }), after);
+}
+
+#[test]
+fn windows_in_time_make_up_for_late_ones(rt: HostRuntime) {
+    expect_lateness(&rt, 0, (4, 4), 1);
+    expect_lateness(&rt, 3, (4, 4), 4);
+    expect_lateness(&rt, 4, (4, 4), 4);
+    expect_lateness(&rt, 3, (1, 4), 2);
+    expect_lateness(&rt, 0, (1, 4), 0);
+    expect_lateness(&rt, 3, (0, 0), 3);
 }
