@@ -29,7 +29,7 @@ LIBRARY = trace_reader.py engine.py finding.py units.py causes.py lives.py
 test:
 	@python3 scripts/build.py --ready
 	@python3 scripts/wrong_bodies.py --check
-	RT_JOBS=$$(nproc) rt ci
+	rt ci
 	@python3 scripts/run_tests.py --python '$(PYTHON)'
 
 test-scripts:
