@@ -45,14 +45,15 @@ class Refused(Exception):
 
 
 def toolchain():
-    """The folder of the toolchain that README.md names, or a refusal that says which is wanted."""
+    """The folder of the toolchain, one of those that README.md names, or a refusal that says which are wanted."""
     with open(f"{TOP}/README.md", encoding="utf-8") as file:
-        wanted = re.search(r"`rt version` prints `([^`]+)`", file.read())[1]
+        wanted = re.findall(r"`(rattle-kit-\S+ logic \S+)`", file.read())
+    said = " or ".join(f"`{it}`" for it in wanted)
     if not shutil.which("rt"):
-        raise Refused(f"there is no command rt; the toolchain that is wanted is `{wanted}`")
+        raise Refused(f"there is no command rt; the toolchain that is wanted is {said}")
     found = subprocess.run(["rt", "version"], capture_output=True, text=True).stdout.strip()
-    if found != wanted:
-        raise Refused(f"the toolchain is `{found}`, and the one that is wanted is `{wanted}`")
+    if found not in wanted:
+        raise Refused(f"the toolchain is `{found}`, and the one that is wanted is {said}")
     page = subprocess.run(["rt", "doc"], capture_output=True, text=True).stdout.strip()
     return os.path.dirname(page)
 
