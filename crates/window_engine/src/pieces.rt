@@ -7,9 +7,9 @@ ghost use Rattle.window_engine.specs.Parts.{AreRight};
 use crate::fault::EngineFault;
 use crate::gate::Gate;
 use crate::gather::gather;
-use crate::scribe::{Parts, Scribe};
+use crate::parts::Parts;
+use crate::scribe::Scribe;
 use crate::sweep::{SweepFault, Tasks, sweep};
-use crate::text::parts_for;
 use std::alloc::Global;
 use std::sync::Wait;
 use std::thread::Threads;
@@ -40,7 +40,7 @@ pub(crate) fn run_pieces<G: Gate, R: Threads + Wait + Sync>(
     let Ok((board, seat)) = Board::lay(alloc, pieces) else {
         return Err(EngineFault::NoMemory);
     };
-    let parts = Parts::new(parts_for(sheaf.len(), workers));
+    let parts = Parts::new(sheaf.len(), workers);
     let tasks = Tasks { board, parts };
     let seat = match sweep(rt, alloc, workers, gate, &tasks, seat, sheaf, scribes) {
         Ok(seat) => seat,

@@ -6,44 +6,12 @@ ghost use Rattle.window_engine.specs.Parts.{HasText, IsRight};
 ghost use Rattle.window_engine.specs.Text.{text_from};
 
 use crate::pad::Pad;
+use crate::parts::{Parts, Stretch};
 use std::alloc::{AllocError, Global};
-use std::sync::atomic::AtomicU64;
-use std::sync::atomic::Ordering::SeqCst;
 use window_core::{Cursor, Sheaf};
 
 /// For how many bytes of a line there is to be room: few lines have more.
 const LINE_BYTES: usize = 128;
-
-/// The parts in which threads make a window's text. Each is taken by one thread.
-#[derive(Drop)]
-pub(crate) struct Parts {
-    /// How many parts there are.
-    count: usize,
-    /// How often one was asked for.
-    asked: AtomicU64,
-}
-
-impl Parts {
-    /// So many parts, of which none is taken.
-    pub(crate) fn new(count: usize) -> Parts {
-        Parts {
-            count,
-            asked: AtomicU64::new(0),
-        }
-    }
-
-    /// The number of a part that no thread has taken yet.
-    fn take(&self) -> Option<usize>
-        ensures { IfSome result (λ number. number < self.now.count) }
-    {
-        let number = self.asked.fetch_add(1, SeqCst) as usize;
-        if number < self.count {
-            Some(number)
-        } else {
-            None
-        }
-    }
-}
 
 /// Lines whose text a thread made, one after another.
 #[derive(Clone, Copy, Drop)]
@@ -91,20 +59,19 @@ fn append_lines(
     Ok(())
 }
 
-/// The index behind the lines of a part, of so many parts. The cursor goes there.
+/// The index behind the lines up to a share, of so many shares. The cursor goes there.
 fn end_of(
     sheaf: &Sheaf,
     cursor: &mut Cursor,
-    number: usize,
-    parts: usize,
+    share: usize,
+    shares: usize,
 ) -> Result<usize, AllocError>
-    requires number { number < parts }
     ensures { IfOk result (λ end. end ≤ length (merged sheaf.now).lines) }
 {
-    if number + 1 == parts {
+    if share >= shares {
         return Ok(sheaf.len());
     }
-    sheaf.begin_at(cursor, sheaf.moment_at(number + 1, parts))?;
+    sheaf.begin_at(cursor, sheaf.moment_at(share, shares))?;
     Ok(cursor.at())
 }
 
@@ -174,23 +141,23 @@ impl Scribe {
         self.make_lines(sheaf, cursor, sheaf.len())
     }
 
-    /// Makes the text of a part, of so many parts.
+    /// Makes the text of a part, of so many shares.
     fn make_part(
         &mut self,
         sheaf: &Sheaf,
         cursor: &mut Cursor,
-        number: usize,
-        parts: usize,
+        stretch: Stretch,
+        shares: usize,
     ) -> Result<(), AllocError>
-        requires number { number < parts }
+        requires from { stretch.from < shares }
         requires fits { sheaf.now.first + length (merged sheaf.now).lines < 2 ^ 63 }
         requires right { IsRight sheaf.now self.old }
         ensures right { OnOk result (IsRight sheaf.now self.new) }
     {
         self.text
             .make_room((sheaf.len() / 2).saturating_mul(LINE_BYTES))?;
-        let end = end_of(sheaf, cursor, number, parts)?;
-        sheaf.begin_at(cursor, sheaf.moment_at(number, parts))?;
+        let end = end_of(sheaf, cursor, stretch.to, shares)?;
+        sheaf.begin_at(cursor, sheaf.moment_at(stretch.from, shares))?;
         let count = end.saturating_sub(cursor.at());
         let part = self.make_lines(sheaf, cursor, count)?;
         self.parts.push(part)?;
@@ -204,11 +171,11 @@ impl Scribe {
         ensures right { OnOk result (IsRight sheaf.now self.new) }
     {
         let mut cursor = Cursor::new(self.text.allocator())?;
-        for _ in 0..parts.count {
-            let Some(number) = parts.take() else {
+        for _ in 0..parts.shares {
+            let Some(stretch) = parts.take() else {
                 break;
             };
-            self.make_part(sheaf, &mut cursor, number, parts.count)?;
+            self.make_part(sheaf, &mut cursor, stretch, parts.shares)?;
         }
         Ok(())
     }

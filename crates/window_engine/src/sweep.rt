@@ -7,7 +7,8 @@ ghost use Rattle.window_engine.specs.Parts.{AreRight, IsRight};
 ghost use Rattle.window_engine.specs.Sweeps.{HasMet, IsSwept};
 
 use crate::gate::Gate;
-use crate::scribe::{Parts, Scribe};
+use crate::parts::Parts;
+use crate::scribe::Scribe;
 use std::alloc::Global;
 use std::mem::replace;
 use std::snapshot::Snapshot;

@@ -7,21 +7,12 @@ ghost use Rattle.window_engine.specs.Parts.{IsInside, AreRight, HasText, IsPlace
 ghost use Rattle.window_engine.specs.Puts.{TakesFirst};
 
 use crate::pace::Turnout;
+use crate::parts::MOST_PARTS;
 use crate::put::put_all;
 use crate::scribe::{Part, Scribe};
 use crate::sink::Sink;
 use std::alloc::{AllocError, Global};
 use window_core::{Cursor, Sheaf};
-
-/// In how many parts a window's text is made at most.
-pub const MOST_PARTS: usize = 64;
-
-/// How many parts there are for each worker, so that one that is done with its groups early makes
-/// more of them than another.
-const EACH: usize = 4;
-
-/// How many lines are worth a part.
-const LEAST: usize = 256;
 
 /// Where a part's text is.
 #[derive(Clone, Copy, Drop)]
@@ -41,12 +32,6 @@ pub(crate) struct Text {
     pub order: Vec<Place>,
     /// Where the merge of the lines stands, on the calling thread.
     cursor: Cursor,
-}
-
-/// In how many parts so many threads make the text of so many lines.
-pub(crate) fn parts_for(lines: usize, workers: usize) -> usize {
-    let most = MOST_PARTS.min(workers.saturating_mul(EACH));
-    lines.div_ceil(LEAST).min(most)
 }
 
 /// The part of a thread's that begins with a line, where it made one and has a line.

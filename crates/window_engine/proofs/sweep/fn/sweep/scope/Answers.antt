@@ -9,7 +9,7 @@ use Rattle.window_engine.specs.contracts.sweep.Shift as Shift
 use Rattle.window_engine.specs.contracts.sweep.Tasks as Tasks
 use Rattle.window_engine.specs.declared.sweep.Shift.{Shift as ShiftValue}
 use Rattle.window_engine.specs.declared.sweep.Sweeps.{Sweeps}
-use Rattle.window_engine.proofs.scribe.Parts.TheSendSync as parts
+use Rattle.window_engine.proofs.parts.Parts.TheSendSync as parts
 use Rattle.window_engine.proofs.scribe.Scribe.TheSendSync as scribe
 use Rattle.window_engine.proofs.sweep.fn.sweep.scope.Goals as goal
 use Rattle.window_engine.proofs.sweep.fn.sweep.scope.Goals.{in-Ok-spawn_with, in-Err}

@@ -1,0 +1,75 @@
+//! Into which parts a window's text is cut. The first ones are long, so that few moments are looked for, and the last
+//! ones are short, so that a thread which is done does not wait long for another's.
+ghost use Rattle.std.specs.Prelude.{◌<◌, IfSome};
+
+use std::sync::atomic::AtomicU64;
+use std::sync::atomic::Ordering::SeqCst;
+
+/// In how many parts a window's text is made at most.
+pub const MOST_PARTS: usize = 64;
+
+/// How many lines are worth a part.
+const LEAST: usize = 128;
+
+/// The parts in which threads make a window's text. Each is taken by one thread.
+#[derive(Drop)]
+pub(crate) struct Parts {
+    /// Of how many equal shares of the lines they are.
+    pub shares: usize,
+    /// How many threads take them.
+    workers: usize,
+    /// How often one was asked for.
+    asked: AtomicU64,
+}
+
+/// A part: shares of the lines from one on up to another.
+#[derive(Clone, Copy, Debug, PartialEq, Eq)]
+pub(crate) struct Stretch {
+    /// Its first share.
+    pub from: usize,
+    /// The share behind its last.
+    pub to: usize,
+}
+
+/// The first share of a part, of so many shares that so many threads take; the share behind the last where there is no
+/// such part. Half of the shares go to as many parts as there are threads, then half of what is left, and so on.
+pub fn share_of(part: usize, shares: usize, workers: usize) -> usize {
+    let workers = workers.max(1);
+    let (mut before, mut left) = (part, shares);
+    for _ in 0..shares {
+        let each = (left / 2 / workers).max(1);
+        if before < workers || each == 1 {
+            return shares
+                .saturating_sub(left)
+                .saturating_add(before.saturating_mul(each))
+                .min(shares);
+        }
+        before -= workers;
+        left = left.saturating_sub(workers.saturating_mul(each));
+    }
+    shares
+}
+
+impl Parts {
+    /// Those of so many lines, which so many threads take. None is taken yet.
+    pub(crate) fn new(lines: usize, workers: usize) -> Parts {
+        Parts {
+            shares: lines.div_ceil(LEAST).min(MOST_PARTS),
+            workers,
+            asked: AtomicU64::new(0),
+        }
+    }
+
+    /// A part that no thread has taken yet.
+    pub(crate) fn take(&self) -> Option<Stretch>
+        ensures { IfSome result (λ stretch. stretch.from < self.now.shares) }
+    {
+        let part = self.asked.fetch_add(1, SeqCst) as usize;
+        let from = share_of(part, self.shares, self.workers);
+        if from >= self.shares {
+            return None;
+        }
+        let to = share_of(part.saturating_add(1), self.shares, self.workers);
+        Some(Stretch { from, to })
+    }
+}
