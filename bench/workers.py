@@ -79,7 +79,7 @@ def windows(program, path, groups):
 
 
 def threads(program, path, groups):
-    """How many threads four workers start in a run: at most three for a window, since the calling thread is one of the four."""
+    """How many threads four workers start in a run: three at most, which stay, since the calling thread is one of the four."""
     return ran(program, path, ('--workers', '4', *groups), ('strace', '-f', '-qq', '-e', 'trace=clone3')).count('clone3(')
 
 

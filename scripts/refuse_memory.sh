@@ -3,11 +3,9 @@
 # has to end as always, or with status 4 and the note 'no memory'; then `run` wrote a beginning of its
 # trace in whole lines, and every other word nothing. Of the first example in two groups the lines are
 # those of whole windows: 0, 1, 2, 4 or 5 of them, never 3, as its third and fourth event are in one
-# window. Where the whole run starts threads the note may be 'no worker' too, since a thread that finds no
-# memory to start with is a worker that could not be started; a run that starts none, by several workers
-# too, has only 'no memory'. A run that takes longer than 10 seconds, ends by a signal or writes another
-# byte is a failure. The whole trace is the one beside the scenario,
-# where there is one.
+# window. A thread that finds no memory to start with is done without. A run that takes longer than 10
+# seconds, ends by a signal or writes another byte is a failure. The whole trace is the one beside the
+# scenario, where there is one.
 # With one worker each request is refused once. With more the order of requests is not fixed, so each
 # number up to twice the count of a whole run is tried once.
 # With words behind the scenario it tries these, or `run` where there is none, and says how often each
@@ -23,8 +21,7 @@ first=$top/examples/one_segment.txt
 work=$(mktemp -d) || exit 2
 trap 'rm -rf "$work"' EXIT
 
-# One library refuses, one counts the requests, and one the threads: the program ends by `_exit`, which
-# runs no destructor.
+# One library refuses and one counts the requests: the program ends by `_exit`, which runs no destructor.
 cat > "$work/count.c" <<'C'
 #include "refuse.c"
 #include <sys/syscall.h>
@@ -37,11 +34,10 @@ void _exit(int status) {
 C
 cc -O1 -shared -fPIC "$top/scripts/refuse.c" -o "$work/refuse.so" -ldl || exit 2
 cc -O1 -shared -fPIC -I "$top/scripts" "$work/count.c" -o "$work/count.so" -ldl || exit 2
-cc -O1 -shared -fPIC "$top/scripts/threads.c" -o "$work/threads.so" -ldl || exit 2
 
 # tried INPUT WORD..: refuses the requests of one run, in a folder of its own, and says what came.
 tried() {
-  local input=$1 here said many=0 parted=0 threads=0 lines=0 before=''
+  local input=$1 here said many=0 parted=0 lines=0 before=''
   local status note whole_status whole_note requests last n answer wrote count refusals=0
   shift
   here=$(mktemp -d -p "$work") || return 2
@@ -56,11 +52,8 @@ tried() {
     before=''
     case $word in --workers | --groups) before=$word ;; esac
   done
-  : > "$here/threads"
-  REQUESTS=$here/requests THREADS=$here/threads LD_PRELOAD="$work/count.so $work/threads.so" \
-    "$program" "$@" < "$input" > "$here/whole" 2> "$here/note"
+  REQUESTS=$here/requests LD_PRELOAD="$work/count.so" "$program" "$@" < "$input" > "$here/whole" 2> "$here/note"
   whole_status=$?
-  threads=$(stat -c %s "$here/threads")
   IFS= read -r -d '' whole_note < "$here/note"
   requests=$(cat "$here/requests") || return 2
   if [ "${1-}" = run ] && [ "$whole_status" = 0 ] && [ -e "${input%.txt}.trace" ] && [ "$said" != "run --help" ] &&
@@ -88,14 +81,8 @@ tried() {
       answers[as always]=$((${answers[as always]:-0} + 1))
       continue
     fi
-    case $note in
-      'no memory
-') answer='no memory' ;;
-      'no worker
-') answer='no worker' ;;
-      *) failed 'another note'; return 1 ;;
-    esac
-    [ "$threads" -gt 0 ] || [ "$answer" = 'no memory' ] || { failed 'the run starts no thread'; return 1; }
+    [ "$note" = 'no memory
+' ] || { failed 'another note'; return 1; }
     [ "$status" = 4 ] || { failed 'another status'; return 1; }
     wrote='nothing'
     if [ -s "$here/out" ]; then
@@ -110,7 +97,7 @@ tried() {
       wrote='whole lines'
       [ "$lines" -gt 10 ] || wrote="lines: $count"
     fi
-    answers[$answer, $wrote]=$((${answers[$answer, $wrote]:-0} + 1))
+    answers[no memory, $wrote]=$((${answers[no memory, $wrote]:-0} + 1))
     refusals=$((refusals + 1))
   done
   n=$last

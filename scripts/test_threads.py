@@ -8,6 +8,7 @@ import shutil
 import subprocess
 import sys
 import tempfile
+import time
 import unittest
 from itertools import accumulate
 
@@ -16,8 +17,6 @@ PROGRAM = os.path.join(TOP, 'crates', 'tcpsim', 'out', 'tcpsim')
 NET = os.path.join(TOP, 'scripts', 'net.py')
 # Four parts with a bottleneck each, joined by cables of 40 ms: each part has thousands of events in a window.
 WIDE = ('islands', '--islands', '4', '--flows', '10', '--rate', '200M', '--between', '40ms', '--end', '2s')
-# The same for longer: some hundred and fifty windows that threads would share.
-LONG = (*WIDE[:-1], '6s')
 # One flow over links of 1 ms: a window holds a few events.
 SMALL = ('chain', '--hops', '3', '--flows', '1', '--rate', '10M', '--segments', '2000', '--end', '20s')
 
@@ -37,28 +36,28 @@ class Threads(unittest.TestCase):
     def text_of(self, shape):
         return subprocess.run([sys.executable, NET, *shape], check=True, capture_output=True, text=True).stdout
 
-    def ran(self, text, *words, late=0):
-        """What the program writes, and what beside it, and how many threads it started, each of which waits for so
-        many microseconds first; `at_once` is then how many of them there were at a time at most."""
+    def ran(self, text, *words):
+        """What the program writes, and what beside it, and how many threads it started; `at_once` is then how many of
+        them there were at a time at most."""
         counts = os.path.join(self.folder.name, 'counts')
         with open(counts, 'wb'):
             pass
-        env = {**os.environ, 'LD_PRELOAD': self.library, 'THREADS': counts, **({'THREADS_LATE': str(late)} if late else {})}
+        env = {**os.environ, 'LD_PRELOAD': self.library, 'THREADS': counts}
         done = subprocess.run([PROGRAM, *words], input=text, capture_output=True, text=True, env=env, check=True)
         with open(counts, 'rb') as file:
             marks = file.read()
         self.at_once = max(accumulate((1 if mark == ord('t') else -1 for mark in marks), initial=0))
         return done.stdout, done.stderr, marks.count(b't')
 
-    def counted(self, text, *words, late=0):
+    def counted(self, text, *words):
         """What the program writes, and how many threads it started."""
-        written, _, threads = self.ran(text, *words, late=late)
+        written, _, threads = self.ran(text, *words)
         return written, threads
 
-    def run_of(self, text, *words, late=0):
+    def run_of(self, text, *words):
         """How many threads a run starts; its trace is that of a run without options."""
         plain, none = self.counted(text, 'run')
-        trace, threads = self.counted(text, 'run', *words, late=late)
+        trace, threads = self.counted(text, 'run', *words)
         self.assertEqual(none, 0)
         self.assertTrue(trace == plain)
         return threads
@@ -110,18 +109,33 @@ class Threads(unittest.TestCase):
             self.assertEqual(self.run_of(text, '--groups', 'each', '--workers', workers), 0)
 
     def test_the_calling_thread_is_one_of_the_workers(self):
-        """For four workers three threads at a time are started beside the program's own, which works too."""
+        """For four workers three threads are started beside the program's own, which works too; they stay from window to
+        window, and all have gone at the end."""
         text = self.text_of(WIDE)
         for workers in (2, 3, 4, 64):
-            self.assertGreater(self.run_of(text, '--groups', self.parts(), '--workers', str(workers)), 0)
+            self.assertEqual(self.run_of(text, '--groups', self.parts(), '--workers', str(workers)), min(workers, 4) - 1)
             self.assertEqual(self.at_once, min(workers, 4) - 1)
 
-    def test_threads_that_come_late_are_started_rarely(self):
-        """Threads that start 200 ms late find nothing to run: after four such windows all nodes go on in one group, and
-        few windows have threads from then on."""
-        threads = self.run_of(self.text_of(LONG), '--groups', self.parts(), '--workers', '4', late=200_000)
-        self.assertGreaterEqual(threads, 4)
-        self.assertLess(threads, 16 * 3)
+    def test_nobody_waits_for_threads_that_come_late(self):
+        """Threads that start 3 s late find nothing to run: the calling thread takes back what they were to do, and the
+        whole trace is there before they come. The run ends once they have gone."""
+        name = os.path.join(self.folder.name, 'late.txt')
+        with open(name, 'w', encoding='utf-8') as file:
+            file.write(self.text_of(WIDE))
+        plain = subprocess.run([PROGRAM, 'run', name], capture_output=True, check=True).stdout
+        env = {**os.environ, 'LD_PRELOAD': self.library, 'THREADS': os.path.join(self.folder.name, 'counts'),
+               'THREADS_LATE': '3000000'}
+        words = ['run', '--workers', '4', '--groups', self.parts(), name]
+        begun = time.monotonic()
+        with subprocess.Popen([PROGRAM, *words], stdout=subprocess.PIPE, env=env) as running:
+            lines = running.stdout.read(plain.rindex(b'end '))
+            early = time.monotonic() - begun
+            last = running.stdout.read()
+            late = time.monotonic() - begun
+        self.assertEqual(running.returncode, 0)
+        self.assertTrue(lines + last == plain)
+        self.assertLess(early, 3)
+        self.assertGreaterEqual(late, 3)
 
     def test_the_debugger_goes_by_the_same_rule(self):
         text = self.text_of(SMALL) + '---\nuntil 19000000000\n'

@@ -1,7 +1,7 @@
 /* Tells of the threads that a program starts: a library for LD_PRELOAD. Each that is started adds a t to the
    file that THREADS names, and each that is waited for a j. With THREADS_LATE each waits for so many
    microseconds before it works, as on a machine whose processors have other work. scripts/test_threads.py
-   and scripts/refuse_memory.sh build it. */
+   builds it. */
 #define _GNU_SOURCE
 #include <dlfcn.h>
 #include <fcntl.h>

@@ -64,11 +64,6 @@ fn engine_of(rt: &impl Abort, alloc: Global, scenario: &Scenario) -> Engine {
     }
 }
 
-/// A fault that comes of a refusal: a thread that finds no memory is not started.
-fn is_refusal(fault: EngineFault, workers: usize) -> bool {
-    fault == EngineFault::NoMemory || workers > 1 && fault == EngineFault::NoWorker
-}
-
 /// Runs a window. Whether it was refused: the engine has failed then, and stands where it stood. None where
 /// it has lines.
 fn is_window_refused<R: Threads + Wait + Abort + Sync>(
@@ -87,7 +82,8 @@ fn is_window_refused<R: Threads + Wait + Abort + Sync>(
             None
         }
         Err(fault) => {
-            assert!(rt; is_refusal(fault, workers) && engine.failed());
+            // A thread that finds no memory is done without.
+            assert!(rt; fault == EngineFault::NoMemory && engine.failed());
             assert_eq!(rt; engine.position(), position);
             Some(true)
         }
@@ -227,7 +223,7 @@ fn stops_at_an_edge<R: Threads + Wait + Abort + Sync>(
             false
         }
         Err(fault) => {
-            assert!(rt; is_refusal(fault, workers));
+            assert!(rt; fault == EngineFault::NoMemory);
             expect_edge(rt, alloc, scenario, position);
             true
         }
@@ -329,15 +325,12 @@ fn moves<R: Threads + Wait + Abort + Sync>(
     alloc: Global,
     debugger: &mut Debugger,
     told: Move,
-    workers: usize,
 ) -> u64 {
     let before = dump(rt, alloc, debugger);
     match moved(rt, debugger, told) {
         Ok(position) => position,
         Err(fault) => {
-            assert!(rt;
-                fault == MoveFault::NoMemory || workers > 1 && fault == MoveFault::NoWorker
-            );
+            assert!(rt; fault == MoveFault::NoMemory);
             let after = dump(rt, alloc, debugger);
             assert!(rt; after.as_slice() == before.as_slice());
             moved(rt, debugger, told)
@@ -357,7 +350,7 @@ fn moves_all<R: Threads + Wait + Abort + Sync>(
     let mut debugger = debugger_of(rt, alloc, scenario, workers);
     stops_at_segments(rt, &mut debugger);
     for (told, position) in MOVES {
-        let come = moves(rt, alloc, &mut debugger, told, workers);
+        let come = moves(rt, alloc, &mut debugger, told);
         assert_eq!(rt; come, position);
     }
     drop(debugger);

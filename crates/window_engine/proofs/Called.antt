@@ -74,6 +74,11 @@ module _ (until : ℕ) (began c : Course) (written : ℕ) (known now : Option (L
     ahead = ahead ∙ w.ahead;
   }
 
+  -- it ends for want of memory before the next window
+  pub out_of_memory : (workers f g : ℕ) → g ≡ f → HasEnded workers until began c (Err NoMemory) known now f g
+  out_of_memory workers f g same =
+      broken workers c now (Workers NoMemory) f g g (wrote_no_more until w.net c.position now w.behind.committed, tt) (λ is. absurd (cc)) same refl refl refl
+
   -- it ends since no window is left
   pub done : (workers bytes : ℕ) (new : Course) (later : Option (List ℕ)) (f h : ℕ) (stop : Stop) → Wrote until w.net (reached_in c.window) bytes now later → new ≡ record c { position = new.position } → new.position ≡ c.position + length (merged c.sheaf).lines → h ≡ f
       → IsStop until (edge_of c.window) stop → HasEnded workers until began new (Ok stop) known later f h

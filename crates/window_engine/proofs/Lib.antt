@@ -16,3 +16,6 @@ pub mod Filled
 pub mod Grouped
 pub mod Called
 pub mod Meant
+pub mod Desks
+pub mod DeskSent
+pub mod HallSent

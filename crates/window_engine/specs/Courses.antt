@@ -19,6 +19,8 @@ use Rattle.window_engine.specs.declared.course.WriteFault.TheVariants.{Workers, 
 use Rattle.window_engine.specs.declared.fault.EngineFault.{EngineFault}
 use Rattle.window_engine.specs.declared.fault.EngineFault.TheVariants.{Sink as SinkFailed}
 use Rattle.window_engine.specs.declared.fault.Stop.{Stop}
+use Rattle.window_engine.specs.declared.pipeline.Stage.{Stage}
+use Rattle.window_engine.specs.declared.pipeline.Stage.TheVariants.{ToShare, Ended}
 use Rattle.window_engine.specs.Edges.{IsAtEdge, edge_of, reached_in}
 use Rattle.window_engine.specs.Engines.{AreWhole, Commits, GoesOn, IsStop, sink_failures}
 use Rattle.window_engine.specs.Failures.{counted}
@@ -130,3 +132,8 @@ pub record HasEnded (workers until : ℕ) (began new : Course) (r : Result Stop 
   pub failures_are : failed ≡ sink_failures r failures
   pub groups : new.groups ≡ began.groups
   pub ahead : new.ahead ≡ began.ahead
+
+-- a call of windows by so many workers has come so far, or ended
+abbrev pub StandsAt : ℕ → ℕ → Course → Course → ℕ → Option (List ℕ) → Option (List ℕ) → ℕ → ℕ → Stage → Type 0
+StandsAt workers until began c written known now failures failed ToShare = IsWriting until began c written known now × (failed ≡ failures)
+StandsAt workers until began c written known now failures failed (Ended r) = HasEnded workers until began c r known now failures failed

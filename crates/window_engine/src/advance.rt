@@ -16,14 +16,15 @@ ghost use Rattle.window_engine.specs.Laid.{laid_for, HasRun, HasRunOr, HasFullGr
 
 use crate::fault::{EngineFault, group_fault};
 use crate::gate::Gate;
+use crate::hall::Hall;
 use crate::lines::Lines;
+use crate::order::Order;
 use crate::pieces::run_pieces;
 use crate::scribe::Scribe;
 use sim_time::Time;
 use std::alloc::{AllocError, Global};
 use std::snapshot::Snapshot;
 use std::sync::Wait;
-use std::thread::Threads;
 use window_core::{Group, GroupFault, Sheaf, Window};
 use work_board::Piece;
 
@@ -74,15 +75,16 @@ fn run_in_turn<G: Gate>(gate: &G, window: &mut Window) -> Result<(), EngineFault
     Ok(())
 }
 
-/// Takes the groups out, has workers run them up to the window's end and then make the text of a
-/// sheaf's lines, and puts them back. After a fault they are out.
-pub(crate) fn run_apart<G: Gate, R: Threads + Wait + Sync>(
+/// Takes the groups out, has workers, the calling thread and threads of a hall, run them up to the window's
+/// end and then make the text of a sheaf's lines, and puts them back. After a fault they are out.
+pub(crate) fn run_apart<G: Gate, R: Wait>(
     rt: &R,
+    hall: &Hall<Order>,
     alloc: Global,
     workers: usize,
     gate: &G,
     window: &mut Window,
-    sheaf: &Sheaf,
+    sheaf: &mut Sheaf,
     scribes: &mut Vec<Scribe>,
 ) -> Result<(), EngineFault>
     requires inside { window.old.out ≡ false }
@@ -90,16 +92,17 @@ pub(crate) fn run_apart<G: Gate, R: Threads + Wait + Sync>(
     requires few { length window.old.groups ≤ 64 }
     requires ends { All (λ (g : GroupValue). window.old.until ≤ g.until) window.old.groups }
     requires workers { (1 < workers) × (workers ≤ 64) }
-    requires right { AreRight sheaf.now scribes.old.items }
-    requires fits { sheaf.now.first + length (merged sheaf.now).lines < 2 ^ 63 }
+    requires right { AreRight sheaf.old scribes.old.items }
+    requires fits { sheaf.old.first + length (merged sheaf.old).lines < 2 ^ 63 }
     ensures done { OnOk result (HasRun window.old window.new) }
     ensures stays { StaysNet window.old window.new }
     ensures fault { IfErr result (IsWorkersFault workers (HasFullGroup window.old)) }
-    ensures right { AreRight sheaf.now scribes.new.items }
+    ensures sheaf { sheaf.new ≡ sheaf.old }
+    ensures right { AreRight sheaf.new scribes.new.items }
 {
     let end = window.end();
     let pieces = pieces_of(alloc, window.take_groups(), end)?;
-    let groups = run_pieces(rt, alloc, workers, gate, pieces, sheaf, scribes)?;
+    let groups = run_pieces(rt, hall, alloc, workers, gate, pieces, sheaf, scribes)?;
     window.put_groups(groups);
     Ok(())
 }

@@ -1,5 +1,5 @@
 //! Workers that run windows together.
-ghost use Rattle.std.specs.Prelude.{◌+◌, ◌<◌, ◌≤◌, ◌^◌, length, IfOk, IfErr};
+ghost use Rattle.std.specs.Prelude.{◌≡◌, ◌+◌, ◌<◌, ◌≤◌, ◌^◌, false, true, None, length, IfOk, IfErr};
 ghost use Rattle.window_core.specs.Full.{HasTooMany};
 ghost use Rattle.window_core.specs.Partition.{groups_of};
 ghost use Rattle.window_core.specs.Sheaves.{merged};
@@ -11,15 +11,28 @@ ghost use Rattle.window_engine.specs.Parts.{AreRight};
 use crate::advance::run_apart;
 use crate::fault::EngineFault;
 use crate::gate::Gate;
+use crate::hall::Hall;
 use crate::hands::hands;
+use crate::order::Order;
 use crate::scribe::Scribe;
+use crate::sweep::keep_hall;
 use sim_time::Time;
-use std::alloc::Global;
+use std::alloc::{AllocError, Global};
 use std::sync::Wait;
-use std::thread::Threads;
+use std::thread::{Threads, join_mut};
 use window_core::{Sheaf, Window};
 
-/// Workers that run windows together: the calling thread, and others that it starts and waits for.
+/// Whether threads are to share a window which so many workers are to run, and none wait for orders.
+pub(crate) fn lacks_threads(hall: Option<&Hall<Order>>, hands: usize) -> bool
+    ensures { result ≡ true → hall.entry ≡ None }
+{
+    match hall {
+        Some(_) => false,
+        None => hands > 1,
+    }
+}
+
+/// Workers that run windows together: the calling thread, and threads that carry out its orders.
 #[derive(Drop)]
 pub(crate) struct Crew<'a, R: Threads + Wait + Sync, G: Gate> {
     /// What starts threads.
@@ -35,37 +48,129 @@ pub(crate) struct Crew<'a, R: Threads + Wait + Sync, G: Gate> {
 }
 
 impl<'a, R: Threads + Wait + Sync, G: Gate> Crew<'a, R, G> {
-    /// Has several workers run the groups up to the window's end or a moment that is sooner, and then
-    /// make the text of a sheaf's lines, where their start is worth it after a window that had so many
-    /// events beside those of its busiest group. The answer is whether they ran. After a fault the
-    /// groups may be out.
+    /// How many of the workers are to run a window, up to its end or a moment that is sooner, after one
+    /// that had so many events beside those of its busiest group.
+    pub(crate) fn hands(&self, window: &Window, shared: usize, until: Time) -> usize
+        ensures { (0 < result) × (result ≤ self.now.workers) }
+    {
+        hands(window, self.workers, self.gate.worth(), shared, until)
+    }
+
+    /// A hall for all threads that may share windows of as many groups with the calling one. None is started.
+    pub(crate) fn hall_for(&self, window: &Window) -> Result<Hall<Order>, AllocError>
+        requires { window.now.out ≡ false }
+    {
+        let most = if self.gate.worth() == 0 {
+            self.workers
+        } else {
+            self.workers.min(window.groups())
+        };
+        Hall::new(self.alloc, most.saturating_sub(1))
+    }
+
+    /// Has so many workers, the calling thread and threads of a hall, run the groups up to the window's end
+    /// or a moment that is sooner, and then make the text of a sheaf's lines. After a fault the groups may
+    /// be out.
     pub(crate) fn run_shared(
         &self,
-        shared: usize,
+        hall: &Hall<Order>,
+        hands: usize,
         until: Time,
         window: &mut Window,
-        sheaf: &Sheaf,
+        sheaf: &mut Sheaf,
         scribes: &mut Vec<Scribe>,
     ) -> Result<bool, EngineFault>
+        requires hands { (1 < hands) × (hands ≤ self.now.workers) }
         requires edge { IsAtEdge window.old }
         requires few { groups_of window.old.entries ≤ 64 }
-        requires right { AreRight sheaf.now scribes.old.items }
-        requires fits { sheaf.now.first + length (merged sheaf.now).lines < 2 ^ 63 }
+        requires right { AreRight sheaf.old scribes.old.items }
+        requires fits { sheaf.old.first + length (merged sheaf.old).lines < 2 ^ 63 }
         ensures ran { IfOk result (λ ran. HasRunOr ran until window.old window.new) }
         ensures stays { StaysNet window.old window.new }
         ensures fault { IfErr result (IsWorkersFault self.now.workers (HasTooMany (reached_in window.old))) }
-        ensures right { AreRight sheaf.now scribes.new.items }
+        ensures sheaf { sheaf.new ≡ sheaf.old }
+        ensures right { AreRight sheaf.new scribes.new.items }
     {
-        let hands = hands(window, self.workers, self.gate.worth(), shared, until);
-        if hands == 1 {
-            return Ok(false);
-        }
         let _began = window.position();
         window.limit(until);
         let _limited = window.position();
         run_apart(
-            self.rt, self.alloc, hands, self.gate, window, sheaf, scribes,
+            self.rt, hall, self.alloc, hands, self.gate, window, sheaf, scribes,
         )?;
         Ok(true)
+    }
+
+    /// The same, where threads wait for orders and several workers are to run the window: else that is left as it was.
+    pub(crate) fn run_or_leave(
+        &self,
+        hall: Option<&Hall<Order>>,
+        hands: usize,
+        until: Time,
+        window: &mut Window,
+        sheaf: &mut Sheaf,
+        scribes: &mut Vec<Scribe>,
+    ) -> Result<bool, EngineFault>
+        requires hands { hands ≤ self.now.workers }
+        requires edge { IsAtEdge window.old }
+        requires few { groups_of window.old.entries ≤ 64 }
+        requires right { AreRight sheaf.old scribes.old.items }
+        requires fits { sheaf.old.first + length (merged sheaf.old).lines < 2 ^ 63 }
+        ensures ran { IfOk result (λ ran. HasRunOr ran until window.old window.new) }
+        ensures stays { StaysNet window.old window.new }
+        ensures fault { IfErr result (IsWorkersFault self.now.workers (HasTooMany (reached_in window.old))) }
+        ensures sheaf { sheaf.new ≡ sheaf.old }
+        ensures right { AreRight sheaf.new scribes.new.items }
+    {
+        match hall {
+            Some(hall) if hands > 1 => self.run_shared(hall, hands, until, window, sheaf, scribes),
+            _ => Ok(false),
+        }
+    }
+
+    /// The same as `run_shared`, where no threads wait for orders: they are started for this window alone.
+    pub(crate) fn run_once(
+        &self,
+        hands: usize,
+        until: Time,
+        window: &mut Window,
+        sheaf: &mut Sheaf,
+        scribes: &mut Vec<Scribe>,
+    ) -> Result<bool, EngineFault>
+        requires hands { (1 < hands) × (hands ≤ self.now.workers) }
+        requires edge { IsAtEdge window.old }
+        requires few { groups_of window.old.entries ≤ 64 }
+        requires right { AreRight sheaf.old scribes.old.items }
+        requires fits { sheaf.old.first + length (merged sheaf.old).lines < 2 ^ 63 }
+        ensures ran { IfOk result (λ ran. HasRunOr ran until window.old window.new) }
+        ensures stays { StaysNet window.old window.new }
+        ensures fault { IfErr result (IsWorkersFault self.now.workers (HasTooMany (reached_in window.old))) }
+        ensures sheaf { sheaf.new ≡ sheaf.old }
+        ensures right { AreRight sheaf.new scribes.new.items }
+    {
+        let Ok(hall) = Hall::new(self.alloc, hands.saturating_sub(1)) else {
+            return Err(EngineFault::NoMemory);
+        };
+        let (rt, gate, hall) = (self.rt, self.gate, &hall);
+        let (_, ran) = join_mut(
+            rt,
+            &mut || keep_hall(rt, gate, hall),
+            &mut || -> Result<bool, EngineFault>
+                requires hands { (1 < hands) × (hands ≤ self.now.workers) }
+                requires edge { IsAtEdge window.now }
+                requires few { groups_of window.now.entries ≤ 64 }
+                requires right { AreRight sheaf.now scribes.now.items }
+                requires fits { sheaf.now.first + length (merged sheaf.now).lines < 2 ^ 63 }
+                ensures ran { IfOk result (λ ran. HasRunOr ran until window.entry.now window.exit.now) }
+                ensures stays { StaysNet window.entry.now window.exit.now }
+                ensures fault { IfErr result (IsWorkersFault self.entry.now.workers (HasTooMany (reached_in window.entry.now))) }
+                ensures sheaf { sheaf.exit.now ≡ sheaf.entry.now }
+                ensures right { AreRight sheaf.exit.now scribes.exit.now.items }
+            {
+                let ran = self.run_shared(hall, hands, until, window, sheaf, scribes);
+                hall.end(rt);
+                ran
+            },
+        );
+        ran
     }
 }

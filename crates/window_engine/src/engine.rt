@@ -205,10 +205,15 @@ impl Engine {
             workers,
             alloc,
         };
-        let none = Sheaf::new(alloc, 1);
+        let mut none = Sheaf::new(alloc, 1);
         let mut scribes = Vec::new(alloc);
         let window = &mut self.course.window;
-        let ran = crew.run_shared(self.shared, until, window, &none, &mut scribes);
+        let hands = crew.hands(window, self.shared, until);
+        let ran = if hands == 1 {
+            Ok(false)
+        } else {
+            crew.run_once(hands, until, window, &mut none, &mut scribes)
+        };
         let mut batch = Batch::new(alloc, 0);
         match finish(gate, workers, ran, until, &before, window, &mut batch) {
             Ok(()) => {}

@@ -10,8 +10,8 @@ pub trait Gate: Sync {
     /// The worker has finished the piece.
     fn leave(&self, piece: u64);
 
-    /// How many events a thread has to have to be worth its start: a window that has fewer beside
-    /// those of its busiest group is run by the calling thread. 0: each window is run by all workers,
+    /// How many events a thread has to have to be worth it: a window that has fewer beside those of its
+    /// busiest group is run by the calling thread. 0: each window is run by all workers,
     /// and the nodes always stay in their groups.
     fn worth(&self) -> usize;
 }

@@ -5,9 +5,9 @@ use sim_time::Time;
 use window_core::Window;
 
 /// How many threads are to run the next window, which ends by a moment at the latest, out of so many
-/// workers, where a thread is worth its start for so many events and the window before had so many
-/// beside those of its busiest group. One of them is the calling thread, which starts the others. There
-/// are no more than groups that have an event in the window.
+/// workers, where a thread is worth it for so many events and the window before had so many beside those
+/// of its busiest group. One of them is the calling thread. There are no more than groups that have an
+/// event in the window.
 pub(crate) fn hands(
     window: &Window,
     workers: usize,

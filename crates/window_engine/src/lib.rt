@@ -4,14 +4,17 @@
 mod advance;
 mod course;
 mod crew;
+mod desk;
 mod engine;
 mod fault;
 mod gate;
 mod gather;
 mod grouping;
+mod hall;
 mod hands;
 mod lines;
 mod meeting;
+mod order;
 mod pace;
 mod pad;
 mod parts;
@@ -23,6 +26,7 @@ mod sink;
 mod slice;
 mod sweep;
 mod text;
+mod work;
 
 pub use engine::Engine;
 pub use fault::{EngineFault, Stop};

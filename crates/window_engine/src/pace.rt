@@ -1,6 +1,6 @@
 //! When all nodes of the net go on in one group for a while: where windows hold few events, since each
 //! of them costs something for every group, and where the threads that are to share a window come to it
-//! late, since the calling thread then runs it and has to wait for them.
+//! late, since the calling thread then runs all groups by itself.
 ghost use Rattle.std.specs.Prelude.{◌≡◌, false};
 
 /// Over how many windows it is asked how many events they hold.
@@ -63,7 +63,7 @@ pub fn load_of(windows: u64, events: u64, groups: usize) -> Load {
 }
 
 /// Whether threads came late to a window that they were to share: so late that one of them ran all of its groups. On a
-/// machine with other work a thread that is started may wait for a processor longer than the window takes.
+/// machine with other work a thread may wait for a processor longer than the window takes.
 pub fn is_late(turnout: Turnout) -> bool {
     turnout.all > 1 && turnout.most == turnout.all
 }

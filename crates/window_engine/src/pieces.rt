@@ -7,47 +7,45 @@ ghost use Rattle.window_engine.specs.Parts.{AreRight};
 use crate::fault::EngineFault;
 use crate::gate::Gate;
 use crate::gather::gather;
-use crate::parts::Parts;
+use crate::hall::Hall;
+use crate::order::Order;
 use crate::scribe::Scribe;
-use crate::sweep::{SweepFault, Tasks, sweep};
+use crate::sweep::sweep;
 use std::alloc::Global;
 use std::sync::Wait;
-use std::thread::Threads;
 use window_core::{Group, Sheaf};
 use work_board::{Board, Piece};
 
-/// Runs the pieces by so many threads, which then make the text of a sheaf's lines. Then each piece
-/// is done, and its group comes back in its place. A refusal gives them up.
-pub(crate) fn run_pieces<G: Gate, R: Threads + Wait + Sync>(
+/// Runs the pieces by so many workers, the calling thread and threads of a hall, which then make the text
+/// of a sheaf's lines. Then each piece is done, and its group comes back in its place. A refusal gives them
+/// up.
+pub(crate) fn run_pieces<G: Gate, R: Wait>(
     rt: &R,
+    hall: &Hall<Order>,
     alloc: Global,
     workers: usize,
     gate: &G,
     pieces: Vec<Piece>,
-    sheaf: &Sheaf,
+    sheaf: &mut Sheaf,
     scribes: &mut Vec<Scribe>,
 ) -> Result<Vec<Group>, EngineFault>
     requires least { 0 < length pieces.items }
     requires most { length pieces.items ≤ 64 }
     requires workers { (0 < workers) × (workers ≤ 64) }
-    requires right { AreRight sheaf.now scribes.old.items }
-    requires fits { sheaf.now.first + length (merged sheaf.now).lines < 2 ^ 63 }
+    requires right { AreRight sheaf.old scribes.old.items }
+    requires fits { sheaf.old.first + length (merged sheaf.old).lines < 2 ^ 63 }
     ensures done { IfOk result (λ v. AllRan pieces.items v.items) }
     ensures err { IfErr result (IsPiecesFault pieces.items) }
     ensures full { IfErr result (λ e. e ≡ EngineFault.CountFull → SomeLaidFull pieces.items) }
-    ensures right { AreRight sheaf.now scribes.new.items }
+    ensures sheaf { sheaf.new ≡ sheaf.old }
+    ensures right { AreRight sheaf.new scribes.new.items }
 {
     let Ok((board, seat)) = Board::lay(alloc, pieces) else {
         return Err(EngineFault::NoMemory);
     };
-    let parts = Parts::new(sheaf.len(), workers);
-    let tasks = Tasks { board, parts };
-    let seat = match sweep(rt, alloc, workers, gate, &tasks, seat, sheaf, scribes) {
-        Ok(seat) => seat,
-        Err(SweepFault::NoMemory) => return Err(EngineFault::NoMemory),
-        Err(SweepFault::NoWorker) => return Err(EngineFault::NoWorker),
+    let Ok((board, seat)) = sweep(rt, hall, workers, gate, board, seat, sheaf, scribes) else {
+        return Err(EngineFault::NoMemory);
     };
-    let Tasks { board, parts: _ } = tasks;
     let Ok(slots) = board.clear(seat) else {
         return Err(EngineFault::NoMemory);
     };

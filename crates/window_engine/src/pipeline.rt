@@ -2,13 +2,13 @@
 //! one runs, so that the lines are in the near cache and the groups have their memory back; or by the
 //! workers that run the next one, once no group is left to them, so that no processor waits for the
 //! longest group.
-ghost use Rattle.std.specs.Prelude.{◌≡◌, ◌+◌, ◌<◌, ◌≤◌, ◌^◌, ℕ, length, Err, IfOk, IfErr, OnOk};
+ghost use Rattle.std.specs.Prelude.{◌≡◌, ◌+◌, ◌<◌, ◌≤◌, ◌^◌, ℕ, length, Err, None, IfOk, IfErr, OnOk};
 ghost use Rattle.net_machine.specs.Run.{Reached};
 ghost use Rattle.window_core.specs.Full.{HasTooMany};
 ghost use Rattle.window_core.specs.Sheaves.{merged};
 ghost use Rattle.window_core.specs.Window.{IsWindow};
 ghost use Rattle.window_core.specs.Windows.{AreBelow};
-ghost use Rattle.window_engine.specs.Courses.{AtRest, HasGroups, IsWriting, HasEnded, Wrote, Broke, fails_after};
+ghost use Rattle.window_engine.specs.Courses.{AtRest, HasGroups, IsWriting, HasEnded, StandsAt, Wrote, Broke, fails_after};
 ghost use Rattle.window_engine.specs.Edges.{StaysNet, edge_of, reached_in};
 ghost use Rattle.window_engine.specs.Engines.{GoesOn, IsNext, IsStop};
 ghost use Rattle.window_engine.specs.Laid.{HasRunOr};
@@ -17,18 +17,41 @@ ghost use Rattle.window_engine.specs.Parts.{AreRight, IsWhole};
 
 use crate::advance::finish;
 use crate::course::{Course, Plan, WriteFault, told};
-use crate::crew::Crew;
+use crate::crew::{Crew, lacks_threads};
 use crate::fault::{EngineFault, Stop};
 use crate::gate::Gate;
+use crate::hall::Hall;
+use crate::order::Order;
 use crate::sink::Sink;
 use crate::slice::FIRST_SLICE;
+use crate::sweep::keep_hall;
 use crate::text::Text;
 use sim_time::Time;
 use std::alloc::AllocError;
 use std::snapshot::Snapshot;
 use std::sync::Wait;
-use std::thread::Threads;
+use std::thread::{Threads, join_mut};
 use window_core::{Sheaf, Window};
+
+/// How far a call's windows are.
+#[derive(Drop)]
+struct Writing {
+    /// The text of the lines that are not written yet.
+    text: Text,
+    /// How long the next window may be, in nanoseconds.
+    slice: Time,
+    /// How many bytes were written.
+    written: u128,
+}
+
+/// Where a call's windows stand.
+#[derive(Drop)]
+enum Stage {
+    /// Threads are to share the next one, and none wait for it.
+    ToShare,
+    /// They have ended so.
+    Ended(Result<Stop, EngineFault>),
+}
 
 impl Course {
     /// Commits the events of the sheaf's lines and writes their text, where it was made. All of it
@@ -192,9 +215,135 @@ impl Course {
         }
     }
 
+    /// Has a crew run windows, and writes the lines of each while the next one runs, until they end, or until
+    /// threads are to share one and none wait for it. How the course and the sink were as the call began is
+    /// for clauses alone.
+    fn write_on<G: Gate, S: Sink, R: Threads + Wait + Sync>(
+        &mut self,
+        crew: &Crew<R, G>,
+        hall: Option<&Hall<Order>>,
+        until: Time,
+        began: &Snapshot<Course>,
+        known: &Snapshot<S>,
+        writing: &mut Writing,
+        sink: &mut S,
+    ) -> Stage
+        requires writing { IsWriting until began.now.value self.old writing.old.written (S.contents known.now.value) (S.contents sink.old) }
+        requires failures { S.failures sink.old ≡ S.failures known.now.value }
+        ensures stands { StandsAt crew.now.workers until began.now.value self.new writing.new.written (S.contents known.now.value) (S.contents sink.new) (S.failures known.now.value) (S.failures sink.new) result }
+        ensures shared { result ≡ Stage.ToShare → hall.entry ≡ None }
+    {
+        loop {
+            let plan = match self.plan(until, writing.slice.max(1)) {
+                Ok(plan) => plan,
+                Err(stop) => {
+                    let written = writing.written;
+                    let text = &mut writing.text;
+                    let ended = self.end(
+                        stop,
+                        crew.workers,
+                        until,
+                        began,
+                        known,
+                        text,
+                        written,
+                        sink,
+                    );
+                    return Stage::Ended(ended);
+                }
+            };
+            let shared = self.sheaf.beside_most();
+            let hands = crew.hands(&self.window, shared, plan.bound);
+            if lacks_threads(hall, hands) {
+                return Stage::ToShare;
+            }
+            let _reached = self.window.position();
+            let now = Snapshot::of(&self.window);
+            writing.text.clear(&self.sheaf);
+            let ran = crew.run_or_leave(
+                hall,
+                hands,
+                plan.bound,
+                &mut self.window,
+                &mut self.sheaf,
+                &mut writing.text.scribes,
+            );
+            match self.go_on(
+                crew.gate,
+                crew.workers,
+                until,
+                &plan,
+                ran,
+                began,
+                known,
+                &now,
+                &mut writing.text,
+                &mut writing.written,
+                sink,
+            ) {
+                Ok(next) => writing.slice = next,
+                Err(fault) => return Stage::Ended(Err(fault)),
+            }
+        }
+    }
+
+    /// The same with threads that wait for orders. It goes on to where windows end, and the threads may go then.
+    fn write_shared<G: Gate, S: Sink, R: Threads + Wait + Sync>(
+        &mut self,
+        crew: &Crew<R, G>,
+        hall: &Hall<Order>,
+        until: Time,
+        began: &Snapshot<Course>,
+        known: &Snapshot<S>,
+        writing: &mut Writing,
+        sink: &mut S,
+    ) -> Result<Stop, EngineFault>
+        requires writing { IsWriting until began.now.value self.old writing.old.written (S.contents known.now.value) (S.contents sink.old) }
+        requires failures { S.failures sink.old ≡ S.failures known.now.value }
+        ensures { HasEnded crew.now.workers until began.now.value self.new result (S.contents known.now.value) (S.contents sink.new) (S.failures known.now.value) (S.failures sink.new) }
+    {
+        let stage = self.write_on(crew, Some(hall), until, began, known, writing, sink);
+        hall.end(crew.rt);
+        match stage {
+            Stage::Ended(outcome) => outcome,
+            Stage::ToShare => unreachable!(),
+        }
+    }
+
+    /// Starts the threads that are to share windows, and goes on with them.
+    fn write_by_threads<G: Gate, S: Sink, R: Threads + Wait + Sync>(
+        &mut self,
+        crew: &Crew<R, G>,
+        until: Time,
+        began: &Snapshot<Course>,
+        known: &Snapshot<S>,
+        writing: &mut Writing,
+        sink: &mut S,
+    ) -> Result<Stop, EngineFault>
+        requires writing { IsWriting until began.now.value self.old writing.old.written (S.contents known.now.value) (S.contents sink.old) }
+        requires failures { S.failures sink.old ≡ S.failures known.now.value }
+        ensures { HasEnded crew.now.workers until began.now.value self.new result (S.contents known.now.value) (S.contents sink.new) (S.failures known.now.value) (S.failures sink.new) }
+    {
+        let Ok(hall) = crew.hall_for(&self.window) else {
+            return Err(EngineFault::NoMemory);
+        };
+        let (rt, gate, hall) = (crew.rt, crew.gate, &hall);
+        let (_, outcome) = join_mut(
+            rt,
+            &mut || keep_hall(rt, gate, hall),
+            &mut || -> Result<Stop, EngineFault>
+                requires writing { IsWriting until began.now.value self.now writing.now.written (S.contents known.now.value) (S.contents sink.now) }
+                requires failures { S.failures sink.now ≡ S.failures known.now.value }
+                ensures { HasEnded crew.entry.now.workers until began.entry.now.value self.exit.now result (S.contents known.entry.now.value) (S.contents sink.exit.now) (S.failures known.entry.now.value) (S.failures sink.exit.now) }
+            { self.write_shared(crew, hall, until, began, known, writing, sink) },
+        );
+        outcome
+    }
+
     /// Has a crew run windows, and writes the lines of each while the next one runs, up to the run's end or
-    /// until no event is left below a moment. Nothing is left to write where they end. Where windows hold
-    /// few events, or threads come late to them, all nodes are in one group for a while.
+    /// until no event is left below a moment. Nothing is left to write where they end. Threads are started once
+    /// a window is worth it, and stay. Where windows hold few events, or threads come late to them, all nodes are
+    /// in one group for a while.
     pub(crate) fn write_together<G: Gate, S: Sink, R: Threads + Wait + Sync>(
         &mut self,
         crew: &Crew<R, G>,
@@ -205,50 +354,26 @@ impl Course {
         requires groups { HasGroups self.old }
         ensures { HasEnded crew.now.workers until self.old self.new result (S.contents sink.old) (S.contents sink.new) (S.failures sink.old) (S.failures sink.new) }
     {
-        let workers = crew.workers;
-        let Ok(mut text) = Text::new(self.alloc) else {
+        let Ok(text) = Text::new(self.alloc) else {
             return Err(EngineFault::NoMemory);
+        };
+        let mut writing = Writing {
+            text,
+            slice: FIRST_SLICE,
+            written: 0,
         };
         let (began, known) = (Snapshot::of(self), Snapshot::of(sink));
         self.sheaf = Sheaf::new(self.alloc, self.position + 1);
-        let mut slice = FIRST_SLICE;
-        let mut written: u128 = 0;
-        loop {
-            let plan = match self.plan(until, slice) {
-                Ok(plan) => plan,
-                Err(stop) => {
-                    return self.end(
-                        stop, workers, until, &began, &known, &mut text, written, sink,
-                    );
-                }
-            };
-            let _reached = self.window.position();
-            let now = Snapshot::of(&self.window);
-            text.clear(&self.sheaf);
-            let shared = self.sheaf.beside_most();
-            let ran = crew.run_shared(
-                shared,
-                plan.bound,
-                &mut self.window,
-                &self.sheaf,
-                &mut text.scribes,
-            );
-            match self.go_on(
-                crew.gate,
-                workers,
+        match self.write_on(crew, None, until, &began, &known, &mut writing, sink) {
+            Stage::Ended(outcome) => outcome,
+            Stage::ToShare => self.write_by_threads(
+                crew,
                 until,
-                &plan,
-                ran,
                 &began,
                 &known,
-                &now,
-                &mut text,
-                &mut written,
+                &mut writing,
                 sink,
-            ) {
-                Ok(next) => slice = next,
-                Err(fault) => return Err(fault),
-            }
+            ),
         }
     }
 }

@@ -26,11 +26,9 @@ pub(crate) struct Part {
     pub end: usize,
 }
 
-/// What one thread made of a window's text, and where it begins.
+/// What one thread made of a window's text.
 #[derive(Drop)]
 pub(crate) struct Scribe {
-    /// The group's piece that the thread tries first, before it makes text.
-    pub first: usize,
     /// How many groups of the next window the thread ran, before it made text.
     pub ran: usize,
     /// The text of its parts, one after another.
@@ -81,7 +79,6 @@ impl Scribe {
         ensures { result.parts.items ≡ [] }
     {
         Scribe {
-            first: 0,
             ran: 0,
             text: Pad::new(alloc),
             parts: Vec::new(alloc),

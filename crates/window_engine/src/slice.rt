@@ -19,7 +19,7 @@ const WIDE: u64 = 20_480;
 /// Threads share a window where its busiest group leaves them at least one event of so many.
 const SHARE: usize = 8;
 
-/// A thread's start and end take about as long as so many events.
+/// To tell a thread of a window and to wait for it takes about as long as so many events.
 pub const WORTH: usize = 1_000;
 
 /// The least part of a window's time, one of so many, in which its events are taken to be.

@@ -11,7 +11,8 @@ use std::sync::atomic::AtomicU64;
 use std::sync::atomic::Ordering::SeqCst;
 use std::thread::Threads;
 use window_engine::{
-    Gate, Load, OverWrite, Stop, Turnout, WORTH, is_late, lateness, load_of, next_stretch,
+    Gate, Load, MOST_PARTS, OverWrite, Stop, Turnout, WORTH, is_late, lateness, load_of,
+    next_stretch, share_of,
 };
 
 // Four groups, so that each window of theirs has four pieces.
@@ -111,6 +112,36 @@ fn what_windows_hold_goes_by_how_many_groups_there_are(rt: HostRuntime) {
     expect_load(&rt, (1, 512), 4, Load::Many);
     expect_load(&rt, (32, 512), 5, Load::Few);
     expect_load(&rt, (0, 0), 64, Load::Unknown);
+}
+
+// The first shares of a text's parts, of so many shares that so many threads take.
+fn expect_parts(rt: &impl Abort, shares: usize, workers: usize, begins: &[usize]) {
+    for part in 0..begins.len() {
+        assert_eq!(rt; share_of(part, shares, workers), begins[part]);
+    }
+}
+
+#[test]
+fn later_parts_of_a_text_are_shorter(rt: HostRuntime) {
+    expect_parts(&rt, 64, 1, &[0, 32, 48, 56, 60, 62, 63, 64, 64]);
+    expect_parts(
+        &rt,
+        64,
+        2,
+        &[0, 16, 32, 40, 48, 52, 56, 58, 60, 61, 62, 63, 64, 64],
+    );
+    expect_parts(
+        &rt,
+        64,
+        4,
+        &[
+            0, 8, 16, 24, 32, 36, 40, 44, 48, 50, 52, 54, 56, 57, 58, 59, 60, 61, 62, 63, 64, 64,
+        ],
+    );
+    expect_parts(&rt, 3, 4, &[0, 1, 2, 3, 3]);
+    expect_parts(&rt, 0, 4, &[0, 0]);
+    assert_eq!(rt; share_of(MOST_PARTS - 1, MOST_PARTS, 64), MOST_PARTS - 1);
+    assert_eq!(rt; share_of(MOST_PARTS, MOST_PARTS, 64), MOST_PARTS);
 }
 
 // For how many events so many nodes are in one group, where it was for so many the last time.

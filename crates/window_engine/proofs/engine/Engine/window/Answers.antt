@@ -10,8 +10,8 @@ use Rattle.window_engine.proofs.Grouped.{parted_on}
 use Rattle.window_engine.proofs.Unwritten.{no_line}
 use Rattle.window_engine.proofs.engine.Engine.window.Goals as goal
 
-pub run_shared-ran-requires-clause-fits : goal.run_shared-ran-requires-clause-fits
-run_shared-ran-requires-clause-fits g c κs within = omega (arith, ap (λ (s : SheafValue). s.first) c.new-none.ensures, ap length (no_line c.new-none.result 1 c.new-none.ensures))
+pub run_once-ran-requires-clause-fits : goal.run_once-ran-requires-clause-fits
+run_once-ran-requires-clause-fits g c κs within = omega (arith, ap (λ (s : SheafValue). s.first) c.new-none.ensures, ap length (no_line c.new-none.result 1 c.new-none.ensures))
 
 pub returns-clause-none_left : goal.returns-clause-none_left
 returns-clause-none_left g c =

@@ -1,0 +1,64 @@
+-- A desk, a pass, a board and a window's lines may go to another thread, and a desk may be shared.
+use denote.Builtin.{unit}
+use denote.Param.Send.{IsSend, IsSync, sendable, view_send, view_sync}
+use denote.Param.SendFields.{declared_send, declared_sync}
+use Rattle.std.proofs.Crossing as heap
+use Rattle.std.proofs.alloc.Global.TheSendSync as global
+use Rattle.std.specs.contracts.alloc.Global as Global
+use Rattle.std.specs.contracts.impls.GlobalAllocator.TheImpl.{ghosts as heap_ghosts}
+use Rattle.std.specs.contracts.option.Option as Option
+use Rattle.std.specs.contracts.snapshot.Snapshot as Snapshot
+use Rattle.std.specs.contracts.vec.Vec as Vec
+use Rattle.atomic_table.proofs.owned.Table.TheSendSync as table
+use Rattle.atomic_table.proofs.shared.Seat.TheSendSync as seat
+use Rattle.atomic_table.specs.contracts.owned.Table as Table
+use Rattle.line_merge.specs.contracts.sheaf.Sheaf as Sheaf
+use Rattle.line_merge.specs.contracts.sheaf.Sheaf.TheInside as InsideSheaf
+use Rattle.line_merge.specs.contracts.sheaf.lines.Lines as Lines
+use Rattle.line_merge.specs.contracts.sheaf.lines.Lines.TheInside as InsideLines
+use Rattle.node_core.proofs.Sent.{line_send}
+use Rattle.work_board.proofs.Sent.{piece_send}
+use Rattle.work_board.specs.contracts.board.Board as Board
+use Rattle.work_board.specs.contracts.board.Board.TheInside as InsideBoard
+use Rattle.work_board.specs.contracts.order.Order as Order
+use Rattle.work_board.specs.contracts.order.OrderTableRulePieceViewSnapshotVecPiece.TheImpl.{ghosts as order_ghosts}
+use Rattle.work_board.specs.contracts.piece.Piece as Piece
+use Rattle.work_board.specs.contracts.view.View as View
+use Rattle.window_engine.proofs.scribe.Scribe.TheSendSync as scribe
+use Rattle.window_engine.specs.contracts.desk.Desk as Desk
+use Rattle.window_engine.specs.contracts.desk.Desk.TheInside as InsideDesk
+use Rattle.window_engine.specs.contracts.desk.pass.Pass as Pass
+use Rattle.window_engine.specs.contracts.desk.pass.Pass.TheInside as InsidePass
+use Rattle.window_engine.specs.contracts.desk.rule.DeskRule as DeskRule
+use Rattle.window_engine.specs.contracts.desk.rule.DeskRuleTableRuleOptionScribeUnitSnapshotSheaf.TheImpl.{ghosts as rule_ghosts}
+use Rattle.window_engine.specs.contracts.scribe.Scribe as Scribe
+
+laid_send : IsSend (Option.the_row Scribe.the_row)
+laid_send = search (sendable, scribe.the_send) depth 20
+
+pub pass_send : IsSend Pass.the_row
+pass_send = view_send _ _ _ _ _ (declared_send InsidePass.the_type (seat.the_send _ _ laid_send, tt))
+
+places_send : IsSend (Table.the_row (Option.the_row Scribe.the_row) unit (Snapshot.the_row Sheaf.the_row) DeskRule.the_row Global.the_row rule_ghosts heap_ghosts)
+places_send = table.the_send (Option.the_row Scribe.the_row) unit (Snapshot.the_row Sheaf.the_row) DeskRule.the_row Global.the_row rule_ghosts heap_ghosts laid_send global.the_send heap.frees
+
+places_sync : IsSync (Table.the_row (Option.the_row Scribe.the_row) unit (Snapshot.the_row Sheaf.the_row) DeskRule.the_row Global.the_row rule_ghosts heap_ghosts)
+places_sync = table.the_sync (Option.the_row Scribe.the_row) unit (Snapshot.the_row Sheaf.the_row) DeskRule.the_row Global.the_row rule_ghosts heap_ghosts laid_send global.the_send global.the_sync heap.frees
+
+pub desk_send : IsSend Desk.the_row
+desk_send = view_send _ _ _ _ _ (declared_send InsideDesk.the_type (places_send, tt))
+
+pub desk_sync : IsSync Desk.the_row
+desk_sync = view_sync _ _ _ _ _ (declared_sync InsideDesk.the_type (places_sync, tt))
+
+pieces_send : IsSend (Table.the_row Piece.the_row View.the_row (Snapshot.the_row (Vec.the_row Piece.the_row Global.the_row heap_ghosts)) Order.the_row Global.the_row order_ghosts heap_ghosts)
+pieces_send = table.the_send Piece.the_row View.the_row (Snapshot.the_row (Vec.the_row Piece.the_row Global.the_row heap_ghosts)) Order.the_row Global.the_row order_ghosts heap_ghosts piece_send global.the_send heap.frees
+
+pub board_send : IsSend Board.the_row
+board_send = view_send _ _ _ _ _ (declared_send InsideBoard.the_type (pieces_send, (search sendable, (global.the_send, tt))))
+
+lines_send : IsSend Lines.the_row
+lines_send = view_send _ _ _ _ _ (declared_send InsideLines.the_type (heap.Vec-send _ line_send, (search sendable, tt)))
+
+pub sheaf_send : IsSend Sheaf.the_row
+sheaf_send = view_send _ _ _ _ _ (declared_send InsideSheaf.the_type (heap.Vec-send _ lines_send, (search sendable, (search sendable, tt))))

@@ -1,0 +1,34 @@
+-- An order may go to another thread, and so may a hall of orders be shared.
+use denote.Param.Send.{IsSend, IsSync, sendable, view_send}
+use denote.Param.SendFields.{declared_send, declared_sync}
+use Rattle.std.proofs.Crossing as heap
+use Rattle.std.proofs.Crossing.{crosses}
+use Rattle.line_merge.proofs.Sent.{sheaf_sync}
+use Rattle.work_board.proofs.Sent.{board_sync, seat_send}
+use Rattle.window_engine.proofs.DeskSent.{board_send, desk_send, desk_sync, pass_send, sheaf_send}
+use Rattle.window_engine.proofs.parts.Parts.TheSendSync as parts
+use Rattle.window_engine.proofs.scribe.Scribe.TheSendSync as scribe
+use Rattle.window_engine.specs.contracts.hall.Hall as Hall
+use Rattle.window_engine.specs.contracts.hall.Post as Post
+use Rattle.window_engine.specs.contracts.order.Begin as Begin
+use Rattle.window_engine.specs.contracts.order.Order as Order
+use Rattle.window_engine.specs.contracts.order.Order.TheInside as InsideOrder
+use Rattle.window_engine.specs.contracts.order.Tasks as Tasks
+
+tasks_send : IsSend Tasks.the_row
+tasks_send = declared_send Tasks.the_type (board_send, (parts.the_send, (sheaf_send, (desk_send, tt))))
+
+tasks_sync : IsSync Tasks.the_row
+tasks_sync = declared_sync Tasks.the_type (board_sync, (parts.the_sync, (sheaf_sync, (desk_sync, tt))))
+
+begin_send : IsSend Begin.the_row
+begin_send = declared_send Begin.the_type (seat_send, (pass_send, (search sendable, (search sendable, (scribe.the_send, tt)))))
+
+pub order_send : IsSend Order.the_row
+order_send = view_send _ _ _ _ _ (declared_send InsideOrder.the_type (heap.Arc-send _ tasks_send tasks_sync, (begin_send, tt)))
+
+post_send : IsSend (Post.the_row Order.the_row)
+post_send = search (sendable, order_send) depth 30
+
+pub hall_sync : IsSync (Hall.the_row Order.the_row)
+hall_sync = search (sendable, crosses, post_send) depth 30

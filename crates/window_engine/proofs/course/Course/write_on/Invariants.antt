@@ -1,0 +1,13 @@
+-- the windows so far but the last are written, and the sheaf has its lines
+use Rattle.std.proofs.Common.{◌≡◌, ◌-◌}
+use Rattle.window_engine.specs.Courses.{IsWriting}
+use Rattle.window_engine.proofs.course.Course.write_on.Given as goal
+
+abbrev pub invariant-loop-plan : goal.invariant-loop-plan
+invariant-loop-plan g l =
+    IsWriting l.until l.began.value l.self l.writing.written (g.S.Sink.contents l.known.value) (g.S.Sink.contents l.sink)
+    × (g.S.Sink.failures l.sink ≡ g.S.Sink.failures l.known.value)
+
+-- each window has a line
+abbrev pub decreases-loop-plan : goal.decreases-loop-plan
+decreases-loop-plan g l = 1000000000000000 - l.self.window.position

@@ -1,0 +1,30 @@
+use Rattle.std.proofs.Common.{arith, ap, subst, ◌∙◌, sym, Option, Some, IfSome, is_ok}
+use lib.ListN.{get_elem?}
+use Rattle.std.specs.Mem.Slots.{slots_items, slots_len}
+use Rattle.window_core.specs.Sheaves.{SheafValue}
+use Rattle.work_board.proofs.Clearing.{still_full, now_empty}
+use Rattle.window_engine.specs.Parts.{IsRight}
+use Rattle.window_engine.specs.declared.scribe.Scribe.{Scribe}
+use Rattle.window_engine.proofs.Desks.{rest_is_right, put_behind}
+use Rattle.window_engine.proofs.desk.Desk.clear.Goals as goal
+use Rattle.window_engine.proofs.desk.Desk.clear.Goals.{then-word-ne-TAKEN+in-Some, else-word-ne-TAKEN+in-Some-1, else-word-ne-TAKEN+in-None-1}
+
+pub loop-place-preserved : goal.loop-place-preserved
+loop-place-preserved c =
+    let was = c.loop-place.invariant in let took = c.take-laid.ensures.others in let place = c.loop-place.place in (
+      took.3 ∙ was.0,
+      took.0 ∙ was.1,
+      took.2 ∙ was.2,
+      (λ k past below. still_full _ _ place (slots_len c.loop-place.closed.slots) took.1 was.3 k past (omega (arith, took.2))),
+      now_empty _ _ place took.1 was.4,
+      elim c.if-word-ne-TAKEN.branch [
+        | then-word-ne-TAKEN+in-Some w ↦
+            let left : IfSome c.take-laid.result (IsRight c.self.inside.table.shared.key.value) =
+            rest_is_right _ _ _ place c.word-word.result c.take-laid.result c.close-closed.ensures.values.2 (ap (λ l. get_elem? (slots_items l) place) (sym was.0) ∙ c.word-word.ensures)
+            (ap (λ l. get_elem? l place) (sym was.1) ∙ c.take-laid.ensures.value) w.if-word-ne-TAKEN.true in
+            let right : IfSome (Some w.in-Some.scribe) (IsRight c.self.inside.table.shared.key.value) = subst (λ (x : Option Scribe). IfSome x (IsRight c.self.inside.table.shared.key.value)) w.in-Some.is left in
+            rw w.scribes-is (put_behind _ (is_ok w.push.result) _ _ w.in-Some.scribe w.push.ensures.items was.5 (subst (λ (s : SheafValue). IsRight s w.in-Some.scribe) (ap (λ d. d.sheaf) c.self.view_is) right))
+        | else-word-ne-TAKEN+in-Some-1 w ↦ rw w.scribes-is was.5
+        | else-word-ne-TAKEN+in-None-1 w ↦ rw w.scribes-is was.5
+      ],
+    )

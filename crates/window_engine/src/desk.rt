@@ -1,0 +1,108 @@
+//! Where the threads of a window lay down what they made of its text.
+ghost use Rattle.std.specs.Prelude.{◌≡◌, IfOk};
+ghost use Rattle.window_engine.specs.Desks.{IsPassOf};
+ghost use Rattle.window_engine.specs.Parts.{AreRight, IsRight};
+
+mod pass;
+mod rule;
+
+pub(crate) use self::pass::Pass;
+use self::rule::{Cut, DeskRule, Lay, Take};
+use crate::scribe::Scribe;
+use atomic_table::Table;
+use std::alloc::{AllocError, Global};
+use std::marker::Model;
+use std::snapshot::Snapshot;
+use window_core::Sheaf;
+
+/// The word of a place that a thread has taken, and where it has laid nothing down yet. The word of a free place is 0.
+const TAKEN: u64 = 1;
+
+/// The bit that is set in the word of a place where a thread has laid something down.
+const LAID: u64 = 2;
+
+/// Where the threads of a window lay down what they made of its text. What lies there is right.
+#[derive(Drop)]
+pub(crate) struct Desk {
+    /// A word and a slot for each place: at least one.
+    table: Table<Option<Scribe>, (), Snapshot<Sheaf>, DeskRule, Global>,
+}
+
+impl Model for Desk {
+    ghost use Rattle.std.specs.Prelude.{◌≡◌, ◌<◌};
+    ghost use Rattle.window_engine.specs.Desks.{DeskState, desk_code};
+
+    ghost Value = { DeskState };
+
+    ghost coded = { desk_code };
+
+    ghost view = { λ d. record { table = d.table.shared.table_id; sheaf = d.table.shared.key.value } };
+
+    ghost invariant = { λ d. (d.table.shared.table_id.words ≡ d.table.shared.table_id.slots) × (0 < d.table.shared.table_id.words) };
+}
+
+impl Desk {
+    /// A desk for what is made of a sheaf's text, and the first pass. It has so many places, and at least one: none of
+    /// them is taken.
+    pub(crate) fn new(
+        alloc: Global,
+        sheaf: &Sheaf,
+        places: usize,
+    ) -> Result<(Desk, Pass), AllocError>
+        ensures sheaf { IfOk result (λ r. r.0.sheaf ≡ sheaf.now) }
+        ensures pass { IfOk result (λ r. IsPassOf r.0 r.1) }
+    {
+        let places = places.max(1);
+        let words = vec![in alloc; 0u64; places]?;
+        let about = Snapshot::of(sheaf);
+        let (table, seat) = Table::vacant(alloc, words.as_slice(), places, &about)?;
+        Ok((Desk { table }, Pass { seat }))
+    }
+
+    /// A second pass. It takes no memory.
+    pub(crate) fn split(&self, pass: Pass) -> (Pass, Pass)
+        requires { IsPassOf self.now pass }
+        ensures first { IsPassOf self.now result.0 }
+        ensures second { IsPassOf self.now result.1 }
+    {
+        let Pass { mut seat } = pass;
+        let other = self.table.shared.split_seat::<Cut>(&mut seat);
+        (Pass { seat }, Pass { seat: other })
+    }
+
+    /// Lays down what a thread made, at a place that nobody has taken. Where it is taken, or there is no such place, it
+    /// is given up. It takes no memory.
+    pub(crate) fn lay_down(&self, pass: Pass, place: usize, scribe: Scribe)
+        requires pass { IsPassOf self.now pass }
+        requires right { IsRight self.now.sheaf scribe }
+    {
+        if place >= self.table.word_count() {
+            return;
+        }
+        let Pass { mut seat } = pass;
+        if self.table.shared.fetch_or::<Take>(&mut seat, place, TAKEN) != 0 {
+            return;
+        }
+        self.table.shared.exchange(&mut seat, place, Some(scribe));
+        self.table.shared.fetch_or::<Lay>(&mut seat, place, LAID);
+    }
+
+    /// Ends the desk, and gives what was laid down behind others. Where there is no memory for one it is given up.
+    pub(crate) fn clear(self, scribes: &mut Vec<Scribe>)
+        requires { AreRight self.sheaf scribes.old.items }
+        ensures { AreRight self.sheaf scribes.new.items }
+    {
+        let Desk { table } = self;
+        let mut closed = table.close();
+        for place in 0..closed.slot_count() {
+            let word = closed.word(place);
+            let laid = closed.take(place);
+            if word != TAKEN
+                && let Some(scribe) = laid
+            {
+                let _ = scribes.push(scribe);
+            }
+        }
+        closed.free();
+    }
+}

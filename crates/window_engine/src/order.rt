@@ -1,0 +1,113 @@
+//! What the workers of a window share, and what one of them has to do.
+ghost use Rattle.std.specs.Prelude.{◌≡◌, ◌+◌, ◌<◌, ◌^◌, length};
+ghost use Rattle.std.specs.Arc.{arc_value};
+ghost use Rattle.window_core.specs.Sheaves.{merged};
+ghost use Rattle.work_board.specs.Seats.{IsOf, HoldsNothing};
+ghost use Rattle.window_engine.specs.Desks.{IsPassOf};
+ghost use Rattle.window_engine.specs.Sweeps.{IsSwept};
+
+use crate::desk::{Desk, Pass};
+use crate::gate::Gate;
+use crate::parts::Parts;
+use crate::scribe::Scribe;
+use crate::work::work;
+use std::alloc::Global;
+use std::marker::Model;
+use std::sync::Arc;
+use window_core::Sheaf;
+use work_board::{Board, Seat};
+
+/// What the workers of a window share.
+#[derive(Drop)]
+pub(crate) struct Tasks {
+    /// The pieces that they run first.
+    pub board: Board,
+    /// The parts of the text that they make then.
+    pub parts: Parts,
+    /// The lines whose text it is.
+    pub sheaf: Sheaf,
+    /// Where each lays down what it made.
+    pub desk: Desk,
+    ghost same: { desk.sheaf ≡ sheaf },
+    ghost fits: { sheaf.first + length (merged sheaf).lines < 2 ^ 63 },
+}
+
+/// What one worker begins with.
+#[derive(Drop)]
+pub(crate) struct Begin {
+    /// Its seat at the board.
+    pub seat: Seat,
+    /// Its right to lay down one thing.
+    pub pass: Pass,
+    /// Where it lays that down, from 0 on. It tries first the pieces that lie as far along the board.
+    pub place: usize,
+    /// Of how many workers it is one.
+    pub workers: usize,
+    /// The memory for its text.
+    pub scribe: Scribe,
+}
+
+/// Goes over the board, then makes text, and lays that down. The answer is the seat.
+pub(crate) fn serve<G: Gate>(tasks: &Tasks, gate: &G, begin: Begin) -> Seat
+    requires board { IsOf tasks.now.board begin.seat }
+    requires idle { HoldsNothing begin.seat }
+    requires pass { IsPassOf tasks.now.desk begin.pass }
+    ensures board { IsOf tasks.now.board result }
+    ensures swept { IsSwept result }
+{
+    let Begin {
+        seat,
+        pass,
+        place,
+        workers,
+        mut scribe,
+    } = begin;
+    let first = tasks.board.pieces().saturating_mul(place) / workers.max(1);
+    let mut ran = 0;
+    let seat = work(&tasks.board, seat, first, gate, &mut ran);
+    scribe.clear();
+    scribe.make_parts(&tasks.sheaf, &tasks.parts);
+    // Set last: a scribe that is refused memory forgets all.
+    scribe.ran = ran;
+    tasks.desk.lay_down(pass, place, scribe);
+    seat
+}
+
+/// What a thread is to do for a window.
+#[derive(Drop)]
+pub(crate) struct Order {
+    /// What it shares with the other workers.
+    tasks: Arc<Tasks, Global>,
+    /// What it begins with.
+    begin: Begin,
+}
+
+impl Model for Order {
+    ghost use Rattle.std.specs.Prelude.{ℕ};
+    ghost use Rattle.std.specs.Arc.{arc_value};
+    ghost use Rattle.work_board.specs.Seats.{IsOf, HoldsNothing};
+    ghost use Rattle.window_engine.specs.Desks.{IsPassOf};
+
+    ghost Value = { ℕ };
+
+    ghost view = { λ o. o.begin.place };
+
+    ghost invariant = { λ o. IsOf (arc_value o.tasks).board o.begin.seat × HoldsNothing o.begin.seat × IsPassOf (arc_value o.tasks).desk o.begin.pass };
+}
+
+impl Order {
+    /// The order to take part in a window's tasks.
+    pub(crate) fn new(tasks: Arc<Tasks, Global>, begin: Begin) -> Order
+        requires board { IsOf (arc_value tasks).board begin.seat }
+        requires idle { HoldsNothing begin.seat }
+        requires pass { IsPassOf (arc_value tasks).desk begin.pass }
+    {
+        Order { tasks, begin }
+    }
+
+    /// Carries it out. It keeps nothing of the tasks.
+    pub(crate) fn carry_out<G: Gate>(self, gate: &G) {
+        let Order { tasks, begin } = self;
+        let _seat = serve(&tasks, gate, begin);
+    }
+}
