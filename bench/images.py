@@ -24,13 +24,14 @@ HEAD = '## Images\n'
 FIRST = os.path.join(TOP, 'examples', 'one_segment.txt')
 NAMES = 'chain', 'dumbbell_codel', 'tree', 'largest'
 LOAD_MS, SAVE_MS = 20, 10
-# Where the first is made part of the second, it is what that costs without the third.
-LOAD, BOTH, SAVE = 'sessions::scenario_input::read_scenario', 'sessions::session::answer_bytes', 'sessions::conversion::put_image'
+LOAD, SAVE = 'sessions::scenario_input::told_scenario', 'sessions::conversion::put_image'
 
 
 def cost(said, name):
     found = re.search(rf'^ *([\d,]+) .*:{name}\b', said, re.M)
-    return int(found[1].replace(',', '')) if found else 0
+    if not found:
+        sys.exit(f'the program has no function {name} of its own: what it costs can not be counted')
+    return int(found[1].replace(',', ''))
 
 
 def costs(program, subcommand, path, work):
@@ -41,8 +42,7 @@ def costs(program, subcommand, path, work):
                        stdout=subprocess.DEVNULL, stderr=subprocess.DEVNULL, env=ENVIRONMENT, check=True)
     said = subprocess.run(['callgrind_annotate', '--inclusive=yes', '--threshold=100', out], capture_output=True,
                           text=True, env=ENVIRONMENT, check=True).stdout
-    load, both, save = (cost(said, name) for name in (LOAD, BOTH, SAVE))
-    return load or both - save, save
+    return cost(said, LOAD), cost(said, SAVE)
 
 
 def milliseconds(program, subcommand, path):
