@@ -1,10 +1,10 @@
 -- Which of two places comes first, by their moments.
-use Rattle.std.proofs.Common.{◌≡◌, ◌≢◌, ℕ, ◌+◌, ◌*◌, ◌/◌, ◌<◌, Bool, true, false, cond, List, refl, sym, ap, ◌∙◌, ⊎_elim, arith}
-use Rattle.std.proofs.lemmas.Bool.{cases_eq}
+use Rattle.std.proofs.Common.{◌≡◌, ◌≢◌, ℕ, ◌+◌, ◌*◌, ◌/◌, ◌<◌, ◌≤◌, Bool, true, false, cond, List, refl, sym, ap, ◌∙◌, ⊎_elim, arith}
+use Rattle.std.proofs.lemmas.Bool.{cases_eq, cases_lt}
 use Rattle.std.specs.Prelude.{slice_index}
 use Rattle.std.specs.Cmp.{nat_cmp_is}
 use Rattle.std.specs.declared.cmp.Ordering.{Ordering}
-use Rattle.std.specs.declared.cmp.Ordering.TheVariants.{Less}
+use Rattle.std.specs.declared.cmp.Ordering.TheVariants.{Less, Equal}
 use Rattle.std.specs.Ordering.{nat_cmp, ordering_then, ordering_reverse, is_lt}
 use Rattle.sim_time.proofs.Order.{earlier_less}
 use Rattle.sim_time.specs.declared.key.Key.{Key}
@@ -13,18 +13,34 @@ use Rattle.ranking.specs.declared.standing.Standing.{Standing}
 use Rattle.ranking.specs.Tournament.{standing_cmp, vacant_key, moment_of, moment_at, first_place, standing_at, won_below}
 use Rattle.ranking.proofs.Winners.{standings_total}
 
+-- what decides between two keys of one time and node
+abbrev rest : Key → Key → Ordering
+rest k l = ordering_then (nat_cmp k.source l.source) (nat_cmp k.number l.number)
+
 -- the order of keys, or none, at places
 abbrev order : Bool → Bool → Key → Key → ℕ → ℕ → Ordering
 order h g k l p q = ordering_then (nat_cmp (cond h 0 1) (cond g 0 1)) (ordering_then (key_cmp (cond h k vacant_key) (cond g l vacant_key)) (nat_cmp p q))
 
-earlier : (h g : Bool) (k l : Key) (p q : ℕ) → moment_of k.time p h < moment_of l.time q g → order h g k l p q ≡ Less
-earlier true true k l p q less = ap (λ o. ordering_then o (nat_cmp p q)) (earlier_less k l (omega (arith, less)))
+-- of two keys the one with the lesser moment is less
+sooner : (k l : Key) → moment_of k.time k.node 0 true < moment_of l.time l.node 0 true → key_cmp k l ≡ Less
+sooner k l less =
+    ⊎_elim
+    (λ (before : k.time < l.time). earlier_less k l before)
+    (λ (late : l.time ≤ k.time).
+    let same : k.time ≡ l.time = omega (arith, less, late) in
+    let lower : k.node < l.node = omega (arith, less, late) in
+    ap (λ o. ordering_then o (ordering_then (nat_cmp k.node l.node) (rest k l))) (sym (nat_cmp_is k.time l.time Equal same))
+    ∙ ap (λ o. ordering_then o (rest k l)) (sym (nat_cmp_is k.node l.node Less lower)))
+    (cases_lt k.time l.time)
+
+earlier : (h g : Bool) (k l : Key) (p q : ℕ) → moment_of k.time k.node p h < moment_of l.time l.node q g → order h g k l p q ≡ Less
+earlier true true k l p q less = ap (λ o. ordering_then o (nat_cmp p q)) (sooner k l less)
 earlier true false k l p q less = refl
 earlier false true k l p q less = absurd (omega (arith, less))
 earlier false false k l p q less = sym (nat_cmp_is p q Less (omega (arith, less)))
 
 -- the one with the lesser moment comes first
-lesser_moment : (a b : Standing) → moment_of a.key.time a.place a.held < moment_of b.key.time b.place b.held → standing_cmp a b ≡ Less
+lesser_moment : (a b : Standing) → moment_of a.key.time a.key.node a.place a.held < moment_of b.key.time b.key.node b.place b.held → standing_cmp a b ≡ Less
 lesser_moment a b less = earlier a.held b.held a.key b.key a.place b.place less
 
 module _ (leaves : List Standing) (p q : ℕ) (less : moment_at leaves p < moment_at leaves q) where

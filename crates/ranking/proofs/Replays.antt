@@ -103,7 +103,7 @@ at_each P leaves place s one rest p under =
     (λ (apart : p ≢ place). subst (P p) (sym (get_or-set_other leaves place p s no_standing apart)) (rest p within))
     (cases_eq p place)
 
-pub dated_anew : (leaves : List Standing) (moments : List ℕ) (place : ℕ) (s : Standing) (moment : ℕ) → AreDated leaves moments → moment ≡ moment_of s.key.time s.place s.held → AreDated (set leaves place s) (set moments place moment)
+pub dated_anew : (leaves : List Standing) (moments : List ℕ) (place : ℕ) (s : Standing) (moment : ℕ) → AreDated leaves moments → moment ≡ moment_of s.key.time s.key.node s.place s.held → AreDated (set leaves place s) (set moments place moment)
 dated_anew leaves moments place s moment dated is = record {
   size = length-set moments place moment ∙ dated.size ∙ sym (length-set leaves place s);
   each = λ p under.
@@ -111,15 +111,15 @@ dated_anew leaves moments place s moment dated is = record {
       ⊎_elim
       (λ (here : p ≡ place).
       ap (slice_index (set moments place moment)) here ∙ get_or-set_same moments place moment 0 (omega (arith, within, here, dated.size)) ∙ is
-      ∙ ap (λ (x : Standing). moment_of x.key.time x.place x.held) (sym (get_or-set_same leaves place s no_standing (omega (arith, within, here))))
+      ∙ ap (λ (x : Standing). moment_of x.key.time x.key.node x.place x.held) (sym (get_or-set_same leaves place s no_standing (omega (arith, within, here))))
       ∙ ap (moment_at (set leaves place s)) (sym here))
       (λ (apart : p ≢ place).
-      get_or-set_other moments place p moment 0 apart ∙ dated.each p within ∙ ap (λ (x : Standing). moment_of x.key.time x.place x.held) (sym (get_or-set_other leaves place p s no_standing apart)))
+      get_or-set_other moments place p moment 0 apart ∙ dated.each p within ∙ ap (λ (x : Standing). moment_of x.key.time x.key.node x.place x.held) (sym (get_or-set_other leaves place p s no_standing apart)))
       (cases_eq p place);
 }
 
 -- the tree, once the games above are played
-pub tournament_anew : (leaves : List Standing) (moments winners : List ℕ) (place : ℕ) (s : Standing) (moment : ℕ) (after : List ℕ) → IsTournament leaves moments winners → s.place ≡ place → moment ≡ moment_of s.key.time s.place s.held → length after ≡ length winners
+pub tournament_anew : (leaves : List Standing) (moments winners : List ℕ) (place : ℕ) (s : Standing) (moment : ℕ) (after : List ℕ) → IsTournament leaves moments winners → s.place ≡ place → moment ≡ moment_of s.key.time s.key.node s.place s.held → length after ≡ length winners
     → AreWithin (length (set leaves place s)) after → AreOwn (length (set leaves place s)) after → AllWon (set leaves place s) after → IsTournament (set leaves place s) (set moments place moment) after
 tournament_anew leaves moments winners place s moment after t number dated same within own won = record {
   size = omega (arith, same, t.size, length-set leaves place s);

@@ -9,8 +9,8 @@
 //! places.
 //!
 //! Which of two keys is less cannot be guessed, so most games are played with no branch on it: each
-//! place has a moment, the time of its key, or a later one that is its own where it has none, and of
-//! two moments the lesser is chosen. Only where two are the same are the keys compared.
+//! place has a moment, the time and the node of its key as one word, or a later one that is its own where
+//! it has none, and of two moments the lesser is chosen. Only where two are the same are the keys compared.
 #![tactic(auto)]
 
 mod games;

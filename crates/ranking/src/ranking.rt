@@ -50,11 +50,11 @@ fn vacancies(alloc: Global, places: usize) -> Result<Vec<Standing>, AllocError>
 fn vacant_moments(alloc: Global, places: usize) -> Result<Vec<u64>, AllocError>
     requires { places ≤ 2 ^ 31 }
     ensures size { IfOk result (λ moments. length moments.items ≡ places) }
-    ensures vacant { IfOk result (λ moments. (p : ℕ) → p < places → slice_index moments.items p ≡ moment_of 18446744073709551615 p false) }
+    ensures vacant { IfOk result (λ moments. (p : ℕ) → p < places → slice_index moments.items p ≡ moment_of 18446744073709551615 0 p false) }
 {
     let mut moments: Vec<u64> = Vec::new(alloc);
     for place in 0..places {
-        moments.push(moment_of(u64::MAX, place as u32, false))?;
+        moments.push(moment_of(u64::MAX, 0, place as u32, false))?;
     }
     Ok(moments)
 }
@@ -131,7 +131,7 @@ impl Ranking {
         leaf.key.source = key.source;
         leaf.key.number = key.number;
         leaf.held = held;
-        let moment = moment_of(key.time, place as u32, held);
+        let moment = moment_of(key.time, key.node, place as u32, held);
         self.moments[place] = moment;
         games_above(
             leaves,

@@ -5,8 +5,14 @@ ghost use Rattle.ranking.specs.Tournament.{standing_cmp, moment_of, vacant_key};
 
 use sim_time::{Key, Time, key_order};
 
-/// The last moment of a key. Those of places with no key follow it.
-const LAST_MOMENT: u64 = u64::MAX - (1 << 31);
+/// How many nodes a moment tells apart. Those from the last of them on are one to it.
+const NODES: u64 = 4_096;
+
+/// The first time that a moment does not tell from later ones.
+const FAR: Time = 1 << 51;
+
+/// The moment of all keys of far times, the last that a key has. Those of places with no key follow it.
+const LAST_MOMENT: u64 = FAR * NODES;
 
 /// What a place has: a key, or none.
 #[derive(Clone, Copy, Debug, PartialEq, Eq)]
@@ -32,15 +38,17 @@ pub(crate) fn no_key() -> Key
     }
 }
 
-/// The moment of a place: the time of its key in nanoseconds, at most the last moment; where there is no
-/// key, a later moment, which no other place has. Of two places the one with the lesser moment comes first.
+/// The moment of a place: the time and the node of its key as one word, at most the last moment; where
+/// there is no key, a later moment, which no other place has. Of two places the one with the lesser moment
+/// comes first.
 #[inline(always)]
-pub(crate) fn moment_of(time: Time, place: u32, held: bool) -> u64
+pub(crate) fn moment_of(time: Time, node: u16, place: u32, held: bool) -> u64
     requires { place < 2 ^ 31 }
-    ensures { result ≡ moment_of time place held }
+    ensures { result ≡ moment_of time node place held }
 {
     if held {
-        time.min(LAST_MOMENT)
+        let node = (node as u64).min(NODES - 1);
+        (time.min(FAR) * NODES + node).min(LAST_MOMENT)
     } else {
         LAST_MOMENT + 1 + place as u64
     }
