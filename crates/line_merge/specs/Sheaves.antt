@@ -34,11 +34,6 @@ pub record IsCut (moment at : ℕ) (lines : List TraceLine) : Type 0 where
   pub before : (i : ℕ) → i < at → (line_in lines i).key.time < moment
   pub behind : (i : ℕ) → at ≤ i → i < length lines → moment ≤ (line_in lines i).key.time
 
--- so many lines at least are before a moment, and so many at most
-pub record CutsWithin (moment least most : ℕ) (lines : List TraceLine) : Type 0 where
-  pub before : (i : ℕ) → i < least → i < length lines → (line_in lines i).key.time < moment
-  pub behind : (i : ℕ) → most ≤ i → i < length lines → moment ≤ (line_in lines i).key.time
-
 -- the keys of the lines rise
 abbrev pub IsRising : List TraceLine → Type 0
 IsRising lines = T (map.is_sorted key_cmp (each keyed lines))

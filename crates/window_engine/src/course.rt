@@ -137,8 +137,9 @@ impl Course {
         if self.sheaf.len() < MANY {
             return span;
         }
-        let past = self.sheaf.moment_at(MOST - 1, MOST);
-        past.saturating_sub(next).min(span)
+        let mut moments = [0; MOST];
+        self.sheaf.cut_into(&mut moments);
+        moments[MOST - 1].saturating_sub(next).min(span)
     }
 
     /// How long the next window may be after one, by so many workers, in nanoseconds.

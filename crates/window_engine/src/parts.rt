@@ -1,9 +1,11 @@
-//! Into which parts a window's text is cut. The first ones are long, so that few moments are looked for, and the last
-//! ones are short, so that a thread which is done does not wait long for another's.
+//! Into which parts a window's text is cut. The first ones are long, so that a merge begins anew at few places, and the
+//! last ones are short, so that a thread which is done does not wait long for another's.
 ghost use Rattle.std.specs.Prelude.{◌<◌, IfSome};
 
+use sim_time::Time;
 use std::sync::atomic::AtomicU64;
 use std::sync::atomic::Ordering::SeqCst;
+use window_core::Sheaf;
 
 /// In how many parts a window's text is made at most.
 pub const MOST_PARTS: usize = 64;
@@ -16,6 +18,8 @@ const LEAST: usize = 128;
 pub(crate) struct Parts {
     /// Of how many equal shares of the lines they are.
     pub shares: usize,
+    /// The moment at which each share begins, in nanoseconds.
+    moments: [Time; MOST_PARTS],
     /// How many threads take them.
     workers: usize,
     /// How often one was asked for.
@@ -51,12 +55,24 @@ pub fn share_of(part: usize, shares: usize, workers: usize) -> usize {
 }
 
 impl Parts {
-    /// Those of so many lines, which so many threads take. None is taken yet.
-    pub(crate) fn new(lines: usize, workers: usize) -> Parts {
+    /// Those of a sheaf's lines, which so many threads take. None is taken yet.
+    pub(crate) fn new(sheaf: &Sheaf, workers: usize) -> Parts {
+        let shares = sheaf.len().div_ceil(LEAST).min(MOST_PARTS);
+        let mut moments = [0; MOST_PARTS];
+        sheaf.cut_into(&mut moments[..shares]);
         Parts {
-            shares: lines.div_ceil(LEAST).min(MOST_PARTS),
+            shares,
+            moments,
             workers,
             asked: AtomicU64::new(0),
+        }
+    }
+
+    /// The moment at which a share begins, in nanoseconds; the last one where there is no such share.
+    pub(crate) fn moment(&self, share: usize) -> Time {
+        match self.moments.get(share) {
+            Some(moment) => *moment,
+            None => Time::MAX,
         }
     }
 

@@ -57,19 +57,19 @@ fn append_lines(
     Ok(())
 }
 
-/// The index behind the lines up to a share, of so many shares. The cursor goes there.
+/// The index behind the lines up to a share. The cursor goes there.
 fn end_of(
     sheaf: &Sheaf,
     cursor: &mut Cursor,
     share: usize,
-    shares: usize,
+    parts: &Parts,
 ) -> Result<usize, AllocError>
     ensures { IfOk result (λ end. end ≤ length (merged sheaf.now).lines) }
 {
-    if share >= shares {
+    if share >= parts.shares {
         return Ok(sheaf.len());
     }
-    sheaf.begin_at(cursor, sheaf.moment_at(share, shares))?;
+    sheaf.begin_at(cursor, parts.moment(share))?;
     Ok(cursor.at())
 }
 
@@ -138,23 +138,22 @@ impl Scribe {
         self.make_lines(sheaf, cursor, sheaf.len())
     }
 
-    /// Makes the text of a part, of so many shares.
+    /// Makes the text of a part.
     fn make_part(
         &mut self,
         sheaf: &Sheaf,
         cursor: &mut Cursor,
         stretch: Stretch,
-        shares: usize,
+        parts: &Parts,
     ) -> Result<(), AllocError>
-        requires from { stretch.from < shares }
         requires fits { sheaf.now.first + length (merged sheaf.now).lines < 2 ^ 63 }
         requires right { IsRight sheaf.now self.old }
         ensures right { OnOk result (IsRight sheaf.now self.new) }
     {
         self.text
             .make_room((sheaf.len() / 2).saturating_mul(LINE_BYTES))?;
-        let end = end_of(sheaf, cursor, stretch.to, shares)?;
-        sheaf.begin_at(cursor, sheaf.moment_at(stretch.from, shares))?;
+        let end = end_of(sheaf, cursor, stretch.to, parts)?;
+        sheaf.begin_at(cursor, parts.moment(stretch.from))?;
         let count = end.saturating_sub(cursor.at());
         let part = self.make_lines(sheaf, cursor, count)?;
         self.parts.push(part)?;
@@ -172,7 +171,7 @@ impl Scribe {
             let Some(stretch) = parts.take() else {
                 break;
             };
-            self.make_part(sheaf, &mut cursor, stretch, parts.shares)?;
+            self.make_part(sheaf, &mut cursor, stretch, parts)?;
         }
         Ok(())
     }

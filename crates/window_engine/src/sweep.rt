@@ -154,7 +154,7 @@ pub(crate) fn sweep<G: Gate, R: Wait>(
 {
     let alloc = *scribes.allocator();
     let (desk, pass) = Desk::new(alloc, sheaf, workers)?;
-    let parts = Parts::new(sheaf.len(), workers);
+    let parts = Parts::new(sheaf, workers);
     let lent = replace(sheaf, Sheaf::new(alloc, 0));
     let tasks = match Arc::new(
         alloc,

@@ -4,7 +4,7 @@ ghost use Rattle.std.specs.List.{slice_get};
 ghost use Rattle.std.specs.Option.{option_map};
 ghost use Rattle.node_core.specs.TraceLine.{TraceLine, shown};
 ghost use Rattle.line_merge.specs.Merged.{line_in};
-ghost use Rattle.line_merge.specs.Sheaves.{CutsWithin, IsCut, IsRising};
+ghost use Rattle.line_merge.specs.Sheaves.{IsCut, IsRising};
 
 use node_core::Line;
 use sim_time::{Key, Time};
@@ -107,17 +107,5 @@ impl Lines {
         ensures cut { IsCut moment result self.now }
     {
         self.items[..self.count].partition_point(|line| line.key.time < moment)
-    }
-
-    /// How many lines are before a moment, in nanoseconds, where it is known that they are no fewer than
-    /// one number and no more than another. Only the lines between are looked at.
-    pub(crate) fn before_within(&self, until: Time, least: usize, most: usize) -> usize
-        requires { IsRising self.now }
-        ensures within { result ≤ length self.now }
-        ensures cut { CutsWithin until least most self.now → IsCut until result self.now }
-    {
-        let end = most.min(self.count);
-        let begin = least.min(end);
-        begin + self.items[begin..end].partition_point(|line| line.key.time < until)
     }
 }
