@@ -51,7 +51,7 @@ pub fault_send : IsSend (Option.the_row Fault.the_row)
 fault_send = search (sendable, fault.the_send) depth 20
 
 pub inside_send : IsSend Inside.the_row
-inside_send = declared_send Inside.the_type (group_send, (search sendable, (snap_send, (fault_send, tt))))
+inside_send = declared_send Inside.the_type (group_send, (search sendable, (snap_send, (fault_send, (search sendable depth 20, tt)))))
 
 pub piece_send : IsSend Piece.the_row
 piece_send = view_send _ _ _ _ _ inside_send

@@ -8,6 +8,9 @@ use std::marker::Model;
 use std::snapshot::Snapshot;
 use window_core::{Group, GroupFault, run_group};
 
+/// How many words are between a piece and the next one on a board: two cache lines, which are fetched together.
+const APART: usize = 16;
+
 /// A group that is to run its events below a moment.
 #[derive(Drop)]
 pub struct Piece {
@@ -19,6 +22,9 @@ pub struct Piece {
     began: Snapshot<Group>,
     /// Why it stopped before the end, if it did.
     fault: Option<GroupFault>,
+    /// Words that nobody uses. Pieces of a board stand side by side, and each is written event by event: without these
+    /// the end of one and the begin of the next one would share a cache line that two cores write.
+    apart: [u64; APART],
 }
 
 impl Model for Piece {
@@ -49,6 +55,7 @@ impl Piece {
             end,
             began,
             fault: None,
+            apart: [0; APART],
         }
     }
 
@@ -92,6 +99,7 @@ impl Piece {
             end: _,
             began: _,
             fault: _,
+            apart: _,
         } = self;
         group
     }
