@@ -1,9 +1,40 @@
 //! Threads that stay from window to window: each waits at a mailbox of its own, carries out the order that comes, and
 //! waits for the next. An order that no thread has begun can be taken back, so that nobody waits for a thread which
-//! comes late.
+//! comes late. Who waits looks for a while before it sleeps: to wake a thread that sleeps takes longer than a short
+//! window.
 use std::alloc::{AllocError, Global};
+use std::hint::spin_loop;
 use std::mem::replace;
-use std::sync::{Condvar, Mutex, Wait};
+use std::sync::{Condvar, Mutex, MutexGuard, Wait};
+
+/// How often a thread looks whether it was told of something before it sleeps: for some tens of microseconds.
+const LOOKS: u32 = 8_192;
+
+/// Whether something was told since it had been told so many times, within a while.
+fn is_told_since(told: &Condvar, seen: u64) -> bool {
+    for _ in 0..LOOKS {
+        if told.notifications() != seen {
+            return true;
+        }
+        spin_loop();
+    }
+    false
+}
+
+/// Waits until something is told, and may end sooner: looks for it for a while, then sleeps. What the lock guards may
+/// be another value then.
+fn wait_for<'b, T, R: Wait>(rt: &R, told: &Condvar, held: MutexGuard<'b, T>) -> MutexGuard<'b, T> {
+    let seen = told.notifications();
+    let lock = MutexGuard::unlock(held);
+    if is_told_since(told, seen) {
+        return lock.lock(rt);
+    }
+    let held = lock.lock(rt);
+    if told.notifications() != seen {
+        return held;
+    }
+    told.wait(rt, held)
+}
 
 /// What lies in a mailbox.
 #[derive(Drop)]
@@ -41,6 +72,11 @@ impl<T: Drop> Mailbox<T> {
         was
     }
 
+    /// Takes out what is in it. Its thread is not told.
+    fn empty<R: Wait>(&self, rt: &R) -> Post<T> {
+        replace(&mut *self.post.lock(rt), Post::Nothing)
+    }
+
     /// Waits for an order; none where its thread may go.
     fn receive<R: Wait>(&self, rt: &R) -> Option<T> {
         let mut post = self.post.lock(rt);
@@ -48,7 +84,7 @@ impl<T: Drop> Mailbox<T> {
             match replace(&mut *post, Post::Nothing) {
                 Post::Order(order) => return Some(order),
                 Post::Over => return None,
-                Post::Nothing => post = self.come.wait(rt, post),
+                Post::Nothing => post = wait_for(rt, &self.come, post),
             }
         }
         unreachable!()
@@ -107,7 +143,7 @@ impl<T: Drop> Hall<T> {
     /// Takes a thread's order back, where it has not begun it.
     pub(crate) fn take_back<R: Wait>(&self, rt: &R, thread: usize) -> Option<T> {
         let mailbox = self.boxes.get(thread)?;
-        match mailbox.put(rt, Post::Nothing) {
+        match mailbox.empty(rt) {
             Post::Order(order) => {
                 self.carried_out(rt);
                 Some(order)
@@ -132,9 +168,13 @@ impl<T: Drop> Hall<T> {
 
     /// Waits until no order is left to be carried out.
     pub(crate) fn rest<R: Wait>(&self, rt: &R) {
-        let _open = self
-            .rested
-            .wait_while(rt, self.open.lock(rt), |open| *open > 0);
+        let mut open = self.open.lock(rt);
+        for _ in rt.forever() {
+            if *open == 0 {
+                return;
+            }
+            open = wait_for(rt, &self.rested, open);
+        }
     }
 
     /// Has all threads go, now or as soon as they come.
