@@ -3,11 +3,10 @@
 //! late, since the calling thread then runs all groups by itself.
 ghost use Rattle.std.specs.Prelude.{◌≡◌, false};
 
+use crate::slice::WORTH;
+
 /// Over how many windows it is asked how many events they hold.
 const LOOK: u64 = 32;
-
-/// Windows of fewer events than so many for each group cost more than the same events in one group.
-const FEW: u64 = 4;
 
 /// For at least so many events all nodes stay in one group,
 const SHORTEST: u64 = 16_384;
@@ -49,11 +48,12 @@ pub enum Load {
     Many,
 }
 
-/// What windows of so many groups held, of which so many ended by the lookahead, with so many events
-/// in all. A window that was to end sooner says nothing of how many events the next ones hold.
-pub fn load_of(windows: u64, events: u64, groups: usize) -> Load {
-    let many = LOOK.saturating_mul(FEW).saturating_mul(groups as u64);
-    if events >= many {
+/// What windows held, of which so many ended by the lookahead, with so many events in all. A window that was to end
+/// sooner says nothing of how many events the next ones hold. They hold few where a second thread would not be worth it:
+/// they cost something for every group, and what leaves a group is held back and handed over window by window, so that
+/// the same events in one group cost less.
+pub fn load_of(windows: u64, events: u64) -> Load {
+    if events >= LOOK.saturating_mul(WORTH as u64) {
         Load::Many
     } else if windows >= LOOK {
         Load::Few
@@ -154,7 +154,7 @@ impl Pace {
             self.stretch_out(nodes, groups);
             return true;
         }
-        match load_of(self.windows, self.events, groups) {
+        match load_of(self.windows, self.events) {
             Load::Unknown => false,
             Load::Few => {
                 self.stretch_out(nodes, groups);

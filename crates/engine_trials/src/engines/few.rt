@@ -98,20 +98,21 @@ fn a_window_has_its_groups_after_one_group_ran(rt: HostRuntime) {
     drop(engine);
 }
 
-// What windows of so many groups held.
-fn expect_load(rt: &impl Abort, (windows, events): (u64, u64), groups: usize, load: Load) {
-    assert_eq!(rt; load_of(windows, events, groups), load);
+// What so many windows held.
+fn expect_load(rt: &impl Abort, windows: u64, events: u64, load: Load) {
+    assert_eq!(rt; load_of(windows, events), load);
 }
 
 #[test]
-fn what_windows_hold_goes_by_how_many_groups_there_are(rt: HostRuntime) {
-    expect_load(&rt, (31, 100), 4, Load::Unknown);
-    expect_load(&rt, (32, 100), 4, Load::Few);
-    expect_load(&rt, (32, 511), 4, Load::Few);
-    expect_load(&rt, (32, 512), 4, Load::Many);
-    expect_load(&rt, (1, 512), 4, Load::Many);
-    expect_load(&rt, (32, 512), 5, Load::Few);
-    expect_load(&rt, (0, 0), 64, Load::Unknown);
+fn windows_hold_few_where_a_thread_is_not_worth_it(rt: HostRuntime) {
+    let many = 32 * WORTH as u64;
+    expect_load(&rt, 31, 100, Load::Unknown);
+    expect_load(&rt, 32, 100, Load::Few);
+    expect_load(&rt, 32, many - 1, Load::Few);
+    expect_load(&rt, 32, many, Load::Many);
+    expect_load(&rt, 1, many, Load::Many);
+    expect_load(&rt, 1, many - 1, Load::Unknown);
+    expect_load(&rt, 0, 0, Load::Unknown);
 }
 
 // The first shares of a text's parts, of so many shares that so many threads take.
