@@ -7,10 +7,12 @@ not depend on the machine's speed. Seconds are whole runs, their trace thrown aw
 turn in each round, so that what else the machine does disturbs them alike; the least of all rounds counts.
 On a machine with other work a real-time priority keeps the cores for them (as root). With strace windows
 are counted by the writes of two workers, and the threads that four start. It wants valgrind, strace, taskset
-and GNU time. With --found only the table of the groups that `--groups auto` finds is made, and printed.
+and GNU time. With --found only the table of the groups that `--groups auto` finds is made, and printed, with
+--drawn only that of groups drawn at random.
 """
 import argparse
 import os
+import random
 import subprocess
 import time
 from collections import namedtuple
@@ -28,6 +30,8 @@ LOADED, LOADED_WIDE = ('one_flow', 'access_line', 'tree', 'long_chain'), ('busy_
 LOOPS = 4
 # Too short to be timed: what its events cost is counted.
 UNTIMED = 'four_islands',
+# A run of fewer events is over before its time says anything.
+LONG = 100_000
 CREWS = 1, 2, 4, 64
 # Shorter than in the table of events, since valgrind is slow.
 COUNTED = {'tree': lambda: tree(100, 200), 'chain': lambda: chain(16, 4_000)}
@@ -37,6 +41,8 @@ ALONE_MOST = 1.15                       # one worker to a run without options, w
 SMALL_MOST, USED_MOST = 1.5, 2          # small windows to a run without options: seconds, and those of all processors
 LOADED_MOST = 3                         # the seconds to those of a run without options beside busy loops
 FOUND_LEAST, FOUND_MOST = 0.9, 1.15     # a run without options to groups that are found; these to groups by hand
+# How many groups the nodes are drawn into, a draw for each.
+DRAWN = 2, 3, 4, 6, 12, 32
 BY_HAND = {'rate_jump': lambda _: '0,1,0,1,0,1', **{name: four_groups for name in SPED_UP}}
 CORES = os.cpu_count()
 Counted = namedtuple('Counted', 'name a_window plain one each')
@@ -171,6 +177,45 @@ def found_table(rows):
                        else 'no') for r in rows])
 
 
+def drawn_groups(scenario, count):
+    """The group of each node, drawn anew from so many; the same each time that it is called."""
+    draw = random.Random(count)
+    return ','.join(str(draw.randrange(count)) for _ in scenario.nodes)
+
+
+def few(rounds):
+    """The rounds of a long table."""
+    return -(-rounds // 3)
+
+
+Drawn = namedtuple('Drawn', 'name events plain took')
+
+
+def drawn(program, rounds, before):
+    """Seconds of four workers with a group for each node, and with groups drawn at random."""
+    for name in (it for it in SCENARIOS if it not in UNTIMED):
+        scenario = SCENARIOS[name]()
+        path, cores = path_of(name, scenario), f'0-{min(CORES, 4) - 1}'
+        kinds = [(program, path, (), cores)] + [
+            (program, path, ('--workers', '4', '--groups', groups), cores)
+            for groups in ('each', *(drawn_groups(scenario, count) for count in DRAWN))]
+        events = events_of(program, path)
+        if events >= LONG:
+            plain, *took = seconds(kinds, rounds, before)
+            yield Drawn(name, events, plain, took)
+
+
+def drawn_table(rows, rounds):
+    rows = list(rows)
+    yield (f'Seconds of four workers with a group for each node, and with groups drawn at random, in which packets go from group to '
+           f'group at nearly every link, the least of {rounds} rounds. None is to take more than {SMALL_MOST} times as long as '
+           '`run` without options.\n')
+    yield from table(('Scenario', 'Events', '`run`', '`each`', *(f'of {count}' for count in DRAWN), 'most to `run`', 'Within'),
+                     [(f'`{r.name}`', f'{r.events:,}', f'{r.plain:.3f}', *(f'{it:.3f}' for it in r.took),
+                       f'{max(r.took) / r.plain:.2f}', 'yes' if max(r.took) <= SMALL_MOST * r.plain else 'no') for r in rows])
+    yield said([max(r.took) <= SMALL_MOST * r.plain for r in rows], 'hold it')
+
+
 def megabytes(program, path, words):
     said = ran(program, path, words, ('/usr/bin/time', '-f', '%M kB'))
     return number(r'(\d+) kB', said) / 1024
@@ -235,6 +280,7 @@ def section(program, rounds, before):
                      [(f'`{name}`', groups, *(f'{s:.3f}' for s in took), f'{took[1] / took[0]:.2f}') for name, groups, took in under])
     yield said([took[1] <= LOADED_MOST * took[0] for *_, took in under], 'hold it')
     yield from found_table(found(program, rounds, before))
+    yield from drawn_table(drawn(program, few(rounds), before), few(rounds))
     yield f'The most resident memory of a run (GNU time), at most {MOST} MB:\n'
     yield from table(('Scenario', 'Run', 'MB'), [(name, shown(words), f'{most:.1f}') for name, _, words, most in memory(program)])
 
@@ -245,10 +291,14 @@ def main(words=None):
     parser.add_argument('--rounds', type=int, default=9)
     parser.add_argument('--priority', type=int, help='the real-time priority of the timed runs, 1 to 99')
     parser.add_argument('--found', action='store_true', help='print the table of groups that are found alone')
+    parser.add_argument('--drawn', action='store_true', help='print the table of groups drawn at random alone')
     given = parser.parse_args(words)
     before = ('chrt', '-f', str(given.priority)) if given.priority else ()
     if given.found:
         print('\n'.join(found_table(found(given.program, given.rounds, before))))
+        return
+    if given.drawn:
+        print('\n'.join(drawn_table(drawn(given.program, given.rounds, before), given.rounds)))
         return
     put_section(HEAD, section(given.program, given.rounds, before))
 
