@@ -3,6 +3,7 @@ pub mod Numbered
 pub mod Held
 pub mod Group
 pub mod GroupCode
+pub mod Faults
 pub mod ShareOf
 pub mod Passing
 pub mod Shares

@@ -1,9 +1,10 @@
 //! A group of nodes on its way through a window.
-ghost use Rattle.std.specs.Prelude.{◌≡◌, ◌≢◌, ◌+◌, ◌<◌, ◌≤◌, length, None, OnOk, IfErr};
+ghost use Rattle.std.specs.Prelude.{◌≡◌, ◌≤◌, None, OnOk, IfErr};
 ghost use Rattle.table_run.specs.State.{due};
 ghost use Rattle.window_law.specs.Groups.{up_to};
 ghost use Rattle.window_law.specs.Windows.{first_time};
 ghost use Rattle.node_group.specs.Group.{state_of, AfterFirings, IsOnRun};
+ghost use Rattle.node_group.specs.Faults.{IsFaultAt};
 
 use crate::share::Share;
 use sim_time::Time;
@@ -70,8 +71,7 @@ pub fn run_group(group: &mut Group, end: Time) -> Result<(), GroupFault>
     requires { end ≤ group.old.until }
     ensures after { AfterFirings end group.old group.new }
     ensures done { OnOk result (due (up_to end (state_of group.new)) ≡ None) }
-    ensures full { IfErr result (λ fault. fault ≡ GroupFault.CountFull → (due (up_to end (state_of group.new)) ≢ None) × (group.new.position + length group.new.lines ≡ 1000000000000000)) }
-    ensures memory { IfErr result (λ fault. fault ≡ GroupFault.NoMemory → (due (up_to end (state_of group.new)) ≢ None) × (group.new.position + length group.new.lines < 1000000000000000)) }
+    ensures fault { IfErr result (IsFaultAt end group.new) }
 {
     group.share.run(end)
 }

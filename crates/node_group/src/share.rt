@@ -16,6 +16,7 @@ ghost use Rattle.node_group.specs.Held.{HoldsNothing, IsReleased};
 ghost use Rattle.node_group.specs.Seats.{seated, taken, number_at};
 ghost use Rattle.node_group.specs.Numbered.{seats_of, AreFound, AreRising};
 ghost use Rattle.node_group.specs.Group.{GroupValue, state_of, group_from, group_to, member, came_in, IsGroup, IsOnRun, AfterFirings, Fired, IsDueBelow, IsFiring};
+ghost use Rattle.node_group.specs.Faults.{IsFaultAt};
 
 use crate::area::Area;
 use crate::exits::Exits;
@@ -260,8 +261,7 @@ impl Share {
         ensures after { AfterFirings end self.old self.new }
         ensures on_run { IsOnRun self.new }
         ensures fits { self.new.position + length self.new.lines ≤ 1000000000000000 }
-        ensures full { IfErr result (λ fault. fault ≡ GroupFault.CountFull → (due (up_to end (state_of self.old)) ≢ None) × (self.old.position + length self.old.lines ≡ 1000000000000000)) }
-        ensures memory { IfErr result (λ fault. fault ≡ GroupFault.NoMemory → (due (up_to end (state_of self.old)) ≢ None) × (self.old.position + length self.old.lines < 1000000000000000)) }
+        ensures fault { IfErr result (IsFaultAt end self.new) }
         ensures err { OnErr result (self.new ≡ self.old) }
     {
         let Some((at, time)) = self.area.members.first() else {
@@ -286,8 +286,7 @@ impl Share {
         ensures after { AfterFirings end self.old self.new }
         ensures on_run { IsOnRun self.new }
         ensures done { OnOk result (due (up_to end (state_of self.new)) ≡ None) }
-        ensures full { IfErr result (λ fault. fault ≡ GroupFault.CountFull → (due (up_to end (state_of self.new)) ≢ None) × (self.new.position + length self.new.lines ≡ 1000000000000000)) }
-        ensures memory { IfErr result (λ fault. fault ≡ GroupFault.NoMemory → (due (up_to end (state_of self.new)) ≢ None) × (self.new.position + length self.new.lines < 1000000000000000)) }
+        ensures fault { IfErr result (IsFaultAt end self.new) }
     {
         while self.fire_below(end)? {}
         Ok(())

@@ -1,22 +1,11 @@
--- What the fault of a group means, as its share tells it.
-use Rattle.std.proofs.Common.{◌≡◌, ◌≢◌, ◌<◌, ◌+◌, ℕ, length, None, Result, Ok, Err, IfErr, refl, arith}
-use Rattle.table_run.specs.State.{due}
-use Rattle.window_law.specs.Groups.{up_to}
+-- What a group's fault means for its window.
+use Rattle.std.proofs.Common.{◌<◌, ℕ, length, Result, Ok, Err, IfErr, arith}
 use Rattle.node_group.specs.declared.group.GroupFault.{GroupFault}
 use Rattle.node_group.specs.declared.group.GroupFault.TheVariants.{NoMemory, CountFull}
-use Rattle.node_group.specs.Group.{GroupValue, state_of}
+use Rattle.node_group.specs.Faults.{IsFaultAt}
 use Rattle.window_core.specs.declared.window.acting.Action.TheVariants.{Fire as FireOf}
 use Rattle.window_core.specs.Acting.{IsFaultOf, fault_of}
-use Rattle.window_core.specs.Faults.{IsFaultAt}
 use Rattle.window_core.specs.Window.{WindowValue, value_at, IsWindow}
-
-pub fault_at : {T : Type 0} (r : Result T GroupFault) (end : ℕ) (g : GroupValue)
-    → IfErr r (λ f. f ≡ CountFull → (due (up_to end (state_of g)) ≢ None) × (g.position + length g.lines ≡ 1000000000000000))
-    → IfErr r (λ f. f ≡ NoMemory → (due (up_to end (state_of g)) ≢ None) × (g.position + length g.lines < 1000000000000000))
-    → IfErr r (IsFaultAt end g)
-fault_at (Ok x) end g full memory = tt
-fault_at (Err CountFull) end g full memory = full refl
-fault_at (Err NoMemory) end g full memory = memory refl
 
 -- a group's fault is that of the firing that was asked for
 pub fault_fired : {T : Type 0} (r : Result T GroupFault) (v : WindowValue) → IsWindow v → (number : ℕ) → number < length v.groups → IfErr r (IsFaultAt v.until (value_at v.groups number))

@@ -1,24 +1,10 @@
--- What a fault means: of a group that stopped, and of a turn that was not taken.
-use Rattle.std.specs.Prelude.{◌≡◌, ◌≢◌, ◌<◌, ◌≤◌, ◌+◌, ℕ, true, false, length, None, Result, Ok, Err}
-use Rattle.table_run.specs.State.{due}
-use Rattle.window_law.specs.Groups.{up_to}
+-- What the fault of a turn that was not taken means.
+use Rattle.std.specs.Prelude.{◌≡◌, ◌<◌, ◌≤◌, ◌+◌, ℕ, true, false, length, Result, Ok, Err}
 use Rattle.window_law.specs.Windows.{all_done, all_lines}
-use Rattle.node_group.specs.declared.group.GroupFault.{GroupFault}
-use Rattle.node_group.specs.declared.group.GroupFault.TheVariants as group
-use Rattle.node_group.specs.Group.{GroupValue, state_of}
 use Rattle.window_core.specs.declared.window.turning.TurnFault.{TurnFault}
 use Rattle.window_core.specs.declared.window.turning.TurnFault.TheVariants.{NotDone, CountFull, NoMemory}
 use Rattle.window_core.specs.Full.{RunsTooLong}
 use Rattle.window_core.specs.Window.{WindowValue, states_of}
-
--- how many events the run had at the last turn, with those that the group ran since
-abbrev pub events_of : GroupValue → ℕ
-events_of g = g.position + length g.lines
-
--- why a group stands where it is: an event of it is due below a moment, and there are as many as there may be, or there was no memory for one more
-abbrev pub IsFaultAt : ℕ → GroupValue → GroupFault → Type 0
-IsFaultAt end g group.CountFull = (due (up_to end (state_of g)) ≢ None) × (events_of g ≡ 1000000000000000)
-IsFaultAt end g group.NoMemory = (due (up_to end (state_of g)) ≢ None) × (events_of g < 1000000000000000)
 
 -- how many events there are with the lines of all groups
 abbrev pub events_in : WindowValue → ℕ

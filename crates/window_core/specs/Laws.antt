@@ -3,7 +3,8 @@ use Rattle.std.specs.Prelude.{◌≤◌, ◌<◌, ℕ, length}
 use Rattle.table_run.specs.State.{State}
 use Rattle.node_group.specs.declared.group.GroupFault.TheVariants as group
 use Rattle.node_group.specs.Group.{GroupValue, AfterFirings}
-use Rattle.window_core.specs.Faults.{IsDone, IsFaultAt, events_in}
+use Rattle.node_group.specs.Faults.{IsFaultAt}
+use Rattle.window_core.specs.Faults.{IsDone, events_in}
 use Rattle.window_core.specs.Full.{HasTooMany, opening_at}
 use Rattle.window_core.specs.Window.{WindowValue, value_at, IsWindow, IsFrom}
 

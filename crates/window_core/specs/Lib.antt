@@ -21,3 +21,4 @@ pub use Rattle.line_merge.specs.Batches
 pub use Rattle.line_merge.specs.Sheaves
 pub use Rattle.net_partition.specs.Partition
 pub use Rattle.node_group.specs.Group
+pub use Rattle.node_group.specs.Faults as GroupFaults

@@ -3,9 +3,9 @@ ghost use Rattle.std.specs.Prelude.{◌≡◌, ◌<◌, ◌≤◌, [], ℕ, leng
 ghost use Rattle.table_run.specs.State.{State, due};
 ghost use Rattle.window_law.specs.Groups.{up_to};
 ghost use Rattle.window_core.specs.Acting.{IsFaultOf, fault_of};
-ghost use Rattle.window_core.specs.Faults.{IsFaultAt};
 ghost use Rattle.window_core.specs.Full.{events_with};
 ghost use Rattle.node_group.specs.Group.{GroupValue, AfterFirings, IsOnRun, state_of};
+ghost use Rattle.node_group.specs.Faults.{IsFaultAt};
 ghost use Rattle.window_core.specs.Window.{IsFrom, IsWindow, HasFiredOr, states_of, value_at};
 ghost use Rattle.window_law.specs.Windows.{none_fired, soonest};
 

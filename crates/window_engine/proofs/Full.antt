@@ -3,7 +3,7 @@ use Rattle.std.proofs.Common.{◌≡◌, ℕ, suc, List, ◌∷◌, slice_get, O
 use Rattle.std.specs.Option.{option_or}
 use Rattle.node_group.specs.declared.group.GroupFault.{GroupFault}
 use Rattle.node_group.specs.declared.group.GroupFault.TheVariants as group
-use Rattle.window_core.specs.Faults.{IsFaultAt}
+use Rattle.window_core.specs.GroupFaults.{IsFaultAt}
 use Rattle.window_core.specs.Group.{AfterFirings}
 use Rattle.work_board.specs.Pieces.{PieceState, IsTold}
 use Rattle.work_board.specs.Seats.{Began, Tells}

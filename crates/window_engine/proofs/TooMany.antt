@@ -7,7 +7,7 @@ use Rattle.table_run.specs.State.{State, run}
 use Rattle.table_run.proofs.Runs.{run_add}
 use Rattle.node_core.specs.TraceLine.{TraceLine}
 use Rattle.net_machine.specs.Run.{Reached}
-use Rattle.window_core.specs.Faults.{IsFaultAt}
+use Rattle.window_core.specs.GroupFaults.{IsFaultAt}
 use Rattle.window_core.specs.Full.{HasTooMany, RunsTooLong, opening_at}
 use Rattle.window_core.specs.Group.{GroupValue, AfterFirings}
 use Rattle.window_core.specs.Window.{WindowValue, IsFrom, IsWindow, value_at}

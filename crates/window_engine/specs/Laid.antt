@@ -2,7 +2,7 @@
 use Rattle.std.specs.Prelude.{◌≡◌, ◌<◌, ℕ, Bool, length, true, false, min, None}
 use Rattle.node_group.specs.declared.group.GroupFault.TheVariants.{CountFull}
 use Rattle.table_run.specs.State.{State}
-use Rattle.window_core.specs.Faults.{IsFaultAt}
+use Rattle.window_core.specs.GroupFaults.{IsFaultAt}
 use Rattle.window_core.specs.Group.{GroupValue, AfterFirings}
 use Rattle.window_core.specs.Window.{WindowValue, IsFrom, states_of, value_at}
 use Rattle.window_core.specs.Windows.{all_done}

@@ -1,7 +1,7 @@
 -- What a run's answer tells of the piece.
 use Rattle.std.proofs.Common.{◌≡◌, ℕ, Option, Result, Ok, Err, IfErr, sym, subst}
 use Rattle.std.specs.Result.{result_err}
-use Rattle.window_core.specs.Faults.{IsFaultAt}
+use Rattle.window_core.specs.GroupFaults.{IsFaultAt}
 use Rattle.window_core.specs.Group.{GroupValue}
 use Rattle.node_group.specs.declared.group.GroupFault.{GroupFault}
 use Rattle.work_board.specs.Pieces.{PieceState, IsTold}

@@ -1,7 +1,7 @@
 -- What a clause sees of a piece.
 use Rattle.std.specs.Prelude.{◌≡◌, ℕ, Option, None, IsSome, IfSome, ◌⊎◌}
 use Rattle.table_run.specs.State.{due}
-use Rattle.window_core.specs.Faults.{IsFaultAt}
+use Rattle.window_core.specs.GroupFaults.{IsFaultAt}
 use Rattle.window_core.specs.Groups.{up_to}
 use Rattle.window_core.specs.Group.{GroupValue, state_of}
 use Rattle.node_group.specs.declared.group.GroupFault.{GroupFault}

@@ -3,8 +3,8 @@ ghost use Rattle.std.specs.Prelude.{◌≡◌, ◌+◌, ◌<◌, ◌≤◌, [], 
 ghost use Rattle.table_run.specs.State.{due};
 ghost use Rattle.window_law.specs.Groups.{up_to};
 ghost use Rattle.node_group.specs.Group.{GroupValue, AfterFirings, Fired, IsGroup, IsOnRun, state_of};
+ghost use Rattle.node_group.specs.Faults.{IsFaultAt};
 ghost use Rattle.line_merge.specs.Merged.{AreApart, all_of};
-ghost use Rattle.window_core.specs.Faults.{IsFaultAt};
 ghost use Rattle.window_core.specs.Rosters.{least_of, nexts_of};
 ghost use Rattle.line_merge.specs.Sheaves.{merged};
 ghost use Rattle.window_core.specs.Turning.{AreReady, HasHanded};

@@ -1,7 +1,7 @@
 use Rattle.std.proofs.Common.{ap, ◌∙◌, arith, ◌≡◌, ◌<◌, ◌≤◌, ℕ, length, subst}
 use Rattle.std.proofs.lemmas.Result.{IfErr-at_err}
 use Rattle.node_group.specs.declared.group.GroupFault.TheVariants as group
-use Rattle.window_core.specs.Faults.{IsFaultAt}
+use Rattle.window_core.specs.GroupFaults.{IsFaultAt}
 use Rattle.window_core.specs.Group.{GroupValue, AfterFirings}
 use Rattle.window_core.specs.Window.{WindowValue, states_of, value_at}
 use Rattle.window_core.specs.Windows.{all_done}

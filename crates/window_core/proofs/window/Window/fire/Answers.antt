@@ -1,8 +1,8 @@
 use Rattle.std.proofs.Common.{IfErr, ◌≡◌, ◌≤◌, ◌<◌, ℕ, List, length, refl, sym, ap, subst, arith}
 use Rattle.std.specs.Result.{IfOk}
 use Rattle.node_group.specs.Group.{GroupValue, AfterFirings, Fired, IsOnRun}
+use Rattle.node_group.specs.Faults.{IsFaultAt}
 use Rattle.window_core.specs.Window.{WindowValue, value_at, IsWindow, IsFrom, HasFiredOr}
-use Rattle.window_core.specs.Faults.{IsFaultAt}
 use Rattle.window_core.proofs.Faults.{fault_fired}
 use Rattle.window_core.proofs.FiredAt.{none_past, from_fired, window_fired, has_fired, has_room}
 use Rattle.window_core.proofs.WindowFields.{groups_are, fired_view}

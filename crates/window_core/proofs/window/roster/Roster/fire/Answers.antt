@@ -1,10 +1,8 @@
-use Rattle.std.proofs.Common.{IfErr, ◌≡◌, ◌<◌, ◌+◌, ◌-◌, List, false, length, cond, sym, ap, subst, ◌∙◌, arith}
+use Rattle.std.proofs.Common.{◌≡◌, ◌<◌, ◌+◌, ◌-◌, List, false, length, cond, sym, ap, subst, ◌∙◌, arith}
 use Rattle.std.proofs.lemmas.List.{get_or_read}
 use Rattle.node_group.specs.Group.{GroupValue}
 use Rattle.window_core.specs.Rosters.{RosterValue}
 use Rattle.window_core.specs.Window.{no_value, value_at}
-use Rattle.window_core.specs.Faults.{IsFaultAt}
-use Rattle.window_core.proofs.Faults.{fault_at}
 use Rattle.window_core.proofs.Rosters.{after_events, told_upto}
 use Rattle.window_core.proofs.window.roster.Roster.fire.Goals as goal
 
@@ -36,15 +34,3 @@ invariant_of-self c =
     let upto = told_upto w.shares.items i under in
     let now = c.told_by.ensures.count in
     after_events w i g c.next_of.result (w.told + c.told_by.result - c.told-before.result) c.self.invariant out under c.next_of.ensures (omega (arith, told, upto, before, now))
-
-pub returns-clause-fault : goal.returns-clause-fault
-returns-clause-fault c =
-    let w = c.self.inside in
-    let i = c.args.group in
-    let out : w.out ≡ false = ap (λ (x : RosterValue). x.out) c.self.view_is ∙ c.requires.inside in
-    let in_is : w.shares.items ≡ c.args.self.now.groups = ap (λ b. cond b w.lent.value.items w.shares.items) (sym out) ∙ ap (λ (x : RosterValue). x.groups) c.self.view_is in
-    let under : i < length w.shares.items = subst (λ (gs : List GroupValue). i < length gs) (sym in_is) c.requires.within in
-    let read : c.index_mut-share.result.now ≡ value_at w.shares.items i = get_or_read w.shares.items i c.index_mut-share.result.now under c.index_mut-share.ensures.value no_value in
-    let same : c.index_mut-share.result.now ≡ value_at c.args.self.now.groups i = read ∙ ap (λ (gs : List GroupValue). value_at gs i) in_is in
-    let fired = c.fire_below-fired in
-    subst (λ (g : GroupValue). IfErr fired.result (IsFaultAt c.args.until g)) same (fault_at fired.result c.args.until c.index_mut-share.result.now fired.ensures.full fired.ensures.memory)
