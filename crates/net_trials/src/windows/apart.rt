@@ -48,6 +48,22 @@ fn begins(rt: &impl Abort, sheaf: &Sheaf, cursor: &mut Cursor, batch: &Batch, mo
     );
 }
 
+// Four parts begin one behind the other, the first with the first line, each about as far along the lines as it should.
+fn is_cut_evenly(rt: &impl Abort, sheaf: &Sheaf, batch: &Batch) {
+    let mut moments = [Time::MAX; 4];
+    sheaf.cut_into(&mut moments);
+    assert_eq!(rt; moments[0], 0);
+    for part in 1..4 {
+        assert!(rt; moments[part - 1] <= moments[part]);
+        let before = first_from(batch, moments[part]);
+        let wanted = batch.len().saturating_mul(part) / 4;
+        assert!(rt;
+            before.abs_diff(wanted) <= batch.len() / 4 + 3,
+            "{before} {wanted}"
+        );
+    }
+}
+
 // The sheaf has the batch's lines: from the beginning, from each line's moment and past it, and
 // past all.
 fn has_lines(rt: &impl Abort, sheaf: &Sheaf, cursor: &mut Cursor, batch: &Batch) {
@@ -61,6 +77,7 @@ fn has_lines(rt: &impl Abort, sheaf: &Sheaf, cursor: &mut Cursor, batch: &Batch)
         begins(rt, sheaf, cursor, batch, time.saturating_add(1));
     }
     begins(rt, sheaf, cursor, batch, Time::MAX);
+    is_cut_evenly(rt, sheaf, batch);
 }
 
 // Runs each group up to the window's end.
