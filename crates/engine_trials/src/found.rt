@@ -40,13 +40,17 @@ fn found(rt: &(impl Abort + AllocGlobal), text: &str, workers: usize) -> Partiti
 }
 
 /// Each node is in its group.
-fn expect_found(rt: &(impl Abort + AllocGlobal), text: &str, workers: usize, groups: &[usize]) {
-    let partition = found(rt, text, workers);
+fn expect_groups(rt: &(impl Abort + AllocGlobal), partition: &Partition, groups: &[usize]) {
     assert_eq!(rt; partition.nodes(), groups.len());
     for (node, group) in groups.iter().enumerate() {
         assert!(rt; node < partition.nodes());
         assert_eq!(rt; partition.group(node), *group);
     }
+}
+
+/// Each node is found in its group.
+fn expect_found(rt: &(impl Abort + AllocGlobal), text: &str, workers: usize, groups: &[usize]) {
+    expect_groups(rt, &found(rt, text, workers), groups);
 }
 
 #[test]
@@ -55,4 +59,12 @@ fn islands_are_found_for_as_many_workers(rt: HostRuntime) {
     expect_found(&rt, ISLANDS, 64, &[0, 0, 1, 1, 2, 2]);
     expect_found(&rt, ISLANDS, 1, &[0, 0, 0, 0, 0, 0]);
     expect_found(&rt, FIRST, 64, &[0, 0]);
+}
+
+#[test]
+fn groups_without_a_node_are_left_out(rt: HostRuntime) {
+    let entries = vec![in rt.alloc(); 13u8, 0, 13, 63, 4].ok();
+    let partition = Partition::new(entries.expect(&rt, "memory"));
+    let partition = partition.expect(&rt, "groups");
+    expect_groups(&rt, &partition.without_gaps(), &[2, 0, 2, 3, 1]);
 }

@@ -1,9 +1,9 @@
 -- Which lists of entries are partitions, and the greatest of a list.
-use Rattle.std.proofs.Common.{◌≡◌, ◌≤◌, ◌<◌, ◌%◌, ℕ, zero, suc, true, ◌&&◌, nat_lt, nat_le, List, [], ◌∷◌, take, length, replicate, All, refl, ap₂, ◌∙◌, arith, lt-ltb, le-leb, length-append, ltb-true}
-use Rattle.std.specs.List.{list_all, AllByRecursion}
-use Rattle.std.proofs.lemmas.Bool.{and_parts}
-use Rattle.std.proofs.lemmas.List.{length-replicate, length-take}
-use Rattle.std.proofs.lemmas.List.Elements.{All-take, recursion_from_All}
+use Rattle.std.proofs.Common.{◌≡◌, ◌≤◌, ◌<◌, ◌%◌, ℕ, zero, suc, true, ◌&&◌, nat_lt, nat_le, List, [], ◌∷◌, take, length, replicate, All, Contains, get_or, set, nat_eq, false, refl, sym, subst, ⊎_elim, ◌+◌, map, ap, ap₂, ◌∙◌, arith, lt-ltb, le-leb, length-append, ltb-true, leb-true}
+use Rattle.std.specs.List.{list_all, AllByRecursion, AllWithin}
+use Rattle.std.proofs.lemmas.Bool.{and_parts, cases_lt, eqb-false}
+use Rattle.std.proofs.lemmas.List.{length-replicate, length-set, length-take, get_or-set_other, get_or-set_same}
+use Rattle.std.proofs.lemmas.List.Elements.{All-set, All-take, Contains-get_or, recursion_from_All}
 use Rattle.std.proofs.lemmas.List.Folds.{list_all-append}
 use Rattle.net_partition.specs.Partition.{is_partition, group_in, greatest_of, groups_of, alone}
 
@@ -70,8 +70,89 @@ below_is most n entries few least upto size all =
     within (take n entries) (omega (arith, least, upto, size, l)) (omega (arith, upto, size, l))
     (all_below most few (take n entries) (recursion_from_All (λ (group : ℕ). group < most) (take n entries) (All-take (λ (group : ℕ). group < most) n entries all)))
 
+-- the first ones that are a partition are two at least
+pub two_at_least : (n : ℕ) (entries : List ℕ) → is_partition (take n entries) ≡ true → 2 ≤ n
+two_at_least n entries is =
+    let l = length-take n entries in
+    let two : 2 ≤ length (take n entries) = leb-true 2 (length (take n entries)) (and_parts (nat_le 2 (length (take n entries))) _ is).0 in
+    omega (arith, l, two)
+
 -- their groups are no more than that
 pub few_below : (most n : ℕ) (entries : List ℕ) → 1 ≤ most → All (λ group. group < most) entries → groups_of (take n entries) ≤ most
 few_below most n entries some all =
     let below : greatest_of (take n entries) < most = greatest_within most some (take n entries) (recursion_from_All (λ (group : ℕ). group < most) (take n entries) (All-take (λ (group : ℕ). group < most) n entries all)) in
     omega (arith, below)
+
+-- NUMBERS WITHOUT GAPS
+
+-- the groups below one that have a node have numbers below a count, and they rise
+pub record AreNumbered (entries numbers : List ℕ) (count upto : ℕ) : Type 0 where
+  pub size : length numbers ≡ 64
+  pub below : All (λ number. number < 64) numbers
+  pub few : count ≤ upto
+  pub counted : (g : ℕ) → g < upto → Contains entries g → get_or numbers g 0 < count
+  pub rising : (g h : ℕ) → g < h → h < upto → Contains entries g → get_or numbers g 0 < get_or numbers h 0
+
+-- the next group has the count, which then is one more where that has a node
+pub numbered_more : (entries numbers : List ℕ) (count more upto : ℕ) → upto < 64 → AreNumbered entries numbers count upto → count ≤ more → more ≤ count + 1 → (Contains entries upto → count < more)
+    → AreNumbered entries (set numbers upto count) more (upto + 1)
+numbered_more entries numbers count more upto under are least most node =
+    let few = are.few in
+    let size = are.size in
+    let inside : upto < length numbers = omega (arith, size, under) in
+    record {
+      size = length-set numbers upto count ∙ size;
+      below = All-set (λ (number : ℕ). number < 64) numbers upto count (omega (arith, few, under)) are.below;
+      few = omega (arith, few, most);
+      counted = λ g before has. ⊎_elim
+          (λ (l : g < upto). let was = are.counted g l has in let e = get_or-set_other numbers upto g count 0 (λ z. absurd (omega (arith, z, l))) in omega (arith, e, was, least))
+          (λ (past : upto ≤ g).
+          let last : g ≡ upto = omega (arith, past, before) in
+          let e = get_or-set_same numbers upto count 0 inside in
+          let grown = node (subst (Contains entries) last has) in
+          subst (λ n. get_or (set numbers upto count) n 0 < more) (sym last) (omega (arith, e, grown)))
+          (cases_lt g upto);
+      rising = λ g h less before has. ⊎_elim
+          (λ (l : h < upto).
+          let was = are.rising g h less l has in
+          let a = get_or-set_other numbers upto g count 0 (λ z. absurd (omega (arith, z, l, less))) in
+          let b = get_or-set_other numbers upto h count 0 (λ z. absurd (omega (arith, z, l))) in
+          omega (arith, was, a, b))
+          (λ (past : upto ≤ h).
+          let last : h ≡ upto = omega (arith, past, before) in
+          let was = are.counted g (omega (arith, less, before)) has in
+          let a = get_or-set_other numbers upto g count 0 (λ z. absurd (omega (arith, z, less, before))) in
+          let b = get_or-set_same numbers upto count 0 inside in
+          subst (λ n. get_or (set numbers upto count) g 0 < get_or (set numbers upto count) n 0) (sym last) (omega (arith, was, a, b)))
+          (cases_lt h upto);
+    }
+
+-- what no element is, the list doesn't have
+pub not_there : (xs : List ℕ) (x : ℕ) → AllWithin (λ y. nat_eq y x ≡ false) xs 0 (length xs) → Contains xs x → ⊥
+not_there xs x none has = eqb-false (get_or xs has.0 x) x (none has.0 x (omega arith) has.1) has.2
+
+each_below : (entries : List ℕ) (node : ℕ) → list_all (λ group. nat_lt group 64) entries ≡ true → node < length entries → get_or entries node 0 < 64
+each_below [] node all under = absurd (omega (arith, under))
+each_below (x ∷ xs) zero all under = ltb-true x 64 (and_parts _ _ all).0
+each_below (x ∷ xs) (suc node) all under = each_below xs node (and_parts _ _ all).1 (omega (arith, under))
+
+number_at : (numbers entries : List ℕ) (node : ℕ) → node < length entries → get_or (map (λ group. get_or numbers group 0) entries) node 0 ≡ get_or numbers (get_or entries node 0) 0
+number_at numbers [] node under = absurd (omega (arith, under))
+number_at numbers (x ∷ xs) zero under = refl
+number_at numbers (x ∷ xs) (suc node) under = number_at numbers xs node (omega (arith, under))
+
+-- nodes whose numbers are the same are in one group
+pub one_group : (entries numbers numbered : List ℕ) (a b : ℕ) → ((g h : ℕ) → g < h → h < 64 → Contains entries g → get_or numbers g 0 < get_or numbers h 0) → is_partition entries ≡ true
+    → numbered ≡ map (λ group. get_or numbers group 0) entries → a < length entries → b < length entries → group_in numbered a ≡ group_in numbered b → group_in entries a ≡ group_in entries b
+one_group entries numbers numbered a b rising is named within_a within_b e =
+    let all : list_all (λ group. nat_lt group 64) entries ≡ true = (and_parts (nat_le (length entries) 256) _ (and_parts (nat_le 2 (length entries)) _ is).1).1 in
+    let x = get_or entries a 0 in
+    let y = get_or entries b 0 in
+    let same : get_or numbers x 0 ≡ get_or numbers y 0 = sym (number_at numbers entries a within_a) ∙ ap (λ (ns : List ℕ). get_or ns a 0) (sym named) ∙ e ∙ ap (λ (ns : List ℕ). get_or ns b 0) named ∙ number_at numbers entries b within_b in
+    ⊎_elim
+    (λ (l : x < y). let less = rising x y l (each_below entries b all within_b) (Contains-get_or entries a 0 within_a) in absurd (omega (arith, same, less)))
+    (λ (past : y ≤ x). ⊎_elim
+    (λ (l : y < x). let less = rising y x l (each_below entries a all within_a) (Contains-get_or entries b 0 within_b) in absurd (omega (arith, same, less)))
+    (λ (upto : x ≤ y). omega (arith, past, upto))
+    (cases_lt y x))
+    (cases_lt x y)

@@ -1,5 +1,5 @@
 //! Which group each node of a net is in.
-ghost use Rattle.std.specs.Prelude.{◌≡◌, ◌≤◌, ◌<◌, ◌*◌, ℕ, true, take, length, replicate, max, if◌then◌else◌, Option, Some, None, Ok};
+ghost use Rattle.std.specs.Prelude.{◌≡◌, ◌≤◌, ◌<◌, ◌*◌, ℕ, true, All, Contains, map as each, slice_index_or, take, length, replicate, max, if◌then◌else◌, Option, Some, None, Ok};
 ghost use Rattle.std.specs.List.{list_all};
 ghost use Rattle.std.specs.Prelude.{nat_lt};
 ghost use Rattle.net_partition.specs.Partition.{is_partition, group_in, greatest_of, groups_of, alone};
@@ -80,6 +80,37 @@ fn laid_out(entries: &[u8]) -> [u8; 256]
     all
 }
 
+// For each group how many below it have a node: its number, once groups without one are left out.
+fn numbers_without_gaps(entries: &[u8]) -> [u8; 64]
+    ensures below { All (λ number. number < 64) result }
+    ensures rising { (g h : ℕ) → g < h → h < 64 → Contains entries.now g → slice_index_or result g 0 < slice_index_or result h 0 }
+{
+    let mut numbers = [0; 64];
+    let mut count = 0;
+    for group in 0..MOST_GROUPS {
+        numbers[usize::from(group)] = count;
+        if entries.contains(&group) {
+            count += 1;
+        }
+    }
+    numbers
+}
+
+// These groups by other numbers, and behind them zeros.
+fn renumbered(groups: &[u8], numbers: &[u8; 64]) -> [u8; 256]
+    requires few { length groups.now ≤ 256 }
+    requires groups { All (λ group. group < 64) groups.now }
+    requires numbers { All (λ number. number < 64) numbers.now }
+    ensures numbered { take (length groups.now) result ≡ each (λ group. slice_index_or numbers.now group 0) groups.now }
+    ensures below { All (λ group. group < 64) result }
+{
+    let mut all = zeros();
+    for (node, group) in groups.iter().enumerate() {
+        all[node] = numbers[usize::from(*group)];
+    }
+    all
+}
+
 impl Partition {
     /// Node k in the group of the k-th entry; none where there are fewer than 2 or more than 256
     /// entries, or one is over 63.
@@ -143,6 +174,20 @@ impl Partition {
             entries: self.entries,
             nodes: self.nodes,
         })
+    }
+
+    /// The same groups under other numbers, in the same order, so that each number up to the greatest is that of a
+    /// group with a node. No memory is taken.
+    pub fn without_gaps(&self) -> Partition
+        ensures nodes { length result ≡ length self.now }
+        ensures together { (a b : ℕ) → a < length self.now → b < length self.now → group_in self.now a ≡ group_in self.now b → group_in result a ≡ group_in result b }
+        ensures apart { (a b : ℕ) → a < length self.now → b < length self.now → group_in result a ≡ group_in result b → group_in self.now a ≡ group_in self.now b }
+    {
+        let groups = &self.entries[..self.nodes];
+        Partition {
+            entries: renumbered(groups, &numbers_without_gaps(groups)),
+            nodes: self.nodes,
+        }
     }
 
     /// How many nodes.

@@ -96,7 +96,8 @@ pub(crate) fn groups_for(
     }
     let nodes = scenario.parts().nodes.len();
     match partition_of(alloc, text, nodes)? {
-        Some(partition) => Ok(partition),
+        // A group without a node would be a list more in each merge.
+        Some(partition) => Ok(partition.without_gaps()),
         None => Err(SessionFault::Groups),
     }
 }

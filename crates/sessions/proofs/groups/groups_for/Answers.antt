@@ -19,7 +19,7 @@ partition_of-requires c =
 pub returns-in-Some-clause-nodes : goal.returns-in-Some-clause-nodes
 returns-in-Some-clause-nodes c =
     let count : c.len-nodes.result ≡ length c.args.scenario.now.nodes = c.len-nodes.ensures ∙ ap (λ (p : ScenarioParts). length p.nodes) c.parts.ensures.value in
-    one_group_each c.groups-text.result.now c.len-nodes.result c.in-Some.partition (given (MeansGroups c.groups-text.result.now c.len-nodes.result) c.in_ok-partition.field-0 c.in-Some.partition c.in-Some.is c.in_ok-partition.ensures.means) ∙ count
+    c.without_gaps.ensures.nodes ∙ one_group_each c.groups-text.result.now c.len-nodes.result c.in-Some.partition (given (MeansGroups c.groups-text.result.now c.len-nodes.result) c.in_ok-partition.field-0 c.in-Some.partition c.in-Some.is c.in_ok-partition.ensures.means) ∙ count
 
 pub returns-then-eq-clause-named : goal.returns-then-eq-clause-named
 returns-then-eq-clause-named c = inl (sym c.groups-text.ensures ∙ (bytes_eq-Decides _ _).0 (sym c.if-eq.ensures))
