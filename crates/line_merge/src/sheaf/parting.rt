@@ -1,21 +1,21 @@
 //! Where the lines of a window are cut, so that about as many are in each part.
-ghost use Rattle.std.specs.Prelude.{◌≤◌};
+ghost use Rattle.std.specs.Prelude.{◌≡◌, ◌≤◌, slice_index_or};
 
 use super::Sheaf;
 use super::lines::Lines;
 use sim_time::Time;
 
 /// How many moments are noted for each part.
-const NOTED: usize = 4;
+const NOTED: usize = 2;
 
 /// How many moments are noted at most.
-const MOST_NOTED: usize = 256;
+const MOST_NOTED: usize = 128;
 
 // Notes the moment of each so many-th line of a list, behind so many moments that are noted. The answer is how many
 // are noted then.
 fn note(lines: &Lines, stride: usize, noted: &mut [Time; MOST_NOTED], before: usize) -> usize
-    requires { before ≤ 256 }
-    ensures { result ≤ 256 }
+    requires { before ≤ 128 }
+    ensures { result ≤ 128 }
 {
     let mut count = before;
     for nth in 0..lines.len() / stride.max(1) {
@@ -32,7 +32,9 @@ fn note(lines: &Lines, stride: usize, noted: &mut [Time; MOST_NOTED], before: us
 }
 
 // The moment of a part, out of so many, by moments that are noted in their order. That of the first is 0.
-fn moment_of(noted: &[Time], part: usize, parts: usize) -> Time {
+fn moment_of(noted: &[Time], part: usize, parts: usize) -> Time
+    ensures { part ≡ 0 → result ≡ 0 }
+{
     if part == 0 {
         return 0;
     }
@@ -48,7 +50,9 @@ impl Sheaf {
     /// lines are in each. Part 0 begins with the first line. In every list the moment of each so many-th line is
     /// noted, and of all of them in order each so many-th begins a part: nothing is looked for, and lists whose lines
     /// are spread over the window in unlike ways are cut alike.
-    pub fn cut_into(&self, moments: &mut [Time]) {
+    pub fn cut_into(&self, moments: &mut [Time])
+        ensures first { slice_index_or moments.new 0 0 ≡ 0 }
+    {
         let parts = moments.len();
         let wanted = parts.saturating_mul(NOTED).clamp(1, MOST_NOTED);
         let stride = self.len().div_ceil(wanted);
