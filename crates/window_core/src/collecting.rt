@@ -11,6 +11,10 @@ use std::alloc::AllocError;
 /// For how many lines memory is kept from window to window, over all groups. A burst takes more.
 const KEPT: usize = 32_768;
 
+/// A group keeps memory for so many times the lines that it has just told, where that is more: what is given up in a
+/// window and taken again in the next costs calls of the system, and each page of it is cleared.
+const OF_TOLD: usize = 2;
+
 // As many lists as that; what they hold has no meaning.
 fn fit(lists: &mut Vec<Lines>, count: usize) -> Result<(), AllocError>
     ensures { OnOk result (length lists.new.items ≡ count) }
@@ -23,14 +27,15 @@ fn fit(lists: &mut Vec<Lines>, count: usize) -> Result<(), AllocError>
     Ok(())
 }
 
-// Has the lines that a group has told, and gives the group its memory for others, of so many lines
-// at most.
+// Has the lines that a group has told, and gives the group its memory for others: for so many lines at most, or for
+// twice as many as the group has just told, whichever is more.
 fn take_from(lines: &mut Lines, share: &mut Share, position: u64, most: usize)
     requires { position ≤ 1000000000000000 }
     ensures lines { lines.new ≡ share.old.lines }
     ensures share { share.new ≡ record share.old { lines = []; position = position } }
 {
-    let mut items = lines.take_memory(most);
+    let wanted = share.told().saturating_mul(OF_TOLD);
+    let mut items = lines.take_memory(most.max(wanted));
     let count = share.take_lines(&mut items, position);
     *lines = Lines::of(items, count);
 }

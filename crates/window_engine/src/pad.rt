@@ -29,8 +29,6 @@ impl Model for Pad {
 }
 
 /// A page with one line.
-#[cold]
-#[inline(never)]
 fn page_of(alloc: Global, n: u64, line: &Line) -> Result<Page, AllocError>
     ensures { IfOk result (λ page. page ≡ line_bytes n (shown line.now)) }
 {
@@ -104,10 +102,18 @@ impl Pad {
     {
         match &mut self.page {
             Some(page) => page.put_line(n, line),
-            None => {
-                self.page = Some(page_of(self.alloc, n, line)?);
-                Ok(())
-            }
+            None => self.begin_with(n, line),
         }
+    }
+
+    /// Has this line alone. Only a pad for which no room was made comes here: what it takes to make a page is not to be
+    /// laid out for each line.
+    #[cold]
+    #[inline(never)]
+    fn begin_with(&mut self, n: u64, line: &Line) -> Result<(), AllocError>
+        ensures { OnOk result (self.new ≡ line_bytes n (shown line.now)) }
+    {
+        self.page = Some(page_of(self.alloc, n, line)?);
+        Ok(())
     }
 }

@@ -14,7 +14,7 @@ const NARROW: u64 = 1_024;
 const NARROWEST: u64 = 256;
 
 /// How many events a window is to have that threads share.
-const WIDE: u64 = 20_480;
+const WIDE: u64 = 28_672;
 
 /// Threads share a window where its busiest group leaves them at least one event of so many.
 const SHARE: usize = 8;
