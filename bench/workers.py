@@ -192,17 +192,23 @@ Drawn = namedtuple('Drawn', 'name events plain took')
 
 
 def drawn(program, rounds, before):
-    """Seconds of four workers with a group for each node, and with groups drawn at random."""
+    """Seconds of four workers with a group for each node, and with groups drawn at random. Each round goes over all
+    scenarios, since what else the machine does may last longer than all rounds of one."""
+    kinds, events = {}, {}
     for name in (it for it in SCENARIOS if it not in UNTIMED):
         scenario = SCENARIOS[name]()
         path, cores = path_of(name, scenario), f'0-{min(CORES, 4) - 1}'
-        kinds = [(program, path, (), cores)] + [
-            (program, path, ('--workers', '4', '--groups', groups), cores)
-            for groups in ('each', *(drawn_groups(scenario, count) for count in DRAWN))]
-        events = events_of(program, path)
-        if events >= LONG:
-            plain, *took = seconds(kinds, rounds, before)
-            yield Drawn(name, events, plain, took)
+        events[name] = events_of(program, path)
+        if events[name] >= LONG:
+            kinds[name] = [(program, path, (), cores)] + [
+                (program, path, ('--workers', '4', '--groups', groups), cores)
+                for groups in ('each', *(drawn_groups(scenario, count) for count in DRAWN))]
+    least = {name: [float('inf')] * len(kinds[name]) for name in kinds}
+    for _ in range(rounds):
+        for name in kinds:
+            least[name] = [*map(min, least[name], seconds(kinds[name], 1, before))]
+    for name, (plain, *took) in least.items():
+        yield Drawn(name, events[name], plain, took)
 
 
 def drawn_table(rows, rounds):
@@ -266,13 +272,13 @@ def section(program, rounds, before):
     yield (f'The same with a group for each node, so that windows are small: the calling thread runs all of those that would '
            f'not pay for threads. No crew is to take more than {SMALL_MOST} times as long as `run`, nor more than {USED_MOST} times its '
            'processor time.\n')
-    few = list(small(program, rounds, before))
+    narrow = list(small(program, rounds, before))
     yield from table(('Scenario', 'Events', 'Events a window', 'Threads of 4 workers', '`run`', *(f'{n} worker{"s" * (n > 1)}' for n in CREWS),
                       'most to `run`', f'processor time of {CREWS[-1]} to that of `run`'),
                      [(f'`{name}`', f'{events:,}', f'{events / many:,.0f}', f'{started_:,}', *(f'{s:.3f}' for s in took),
                        f'{max(took[1:]) / took[0]:.2f}', f'{used:.2f}')
-                      for name, events, many, started_, took, used in few])
-    yield said([max(took[1:]) <= SMALL_MOST * took[0] and used <= USED_MOST for *_, took, used in few], 'hold both')
+                      for name, events, many, started_, took, used in narrow])
+    yield said([max(took[1:]) <= SMALL_MOST * took[0] and used <= USED_MOST for *_, took, used in narrow], 'hold both')
     yield (f'Seconds beside {LOOPS} busy loops, on all cores and with no priority, the least of {rounds} rounds: four workers are to take at '
            f'most {LOADED_MOST} times as long as `run` does there.\n')
     under = list(loaded(program, rounds))
