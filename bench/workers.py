@@ -32,6 +32,8 @@ LOOPS = 4
 UNTIMED = 'four_islands',
 # A run of fewer events is over before its time says anything.
 LONG = 100_000
+# A run of fewer events is timed so many times as often, since what else the machine does disturbs a short one more.
+SHORT, OFTEN = 3_000_000, 4
 CREWS = 1, 2, 4, 64
 # Shorter than in the table of events, since valgrind is slow.
 COUNTED = {'tree': lambda: tree(100, 200), 'chain': lambda: chain(16, 4_000)}
@@ -122,8 +124,9 @@ def small(program, rounds, before):
         kinds = [(program, path, (), '0')] + [(program, path, ('--workers', str(n), '--groups', 'each'), cores) for n in CREWS]
         used, plain = (processor_seconds(program, path, words, rounds)
                        for words in (('--workers', str(CREWS[-1]), '--groups', 'each'), ()))
-        yield (name, events_of(program, path), windows(program, path, ('--groups', 'each')),
-               threads(program, path, ('--groups', 'each')), seconds(kinds, rounds, before), used / max(plain, 0.01))
+        events = events_of(program, path)
+        yield (name, events, windows(program, path, ('--groups', 'each')), threads(program, path, ('--groups', 'each')),
+               seconds(kinds, times(events, rounds), before), used / max(plain, 0.01))
 
 
 def loaded(program, rounds):
@@ -158,8 +161,9 @@ def found(program, rounds, before):
         kinds = [(program, path, (), '0-3'), (program, path, (*crew, *auto), '0-3')]
         if name in BY_HAND:
             kinds.append((program, path, (*crew, '--groups', BY_HAND[name](scenario)), '0-3'))
-        took = seconds(kinds, rounds, before)
-        yield Found(name, events_of(program, path), len(set(groups)), threads(program, path, auto), *took[:2],
+        events = events_of(program, path)
+        took = seconds(kinds, times(events, rounds), before)
+        yield Found(name, events, len(set(groups)), threads(program, path, auto), *took[:2],
                     took[2] if len(took) > 2 else None)
 
 
@@ -188,6 +192,16 @@ def few(rounds):
     return -(-rounds // 3)
 
 
+def times(events, rounds):
+    """How often a run of so many events is timed."""
+    return rounds * (OFTEN if events < SHORT else 1)
+
+
+def rounds_said(rounds):
+    """The same in words."""
+    return f'the least of {rounds} rounds, of {OFTEN * rounds} where a run has fewer than {SHORT:,} events'
+
+
 Drawn = namedtuple('Drawn', 'name events plain took')
 
 
@@ -206,7 +220,7 @@ def drawn(program, rounds, before):
     least = {name: [float('inf')] * len(kinds[name]) for name in kinds}
     for _ in range(rounds):
         for name in kinds:
-            least[name] = [*map(min, least[name], seconds(kinds[name], 1, before))]
+            least[name] = [*map(min, least[name], seconds(kinds[name], times(events[name], 1), before))]
     for name, (plain, *took) in least.items():
         yield Drawn(name, events[name], plain, took)
 
@@ -214,7 +228,7 @@ def drawn(program, rounds, before):
 def drawn_table(rows, rounds):
     rows = list(rows)
     yield (f'Seconds of four workers with a group for each node, and with groups drawn at random, in which packets go from group to '
-           f'group at nearly every link, the least of {rounds} rounds. None is to take more than {SMALL_MOST} times as long as '
+           f'group at nearly every link, {rounds_said(rounds)}. None is to take more than {SMALL_MOST} times as long as '
            '`run` without options.\n')
     yield from table(('Scenario', 'Events', '`run`', '`each`', *(f'of {count}' for count in DRAWN), 'most to `run`', 'Within'),
                      [(f'`{r.name}`', f'{r.events:,}', f'{r.plain:.3f}', *(f'{it:.3f}' for it in r.took),
@@ -258,7 +272,7 @@ def section(program, rounds, before):
                        f'{c.a_window:,.0f}')
                       for c in counted(program)])
     yield (f'Seconds of whole runs on {processor()}, {os.cpu_count()} cores, pinned to as many cores as workers'
-           + (', with real-time priority' if before else '') + f', the least of {rounds} rounds; the four '
+           + (', with real-time priority' if before else '') + f', {rounds_said(rounds)}; the four '
            'groups are the four parts of each scenario (bench/scenarios.py), joined by links of 10 ms and more. Four workers '
            f'are to be at least {LEAST} times as fast as `run`, and one worker is to take at most {ALONE_MOST} times as long.\n')
     wide = list(sped_up(program, rounds, before))

@@ -13,7 +13,8 @@ use Rattle.sim_time.proofs.Order.{keys_total, earlier_less}
 use Rattle.ranking.proofs.Maps.{both_of}
 use Rattle.node_core.specs.TraceLine.{TraceLine}
 use Rattle.table_run.proofs.Lists.{all_append}
-use Rattle.line_merge.specs.Merged.{line_in, lines_of, all_of, first_key, rests, AreApart}
+use Rattle.line_merge.specs.Ahead.{IsAhead}
+use Rattle.line_merge.specs.Merged.{line_in, lines_of, all_of, rests, AreApart}
 use Rattle.line_merge.specs.Sheaves.{SheafValue, CursorValue, StandsIn, IsCut, IsRising, AreCuts, merged}
 use Rattle.window_law.specs.Windows.{keyed, in_order}
 use Rattle.window_law.proofs.Changes.{same, same_is}
@@ -186,9 +187,9 @@ parted m lists nexts size cuts =
     ∙ sym (find_append xs ys k))
 
 -- a cursor that has cut each list stands behind the lines before the moment
-pub stands_at_cut : (s : SheafValue) (m : ℕ) (c : CursorValue) → AreApart s.lists → AreCuts m s.lists c.nexts → c.at + length (all_of (rests s.lists c.nexts)) ≡ length (all_of s.lists) → c.ranks ≡ map first_key (rests s.lists c.nexts)
+pub stands_at_cut : (s : SheafValue) (m : ℕ) (c : CursorValue) → AreApart s.lists → AreCuts m s.lists c.nexts → c.at + length (all_of (rests s.lists c.nexts)) ≡ length (all_of s.lists) → IsAhead s.lists c.nexts c.moments c.ranks
     → StandsIn s c × IsCut m c.at (merged s).lines
-stands_at_cut s m c apart are count ranked =
+stands_at_cut s m c apart are count ahead =
     let xs = in_order (heads s.lists c.nexts) in
     let left = all_of (rests s.lists c.nexts) in
     let ys = in_order left in
@@ -198,7 +199,7 @@ stands_at_cut s m c apart are count ranked =
     let sum = ap length parts ∙ length-append xs ys in
     let at : c.at ≡ length xs = omega (arith, whole, rest, sum, count) in (
       record {
-        next = record { size = are.size; ranked = ranked };
+        next = ahead;
         count = count ∙ sym whole;
         left = sym (drop-append_seam xs ys) ∙ (λ i. drop (sym at i) (sym parts i));
       },

@@ -1,5 +1,6 @@
 pub mod Sheaves
 pub mod Cuts
 pub mod Rests
+mod Ahead
 pub mod Sent
 pub mod Times

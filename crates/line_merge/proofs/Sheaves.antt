@@ -10,7 +10,8 @@ use Rattle.std.specs.Ordering.{is_eq}
 use Rattle.ranking.proofs.Maps.{both_of, is_less, not_some}
 use Rattle.node_core.specs.TraceLine.{TraceLine}
 use Rattle.line_merge.specs.declared.sheaf.Sheaf.TheInside.{Inside}
-use Rattle.line_merge.specs.Merged.{line_in, lines_of, all_of, rests, HasKey, AreApart, AreNext}
+use Rattle.line_merge.specs.Merged.{line_in, lines_of, all_of, rests, HasKey, AreApart}
+use Rattle.line_merge.specs.Ahead.{IsAhead}
 use Rattle.line_merge.specs.SheafOf.{sheaf_of, IsSheaf}
 use Rattle.line_merge.specs.Sheaves.{SheafValue, CursorValue, StandsIn, merged}
 use Rattle.window_law.specs.Windows.{keyed, in_order}
@@ -93,15 +94,15 @@ dropped zero (x ∷ xs) y ys e = (ap (drop 1) e, ap (λ ls. line_in ls 0) e)
 dropped (suc n) [] y ys e = absurd (cc)
 dropped (suc n) (x ∷ xs) y ys e = dropped n xs y ys e
 
+-- the first line of what is left is the next
+pub first_left : (s : SheafValue) (c : CursorValue) (l : TraceLine) (left : List TraceLine) → StandsIn s c → in_order (all_of (rests s.lists c.nexts)) ≡ l ∷ left → line_in (merged s).lines c.at ≡ l
+first_left s c l left is order = (dropped c.at (merged s).lines l left (sym is.left ∙ order)).1
+
 -- the cursor is behind its next line
-pub one_behind : (s : SheafValue) (c d : CursorValue) (l : TraceLine) → StandsIn s c → d.at ≡ c.at + 1 → AreNext s.lists d.nexts d.ranks → in_order (all_of (rests s.lists c.nexts)) ≡ l ∷ in_order (all_of (rests s.lists d.nexts))
-    → length (all_of (rests s.lists c.nexts)) ≡ length (all_of (rests s.lists d.nexts)) + 1 → StandsIn s d × (line_in (merged s).lines c.at ≡ l)
-one_behind s c d l is at next order fewer =
-    let both = dropped c.at (merged s).lines l (in_order (all_of (rests s.lists d.nexts))) (sym is.left ∙ order) in (
-      record {
-        next = next;
-        count = (let was = is.count in omega (arith, was, at, fewer));
-        left = sym both.0 ∙ ap (λ n. drop n (merged s).lines) {x = suc c.at} {y = d.at} (omega (arith, at));
-      },
-      both.1,
-    )
+pub one_behind : (s : SheafValue) (c d : CursorValue) (l : TraceLine) → StandsIn s c → d.at ≡ c.at + 1 → IsAhead s.lists d.nexts d.moments d.ranks → in_order (all_of (rests s.lists c.nexts)) ≡ l ∷ in_order (all_of (rests s.lists d.nexts))
+    → length (all_of (rests s.lists c.nexts)) ≡ length (all_of (rests s.lists d.nexts)) + 1 → StandsIn s d
+one_behind s c d l is at next order fewer = record {
+  next = next;
+  count = (let was = is.count in omega (arith, was, at, fewer));
+  left = sym (dropped c.at (merged s).lines l (in_order (all_of (rests s.lists d.nexts))) (sym is.left ∙ order)).0 ∙ ap (λ n. drop n (merged s).lines) {x = suc c.at} {y = d.at} (omega (arith, at));
+}

@@ -1,4 +1,5 @@
 pub mod Merged
+pub mod Ahead
 pub mod Batches
 pub mod Sheaves
 pub mod SheafCode

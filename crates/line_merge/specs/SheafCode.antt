@@ -12,5 +12,5 @@ sheaf_code = code_by (ℕ × List (List TraceLine)) (coded× coded_ℕ (coded_li
 
 abbrev pub cursor_code : Coded CursorValue
 cursor_code =
-    code_by (ℕ × (List ℕ × List (Option Key))) (coded× coded_ℕ (coded× (coded_list coded_ℕ) (coded_list (coded_option key_code)))) (λ c. (c.at, (c.nexts, c.ranks)))
-    (λ t. record { at = t.0; nexts = t.1.0; ranks = t.1.1 }) (λ _. refl)
+    code_by (ℕ × (List ℕ × (List ℕ × List (Option Key)))) (coded× coded_ℕ (coded× (coded_list coded_ℕ) (coded× (coded_list coded_ℕ) (coded_list (coded_option key_code))))) (λ c. (c.at, (c.nexts, (c.moments, c.ranks))))
+    (λ t. record { at = t.0; nexts = t.1.0; moments = t.1.1.0; ranks = t.1.1.1 }) (λ _. refl)

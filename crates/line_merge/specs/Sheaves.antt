@@ -5,7 +5,8 @@ use Rattle.sim_time.specs.declared.key.Key.{Key}
 use Rattle.sim_time.specs.Keys.{key_cmp}
 use Rattle.node_core.specs.TraceLine.{TraceLine}
 use Rattle.line_merge.specs.Batches.{BatchValue}
-use Rattle.line_merge.specs.Merged.{AreNext, all_of, line_in, lines_of, rests}
+use Rattle.line_merge.specs.Ahead.{IsAhead}
+use Rattle.line_merge.specs.Merged.{all_of, line_in, lines_of, rests}
 use Rattle.window_law.specs.Windows.{in_order, keyed}
 
 -- the lines of each group, and the number of the first of all in the run, or of the next to come where there is none
@@ -17,15 +18,16 @@ pub record SheafValue : Type 0 where
 abbrev pub merged : SheafValue → BatchValue
 merged s = record { first = s.first; lines = in_order (all_of s.lists) }
 
--- how many lines are gone; of each group, how many are; and the keys of the next
+-- how many lines are gone; of each group, how many are; and the moments of the next, or their keys
 pub record CursorValue : Type 0 where
   pub at : ℕ
   pub nexts : List ℕ
+  pub moments : List ℕ
   pub ranks : List (Option Key)
 
 -- what a merge has left is, in order, what is behind the lines that are gone
 pub record StandsIn (s : SheafValue) (c : CursorValue) : Type 0 where
-  pub next : AreNext s.lists c.nexts c.ranks
+  pub next : IsAhead s.lists c.nexts c.moments c.ranks
   pub count : c.at + length (all_of (rests s.lists c.nexts)) ≡ length (merged s).lines
   pub left : in_order (all_of (rests s.lists c.nexts)) ≡ drop c.at (merged s).lines
 
@@ -33,6 +35,10 @@ pub record StandsIn (s : SheafValue) (c : CursorValue) : Type 0 where
 pub record IsCut (moment at : ℕ) (lines : List TraceLine) : Type 0 where
   pub before : (i : ℕ) → i < at → (line_in lines i).key.time < moment
   pub behind : (i : ℕ) → at ≤ i → i < length lines → moment ≤ (line_in lines i).key.time
+
+-- a line is left, and the next one is before a moment
+abbrev pub HasBefore : SheafValue → CursorValue → ℕ → Type 0
+HasBefore s c moment = (c.at < length (merged s).lines) × ((line_in (merged s).lines c.at).key.time < moment)
 
 -- the keys of the lines rise
 abbrev pub IsRising : List TraceLine → Type 0

@@ -4,6 +4,7 @@ ghost use Rattle.std.specs.Prelude.{◌≡◌, ◌+◌, ◌<◌, ◌∷◌, leng
 ghost use Rattle.line_merge.specs.Merged.{AreApart, AreNext, IsSpot, all_of, first_key, line_at, lines_at, rests};
 ghost use Rattle.window_law.specs.Windows.{in_order};
 
+pub mod ahead;
 pub mod spot;
 
 use self::spot::Spot;

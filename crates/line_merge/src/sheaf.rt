@@ -1,8 +1,9 @@
 //! The lines of a window, group by group: threads can merge them in parts.
-ghost use Rattle.std.specs.Prelude.{◌≡◌, ◌==◌, ◌+◌, ◌<◌, ◌≤◌, [], length};
+ghost use Rattle.std.specs.Prelude.{◌≡◌, ◌==◌, ◌+◌, ◌<◌, ◌≤◌, [], length, None, IfSome};
 ghost use Rattle.node_core.specs.TraceLine.{shown};
-ghost use Rattle.line_merge.specs.Merged.{AreApart, IsSpot, all_of, line_at, line_in};
-ghost use Rattle.line_merge.specs.Sheaves.{StandsIn, merged};
+ghost use Rattle.line_merge.specs.Ahead.{HasNext};
+ghost use Rattle.line_merge.specs.Merged.{AreApart, IsSpot, all_of, line_at, line_in, rests};
+ghost use Rattle.line_merge.specs.Sheaves.{HasBefore, StandsIn, merged};
 
 mod beginning;
 mod cursor;
@@ -11,9 +12,10 @@ mod parting;
 
 pub use self::cursor::Cursor;
 pub use self::lines::Lines;
-use crate::merge::next_spot;
+use crate::merge::ahead::{next_list, pass};
 use crate::merge::spot::Spot;
 use node_core::Line;
+use sim_time::Time;
 use std::alloc::Global;
 use std::marker::Model;
 use std::mem::replace;
@@ -121,7 +123,55 @@ impl Sheaf {
         self.lists[spot.list].line(spot.index)
     }
 
+    /// The list that has the next line.
+    #[inline(always)]
+    fn next_list(&self, cursor: &mut Cursor) -> usize
+        requires at { StandsIn self.now cursor.old }
+        requires some { cursor.old.at < length (merged self.now).lines }
+        ensures next { HasNext (rests self.now.lists cursor.new.nexts) result }
+        ensures at { StandsIn self.now cursor.new }
+        ensures stays { cursor.new.at ≡ cursor.old.at }
+    {
+        next_list(
+            &self.lists,
+            &cursor.nexts,
+            &cursor.moments,
+            &mut cursor.ranking,
+        )
+    }
+
+    /// The next line, in the list that has it.
+    #[inline(always)]
+    fn next_in(&self, cursor: &Cursor, list: usize) -> &Line
+        requires at { StandsIn self.now cursor.now }
+        requires next { HasNext (rests self.now.lists cursor.now.nexts) list }
+        ensures { shown result.now ≡ line_in (merged self.now).lines cursor.now.at }
+    {
+        let lines = &self.lists[list];
+        lines.line(cursor.nexts[list])
+    }
+
+    /// Puts a cursor behind the next line, in the list that has it.
+    #[inline(always)]
+    fn pass(&self, cursor: &mut Cursor, list: usize)
+        requires at { StandsIn self.now cursor.old }
+        requires next { HasNext (rests self.now.lists cursor.old.nexts) list }
+        ensures at { StandsIn self.now cursor.new }
+        ensures count { cursor.new.at ≡ cursor.old.at + 1 }
+    {
+        pass(
+            &self.lists,
+            &mut cursor.nexts,
+            &mut cursor.moments,
+            &mut cursor.ranking,
+            list,
+        );
+        prove!(cursor.at < self.count);
+        cursor.at += 1;
+    }
+
     /// The next line in the order of the keys. The cursor is then behind it.
+    #[inline(always)]
     pub fn next(&self, cursor: &mut Cursor) -> &Line
         requires at { StandsIn self.now cursor.old }
         requires some { cursor.old.at < length (merged self.now).lines }
@@ -129,9 +179,32 @@ impl Sheaf {
         ensures at { StandsIn self.now cursor.new }
         ensures count { cursor.new.at ≡ cursor.old.at + 1 }
     {
-        prove!(cursor.at < self.count);
-        let spot = next_spot(&self.lists, &mut cursor.nexts, &mut cursor.ranking);
-        cursor.at += 1;
-        self.line(spot)
+        let list = self.next_list(cursor);
+        let line = self.next_in(cursor, list);
+        self.pass(cursor, list);
+        line
+    }
+
+    /// The same where the next line is before a moment, in nanoseconds; else, or where none is left, the cursor stays.
+    #[inline(always)]
+    pub fn next_before(&self, cursor: &mut Cursor, moment: Time) -> Option<&Line>
+        requires at { StandsIn self.now cursor.old }
+        ensures line { IfSome result (λ line. shown line.now ≡ line_in (merged self.now).lines cursor.old.at) }
+        ensures before { IfSome result (λ line. HasBefore self.now cursor.old moment) }
+        ensures count { IfSome result (λ line. cursor.new.at ≡ cursor.old.at + 1) }
+        ensures none { result ≡ None → ¬ HasBefore self.now cursor.old moment }
+        ensures stays { result ≡ None → cursor.new.at ≡ cursor.old.at }
+        ensures at { StandsIn self.now cursor.new }
+    {
+        if cursor.at >= self.count {
+            return None;
+        }
+        let list = self.next_list(cursor);
+        let line = self.next_in(cursor, list);
+        if line.key.time >= moment {
+            return None;
+        }
+        self.pass(cursor, list);
+        Some(line)
     }
 }

@@ -22,7 +22,7 @@ abbrev order : Bool → Bool → Key → Key → ℕ → ℕ → Ordering
 order h g k l p q = ordering_then (nat_cmp (cond h 0 1) (cond g 0 1)) (ordering_then (key_cmp (cond h k vacant_key) (cond g l vacant_key)) (nat_cmp p q))
 
 -- of two keys the one with the lesser moment is less
-sooner : (k l : Key) → moment_of k.time k.node 0 true < moment_of l.time l.node 0 true → key_cmp k l ≡ Less
+pub sooner : (k l : Key) → moment_of k.time k.node 0 true < moment_of l.time l.node 0 true → key_cmp k l ≡ Less
 sooner k l less =
     ⊎_elim
     (λ (before : k.time < l.time). earlier_less k l before)

@@ -20,4 +20,5 @@ mod timetable;
 mod words;
 
 pub use ranking::Ranking;
+pub use standing::moment_of;
 pub use timetable::Timetable;

@@ -42,7 +42,7 @@ pub(crate) fn no_key() -> Key
 /// there is no key, a later moment, which no other place has. Of two places the one with the lesser moment
 /// comes first.
 #[inline(always)]
-pub(crate) fn moment_of(time: Time, node: u16, place: u32, held: bool) -> u64
+pub fn moment_of(time: Time, node: u16, place: u32, held: bool) -> u64
     requires { place < 2 ^ 31 }
     ensures { result ≡ moment_of time node place held }
 {

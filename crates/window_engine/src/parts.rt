@@ -1,10 +1,11 @@
 //! Into which parts a window's text is cut. The first ones are long, so that a merge begins anew at few places, and the
 //! last ones are short, so that a thread which is done does not wait long for another's.
-ghost use Rattle.std.specs.Prelude.{◌<◌, IfSome};
+ghost use Rattle.std.specs.Prelude.{◌<◌, ◌≤◌, IfSome};
 
 use sim_time::Time;
-use std::sync::atomic::AtomicU64;
+use std::array::from_fn;
 use std::sync::atomic::Ordering::SeqCst;
+use std::sync::atomic::{AtomicBool, AtomicU64};
 use window_core::Sheaf;
 
 /// In how many parts a window's text is made at most.
@@ -18,12 +19,15 @@ const LEAST: usize = 128;
 pub(crate) struct Parts {
     /// Of how many equal shares of the lines they are.
     pub shares: usize,
-    /// The moment at which each share begins, in nanoseconds.
-    moments: [Time; MOST_PARTS],
+    /// The moment at which each share begins, in nanoseconds, once they are known.
+    moments: [AtomicU64; MOST_PARTS],
+    /// Whether they are.
+    known: AtomicBool,
     /// How many threads take them.
     workers: usize,
     /// How often one was asked for.
     asked: AtomicU64,
+    ghost few: { shares ≤ 64 },
 }
 
 /// A part: shares of the lines from one on up to another.
@@ -55,24 +59,35 @@ pub fn share_of(part: usize, shares: usize, workers: usize) -> usize {
 }
 
 impl Parts {
-    /// Those of a sheaf's lines, which so many threads take. None is taken yet.
+    /// Those of a sheaf's lines, which so many threads take. None is taken yet, nor is it known where they begin.
     pub(crate) fn new(sheaf: &Sheaf, workers: usize) -> Parts {
-        let shares = sheaf.len().div_ceil(LEAST).min(MOST_PARTS);
-        let mut moments = [0; MOST_PARTS];
-        sheaf.cut_into(&mut moments[..shares]);
         Parts {
-            shares,
-            moments,
+            shares: sheaf.len().div_ceil(LEAST).min(MOST_PARTS),
+            moments: from_fn(|_| AtomicU64::new(0)),
+            known: AtomicBool::new(false),
             workers,
             asked: AtomicU64::new(0),
         }
     }
 
-    /// The moment at which a share begins, in nanoseconds; the last one where there is no such share.
+    /// Sees that it is known where the parts begin. Whoever looks finds the same moments, so that none waits for another.
+    pub(crate) fn cut(&self, sheaf: &Sheaf) {
+        if self.known.load(SeqCst) {
+            return;
+        }
+        let mut moments = [0; MOST_PARTS];
+        sheaf.cut_into(&mut moments[..self.shares]);
+        for (place, moment) in self.moments.iter().zip(moments.iter()) {
+            place.store(*moment, SeqCst);
+        }
+        self.known.store(true, SeqCst);
+    }
+
+    /// The moment at which a share begins, in nanoseconds, once that is known; the last one where there is no such share.
     pub(crate) fn moment(&self, share: usize) -> Time {
         match self.moments.get(share) {
-            Some(moment) => *moment,
-            None => Time::MAX,
+            Some(moment) if share < self.shares => moment.load(SeqCst),
+            _ => Time::MAX,
         }
     }
 

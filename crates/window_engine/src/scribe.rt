@@ -1,12 +1,13 @@
 //! What one thread makes of a window's text: the next part of the lines, again and again, until all
 //! parts are taken.
-ghost use Rattle.std.specs.Prelude.{◌≡◌, ◌+◌, ◌<◌, ◌≤◌, ◌^◌, ◌++◌, [], length, take, drop, IfOk, IfSome, OnOk};
+ghost use Rattle.std.specs.Prelude.{◌≡◌, ◌+◌, ◌-◌, ◌<◌, ◌≤◌, ◌^◌, ◌++◌, [], length, take, drop, IfOk, IfSome, OnOk};
 ghost use Rattle.window_core.specs.Sheaves.{StandsIn, merged};
 ghost use Rattle.window_engine.specs.Parts.{HasText, IsRight};
 ghost use Rattle.window_engine.specs.Text.{text_from};
 
 use crate::pad::Pad;
 use crate::parts::{Parts, Stretch};
+use sim_time::Time;
 use std::alloc::{AllocError, Global};
 use window_core::{Cursor, Sheaf};
 
@@ -57,20 +58,28 @@ fn append_lines(
     Ok(())
 }
 
-/// The index behind the lines up to a share. The cursor goes there.
-fn end_of(
+/// Appends the text of the lines that a cursor comes to next and that are before a moment, in nanoseconds.
+/// Where memory is refused, some may have been appended.
+fn append_before(
     sheaf: &Sheaf,
     cursor: &mut Cursor,
-    share: usize,
-    parts: &Parts,
-) -> Result<usize, AllocError>
-    ensures { IfOk result (λ end. end ≤ length (merged sheaf.now).lines) }
+    moment: Time,
+    text: &mut Pad,
+) -> Result<(), AllocError>
+    requires stands { StandsIn sheaf.now cursor.old }
+    requires fits { sheaf.now.first + length (merged sheaf.now).lines < 2 ^ 63 }
+    ensures on { OnOk result (cursor.old.at ≤ cursor.new.at) }
+    ensures within { OnOk result (cursor.new.at ≤ length (merged sheaf.now).lines) }
+    ensures text { OnOk result (text.new ≡ text.old ++ text_from (sheaf.now.first + cursor.old.at) (take (cursor.new.at - cursor.old.at) (drop cursor.old.at (merged sheaf.now).lines))) }
 {
-    if share >= parts.shares {
-        return Ok(sheaf.len());
+    for _ in 0..sheaf.len() {
+        let number = sheaf.first() + cursor.at() as u64;
+        let Some(line) = sheaf.next_before(cursor, moment) else {
+            break;
+        };
+        text.put_line(number, line)?;
     }
-    sheaf.begin_at(cursor, parts.moment(share))?;
-    Ok(cursor.at())
+    Ok(())
 }
 
 impl Scribe {
@@ -138,6 +147,29 @@ impl Scribe {
         self.make_lines(sheaf, cursor, sheaf.len())
     }
 
+    /// Makes the text of the lines from where a cursor stands that are before a moment, in nanoseconds.
+    fn make_before(
+        &mut self,
+        sheaf: &Sheaf,
+        cursor: &mut Cursor,
+        moment: Time,
+    ) -> Result<Part, AllocError>
+        requires stands { StandsIn sheaf.now cursor.old }
+        requires fits { sheaf.now.first + length (merged sheaf.now).lines < 2 ^ 63 }
+        ensures part { IfOk result (HasText sheaf.now self.new.text) }
+        ensures kept { IsRight sheaf.now self.old → OnOk result (IsRight sheaf.now self.new) }
+    {
+        let from = cursor.at();
+        let start = self.text.len();
+        append_before(sheaf, cursor, moment, &mut self.text)?;
+        Ok(Part {
+            from,
+            count: cursor.at() - from,
+            start,
+            end: self.text.len(),
+        })
+    }
+
     /// Makes the text of a part.
     fn make_part(
         &mut self,
@@ -152,10 +184,8 @@ impl Scribe {
     {
         self.text
             .make_room((sheaf.len() / 2).saturating_mul(LINE_BYTES))?;
-        let end = end_of(sheaf, cursor, stretch.to, parts)?;
         sheaf.begin_at(cursor, parts.moment(stretch.from))?;
-        let count = end.saturating_sub(cursor.at());
-        let part = self.make_lines(sheaf, cursor, count)?;
+        let part = self.make_before(sheaf, cursor, parts.moment(stretch.to))?;
         self.parts.push(part)?;
         Ok(())
     }
@@ -167,6 +197,7 @@ impl Scribe {
         ensures right { OnOk result (IsRight sheaf.now self.new) }
     {
         let mut cursor = Cursor::new(self.text.allocator())?;
+        parts.cut(sheaf);
         for _ in 0..parts.shares {
             let Some(stretch) = parts.take() else {
                 break;

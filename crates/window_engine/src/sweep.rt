@@ -173,6 +173,7 @@ pub(crate) fn sweep<G: Gate, R: Wait>(
     };
     let mut made = replace(scribes, Vec::new(alloc));
     let (seat, pass) = give_orders(rt, hall, &tasks, workers, seat, pass, &mut made);
+    tasks.parts.cut(&tasks.sheaf);
     let begin = Begin {
         seat,
         pass,

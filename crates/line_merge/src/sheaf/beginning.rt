@@ -5,7 +5,7 @@ ghost use Rattle.line_merge.specs.Sheaves.{AreCuts, IsCut, StandsIn, merged};
 
 use super::lines::Lines;
 use super::{Cursor, Sheaf};
-use crate::merge::rank_nexts;
+use crate::merge::ahead::look_ahead;
 use sim_time::Time;
 use std::alloc::AllocError;
 
@@ -41,7 +41,12 @@ impl Sheaf {
         cursor.fit(*self.lists.allocator(), self.lists.len())?;
         cursor.nexts.fill(0);
         cursor.at = cut(&self.lists, moment, &mut cursor.nexts);
-        rank_nexts(&self.lists, &cursor.nexts, &mut cursor.ranking);
+        look_ahead(
+            &self.lists,
+            &cursor.nexts,
+            &mut cursor.moments,
+            &mut cursor.ranking,
+        );
         Ok(())
     }
 }

@@ -12,7 +12,9 @@ pub struct Cursor {
     pub(super) at: usize,
     /// The index of the next line of each group.
     pub(super) nexts: Vec<usize>,
-    /// The keys of those lines.
+    /// The moments of those lines, where groups are few.
+    pub(super) moments: Vec<u64>,
+    /// Their keys, where groups are many.
     pub(super) ranking: Ranking,
 }
 
@@ -24,17 +26,18 @@ impl Model for Cursor {
 
     ghost coded = { cursor_code };
 
-    ghost view = { λ c. record { at = c.at; nexts = c.nexts.items; ranks = c.ranking } };
+    ghost view = { λ c. record { at = c.at; nexts = c.nexts.items; moments = c.moments.items; ranks = c.ranking } };
 }
 
 impl Cursor {
     /// A cursor that stands in no sheaf of any group yet.
     pub fn new(alloc: Global) -> Result<Cursor, AllocError>
-        ensures { IfOk result (λ cursor. cursor ≡ record { at = 0; nexts = []; ranks = [] }) }
+        ensures { IfOk result (λ cursor. cursor ≡ record { at = 0; nexts = []; moments = []; ranks = [] }) }
     {
         Ok(Cursor {
             at: 0,
             nexts: Vec::new(alloc),
+            moments: Vec::new(alloc),
             ranking: Ranking::new(alloc, 0)?,
         })
     }
@@ -43,15 +46,21 @@ impl Cursor {
     pub(super) fn fit(&mut self, alloc: Global, places: usize) -> Result<(), AllocError>
         requires { places ≤ 2 ^ 31 }
         ensures nexts { OnOk result (length self.new.nexts ≡ places) }
+        ensures moments { OnOk result (length self.new.moments ≡ places) }
         ensures ranks { OnOk result (length self.new.ranks ≡ places) }
         ensures err { OnErr result (self.new ≡ self.old) }
     {
-        if self.nexts.len() == places && self.ranking.places() == places {
+        if self.nexts.len() == places
+            && self.moments.len() == places
+            && self.ranking.places() == places
+        {
             return Ok(());
         }
         let nexts = vec![in alloc; 0usize; places]?;
+        let moments = vec![in alloc; 0u64; places]?;
         self.ranking = Ranking::new(alloc, places)?;
         self.nexts = nexts;
+        self.moments = moments;
         Ok(())
     }
 

@@ -3,7 +3,7 @@
 ghost use Rattle.std.specs.Prelude.{◌≡◌, ◌≤◌, false, length};
 ghost use Rattle.window_core.specs.Sheaves.{StandsIn};
 
-use super::nets::{SIX_EACH, crossed, grouped, two_pairs};
+use super::nets::{SIX_EACH, crossed, five_pairs, grouped, two_pairs};
 use crate::nets::is_same;
 use net_machine::Net;
 use sim_time::Time;
@@ -48,6 +48,32 @@ fn begins(rt: &impl Abort, sheaf: &Sheaf, cursor: &mut Cursor, batch: &Batch, mo
     );
 }
 
+// A cursor gives the batch's lines before a moment, up to an index, and then none.
+fn gives_before(
+    rt: &impl Abort,
+    sheaf: &Sheaf,
+    cursor: &mut Cursor,
+    batch: &Batch,
+    moment: Time,
+    to: usize,
+)
+    requires { StandsIn sheaf.now cursor.old }
+{
+    for index in 0..to {
+        assert!(rt; index < batch.len());
+        let line = sheaf.next_before(cursor, moment).expect(rt, "a line");
+        is_same(rt, line, batch.line(index));
+    }
+    assert!(rt; sheaf.next_before(cursor, moment).is_none());
+    assert_eq!(rt; cursor.at(), to);
+}
+
+// A cursor gives the lines before a moment, from the first line on.
+fn begins_before(rt: &impl Abort, sheaf: &Sheaf, cursor: &mut Cursor, batch: &Batch, moment: Time) {
+    sheaf.begin_at(cursor, 0).expect(rt, "a beginning");
+    gives_before(rt, sheaf, cursor, batch, moment, first_from(batch, moment));
+}
+
 // Four parts begin one behind the other, the first with the first line, each about as far along the lines as it should.
 fn is_cut_evenly(rt: &impl Abort, sheaf: &Sheaf, batch: &Batch) {
     let mut moments = [Time::MAX; 4];
@@ -65,7 +91,7 @@ fn is_cut_evenly(rt: &impl Abort, sheaf: &Sheaf, batch: &Batch) {
 }
 
 // The sheaf has the batch's lines: from the beginning, from each line's moment and past it, and
-// past all.
+// past all; and those before each of these moments.
 fn has_lines(rt: &impl Abort, sheaf: &Sheaf, cursor: &mut Cursor, batch: &Batch) {
     assert_eq!(rt; sheaf.first(), batch.first());
     assert_eq!(rt; sheaf.len(), batch.len());
@@ -75,6 +101,8 @@ fn has_lines(rt: &impl Abort, sheaf: &Sheaf, cursor: &mut Cursor, batch: &Batch)
         let time = batch.line(index).key.time;
         begins(rt, sheaf, cursor, batch, time);
         begins(rt, sheaf, cursor, batch, time.saturating_add(1));
+        begins_before(rt, sheaf, cursor, batch, time);
+        begins_before(rt, sheaf, cursor, batch, time.saturating_add(1));
     }
     begins(rt, sheaf, cursor, batch, Time::MAX);
     is_cut_evenly(rt, sheaf, batch);
@@ -197,5 +225,14 @@ fn cursors_begin_amid_the_lines_of_two_groups(rt: HostRuntime) {
     let windows = windows_with_lines(&rt, alloc, two_pairs(&rt, alloc), &[0, 0, 1, 1]);
     assert_eq!(rt; windows, 1);
     let windows = windows_with_lines(&rt, alloc, two_pairs(&rt, alloc), &[0, 1, 1, 0]);
+    assert!(rt; windows > 1);
+}
+
+// Of ten groups the next lines are ranked by their keys, of fewer they are told apart by their moments.
+#[test]
+fn cursors_merge_the_lines_of_many_groups(rt: HostRuntime) {
+    let alloc = rt.alloc();
+    let each: [u8; 10] = [0, 1, 2, 3, 4, 5, 6, 7, 8, 9];
+    let windows = windows_with_lines(&rt, alloc, five_pairs(&rt, alloc), &each);
     assert!(rt; windows > 1);
 }

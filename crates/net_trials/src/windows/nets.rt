@@ -43,6 +43,40 @@ pub fn two_pairs(rt: &impl Abort, alloc: Global) -> Net {
     net_of(rt, alloc, &[TWO_PAIRS])
 }
 
+// Five times a sender and a receiver, with no link between two of them.
+const FIVE_PAIRS: &str = "sim 3000000000
+node s0 sender
+node r0 receiver
+node s1 sender
+node r1 receiver
+node s2 sender
+node r2 receiver
+node s3 sender
+node r3 receiver
+node s4 sender
+node r4 receiver
+link a0 s0 r0 8000000 1000000 droptail 10
+link b0 r0 s0 8000000 1000000 droptail 10
+link a1 s1 r1 8000000 1000000 droptail 10
+link b1 r1 s1 8000000 1000000 droptail 10
+link a2 s2 r2 9000000 1000000 droptail 10
+link b2 r2 s2 8000000 1000000 droptail 10
+link a3 s3 r3 8000000 1000000 droptail 10
+link b3 r3 s3 7000000 1000000 droptail 10
+link a4 s4 r4 8000000 2000000 droptail 10
+link b4 r4 s4 8000000 1000000 droptail 10
+flow f0 s0 r0 1000 6 0 64000 0
+flow f1 s1 r1 1000 6 0 64000 0
+flow f2 s2 r2 1000 6 0 64000 0
+flow f3 s3 r3 1000 6 0 64000 0
+flow f4 s4 r4 1000 6 0 64000 0
+";
+
+/// Five times a sender that gives a receiver six segments, with no link between two of these pairs.
+pub fn five_pairs(rt: &impl Abort, alloc: Global) -> Net {
+    net_of(rt, alloc, &[FIVE_PAIRS])
+}
+
 // Two senders and two receivers about a router; the third packet of the first sender is lost.
 const CROSS: &str = "node s sender
 node t sender

@@ -1,7 +1,9 @@
-use Rattle.std.proofs.Common.{◌≡◌, ◌+◌, length, map, sym, ap, subst, ◌∙◌, arith}
+use Rattle.std.proofs.Common.{◌≡◌, ◌+◌, ℕ, List, length, sym, ap, subst, ◌∙◌, arith}
 use Rattle.std.proofs.lemmas.List.{with_items_is}
 use Rattle.std.specs.Vec.{with_items}
-use Rattle.line_merge.specs.Merged.{AreApart, all_of, first_key, rests}
+use Rattle.node_core.specs.TraceLine.{TraceLine}
+use Rattle.line_merge.specs.Ahead.{IsAhead}
+use Rattle.line_merge.specs.Merged.{AreApart, all_of, rests}
 use Rattle.line_merge.specs.Sheaves.{SheafValue, CursorValue, AreCuts}
 use Rattle.line_merge.proofs.Cuts.{stands_at_cut}
 use Rattle.line_merge.proofs.sheaf.Sheaf.begin_at.Goals as goal
@@ -21,14 +23,20 @@ returns-clause-at c =
     let made = c.cut-cursor-inside.new.nexts in
     let kept = with_items zeros made in
     let kept_is : kept.items ≡ made = with_items_is zeros made (c.cut-cursor-inside.auto.nexts ∙ ap length c.deref_mut.ensures.value ∙ sym zeros.ok.0) in
-    let cursor : CursorValue = record { at = c.cut-cursor-inside.result; nexts = kept.items; ranks = c.rank_nexts.new.ranking } in
+    let dates = c.look_ahead.new.moments in
+    let dated = with_items c.cursor.inside.moments dates in
+    let dated_is : dated.items ≡ dates = with_items_is c.cursor.inside.moments dates (c.look_ahead.auto.moments ∙ ap length c.deref_mut-2.ensures.value ∙ sym c.cursor.inside.moments.ok.0) in
+    let cursor : CursorValue = record { at = c.cut-cursor-inside.result; nexts = kept.items; moments = dated.items; ranks = c.look_ahead.new.ranking } in
     let apart : AreApart s.lists = subst AreApart lists c.self.invariant.apart in
     let here : c.deref.result.now ≡ s.lists = c.deref.ensures.value ∙ lists in
     let cuts : AreCuts c.args.moment s.lists kept.items = subst (λ ls. AreCuts c.args.moment ls kept.items) here (subst (AreCuts c.args.moment c.deref.result.now) (sym kept_is) c.cut-cursor-inside.ensures.cuts) in
     let count : cursor.at + length (all_of (rests s.lists kept.items)) ≡ length (all_of s.lists) =
     (λ i. cursor.at + length (all_of (rests (sym here i) (kept_is i)))) ∙ c.cut-cursor-inside.ensures.count ∙ ap (λ ls. length (all_of ls)) here in
-    let ranked : cursor.ranks ≡ map first_key (rests s.lists kept.items) = c.rank_nexts.ensures.ranked ∙ (λ i. map first_key (rests ((c.deref-2.ensures.value ∙ lists) i) (c.deref-3.ensures.value i))) in
-    (stands_at_cut s c.args.moment cursor apart cuts count ranked).0
+    let ahead : IsAhead s.lists kept.items dated.items cursor.ranks =
+    subst (λ (ls : List (List TraceLine)). IsAhead ls kept.items dated.items cursor.ranks) (c.deref-2.ensures.value ∙ lists)
+    (subst (λ (ns : List ℕ). IsAhead c.deref-2.result.now ns dated.items cursor.ranks) c.deref-3.ensures.value
+    (subst (λ (ms : List ℕ). IsAhead c.deref-2.result.now c.deref-3.result.now ms cursor.ranks) (sym dated_is) c.look_ahead.ensures)) in
+    (stands_at_cut s c.args.moment cursor apart cuts count ahead).0
 
 pub returns-clause-cut : goal.returns-clause-cut
 returns-clause-cut c =
@@ -38,11 +46,17 @@ returns-clause-cut c =
     let made = c.cut-cursor-inside.new.nexts in
     let kept = with_items zeros made in
     let kept_is : kept.items ≡ made = with_items_is zeros made (c.cut-cursor-inside.auto.nexts ∙ ap length c.deref_mut.ensures.value ∙ sym zeros.ok.0) in
-    let cursor : CursorValue = record { at = c.cut-cursor-inside.result; nexts = kept.items; ranks = c.rank_nexts.new.ranking } in
+    let dates = c.look_ahead.new.moments in
+    let dated = with_items c.cursor.inside.moments dates in
+    let dated_is : dated.items ≡ dates = with_items_is c.cursor.inside.moments dates (c.look_ahead.auto.moments ∙ ap length c.deref_mut-2.ensures.value ∙ sym c.cursor.inside.moments.ok.0) in
+    let cursor : CursorValue = record { at = c.cut-cursor-inside.result; nexts = kept.items; moments = dated.items; ranks = c.look_ahead.new.ranking } in
     let apart : AreApart s.lists = subst AreApart lists c.self.invariant.apart in
     let here : c.deref.result.now ≡ s.lists = c.deref.ensures.value ∙ lists in
     let cuts : AreCuts c.args.moment s.lists kept.items = subst (λ ls. AreCuts c.args.moment ls kept.items) here (subst (AreCuts c.args.moment c.deref.result.now) (sym kept_is) c.cut-cursor-inside.ensures.cuts) in
     let count : cursor.at + length (all_of (rests s.lists kept.items)) ≡ length (all_of s.lists) =
     (λ i. cursor.at + length (all_of (rests (sym here i) (kept_is i)))) ∙ c.cut-cursor-inside.ensures.count ∙ ap (λ ls. length (all_of ls)) here in
-    let ranked : cursor.ranks ≡ map first_key (rests s.lists kept.items) = c.rank_nexts.ensures.ranked ∙ (λ i. map first_key (rests ((c.deref-2.ensures.value ∙ lists) i) (c.deref-3.ensures.value i))) in
-    (stands_at_cut s c.args.moment cursor apart cuts count ranked).1
+    let ahead : IsAhead s.lists kept.items dated.items cursor.ranks =
+    subst (λ (ls : List (List TraceLine)). IsAhead ls kept.items dated.items cursor.ranks) (c.deref-2.ensures.value ∙ lists)
+    (subst (λ (ns : List ℕ). IsAhead c.deref-2.result.now ns dated.items cursor.ranks) c.deref-3.ensures.value
+    (subst (λ (ms : List ℕ). IsAhead c.deref-2.result.now c.deref-3.result.now ms cursor.ranks) (sym dated_is) c.look_ahead.ensures)) in
+    (stands_at_cut s c.args.moment cursor apart cuts count ahead).1

@@ -1,0 +1,9 @@
+use Rattle.std.proofs.Common.{length, ap, ◌∙◌}
+use Rattle.line_merge.proofs.Ahead.{length_ranks, some_ranked}
+use Rattle.line_merge.proofs.merge.ahead.list_of_least_key.Goals as goal
+
+pub leader-requires : goal.leader-requires
+leader-requires c = some_ranked c.args.lists.now c.args.nexts.now c.rank_nexts.new.ranking c.rank_nexts.ensures.ranked c.requires.some
+
+pub returns-clause-ranking : goal.returns-clause-ranking
+returns-clause-ranking c = ap length c.rank_nexts.ensures.ranked ∙ length_ranks c.args.lists.now c.args.nexts.now
