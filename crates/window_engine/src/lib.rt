@@ -33,7 +33,7 @@ pub use fault::{EngineFault, Stop};
 pub use gate::{Gate, OpenGate};
 pub use meeting::Meeting;
 pub use pace::{Load, Turnout, is_late, lateness, load_of, next_stretch};
-pub use parts::{MOST_PARTS, share_of};
+pub use parts::{MOST_PARTS, most_shares, share_of};
 pub use put::put_all;
 pub use sink::{OverWrite, Sink, SinkFail};
 pub use slice::{FIRST_SLICE, WORTH, next_slice};

@@ -11,6 +11,13 @@ use window_core::Sheaf;
 /// In how many parts a window's text is made at most.
 pub const MOST_PARTS: usize = 64;
 
+/// Of how many equal shares of the lines they are at most, where few threads take them: these are done with the last part
+/// at about the same time.
+const MOST_SHARES: usize = 128;
+
+/// So many threads take that many shares in fewer parts than there may be.
+const FEW: usize = 8;
+
 /// How many lines are worth a part.
 const LEAST: usize = 128;
 
@@ -20,14 +27,14 @@ pub(crate) struct Parts {
     /// Of how many equal shares of the lines they are.
     pub shares: usize,
     /// The moment at which each share begins, in nanoseconds, once they are known.
-    moments: [AtomicU64; MOST_PARTS],
+    moments: [AtomicU64; MOST_SHARES],
     /// Whether they are.
     known: AtomicBool,
     /// How many threads take them.
     workers: usize,
     /// How often one was asked for.
     asked: AtomicU64,
-    ghost few: { shares ≤ 64 },
+    ghost few: { shares ≤ 128 },
 }
 
 /// A part: shares of the lines from one on up to another.
@@ -37,6 +44,17 @@ pub(crate) struct Stretch {
     pub from: usize,
     /// The share behind its last.
     pub to: usize,
+}
+
+/// Of how many shares the lines are at most, where so many threads take them.
+pub fn most_shares(workers: usize) -> usize
+    ensures { result ≤ 128 }
+{
+    if workers <= FEW {
+        MOST_SHARES
+    } else {
+        MOST_PARTS
+    }
 }
 
 /// The first share of a part, of so many shares that so many threads take; the share behind the last where there is no
@@ -62,7 +80,7 @@ impl Parts {
     /// Those of a sheaf's lines, which so many threads take. None is taken yet, nor is it known where they begin.
     pub(crate) fn new(sheaf: &Sheaf, workers: usize) -> Parts {
         Parts {
-            shares: sheaf.len().div_ceil(LEAST).min(MOST_PARTS),
+            shares: sheaf.len().div_ceil(LEAST).min(most_shares(workers)),
             moments: from_fn(|_| AtomicU64::new(0)),
             known: AtomicBool::new(false),
             workers,
@@ -75,7 +93,7 @@ impl Parts {
         if self.known.load(SeqCst) {
             return;
         }
-        let mut moments = [0; MOST_PARTS];
+        let mut moments = [0; MOST_SHARES];
         sheaf.cut_into(&mut moments[..self.shares]);
         for (place, moment) in self.moments.iter().zip(moments.iter()) {
             place.store(*moment, SeqCst);

@@ -12,7 +12,7 @@ use std::sync::atomic::Ordering::SeqCst;
 use std::thread::Threads;
 use window_engine::{
     Gate, Load, MOST_PARTS, OverWrite, Stop, Turnout, WORTH, is_late, lateness, load_of,
-    next_stretch, share_of,
+    most_shares, next_stretch, share_of,
 };
 
 // Four groups, so that each window of theirs has four pieces.
@@ -143,6 +143,16 @@ fn later_parts_of_a_text_are_shorter(rt: HostRuntime) {
     expect_parts(&rt, 0, 4, &[0, 0]);
     assert_eq!(rt; share_of(MOST_PARTS - 1, MOST_PARTS, 64), MOST_PARTS - 1);
     assert_eq!(rt; share_of(MOST_PARTS, MOST_PARTS, 64), MOST_PARTS);
+}
+
+// By any number of threads all shares of a text are taken in no more parts than there may be.
+#[test]
+fn a_text_has_no_more_parts_than_it_may(rt: HostRuntime) {
+    for workers in 1..65 {
+        let shares = most_shares(workers);
+        assert!(rt; shares >= MOST_PARTS);
+        assert_eq!(rt; share_of(MOST_PARTS, shares, workers), shares);
+    }
 }
 
 // For how many events so many nodes are in one group, where it was for so many the last time.

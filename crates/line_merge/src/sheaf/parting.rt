@@ -9,13 +9,13 @@ use sim_time::Time;
 const NOTED: usize = 2;
 
 /// How many moments are noted at most.
-const MOST_NOTED: usize = 128;
+const MOST_NOTED: usize = 256;
 
 // Notes the moment of each so many-th line of a list, behind so many moments that are noted. The answer is how many
 // are noted then.
 fn note(lines: &Lines, stride: usize, noted: &mut [Time; MOST_NOTED], before: usize) -> usize
-    requires { before ≤ 128 }
-    ensures { result ≤ 128 }
+    requires { before ≤ 256 }
+    ensures { result ≤ 256 }
 {
     let mut count = before;
     for nth in 0..lines.len() / stride.max(1) {
