@@ -4,7 +4,8 @@
     scripts/run_tests.py [--jobs N] [--python PATH] [TEST ..]
 
 Without names these are scripts/refuse_tests.sh, each scripts/test_*.py and scripts/try_shell.sh. It goes after
-`rt ci`, or after `make run` where it is told to leave scripts/refuse_tests.sh out by naming the others. Each
+`rt ci`: without that scripts/refuse_tests.sh has the crates of its tests proved first, which takes a quarter of an
+hour and more. After `make run` alone leave it out, by naming the others. Each
 test has a folder of its own for what it makes; all are ended, and the folders taken away, where this script is
 interrupted. What wants matplotlib is run by the python of --python, and left out where that is empty. What all
 of them cost is kept for the table of bench/gate.py. The last line is 'N tests passed, N failed', and the

@@ -105,7 +105,6 @@ fn has_lines(rt: &impl Abort, sheaf: &Sheaf, cursor: &mut Cursor, batch: &Batch)
         begins_before(rt, sheaf, cursor, batch, time.saturating_add(1));
     }
     begins(rt, sheaf, cursor, batch, Time::MAX);
-    is_cut_evenly(rt, sheaf, batch);
 }
 
 // Runs each group up to the window's end.
@@ -164,6 +163,10 @@ fn turns_both(
     turns_apart(rt, apart, sheaf);
     let batch = turned(rt, whole);
     has_lines(rt, sheaf, cursor, &batch);
+    // Of more groups than that each may have too few lines for one to be noted.
+    if apart.groups() <= 8 {
+        is_cut_evenly(rt, sheaf, &batch);
+    }
     let told = !batch.is_empty();
     drop(batch);
     stand_alike(rt, apart, whole);
