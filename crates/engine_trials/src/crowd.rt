@@ -53,6 +53,17 @@ impl Crowd {
     pub fn missed(&self) -> u64 {
         self.missed.load(SeqCst)
     }
+
+    /// Waits until pieces were entered so often. The answer is whether they were: who waits in vain goes on at last.
+    pub fn comes_to(&self, times: u64) -> bool {
+        for _turn in 0..TURNS {
+            if self.entered.load(SeqCst) >= times {
+                return true;
+            }
+            thread::yield_now();
+        }
+        false
+    }
 }
 
 impl Gate for Crowd {
@@ -61,13 +72,9 @@ impl Gate for Crowd {
         let before = self.entered.fetch_add(1, SeqCst);
         let round = before / self.size.max(1);
         let all = round.saturating_add(1).saturating_mul(self.size);
-        for _turn in 0..TURNS {
-            if self.entered.load(SeqCst) >= all {
-                return;
-            }
-            thread::yield_now();
+        if !self.comes_to(all) {
+            self.missed.fetch_add(1, SeqCst);
         }
-        self.missed.fetch_add(1, SeqCst);
     }
 
     fn leave(&self, piece: u64) {

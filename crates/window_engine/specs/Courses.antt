@@ -1,5 +1,5 @@
 -- The net on its way: what it is between windows, and what a window that was written leaves.
-use Rattle.std.specs.Prelude.{◌≡◌, ◌≤◌, ◌<◌, ◌+◌, ◌*◌, ◌^◌, ℕ, false, List, length, Option, Some, Result, Err, OnOk, IfOk, IfErr}
+use Rattle.std.specs.Prelude.{◌≡◌, ◌≤◌, ◌<◌, ◌+◌, ◌*◌, ◌^◌, ℕ, false, List, length, Option, Some, None, Result, Err, OnOk, IfOk, IfErr}
 use Rattle.std.specs.Io.KnownBytes.{Appends}
 use Rattle.scenario_image.specs.declared.parts.ScenarioParts.{ScenarioParts}
 use Rattle.scenario_image.specs.Scenario.{IsScenario}
@@ -19,12 +19,14 @@ use Rattle.window_engine.specs.declared.course.WriteFault.TheVariants.{Workers, 
 use Rattle.window_engine.specs.declared.fault.EngineFault.{EngineFault}
 use Rattle.window_engine.specs.declared.fault.EngineFault.TheVariants.{Sink as SinkFailed}
 use Rattle.window_engine.specs.declared.fault.Stop.{Stop}
+use Rattle.window_engine.specs.declared.owed.Owed.{Owed}
 use Rattle.window_engine.specs.declared.pipeline.Stage.{Stage}
 use Rattle.window_engine.specs.declared.pipeline.Stage.TheVariants.{ToShare, Ended}
 use Rattle.window_engine.specs.Edges.{IsAtEdge, edge_of, reached_in}
 use Rattle.window_engine.specs.Engines.{AreWhole, Commits, GoesOn, IsStop, sink_failures}
 use Rattle.window_engine.specs.Failures.{counted}
 use Rattle.window_engine.specs.Outcomes.{IsOfWorkers, IsRunFault}
+use Rattle.window_engine.specs.Owed.{IsReady, owed_text}
 use Rattle.window_engine.specs.Puts.{TakesFirst}
 use Rattle.window_engine.specs.Text.{text_from}
 
@@ -122,6 +124,26 @@ pub record IsWriting (until : ℕ) (began c : Course) (written : ℕ) (known now
   pub groups : c.groups ≡ began.groups
   pub ahead : c.ahead ≡ began.ahead
 
+-- a text of so many lines is made of the window before the last of a call, and is to be written: all windows before that are written, and the events of the two are not committed
+pub record IsOwing (until : ℕ) (began c : Course) (text : List ℕ) (lines written : ℕ) (known now : Option (List ℕ)) : Type 0 where
+  pub was : Course
+  pub writing : IsWriting until began was written known now
+  pub text_is : text ≡ text_from was.sheaf.first (merged was.sheaf).lines
+  pub lines_are : lines ≡ length (merged was.sheaf).lines
+  pub behind : IsBehind (reached_in was.window) (record c { position = c.position + lines })
+  pub committed : c.position ≡ was.position
+  pub early : AreBelow until (merged c.sheaf).lines
+  pub has : HasGroups c
+  pub groups : c.groups ≡ was.groups
+  pub ahead : c.ahead ≡ was.ahead
+
+-- a text is owed, and nothing of it was written; the sink has not failed
+pub record AwaitsSink (until : ℕ) (began c : Course) (owed : Owed) (written : ℕ) (known now : Option (List ℕ)) (failures failed : ℕ) : Type 0 where
+  pub owing : IsOwing until began c (owed_text owed) owed.lines written known now
+  pub ready : IsReady owed.text
+  pub waits : owed.put ≡ None
+  pub failures_are : failed ≡ failures
+
 -- a call of windows by so many workers has ended
 pub record HasEnded (workers until : ℕ) (began new : Course) (r : Result Stop EngineFault) (known now : Option (List ℕ)) (failures failed : ℕ) : Type 0 where
   pub rest : OnOk r (AtRest new)
@@ -134,6 +156,6 @@ pub record HasEnded (workers until : ℕ) (began new : Course) (r : Result Stop 
   pub ahead : new.ahead ≡ began.ahead
 
 -- a call of windows by so many workers has come so far, or ended
-abbrev pub StandsAt : ℕ → ℕ → Course → Course → ℕ → Option (List ℕ) → Option (List ℕ) → ℕ → ℕ → Stage → Type 0
-StandsAt workers until began c written known now failures failed ToShare = IsWriting until began c written known now × (failed ≡ failures)
-StandsAt workers until began c written known now failures failed (Ended r) = HasEnded workers until began c r known now failures failed
+abbrev pub StandsAt : ℕ → ℕ → Course → Course → Owed → ℕ → Option (List ℕ) → Option (List ℕ) → ℕ → ℕ → Stage → Type 0
+StandsAt workers until began c owed written known now failures failed ToShare = AwaitsSink until began c owed written known now failures failed
+StandsAt workers until began c owed written known now failures failed (Ended r) = HasEnded workers until began c r known now failures failed

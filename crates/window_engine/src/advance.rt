@@ -11,6 +11,7 @@ ghost use Rattle.window_core.specs.Windows.{AreBelow};
 ghost use Rattle.window_engine.specs.Edges.{IsAtEdge, StaysNet, edge_of, reached_in};
 ghost use Rattle.window_engine.specs.Engines.{GoesOn, IsNext, NoneBelow};
 ghost use Rattle.window_engine.specs.Outcomes.{IsWorkersFault};
+ghost use Rattle.window_engine.specs.Owed.{Owes};
 ghost use Rattle.window_engine.specs.Parts.{AreRight};
 ghost use Rattle.window_engine.specs.Laid.{laid_for, HasRun, HasRunOr, HasFullGroup, IsDoneBy};
 
@@ -19,8 +20,10 @@ use crate::gate::Gate;
 use crate::hall::Hall;
 use crate::lines::Lines;
 use crate::order::Order;
+use crate::owed::Owed;
 use crate::pieces::run_pieces;
 use crate::scribe::Scribe;
+use crate::sink::Sink;
 use sim_time::Time;
 use std::alloc::{AllocError, Global};
 use std::snapshot::Snapshot;
@@ -76,8 +79,9 @@ fn run_in_turn<G: Gate>(gate: &G, window: &mut Window) -> Result<(), EngineFault
 }
 
 /// Takes the groups out, has workers, the calling thread and threads of a hall, run them up to the window's
-/// end and then make the text of a sheaf's lines, and puts them back. After a fault they are out.
-pub(crate) fn run_apart<G: Gate, R: Wait>(
+/// end and then make the text of a sheaf's lines, and puts them back; the text of the window before is
+/// written meanwhile. After a fault they are out.
+pub(crate) fn run_apart<G: Gate, R: Wait, S: Sink>(
     rt: &R,
     hall: &Hall<Order>,
     alloc: Global,
@@ -86,6 +90,9 @@ pub(crate) fn run_apart<G: Gate, R: Wait>(
     window: &mut Window,
     sheaf: &mut Sheaf,
     scribes: &mut Vec<Scribe>,
+    owed: &mut Owed,
+    before: &Snapshot<S>,
+    sink: &mut S,
 ) -> Result<(), EngineFault>
     requires inside { window.old.out ≡ false }
     requires least { 0 < length window.old.groups }
@@ -94,15 +101,20 @@ pub(crate) fn run_apart<G: Gate, R: Wait>(
     requires workers { (1 < workers) × (workers ≤ 64) }
     requires right { AreRight sheaf.old scribes.old.items }
     requires fits { sheaf.old.first + length (merged sheaf.old).lines < 2 ^ 63 }
+    requires owes { Owes owed.old (S.contents before.now.value) (S.contents sink.old) (S.failures before.now.value) (S.failures sink.old) }
     ensures done { OnOk result (HasRun window.old window.new) }
     ensures stays { StaysNet window.old window.new }
     ensures fault { IfErr result (IsWorkersFault workers (HasFullGroup window.old)) }
     ensures sheaf { sheaf.new ≡ sheaf.old }
     ensures right { AreRight sheaf.new scribes.new.items }
+    ensures owes { Owes owed.new (S.contents before.now.value) (S.contents sink.new) (S.failures before.now.value) (S.failures sink.new) }
+    ensures same { owed.new ≡ record owed.old { put = owed.new.put } }
 {
     let end = window.end();
     let pieces = pieces_of(alloc, window.take_groups(), end)?;
-    let groups = run_pieces(rt, hall, alloc, workers, gate, pieces, sheaf, scribes)?;
+    let groups = run_pieces(
+        rt, hall, alloc, workers, gate, pieces, sheaf, scribes, owed, before, sink,
+    )?;
     window.put_groups(groups);
     Ok(())
 }

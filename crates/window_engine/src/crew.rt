@@ -6,6 +6,7 @@ ghost use Rattle.window_core.specs.Sheaves.{merged};
 ghost use Rattle.window_engine.specs.Edges.{IsAtEdge, StaysNet, reached_in};
 ghost use Rattle.window_engine.specs.Laid.{HasRunOr};
 ghost use Rattle.window_engine.specs.Outcomes.{IsWorkersFault};
+ghost use Rattle.window_engine.specs.Owed.{Owes};
 ghost use Rattle.window_engine.specs.Parts.{AreRight};
 
 use crate::advance::run_apart;
@@ -14,10 +15,13 @@ use crate::gate::Gate;
 use crate::hall::Hall;
 use crate::hands::hands;
 use crate::order::Order;
+use crate::owed::Owed;
 use crate::scribe::Scribe;
+use crate::sink::{Nowhere, Sink};
 use crate::sweep::keep_hall;
 use sim_time::Time;
 use std::alloc::{AllocError, Global};
+use std::snapshot::Snapshot;
 use std::sync::Wait;
 use std::thread::{Threads, join_mut};
 use window_core::{Sheaf, Window};
@@ -69,9 +73,9 @@ impl<'a, R: Threads + Wait + Sync, G: Gate> Crew<'a, R, G> {
     }
 
     /// Has so many workers, the calling thread and threads of a hall, run the groups up to the window's end
-    /// or a moment that is sooner, and then make the text of a sheaf's lines. After a fault the groups may
-    /// be out.
-    pub(crate) fn run_shared(
+    /// or a moment that is sooner, and then make the text of a sheaf's lines; the text of the window before is
+    /// written meanwhile. After a fault the groups may be out.
+    pub(crate) fn run_shared<S: Sink>(
         &self,
         hall: &Hall<Order>,
         hands: usize,
@@ -79,29 +83,35 @@ impl<'a, R: Threads + Wait + Sync, G: Gate> Crew<'a, R, G> {
         window: &mut Window,
         sheaf: &mut Sheaf,
         scribes: &mut Vec<Scribe>,
+        owed: &mut Owed,
+        before: &Snapshot<S>,
+        sink: &mut S,
     ) -> Result<bool, EngineFault>
         requires hands { (1 < hands) × (hands ≤ self.now.workers) }
         requires edge { IsAtEdge window.old }
         requires few { groups_of window.old.entries ≤ 64 }
         requires right { AreRight sheaf.old scribes.old.items }
         requires fits { sheaf.old.first + length (merged sheaf.old).lines < 2 ^ 63 }
+        requires owes { Owes owed.old (S.contents before.now.value) (S.contents sink.old) (S.failures before.now.value) (S.failures sink.old) }
         ensures ran { IfOk result (λ ran. HasRunOr ran until window.old window.new) }
         ensures stays { StaysNet window.old window.new }
         ensures fault { IfErr result (IsWorkersFault self.now.workers (HasTooMany (reached_in window.old))) }
         ensures sheaf { sheaf.new ≡ sheaf.old }
         ensures right { AreRight sheaf.new scribes.new.items }
+        ensures owes { Owes owed.new (S.contents before.now.value) (S.contents sink.new) (S.failures before.now.value) (S.failures sink.new) }
+        ensures same { owed.new ≡ record owed.old { put = owed.new.put } }
     {
         let _began = window.position();
         window.limit(until);
         let _limited = window.position();
         run_apart(
-            self.rt, hall, self.alloc, hands, self.gate, window, sheaf, scribes,
+            self.rt, hall, self.alloc, hands, self.gate, window, sheaf, scribes, owed, before, sink,
         )?;
         Ok(true)
     }
 
     /// The same, where threads wait for orders and several workers are to run the window: else that is left as it was.
-    pub(crate) fn run_or_leave(
+    pub(crate) fn run_or_leave<S: Sink>(
         &self,
         hall: Option<&Hall<Order>>,
         hands: usize,
@@ -109,25 +119,33 @@ impl<'a, R: Threads + Wait + Sync, G: Gate> Crew<'a, R, G> {
         window: &mut Window,
         sheaf: &mut Sheaf,
         scribes: &mut Vec<Scribe>,
+        owed: &mut Owed,
+        before: &Snapshot<S>,
+        sink: &mut S,
     ) -> Result<bool, EngineFault>
         requires hands { hands ≤ self.now.workers }
         requires edge { IsAtEdge window.old }
         requires few { groups_of window.old.entries ≤ 64 }
         requires right { AreRight sheaf.old scribes.old.items }
         requires fits { sheaf.old.first + length (merged sheaf.old).lines < 2 ^ 63 }
+        requires owes { Owes owed.old (S.contents before.now.value) (S.contents sink.old) (S.failures before.now.value) (S.failures sink.old) }
         ensures ran { IfOk result (λ ran. HasRunOr ran until window.old window.new) }
         ensures stays { StaysNet window.old window.new }
         ensures fault { IfErr result (IsWorkersFault self.now.workers (HasTooMany (reached_in window.old))) }
         ensures sheaf { sheaf.new ≡ sheaf.old }
         ensures right { AreRight sheaf.new scribes.new.items }
+        ensures owes { Owes owed.new (S.contents before.now.value) (S.contents sink.new) (S.failures before.now.value) (S.failures sink.new) }
+        ensures same { owed.new ≡ record owed.old { put = owed.new.put } }
     {
         match hall {
-            Some(hall) if hands > 1 => self.run_shared(hall, hands, until, window, sheaf, scribes),
+            Some(hall) if hands > 1 => self.run_shared(
+                hall, hands, until, window, sheaf, scribes, owed, before, sink,
+            ),
             _ => Ok(false),
         }
     }
 
-    /// The same as `run_shared`, where no threads wait for orders: they are started for this window alone.
+    /// The same as `run_shared`, where no threads wait for orders: they are started for this window alone. No text is written.
     pub(crate) fn run_once(
         &self,
         hands: usize,
@@ -150,7 +168,7 @@ impl<'a, R: Threads + Wait + Sync, G: Gate> Crew<'a, R, G> {
         let Ok(hall) = Hall::new(self.alloc, hands.saturating_sub(1)) else {
             return Err(EngineFault::NoMemory);
         };
-        let (rt, gate, hall) = (self.rt, self.gate, &hall);
+        let (rt, gate, hall, alloc) = (self.rt, self.gate, &hall, self.alloc);
         let (_, ran) = join_mut(
             rt,
             &mut || keep_hall(rt, gate, hall),
@@ -166,7 +184,14 @@ impl<'a, R: Threads + Wait + Sync, G: Gate> Crew<'a, R, G> {
                 ensures sheaf { sheaf.exit.now ≡ sheaf.entry.now }
                 ensures right { AreRight sheaf.exit.now scribes.exit.now.items }
             {
-                let ran = self.run_shared(hall, hands, until, window, sheaf, scribes);
+                let mut sink = Nowhere;
+                let before = Snapshot::of(&sink);
+                let ran = match Owed::new(alloc) {
+                    Ok(mut owed) => self.run_shared(
+                        hall, hands, until, window, sheaf, scribes, &mut owed, &before, &mut sink,
+                    ),
+                    Err(_) => Err(EngineFault::NoMemory),
+                };
                 hall.end(rt);
                 ran
             },

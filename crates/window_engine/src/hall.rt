@@ -8,7 +8,7 @@ use std::mem::replace;
 use std::sync::{Condvar, Mutex, MutexGuard, Wait};
 
 /// How often a thread looks whether it was told of something before it sleeps: for some hundred microseconds, since between
-/// two windows some tens pass, and to be woken takes as long again.
+/// two windows some tens pass.
 const LOOKS: u32 = 32_768;
 
 /// Whether something was told since it had been told so many times, within a while.

@@ -15,6 +15,7 @@ mod hands;
 mod lines;
 mod meeting;
 mod order;
+mod owed;
 mod pace;
 mod pad;
 mod parts;

@@ -21,6 +21,9 @@ const FEW: usize = 8;
 /// How many lines are worth a part.
 const LEAST: usize = 128;
 
+/// For how many bytes of a line there is to be room: few lines have more, and most have half of them.
+pub(crate) const LINE_BYTES: usize = 128;
+
 /// The parts in which threads make a window's text. Each is taken by one thread.
 #[derive(Drop)]
 pub(crate) struct Parts {
@@ -86,6 +89,12 @@ impl Parts {
             workers,
             asked: AtomicU64::new(0),
         }
+    }
+
+    /// For how many bytes a thread's text of a sheaf's lines is to have room: for twice an equal share of them. One that
+    /// makes more puts its last lines slower.
+    pub(crate) fn room(&self, sheaf: &Sheaf) -> usize {
+        (sheaf.len() / self.workers.max(1)).saturating_mul(LINE_BYTES)
     }
 
     /// Sees that it is known where the parts begin. Whoever looks finds the same moments, so that none waits for another.

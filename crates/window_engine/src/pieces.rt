@@ -2,6 +2,7 @@
 ghost use Rattle.std.specs.Prelude.{◌≡◌, ◌+◌, ◌<◌, ◌≤◌, ◌^◌, length, IfOk, IfErr};
 ghost use Rattle.window_core.specs.Sheaves.{merged};
 ghost use Rattle.window_engine.specs.Outcomes.{AllRan, IsPiecesFault, SomeLaidFull};
+ghost use Rattle.window_engine.specs.Owed.{Owes};
 ghost use Rattle.window_engine.specs.Parts.{AreRight};
 
 use crate::fault::EngineFault;
@@ -9,17 +10,20 @@ use crate::gate::Gate;
 use crate::gather::gather;
 use crate::hall::Hall;
 use crate::order::Order;
+use crate::owed::Owed;
 use crate::scribe::Scribe;
+use crate::sink::Sink;
 use crate::sweep::sweep;
 use std::alloc::Global;
+use std::snapshot::Snapshot;
 use std::sync::Wait;
 use window_core::{Group, Sheaf};
 use work_board::{Board, Piece};
 
 /// Runs the pieces by so many workers, the calling thread and threads of a hall, which then make the text
-/// of a sheaf's lines. Then each piece is done, and its group comes back in its place. A refusal gives them
+/// of a sheaf's lines; that of the window before is written meanwhile. Then each piece is done, and its group comes back in its place. A refusal gives them
 /// up.
-pub(crate) fn run_pieces<G: Gate, R: Wait>(
+pub(crate) fn run_pieces<G: Gate, R: Wait, S: Sink>(
     rt: &R,
     hall: &Hall<Order>,
     alloc: Global,
@@ -28,22 +32,30 @@ pub(crate) fn run_pieces<G: Gate, R: Wait>(
     pieces: Vec<Piece>,
     sheaf: &mut Sheaf,
     scribes: &mut Vec<Scribe>,
+    owed: &mut Owed,
+    before: &Snapshot<S>,
+    sink: &mut S,
 ) -> Result<Vec<Group>, EngineFault>
     requires least { 0 < length pieces.items }
     requires most { length pieces.items ≤ 64 }
     requires workers { (0 < workers) × (workers ≤ 64) }
     requires right { AreRight sheaf.old scribes.old.items }
     requires fits { sheaf.old.first + length (merged sheaf.old).lines < 2 ^ 63 }
+    requires owes { Owes owed.old (S.contents before.now.value) (S.contents sink.old) (S.failures before.now.value) (S.failures sink.old) }
     ensures done { IfOk result (λ v. AllRan pieces.items v.items) }
     ensures err { IfErr result (IsPiecesFault pieces.items) }
     ensures full { IfErr result (λ e. e ≡ EngineFault.CountFull → SomeLaidFull pieces.items) }
     ensures sheaf { sheaf.new ≡ sheaf.old }
     ensures right { AreRight sheaf.new scribes.new.items }
+    ensures owes { Owes owed.new (S.contents before.now.value) (S.contents sink.new) (S.failures before.now.value) (S.failures sink.new) }
+    ensures same { owed.new ≡ record owed.old { put = owed.new.put } }
 {
     let Ok((board, seat)) = Board::lay(alloc, pieces) else {
         return Err(EngineFault::NoMemory);
     };
-    let Ok((board, seat)) = sweep(rt, hall, workers, gate, board, seat, sheaf, scribes) else {
+    let Ok((board, seat)) = sweep(
+        rt, hall, workers, gate, board, seat, sheaf, scribes, owed, before, sink,
+    ) else {
         return Err(EngineFault::NoMemory);
     };
     let Ok(slots) = board.clear(seat) else {

@@ -1,18 +1,20 @@
 //! Windows one after another. The text of a window's lines is made by the calling thread before the next
 //! one runs, so that the lines are in the near cache and the groups have their memory back; or by the
 //! workers that run the next one, once no group is left to them, so that no processor waits for the
-//! longest group.
+//! longest group. Then it is owed: the calling thread writes it while the others begin the window after that,
+//! so that they do not wait for the sink.
 ghost use Rattle.std.specs.Prelude.{◌≡◌, ◌+◌, ◌<◌, ◌≤◌, ◌^◌, ℕ, length, Err, None, IfOk, IfErr, OnOk};
 ghost use Rattle.net_machine.specs.Run.{Reached};
 ghost use Rattle.window_core.specs.Full.{HasTooMany};
 ghost use Rattle.window_core.specs.Sheaves.{merged};
 ghost use Rattle.window_core.specs.Window.{IsWindow};
 ghost use Rattle.window_core.specs.Windows.{AreBelow};
-ghost use Rattle.window_engine.specs.Courses.{AtRest, HasGroups, IsWriting, HasEnded, StandsAt, Wrote, Broke, fails_after};
+ghost use Rattle.window_engine.specs.Courses.{AtRest, AwaitsSink, HasGroups, IsOwing, IsWriting, HasEnded, StandsAt, Wrote, Broke, fails_after};
 ghost use Rattle.window_engine.specs.Edges.{StaysNet, edge_of, reached_in};
 ghost use Rattle.window_engine.specs.Engines.{GoesOn, IsNext, IsStop};
 ghost use Rattle.window_engine.specs.Laid.{HasRunOr};
 ghost use Rattle.window_engine.specs.Outcomes.{IsWorkersFault};
+ghost use Rattle.window_engine.specs.Owed.{IsReady, Owes, owed_text};
 ghost use Rattle.window_engine.specs.Parts.{AreRight, IsWhole};
 
 use crate::advance::finish;
@@ -22,12 +24,14 @@ use crate::fault::{EngineFault, Stop};
 use crate::gate::Gate;
 use crate::hall::Hall;
 use crate::order::Order;
+use crate::owed::Owed;
 use crate::sink::Sink;
 use crate::slice::FIRST_SLICE;
 use crate::sweep::keep_hall;
 use crate::text::Text;
 use sim_time::Time;
 use std::alloc::AllocError;
+use std::mem::swap;
 use std::snapshot::Snapshot;
 use std::sync::Wait;
 use std::thread::{Threads, join_mut};
@@ -36,8 +40,10 @@ use window_core::{Sheaf, Window};
 /// How far a call's windows are.
 #[derive(Drop)]
 struct Writing {
-    /// The text of the lines that are not written yet.
+    /// Memory for the text of the last window's lines.
     text: Text,
+    /// The text of the window before the last.
+    owed: Owed,
     /// How long the next window may be, in nanoseconds.
     slice: Time,
     /// How many bytes were written.
@@ -82,45 +88,86 @@ impl Course {
         }
     }
 
-    /// Completes the text of the lines before a window, commits their events and writes them, and ends the
-    /// window, which workers have run or the calling thread runs; the sheaf then has its lines. After it
-    /// the nodes may be in other groups. The answer is how long the next window may be. How the course
-    /// and the sink were as the call began, and the window before it was run, is for clauses alone.
+    /// Writes the text that is owed, where that was not done yet, and commits the events of its lines. How the
+    /// course and the sink were as the call began, the sink before any of the text was written, and the window
+    /// before it was run, is for clauses alone.
+    fn settle<S: Sink>(
+        &mut self,
+        _workers: usize,
+        _until: Time,
+        _began: &Snapshot<Course>,
+        _known: &Snapshot<S>,
+        before: &Snapshot<S>,
+        _now: &Snapshot<Window>,
+        owed: &mut Owed,
+        written: &mut u128,
+        sink: &mut S,
+    ) -> Result<(), EngineFault>
+        requires owing { IsOwing _until _began.now.value (record self.old { window = _now.now.value }) (owed_text owed.old) owed.old.lines written.old (S.contents _known.now.value) (S.contents before.now.value) }
+        requires owes { Owes owed.old (S.contents before.now.value) (S.contents sink.old) (S.failures before.now.value) (S.failures sink.old) }
+        requires failures { S.failures before.now.value ≡ S.failures _known.now.value }
+        ensures writing { OnOk result (IsWriting _until _began.now.value (record self.new { window = _now.now.value }) written.new (S.contents _known.now.value) (S.contents sink.new)) }
+        ensures failures { OnOk result (S.failures sink.new ≡ S.failures _known.now.value) }
+        ensures rest { self.new ≡ record self.old { position = self.new.position } }
+        ensures ended { IfErr result (λ fault. HasEnded _workers _until _began.now.value self.new (Err fault) (S.contents _known.now.value) (S.contents sink.new) (S.failures _known.now.value) (S.failures sink.new)) }
+    {
+        let put = owed.put(before, sink);
+        self.position += owed.lines;
+        match put {
+            Ok(count) => {
+                *written += count;
+                Ok(())
+            }
+            Err(count) => Err(EngineFault::Sink {
+                written: *written + count,
+            }),
+        }
+    }
+
+    /// Completes the text of the lines before a window, which is then owed, and ends the window, which workers
+    /// have run or the calling thread runs; the sheaf then has its lines. After it the nodes may be in other
+    /// groups. The answer is how long the next window may be. Where the window can't be ended what is owed is
+    /// written at once. How the course and the sink were as the call began, and the window before it was run, is
+    /// for clauses alone.
     fn go_on<G: Gate, S: Sink>(
         &mut self,
         gate: &G,
         workers: usize,
-        until: Time,
+        _until: Time,
         plan: &Plan,
         ran: Result<bool, EngineFault>,
-        began: &Snapshot<Course>,
-        known: &Snapshot<S>,
+        _began: &Snapshot<Course>,
+        _known: &Snapshot<S>,
         now: &Snapshot<Window>,
         text: &mut Text,
-        written: &mut u128,
+        owed: &mut Owed,
+        written: u128,
         sink: &mut S,
     ) -> Result<Time, EngineFault>
-        requires writing { IsWriting until began.now.value (record self.old { window = now.now.value }) written.old (S.contents known.now.value) (S.contents sink.old) }
-        requires failures { S.failures sink.old ≡ S.failures known.now.value }
+        requires writing { IsWriting _until _began.now.value (record self.old { window = now.now.value }) written (S.contents _known.now.value) (S.contents sink.old) }
+        requires failures { S.failures sink.old ≡ S.failures _known.now.value }
         requires is_window { IsWindow now.now.value }
         requires right { AreRight self.old.sheaf text.old.scribes.items }
         requires workers { 0 < workers }
-        requires bound { plan.now.bound ≤ until }
+        requires bound { plan.now.bound ≤ _until }
         requires ran { IfOk ran (λ ran. HasRunOr ran plan.now.bound now.now.value self.old.window) }
         requires stays { StaysNet now.now.value self.old.window }
         requires fault { IfErr ran (IsWorkersFault workers (HasTooMany (reached_in now.now.value))) }
-        ensures writing { OnOk result (IsWriting until began.now.value self.new written.new (S.contents known.now.value) (S.contents sink.new)) }
-        ensures failures { OnOk result (S.failures sink.new ≡ S.failures known.now.value) }
+        ensures sink { OnOk result (sink.new ≡ sink.old) }
+        ensures owing { OnOk result (IsOwing _until _began.now.value self.new (owed_text owed.new) owed.new.lines written (S.contents _known.now.value) (S.contents sink.new)) }
+        ensures ready { OnOk result (IsReady owed.new.text) }
+        ensures waits { OnOk result (owed.new.put ≡ None) }
         ensures slice { IfOk result (λ slice. 1 ≤ slice) }
         ensures some { OnOk result ((time : ℕ) → IsNext plan.now.bound (edge_of now.now.value) time → now.now.value.position < self.new.window.position) }
-        ensures ended { IfErr result (λ fault. HasEnded workers until began.now.value self.new (Err fault) (S.contents known.now.value) (S.contents sink.new) (S.failures known.now.value) (S.failures sink.new)) }
+        ensures ended { IfErr result (λ fault. HasEnded workers _until _began.now.value self.new (Err fault) (S.contents _known.now.value) (S.contents sink.new) (S.failures _known.now.value) (S.failures sink.new)) }
     {
         let turnout = text.turnout();
-        let made = text.complete(&self.sheaf);
-        match self.put_made(made, text, sink) {
-            Ok(bytes) => *written += bytes,
-            Err(fault) => return Err(told(fault, *written)),
-        }
+        let Ok(()) = text.complete(&self.sheaf) else {
+            return Err(EngineFault::NoMemory);
+        };
+        swap(text, &mut owed.text);
+        owed.lines = self.sheaf.len() as u64;
+        owed.put = None;
         let bound = plan.bound;
         match finish(
             gate,
@@ -132,7 +179,15 @@ impl Course {
             &mut self.sheaf,
         ) {
             Ok(()) => {}
-            Err(fault) => return Err(fault),
+            Err(fault) => {
+                self.position += owed.lines;
+                return match owed.text.put(sink) {
+                    Ok(_) => Err(fault),
+                    Err(count) => Err(EngineFault::Sink {
+                        written: written + count,
+                    }),
+                };
+            }
         }
         let _turned = self.window.position();
         let slice = self.slice_after(plan, workers);
@@ -166,6 +221,51 @@ impl Course {
         }
     }
 
+    /// The same where the text of the window before is owed.
+    fn end_owing<S: Sink>(
+        &mut self,
+        stop: Stop,
+        workers: usize,
+        until: Time,
+        began: &Snapshot<Course>,
+        known: &Snapshot<S>,
+        before: &Snapshot<S>,
+        now: &Snapshot<Window>,
+        writing: &mut Writing,
+        sink: &mut S,
+    ) -> Result<Stop, EngineFault>
+        requires now { now.now.value ≡ self.old.window }
+        requires owing { IsOwing until began.now.value self.old (owed_text writing.old.owed) writing.old.owed.lines writing.old.written (S.contents known.now.value) (S.contents before.now.value) }
+        requires owes { Owes writing.old.owed (S.contents before.now.value) (S.contents sink.old) (S.failures before.now.value) (S.failures sink.old) }
+        requires failures { S.failures before.now.value ≡ S.failures known.now.value }
+        requires workers { 0 < workers }
+        requires stop { IsStop until (edge_of self.old.window) stop }
+        ensures { HasEnded workers until began.now.value self.new result (S.contents known.now.value) (S.contents sink.new) (S.failures known.now.value) (S.failures sink.new) }
+    {
+        self.settle(
+            workers,
+            until,
+            began,
+            known,
+            before,
+            now,
+            &mut writing.owed,
+            &mut writing.written,
+            sink,
+        )?;
+        let written = writing.written;
+        self.end(
+            stop,
+            workers,
+            until,
+            began,
+            known,
+            &mut writing.text,
+            written,
+            sink,
+        )
+    }
+
     /// Runs windows on the calling thread and writes their lines, up to the run's end or until no event is
     /// left below a moment. It starts no thread and waits for none. Where windows hold few events, all
     /// nodes are in one group for a while.
@@ -179,7 +279,7 @@ impl Course {
         requires groups { HasGroups self.old }
         ensures { HasEnded 1 until self.old self.new result (S.contents sink.old) (S.contents sink.new) (S.failures sink.old) (S.failures sink.new) }
     {
-        let Ok(mut text) = Text::new(self.alloc) else {
+        let (Ok(mut text), Ok(mut owed)) = (Text::new(self.alloc), Owed::new(self.alloc)) else {
             return Err(EngineFault::NoMemory);
         };
         let (began, known) = (Snapshot::of(self), Snapshot::of(sink));
@@ -206,18 +306,34 @@ impl Course {
                 &known,
                 &now,
                 &mut text,
-                &mut written,
+                &mut owed,
+                written,
                 sink,
             ) {
                 Ok(next) => slice = next,
                 Err(fault) => return Err(fault),
             }
+            let (before, edge) = (Snapshot::of(sink), Snapshot::of(&self.window));
+            match self.settle(
+                1,
+                until,
+                &began,
+                &known,
+                &before,
+                &edge,
+                &mut owed,
+                &mut written,
+                sink,
+            ) {
+                Ok(()) => {}
+                Err(fault) => return Err(fault),
+            }
         }
     }
 
-    /// Has a crew run windows, and writes the lines of each while the next one runs, until they end, or until
-    /// threads are to share one and none wait for it. How the course and the sink were as the call began is
-    /// for clauses alone.
+    /// Has a crew run windows, makes the text of each while the next one runs, and writes it while the one after that
+    /// begins, until they end, or until threads are to share one and none wait for it. How the course and the sink were
+    /// as the call began is for clauses alone.
     fn write_on<G: Gate, S: Sink, R: Threads + Wait + Sync>(
         &mut self,
         crew: &Crew<R, G>,
@@ -228,25 +344,24 @@ impl Course {
         writing: &mut Writing,
         sink: &mut S,
     ) -> Stage
-        requires writing { IsWriting until began.now.value self.old writing.old.written (S.contents known.now.value) (S.contents sink.old) }
-        requires failures { S.failures sink.old ≡ S.failures known.now.value }
-        ensures stands { StandsAt crew.now.workers until began.now.value self.new writing.new.written (S.contents known.now.value) (S.contents sink.new) (S.failures known.now.value) (S.failures sink.new) result }
+        requires owing { AwaitsSink until began.now.value self.old writing.old.owed writing.old.written (S.contents known.now.value) (S.contents sink.old) (S.failures known.now.value) (S.failures sink.old) }
+        ensures stands { StandsAt crew.now.workers until began.now.value self.new writing.new.owed writing.new.written (S.contents known.now.value) (S.contents sink.new) (S.failures known.now.value) (S.failures sink.new) result }
         ensures shared { result ≡ Stage.ToShare → hall.entry ≡ None }
     {
         loop {
+            let (before, now) = (Snapshot::of(sink), Snapshot::of(&self.window));
             let plan = match self.plan(until, writing.slice.max(1)) {
                 Ok(plan) => plan,
                 Err(stop) => {
-                    let written = writing.written;
-                    let text = &mut writing.text;
-                    let ended = self.end(
+                    let ended = self.end_owing(
                         stop,
                         crew.workers,
                         until,
                         began,
                         known,
-                        text,
-                        written,
+                        &before,
+                        &now,
+                        writing,
                         sink,
                     );
                     return Stage::Ended(ended);
@@ -258,7 +373,6 @@ impl Course {
                 return Stage::ToShare;
             }
             let _reached = self.window.position();
-            let now = Snapshot::of(&self.window);
             writing.text.clear(&self.sheaf);
             let ran = crew.run_or_leave(
                 hall,
@@ -267,7 +381,24 @@ impl Course {
                 &mut self.window,
                 &mut self.sheaf,
                 &mut writing.text.scribes,
+                &mut writing.owed,
+                &before,
+                sink,
             );
+            match self.settle(
+                crew.workers,
+                until,
+                began,
+                known,
+                &before,
+                &now,
+                &mut writing.owed,
+                &mut writing.written,
+                sink,
+            ) {
+                Ok(()) => {}
+                Err(fault) => return Stage::Ended(Err(fault)),
+            }
             match self.go_on(
                 crew.gate,
                 crew.workers,
@@ -278,7 +409,8 @@ impl Course {
                 known,
                 &now,
                 &mut writing.text,
-                &mut writing.written,
+                &mut writing.owed,
+                writing.written,
                 sink,
             ) {
                 Ok(next) => writing.slice = next,
@@ -298,8 +430,7 @@ impl Course {
         writing: &mut Writing,
         sink: &mut S,
     ) -> Result<Stop, EngineFault>
-        requires writing { IsWriting until began.now.value self.old writing.old.written (S.contents known.now.value) (S.contents sink.old) }
-        requires failures { S.failures sink.old ≡ S.failures known.now.value }
+        requires owing { AwaitsSink until began.now.value self.old writing.old.owed writing.old.written (S.contents known.now.value) (S.contents sink.old) (S.failures known.now.value) (S.failures sink.old) }
         ensures { HasEnded crew.now.workers until began.now.value self.new result (S.contents known.now.value) (S.contents sink.new) (S.failures known.now.value) (S.failures sink.new) }
     {
         let stage = self.write_on(crew, Some(hall), until, began, known, writing, sink);
@@ -320,11 +451,23 @@ impl Course {
         writing: &mut Writing,
         sink: &mut S,
     ) -> Result<Stop, EngineFault>
-        requires writing { IsWriting until began.now.value self.old writing.old.written (S.contents known.now.value) (S.contents sink.old) }
-        requires failures { S.failures sink.old ≡ S.failures known.now.value }
+        requires owing { AwaitsSink until began.now.value self.old writing.old.owed writing.old.written (S.contents known.now.value) (S.contents sink.old) (S.failures known.now.value) (S.failures sink.old) }
         ensures { HasEnded crew.now.workers until began.now.value self.new result (S.contents known.now.value) (S.contents sink.new) (S.failures known.now.value) (S.failures sink.new) }
     {
         let Ok(hall) = crew.hall_for(&self.window) else {
+            let (before, now) = (Snapshot::of(sink), Snapshot::of(&self.window));
+            let (owed, written) = (&mut writing.owed, &mut writing.written);
+            self.settle(
+                crew.workers,
+                until,
+                began,
+                known,
+                &before,
+                &now,
+                owed,
+                written,
+                sink,
+            )?;
             return Err(EngineFault::NoMemory);
         };
         let (rt, gate, hall) = (crew.rt, crew.gate, &hall);
@@ -332,15 +475,14 @@ impl Course {
             rt,
             &mut || keep_hall(rt, gate, hall),
             &mut || -> Result<Stop, EngineFault>
-                requires writing { IsWriting until began.now.value self.now writing.now.written (S.contents known.now.value) (S.contents sink.now) }
-                requires failures { S.failures sink.now ≡ S.failures known.now.value }
+                requires owing { AwaitsSink until began.now.value self.now writing.now.owed writing.now.written (S.contents known.now.value) (S.contents sink.now) (S.failures known.now.value) (S.failures sink.now) }
                 ensures { HasEnded crew.entry.now.workers until began.entry.now.value self.exit.now result (S.contents known.entry.now.value) (S.contents sink.exit.now) (S.failures known.entry.now.value) (S.failures sink.exit.now) }
             { self.write_shared(crew, hall, until, began, known, writing, sink) },
         );
         outcome
     }
 
-    /// Has a crew run windows, and writes the lines of each while the next one runs, up to the run's end or
+    /// Has a crew run windows, and writes the lines of each while later ones run, up to the run's end or
     /// until no event is left below a moment. Nothing is left to write where they end. Threads are started once
     /// a window is worth it, and stay. Where windows hold few events, or threads come late to them, all nodes are
     /// in one group for a while.
@@ -354,11 +496,12 @@ impl Course {
         requires groups { HasGroups self.old }
         ensures { HasEnded crew.now.workers until self.old self.new result (S.contents sink.old) (S.contents sink.new) (S.failures sink.old) (S.failures sink.new) }
     {
-        let Ok(text) = Text::new(self.alloc) else {
+        let (Ok(text), Ok(owed)) = (Text::new(self.alloc), Owed::new(self.alloc)) else {
             return Err(EngineFault::NoMemory);
         };
         let mut writing = Writing {
             text,
+            owed,
             slice: FIRST_SLICE,
             written: 0,
         };

@@ -6,13 +6,10 @@ ghost use Rattle.window_engine.specs.Parts.{HasText, IsRight};
 ghost use Rattle.window_engine.specs.Text.{text_from};
 
 use crate::pad::Pad;
-use crate::parts::{Parts, Stretch};
+use crate::parts::{LINE_BYTES, Parts, Stretch};
 use sim_time::Time;
 use std::alloc::{AllocError, Global};
 use window_core::{Cursor, Sheaf};
-
-/// For how many bytes of a line there is to be room: few lines have more.
-const LINE_BYTES: usize = 128;
 
 /// Lines whose text a thread made, one after another.
 #[derive(Clone, Copy, Drop)]
@@ -182,8 +179,7 @@ impl Scribe {
         requires right { IsRight sheaf.now self.old }
         ensures right { OnOk result (IsRight sheaf.now self.new) }
     {
-        self.text
-            .make_room((sheaf.len() / 2).saturating_mul(LINE_BYTES))?;
+        self.text.make_room(parts.room(sheaf))?;
         sheaf.begin_at(cursor, parts.moment(stretch.from))?;
         let part = self.make_before(sheaf, cursor, parts.moment(stretch.to))?;
         self.parts.push(part)?;

@@ -74,3 +74,15 @@ impl<W: Write> Sink for OverWrite<W> {
         }
     }
 }
+
+/// A sink that keeps nothing of what it takes, and it takes all.
+#[derive(Drop)]
+pub(crate) struct Nowhere;
+
+impl Sink for Nowhere {
+    ghost failures = { λ _. 0 };
+
+    fn put(&mut self, bytes: &[u8]) -> Result<usize, SinkFail> {
+        Ok(bytes.len())
+    }
+}

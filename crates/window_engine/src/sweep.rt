@@ -4,6 +4,7 @@ ghost use Rattle.std.specs.Arc.{arc_value};
 ghost use Rattle.window_core.specs.Sheaves.{merged};
 ghost use Rattle.work_board.specs.Seats.{IsOf, HoldsNothing};
 ghost use Rattle.window_engine.specs.Desks.{IsPassOf};
+ghost use Rattle.window_engine.specs.Owed.{Owes};
 ghost use Rattle.window_engine.specs.Parts.{AreRight};
 ghost use Rattle.window_engine.specs.Sweeps.{IsSwept};
 
@@ -11,10 +12,13 @@ use crate::desk::{Desk, Pass};
 use crate::gate::Gate;
 use crate::hall::Hall;
 use crate::order::{Begin, Order, Tasks, serve};
+use crate::owed::Owed;
 use crate::parts::Parts;
 use crate::scribe::Scribe;
+use crate::sink::Sink;
 use std::alloc::{AllocError, AllocFailed, Global};
 use std::mem::replace;
+use std::snapshot::Snapshot;
 use std::sync::{Arc, Wait};
 use std::thread;
 use std::thread::Threads;
@@ -129,9 +133,9 @@ fn end_orders<G: Gate, R: Wait>(rt: &R, gate: &G, hall: &Hall<Order>, workers: u
 }
 
 /// Has so many workers go over the board and then make the text of a sheaf's lines: the calling thread is one of
-/// them, and the others are threads of a hall. It waits for all of them, and gives the board and its own seat back.
-/// The scribes are then what each made of the text.
-pub(crate) fn sweep<G: Gate, R: Wait>(
+/// them, and the others are threads of a hall. While they begin it writes the text of the window before. It waits for
+/// all of them, and gives the board and its own seat back. The scribes are then what each made of the text.
+pub(crate) fn sweep<G: Gate, R: Wait, S: Sink>(
     rt: &R,
     hall: &Hall<Order>,
     workers: usize,
@@ -140,17 +144,23 @@ pub(crate) fn sweep<G: Gate, R: Wait>(
     seat: Seat,
     sheaf: &mut Sheaf,
     scribes: &mut Vec<Scribe>,
+    owed: &mut Owed,
+    before: &Snapshot<S>,
+    sink: &mut S,
 ) -> Result<(Board, Seat), AllocError>
     requires board { IsOf board seat }
     requires idle { HoldsNothing seat }
     requires workers { workers ≤ 64 }
     requires right { AreRight sheaf.old scribes.old.items }
     requires fits { sheaf.old.first + length (merged sheaf.old).lines < 2 ^ 63 }
+    requires owes { Owes owed.old (S.contents before.now.value) (S.contents sink.old) (S.failures before.now.value) (S.failures sink.old) }
     ensures same { IfOk result (λ r. r.0 ≡ board) }
     ensures board { IfOk result (λ r. IsOf r.0 r.1) }
     ensures swept { IfOk result (λ r. IsSwept r.1) }
     ensures sheaf { sheaf.new ≡ sheaf.old }
     ensures right { AreRight sheaf.new scribes.new.items }
+    ensures owes { Owes owed.new (S.contents before.now.value) (S.contents sink.new) (S.failures before.now.value) (S.failures sink.new) }
+    ensures rest { owed.new ≡ record owed.old { put = owed.new.put } }
 {
     let alloc = *scribes.allocator();
     let (desk, pass) = Desk::new(alloc, sheaf, workers)?;
@@ -174,6 +184,7 @@ pub(crate) fn sweep<G: Gate, R: Wait>(
     let mut made = replace(scribes, Vec::new(alloc));
     let (seat, pass) = give_orders(rt, hall, &tasks, workers, seat, pass, &mut made);
     tasks.parts.cut(&tasks.sheaf);
+    let _ = owed.put(before, sink);
     let begin = Begin {
         seat,
         pass,

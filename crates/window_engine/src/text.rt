@@ -1,5 +1,5 @@
 //! A window's text, as threads made it.
-ghost use Rattle.std.specs.Prelude.{◌≡◌, ◌+◌, ◌<◌, ◌≤◌, ◌^◌, All, length, IfOk, IfErr, IfSome, OnOk, true};
+ghost use Rattle.std.specs.Prelude.{◌≡◌, ◌+◌, ◌<◌, ◌≤◌, ◌^◌, All, [], length, IfOk, IfErr, IfSome, OnOk, true};
 ghost use Rattle.std.specs.Io.KnownBytes.{Appends};
 ghost use Rattle.window_core.specs.Sheaves.{merged};
 ghost use Rattle.window_engine.specs.Failures.{failures_after};
@@ -93,7 +93,9 @@ fn clear_all(sheaf: &Sheaf, scribes: &mut [Scribe])
 
 impl Text {
     /// No text yet.
-    pub(crate) fn new(alloc: Global) -> Result<Text, AllocError> {
+    pub(crate) fn new(alloc: Global) -> Result<Text, AllocError>
+        ensures { IfOk result (λ text. text.order.items ≡ []) }
+    {
         Ok(Text {
             scribes: Vec::new(alloc),
             order: Vec::new(alloc),

@@ -1,13 +1,13 @@
 //! A gate is told of each piece of each window, once before it runs and once behind, and the workers are at
-//! their pieces at once.
+//! their pieces at once, also while the text of a window before is written.
 
 use super::nets::two_flows;
-use super::{engine_of, whole_text, window};
+use super::{engine_of, run_to, whole_text, window};
 use crate::crowd::Crowd;
 use std::process::Abort;
 use std::sync::Wait;
 use std::thread::Threads;
-use window_engine::Engine;
+use window_engine::{Engine, Sink, SinkFail, Stop};
 
 // Four groups, so that each window has four pieces, of the numbers 0 to 3.
 const GROUPS: [u8; 4] = [0, 1, 2, 3];
@@ -58,5 +58,46 @@ fn each_piece_of_a_run_is_entered_and_left(rt: HostRuntime) {
         let (entered, _) = gate.entered();
         assert!(rt; entered >= 12);
         expect_told(&rt, &gate, entered / 4);
+    }
+}
+
+// Keeps no byte. It takes the first ones once a piece of the third window was entered.
+#[derive(Drop)]
+struct Patient<'a> {
+    gate: &'a Crowd,
+    // Whether it has taken bytes.
+    began: bool,
+    // Whether that piece was entered.
+    came: bool,
+}
+
+impl<'a> Sink for Patient<'a> {
+    ghost failures = { λ _. 0 };
+
+    fn put(&mut self, bytes: &[u8]) -> Result<usize, SinkFail> {
+        if !self.began {
+            self.began = true;
+            self.came = self.gate.comes_to(9);
+        }
+        Ok(bytes.len())
+    }
+}
+
+// The text of the first window is made while the second one runs, and written while threads begin the third.
+#[test]
+fn a_text_is_written_while_threads_run_a_window(rt: HostRuntime) {
+    let scenario = two_flows(&rt, 4);
+    for workers in [2, 4, 64] {
+        let gate = Crowd::of(1);
+        let mut engine = engine_of(&rt, &scenario, &GROUPS);
+        let mut sink = Patient {
+            gate: &gate,
+            began: false,
+            came: false,
+        };
+        let stop = run_to(&rt, &mut engine, workers, &gate, u64::MAX, &mut sink);
+        drop(engine);
+        assert!(rt; stop == Ok(Stop::End));
+        assert!(rt; sink.came, "{workers}");
     }
 }

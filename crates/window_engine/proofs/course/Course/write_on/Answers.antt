@@ -6,9 +6,6 @@ use Rattle.window_engine.proofs.course.Course.write_on.Goals as goal
 pub loop-plan-smaller : goal.loop-plan-smaller
 loop-plan-smaller g c =
     let more = c.in-Ok-go_on.ensures.some c.in-Ok.plan.next (rw c.of-now.ensures c.in-Ok.ensures.next) in
-    let few = c.in-Ok-go_on.ensures.writing.behind.few in
+    let few = c.in-Ok-go_on.ensures.owing.behind.few in
     let here = ap (λ (w : WindowValue). w.position) c.of-now.ensures in
     omega (arith, more, few, here)
-
-pub go_on-requires-clause-writing : goal.go_on-requires-clause-writing
-go_on-requires-clause-writing g c κs within = rw (c.of-now.ensures, c.run_or_leave-ran.ensures.sheaf) c.loop-plan.invariant.0

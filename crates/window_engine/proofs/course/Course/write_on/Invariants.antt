@@ -1,12 +1,10 @@
--- the windows so far but the last are written, and the sheaf has its lines
-use Rattle.std.proofs.Common.{◌≡◌, ◌-◌}
-use Rattle.window_engine.specs.Courses.{IsWriting}
+-- the windows so far but the last two are written, the text of the one before the last is owed, and the sheaf has the lines of the last
+use Rattle.std.proofs.Common.{◌-◌}
+use Rattle.window_engine.specs.Courses.{AwaitsSink}
 use Rattle.window_engine.proofs.course.Course.write_on.Given as goal
 
 abbrev pub invariant-loop-plan : goal.invariant-loop-plan
-invariant-loop-plan g l =
-    IsWriting l.until l.began.value l.self l.writing.written (g.S.Sink.contents l.known.value) (g.S.Sink.contents l.sink)
-    × (g.S.Sink.failures l.sink ≡ g.S.Sink.failures l.known.value)
+invariant-loop-plan g l = AwaitsSink l.until l.began.value l.self l.writing.owed l.writing.written (g.S.Sink.contents l.known.value) (g.S.Sink.contents l.sink) (g.S.Sink.failures l.known.value) (g.S.Sink.failures l.sink)
 
 -- each window has a line
 abbrev pub decreases-loop-plan : goal.decreases-loop-plan
