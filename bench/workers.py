@@ -3,7 +3,7 @@
 bench/workers.py [--program PATH] [--rounds N] [--priority P] [--found]
 
 `bench/measure.py` writes the section too. Instructions are counted by valgrind, where no thread is started, and do
-not depend on the machine's speed. Seconds are whole runs, their trace thrown away, each kind of run in
+not depend on the machine's speed. Seconds are whole runs, their trace thrown away but in one table, each kind of run in
 turn in each round, so that what else the machine does disturbs them alike; the least of all rounds counts.
 On a machine with other work a real-time priority keeps the cores for them (as root). With strace windows
 are counted by the writes of two workers, and the threads that four start. It wants valgrind, strace, taskset
@@ -11,9 +11,11 @@ and GNU time. With --found only the table of the groups that `--groups auto` fin
 --drawn only that of groups drawn at random.
 """
 import argparse
+import contextlib
 import os
 import random
 import subprocess
+import tempfile
 import time
 from collections import namedtuple
 
@@ -45,14 +47,18 @@ LOADED_MOST = 3                         # the seconds to those of a run without 
 FOUND_LEAST, FOUND_MOST = 0.9, 1.15     # a run without options to groups that are found; these to groups by hand
 # How many groups the nodes are drawn into, a draw for each.
 DRAWN = 2, 3, 4, 6, 12, 32
+# Where files take no disk.
+IN_MEMORY = '/dev/shm'
 BY_HAND = {'rate_jump': lambda _: '0,1,0,1,0,1', **{name: four_groups for name in SPED_UP}}
 CORES = os.cpu_count()
+FOUR = min(CORES, 4)
+EACH_CORE = 'each'                      # in the place of the cores of a run: one run on each of these
 Counted = namedtuple('Counted', 'name a_window plain one each')
 
 
-def ran(program, path, words=(), before=()):
+def ran(program, path, words=(), before=(), trace=subprocess.DEVNULL):
     with open(path) as scenario:
-        return subprocess.run([*before, program, 'run', *words], stdin=scenario, stdout=subprocess.DEVNULL,
+        return subprocess.run([*before, program, 'run', *words], stdin=scenario, stdout=trace,
                               stderr=subprocess.PIPE, text=True, env=ENVIRONMENT, check=True).stderr
 
 
@@ -91,23 +97,48 @@ def threads(program, path, groups):
     return ran(program, path, ('--workers', '4', *groups), ('strace', '-f', '-qq', '-e', 'trace=clone3')).count('clone3(')
 
 
-def seconds(kinds, rounds, before):
+def seconds(kinds, rounds, before, out=os.devnull):
     """The least seconds of each kind of run, a program with its words and cores over a scenario."""
     least = [float('inf')] * len(kinds)
     for _ in range(rounds):
         for at, (program, path, words, cores) in enumerate(kinds):
-            begin = time.perf_counter()
-            ran(program, path, words, (*before, 'taskset', '-c', cores))
-            least[at] = min(least[at], time.perf_counter() - begin)
+            with open(out, 'wb') as trace:
+                begin = time.perf_counter()
+                if cores is EACH_CORE:
+                    at_once(program, path, words, before)
+                else:
+                    ran(program, path, words, (*before, 'taskset', '-c', cores), trace)
+                least[at] = min(least[at], time.perf_counter() - begin)
     return least
+
+
+def at_once(program, path, words, before):
+    """As many runs at once as four workers have cores, one on each."""
+    with contextlib.ExitStack() as files:
+        running = [subprocess.Popen([*before, 'taskset', '-c', str(core), program, 'run', *words],
+                                    stdin=files.enter_context(open(path)), stdout=subprocess.DEVNULL, env=ENVIRONMENT)
+                   for core in range(FOUR)]
+        assert not any([it.wait() for it in running])
 
 
 def sped_up(program, rounds, before):
     for name in SPED_UP:
         scenario = SCENARIOS[name]()
         path, groups = path_of(name, scenario), ('--groups', four_groups(scenario))
-        kinds = [(program, path, (), '0')] + [(program, path, ('--workers', str(n), *groups), f'0-{n - 1}') for n in (1, 2, 4)]
+        kinds = [(program, path, (), '0'), (program, path, (), EACH_CORE)]
+        kinds += [(program, path, ('--workers', str(n), *groups), f'0-{n - 1}') for n in (1, 2, 4)]
         yield name, events_of(program, path), threads(program, path, groups), seconds(kinds, rounds, before)
+
+
+def kept(program, rounds, before):
+    """Seconds of runs whose trace goes into a file of the system's memory."""
+    for name in SPED_UP:
+        scenario = SCENARIOS[name]()
+        path, groups = path_of(name, scenario), ('--groups', four_groups(scenario))
+        kinds = [(program, path, (), '0'), (program, path, ('--workers', '4', *groups), f'0-{FOUR - 1}')]
+        with tempfile.NamedTemporaryFile(dir=IN_MEMORY) as trace:
+            took = seconds(kinds, rounds, before, trace.name)
+            yield name, os.path.getsize(trace.name), took
 
 
 def processor_seconds(program, path, words, rounds):
@@ -120,7 +151,7 @@ def small(program, rounds, before):
     run without options."""
     for name in SMALL:
         path = path_of(name, SCENARIOS[name]())
-        cores = f'0-{min(CORES, 4) - 1}'
+        cores = f'0-{FOUR - 1}'
         kinds = [(program, path, (), '0')] + [(program, path, ('--workers', str(n), '--groups', 'each'), cores) for n in CREWS]
         used, plain = (processor_seconds(program, path, words, rounds)
                        for words in (('--workers', str(CREWS[-1]), '--groups', 'each'), ()))
@@ -211,7 +242,7 @@ def drawn(program, rounds, before):
     kinds, events = {}, {}
     for name in (it for it in SCENARIOS if it not in UNTIMED):
         scenario = SCENARIOS[name]()
-        path, cores = path_of(name, scenario), f'0-{min(CORES, 4) - 1}'
+        path, cores = path_of(name, scenario), f'0-{FOUR - 1}'
         events[name] = events_of(program, path)
         if events[name] >= LONG:
             kinds[name] = [(program, path, (), cores)] + [
@@ -274,16 +305,23 @@ def section(program, rounds, before):
     yield (f'Seconds of whole runs on {processor()}, {os.cpu_count()} cores, pinned to as many cores as workers'
            + (', with real-time priority' if before else '') + f', {rounds_said(rounds)}; the four '
            'groups are the four parts of each scenario (bench/scenarios.py), joined by links of 10 ms and more. Four workers '
-           f'are to be at least {LEAST} times as fast as `run`, and one worker is to take at most {ALONE_MOST} times as long.\n')
+           f'are to be at least {LEAST} times as fast as `run`, and one worker is to take at most {ALONE_MOST} times as long. '
+           f'What the cores give is how many times the work of one `run` {FOUR} of them do in the same time at once, a core each: '
+           'programs that share nothing gain no more.\n')
     wide = list(sped_up(program, rounds, before))
-    yield from table(('Scenario', 'Events', 'Threads of 4 workers', '`run`', '1 worker', '2 workers', '4 workers', 'four to one',
-                      '`run` to four', 'one to `run`'),
+    yield from table(('Scenario', 'Events', 'Threads of 4 workers', '`run`', f'{FOUR} at once', '1 worker', '2 workers', '4 workers',
+                      'four to one', '`run` to four', 'cores give', 'one to `run`'),
                      [(f'`{name}`', f'{events:,}', f'{many:,}', *(f'{s:.3f}' for s in took),
-                       f'{took[1] / took[3]:.2f}', f'{took[0] / took[3]:.2f}', f'{took[1] / took[0]:.2f}')
-                      for name, events, many, took in wide])
-    yield said([took[0] / took[3] >= LEAST for _, _, _, took in wide], 'have four workers as fast as they are to be')
-    yield said([took[1] / took[0] <= ALONE_MOST for _, _, _, took in wide], 'have one worker within its bound')
-    yield (f'The same with a group for each node, so that windows are small: the calling thread runs all of those that would '
+                       f'{took[2] / took[4]:.2f}', f'{took[0] / took[4]:.2f}', f'{FOUR * took[0] / took[1]:.2f}',
+                       f'{took[2] / took[0]:.2f}') for name, events, many, took in wide])
+    yield said([took[0] / took[4] >= LEAST for _, _, _, took in wide], 'have four workers as fast as they are to be')
+    yield said([took[2] / took[0] <= ALONE_MOST for _, _, _, took in wide], 'have one worker within its bound')
+    yield (f'Seconds of the same runs where the trace goes into a file of the system\'s memory ({IN_MEMORY}): the calling thread '
+           'writes it, while the others run.\n')
+    yield from table(('Scenario', 'MB of trace', '`run`', '4 workers', '`run` to four'),
+                     [(f'`{name}`', f'{size / 1e6:,.0f}', *(f'{s:.3f}' for s in took), f'{took[0] / took[1]:.2f}')
+                      for name, size, took in kept(program, rounds, before)])
+    yield (f'The same with a group for each node and no trace kept, so that windows are small: the calling thread runs all of those that would '
            f'not pay for threads. No crew is to take more than {SMALL_MOST} times as long as `run`, nor more than {USED_MOST} times its '
            'processor time.\n')
     narrow = list(small(program, rounds, before))
