@@ -105,7 +105,7 @@ Arguments:
 
 T
 cat > "$work/options" <<'T'
-      --workers <N>  Workers for --groups, 1 to 64; they pay where a window holds thousands of events, and else take at most half again as long [default: 1]
+      --workers <N>  Workers for --groups, 1 to 64; they pay where a window holds thousands of events, and else may take half again as long [default: 1]
       --groups <G>   The group of each node: one, each, auto, or numbers as in 0,0,1 [default: one]
 T
 cat > "$work/flags" <<'T'

@@ -80,7 +80,7 @@ fn workers_option<'a>(alloc: Global) -> Arg<'a>
         .value_parser(value_parser!(usize).range(1..=64))
         .default_value("1")
         .help(
-            "Workers for --groups, 1 to 64; they pay where a window holds thousands of events, and else take at most half again as long",
+            "Workers for --groups, 1 to 64; they pay where a window holds thousands of events, and else may take half again as long",
         )
 }
 
