@@ -15,8 +15,8 @@ use Rattle.window_engine.specs.declared.fault.EngineFault.{EngineFault}
 use Rattle.window_engine.specs.declared.fault.EngineFault.TheVariants.{CountFull, NoMemory, Sink as SinkFailed}
 use Rattle.window_engine.specs.declared.fault.Stop.{Stop}
 use Rattle.window_engine.specs.declared.owed.Owed.{Owed}
-use Rattle.window_engine.specs.Courses.{AtRest, AwaitsSink, HasGroups, IsBehind, IsOwing, IsWriting, HasEnded, Broke, CanTell, Wrote, fails_after, told_as}
-use Rattle.window_engine.specs.Edges.{IsAtEdge, IsSameNet, edge_of, reached_in}
+use Rattle.window_engine.specs.Courses.{AtRest, AwaitsSink, HasGroups, IsBehind, IsOwing, IsWriting, HasEnded, Broke, CanTell, Rests, Wrote, fails_after, told_as}
+use Rattle.window_engine.specs.Edges.{IsAtEdge, edge_of, reached_in}
 use Rattle.window_engine.specs.Engines.{IsStop}
 use Rattle.window_engine.specs.Failures.{counted}
 use Rattle.window_engine.specs.Outcomes.{IsOfWorkers}
@@ -24,48 +24,55 @@ use Rattle.window_engine.specs.Owed.{Fares, IsReady, Owes, owed_text}
 use Rattle.window_engine.specs.Parts.{IsInside, text_of}
 use Rattle.window_engine.specs.Puts.{TakesFirst}
 use Rattle.window_engine.specs.Text.{text_from}
-use Rattle.window_engine.proofs.Grouped.{behind_same, groups_kept}
+use Rattle.window_engine.proofs.Grouped.{groups_kept}
 use Rattle.window_engine.proofs.TooMany.{told_full, workers_full}
 use Rattle.window_engine.proofs.Unwritten.{all_committed, behind_by_none, few_before, full_before, no_line, wrote_to_edge}
 use Rattle.window_engine.proofs.Writing.{broke_batch, can_tell, committed, ended, fails_told, still_fits, told_of, wrote_batch, wrote_more, wrote_no_more, wrote_none}
 
 -- before the first window
-pub begun : (until : ℕ) (c : Course) (s : SheafValue) (known : Option (List ℕ)) → AtRest c → HasGroups c → s ≡ record { first = c.position + 1; lists = [] } → IsWriting until c (record c { sheaf = s }) 0 known known
-begun until c s known rest has none = record {
-  net = reached_in c.window;
-  behind = behind_by_none c s rest none;
-  wrote = wrote_none until (reached_in c.window) known;
-  early = subst (AreBelow until) (sym (no_line s (c.position + 1) none)) tt;
-  has = groups_kept c s has;
-  groups = refl;
-  ahead = refl;
-}
+pub at_first : (until : ℕ) (c : Course) (known : Option (List ℕ)) → AtRest c → HasGroups c → Rests until c c 0 known known
+at_first until c known rest has = record { rest = rest; has = has; wrote = wrote_none until (reached_in c.window) known; groups = refl; ahead = refl }
 
--- and nothing is owed
-pub begun_owing : (until : ℕ) (c : Course) (s : SheafValue) (known : Option (List ℕ)) (text : List ℕ) (lines : ℕ) → AtRest c → HasGroups c → s ≡ record { first = c.position + 1; lists = [] } → text ≡ [] → lines ≡ 0 → IsOwing until c (record c { sheaf = s }) text lines 0 known known
-begun_owing until c s known text lines rest has none is many =
-    let empty = no_line s (c.position + 1) none in
-    let w = begun until c s known rest has none in
-    record {
-      was = record c { sheaf = s };
-      writing = w;
-      text_is = is ∙ ap (text_from s.first) (sym empty);
-      lines_are = many ∙ ap length (sym empty);
-      behind = (let at : c.position ≡ c.position + lines = omega (arith, many) in subst (λ (n : ℕ). IsBehind (reached_in c.window) (record c { sheaf = s; position = n })) at (behind_by_none c s rest none));
-      committed = refl;
-      early = w.early;
-      has = w.has;
-      groups = refl;
-      ahead = refl;
-    }
+module _ (until : ℕ) (began c : Course) (s : SheafValue) (written : ℕ) (known now : Option (List ℕ)) (r : Rests until began c written known now) (none : s ≡ record { first = c.position + 1; lists = [] }) where
+  -- windows begin
+  pub begun : IsWriting until began (record c { sheaf = s }) written known now
+  begun = record {
+    net = reached_in c.window;
+    behind = behind_by_none c s r.rest none;
+    wrote = r.wrote;
+    early = subst (AreBelow until) (sym (no_line s (c.position + 1) none)) tt;
+    has = groups_kept c s r.has;
+    groups = r.groups;
+    ahead = r.ahead;
+  }
 
-pub awaits_nothing : (until : ℕ) (c : Course) (s : SheafValue) (known : Option (List ℕ)) (owed : Owed) (f : ℕ) → AtRest c → HasGroups c → s ≡ record { first = c.position + 1; lists = [] } → owed.text.order.items ≡ [] → owed.lines ≡ 0 → owed.put ≡ None
-    → AwaitsSink until c (record c { sheaf = s }) owed 0 known known f f
-awaits_nothing until c s known owed f rest has none empty lines waits = record {
-  owing = begun_owing until c s known (owed_text owed) owed.lines rest has none (ap (text_of owed.text.scribes.items) empty) lines;
+  -- and nothing is owed
+  pub begun_owing : IsOwing until began (record c { sheaf = s }) [] 0 written known now
+  begun_owing =
+      let empty = no_line s (c.position + 1) none in
+      record {
+        was = record c { sheaf = s };
+        writing = begun;
+        text_is = ap (text_from s.first) (sym empty);
+        lines_are = ap length (sym empty);
+        behind = (let at : c.position ≡ c.position + 0 = omega arith in subst (λ (n : ℕ). IsBehind (reached_in c.window) (record c { sheaf = s; position = n })) at (behind_by_none c s r.rest none));
+        committed = refl;
+        early = begun.early;
+        has = begun.has;
+        groups = refl;
+        ahead = refl;
+      }
+
+-- a text of no line is owed
+pub awaits_nothing : (until : ℕ) (began c : Course) (owed : Owed) (written : ℕ) (known now : Option (List ℕ)) (f g : ℕ) → IsOwing until began c [] 0 written known now → owed.text.order.items ≡ [] → owed.lines ≡ 0 → owed.put ≡ None → g ≡ f
+    → AwaitsSink until began c owed written known now f g
+awaits_nothing until began c owed written known now f g o empty lines waits same = record {
+  owing =
+      subst (λ (t : List ℕ). IsOwing until began c t owed.lines written known now) (sym (ap (text_of owed.text.scribes.items) empty))
+      (subst (λ (n : ℕ). IsOwing until began c [] n written known now) (sym lines) o);
   ready = record { inside = subst (All (IsInside owed.text.scribes.items)) (sym empty) (All-nil (IsInside owed.text.scribes.items)); few = (let e = ap length empty in omega (arith, e)) };
   waits = waits;
-  failures_are = refl;
+  failures_are = same;
 }
 
 -- of what is owed nothing was written yet
@@ -86,6 +93,36 @@ not_begun workers until c known failures rest =
       groups = refl;
       ahead = refl;
     }
+
+-- a call has written so much, and ends by a fault in what follows
+pub broken_at : (workers until : ℕ) (began new : Course) (net : Reached) (written : ℕ) (known now later : Option (List ℕ)) (fault : WriteFault) (f g h : ℕ) → Wrote until (reached_in began.window) net written known now → net.position ≤ 1000000000000000
+    → Broke workers until net new.position now later fault → (fault ≡ Workers CountFull → HasTooMany net) → g ≡ f → h ≡ fails_after {T = ℕ} (Err fault) g → new.groups ≡ began.groups → new.ahead ≡ began.ahead
+    → HasEnded workers until began new (Err (told_as written fault)) known later f h
+broken_at workers until began new net written known now later fault f g h wrote few broke full same fails groups ahead =
+    let from = reached_in began.window in
+    record {
+      rest = tt;
+      has = tt;
+      commits = ended workers until from net written (record { state = edge_of new.window; position = new.position }) known now later fault wrote broke;
+      stop = tt;
+      fault = (told_of workers until written net new.position now later fault broke, told_full until from net written written known now fault wrote few full);
+      failures_are = fails ∙ ap (λ n. fails_after {T = ℕ} (Err fault) n) same ∙ fails_told Stop ℕ workers until written f fault now later net new.position broke;
+      groups = groups;
+      ahead = ahead;
+    }
+
+-- a call ends where nothing is left to write
+pub rested : (workers until : ℕ) (began c : Course) (written : ℕ) (known now : Option (List ℕ)) (f g : ℕ) (stop : Stop) → Rests until began c written known now → g ≡ f → IsStop until (edge_of c.window) stop → HasEnded workers until began c (Ok stop) known now f g
+rested workers until began c written known now f g stop r same stops = record {
+  rest = r.rest;
+  has = r.has;
+  commits = committed until (reached_in began.window) (reached_in c.window) (record { state = edge_of c.window; position = c.position }) written known now stop r.wrote r.rest.committed refl;
+  stop = stops;
+  fault = tt;
+  failures_are = same;
+  groups = r.groups;
+  ahead = r.ahead;
+}
 
 module _ (until : ℕ) (began c : Course) (written : ℕ) (known now : Option (List ℕ)) (w : IsWriting until began c written known now) where
   abbrev from : Reached
@@ -114,31 +151,21 @@ module _ (until : ℕ) (began c : Course) (written : ℕ) (known now : Option (L
   -- the call ends by a fault in the next window
   pub broken : (workers : ℕ) (new : Course) (later : Option (List ℕ)) (fault : WriteFault) (f g h : ℕ) → Broke workers until w.net new.position now later fault → (fault ≡ Workers CountFull → HasTooMany w.net) → g ≡ f → h ≡ fails_after {T = ℕ} (Err fault) g
       → new.groups ≡ c.groups → new.ahead ≡ c.ahead → HasEnded workers until began new (Err (told_as written fault)) known later f h
-  broken workers new later fault f g h broke full same fails groups ahead = record {
-    rest = tt;
-    has = tt;
-    commits = ended workers until from w.net written (record { state = edge_of new.window; position = new.position }) known now later fault w.wrote broke;
-    stop = tt;
-    fault = (told_of workers until written w.net new.position now later fault broke, told_full until from w.net written written known now fault w.wrote few full);
-    failures_are = fails ∙ ap (λ n. fails_after {T = ℕ} (Err fault) n) same ∙ fails_told Stop ℕ workers until written f fault now later w.net new.position broke;
-    groups = groups ∙ w.groups;
-    ahead = ahead ∙ w.ahead;
-  }
+  broken workers new later fault f g h broke full same fails groups ahead =
+      broken_at workers until began new w.net written known now later fault f g h w.wrote few broke full same fails (groups ∙ w.groups) (ahead ∙ w.ahead)
 
   -- it ends for want of memory before the next window
   pub out_of_memory : (workers f g : ℕ) → g ≡ f → HasEnded workers until began c (Err NoMemory) known now f g
   out_of_memory workers f g same =
       broken workers c now (Workers NoMemory) f g g (wrote_no_more until w.net c.position now w.behind.committed, tt) (λ is. absurd (cc)) same refl refl refl
 
-  -- it ends since no window is left
-  pub done : (workers bytes : ℕ) (new : Course) (later : Option (List ℕ)) (f h : ℕ) (stop : Stop) → Wrote until w.net (reached_in c.window) bytes now later → new ≡ record c { position = new.position } → new.position ≡ c.position + length (merged c.sheaf).lines → h ≡ f
-      → IsStop until (edge_of c.window) stop → HasEnded workers until began new (Ok stop) known later f h
-  done workers bytes new later f h stop wrote rest at same stops =
+  -- what was left is written
+  pub settled : (bytes : ℕ) (new : Course) (later : Option (List ℕ)) → Wrote until w.net (reached_in c.window) bytes now later → new ≡ record c { position = new.position } → new.position ≡ c.position + length (merged c.sheaf).lines → Rests until began new (written + bytes) known later
+  settled bytes new later wrote rest at =
       let window : new.window ≡ c.window = ap (λ (x : Course). x.window) rest in
       let end : new.end ≡ c.end = ap (λ (x : Course). x.end) rest in
       let groups : new.groups ≡ c.groups = ap (λ (x : Course). x.groups) rest in
       let ahead : new.ahead ≡ c.ahead = ap (λ (x : Course). x.ahead) rest in
-      let joined : new.pace ≡ c.pace = ap (λ (x : Course). x.pace) rest in
       let committed_is : new.position ≡ c.window.position = all_committed w.net c w.behind new.position at in
       let all = wrote_more until from w.net (reached_in c.window) written bytes known now later w.wrote wrote in
       record {
@@ -150,10 +177,7 @@ module _ (until : ℕ) (began c : Course) (written : ℕ) (known now : Option (L
           groups = subst (λ (v : WindowValue). groups_of v.entries ≤ 64) (sym window) w.behind.groups;
         };
         has = subst HasGroups (sym rest) (record { run = w.has.run; apart = w.has.apart });
-        commits = committed until from (reached_in c.window) (record { state = edge_of new.window; position = new.position }) (written + bytes) known later stop all committed_is (ap (λ (v : WindowValue). edge_of v) window);
-        stop = subst (λ (v : WindowValue). IsStop until (edge_of v) stop) (sym window) stops;
-        fault = tt;
-        failures_are = same;
+        wrote = subst (λ (v : WindowValue). Wrote until from (reached_in v) (written + bytes) known later) (sym window) all;
         groups = groups ∙ w.groups;
         ahead = ahead ∙ w.ahead;
       }
@@ -171,23 +195,23 @@ module _ (until : ℕ) (began c : Course) (written : ℕ) (known now : Option (L
   failed_after workers text lines count new later f g h is many at takes few same fails groups ahead =
       broken workers new later (Failing count) f g h (broke_all workers text lines count new.position later is many at takes few) (λ is. absurd (cc)) same fails groups ahead
 
-  -- a window more: the text of what was there is owed, and the window was run and turned, and then its nodes may have gone into other groups
+  -- a window more: the text of what was there is owed, and the window was run and turned
   pub gone_on : (text : List ℕ) (lines : ℕ) (d new : Course) → text ≡ text_from c.sheaf.first (merged c.sheaf).lines → lines ≡ length (merged c.sheaf).lines → d.position ≡ c.position → d.groups ≡ c.groups → d.ahead ≡ c.ahead
-      → IsBehind (reached_in c.window) (record d { position = d.position + lines }) → AreBelow until (merged d.sheaf).lines → IsSameNet d.window new.window → new ≡ record d { window = new.window; pace = new.pace } → HasGroups new → IsOwing until began new text lines written known now
-  gone_on text lines d new is many at groups ahead behind early same rest new_has =
-      let sheaf : new.sheaf ≡ d.sheaf = ap (λ (x : Course). x.sheaf) rest in
-      record {
+      → IsBehind (reached_in c.window) (record d { position = d.position + lines }) → AreBelow until (merged d.sheaf).lines → HasGroups d → new ≡ record d { pace = new.pace } → IsOwing until began new text lines written known now
+  gone_on text lines d new is many at groups ahead behind early has rest =
+      subst (λ (x : Course). IsOwing until began x text lines written known now) (sym rest)
+      (record {
         was = c;
         writing = w;
         text_is = is;
         lines_are = many;
-        behind = behind_same (record d { position = d.position + lines }) (record new { position = new.position + lines }) same (ap (λ (x : Course). record x { position = x.position + lines }) rest) (reached_in c.window) behind;
-        committed = ap (λ (x : Course). x.position) rest ∙ at;
-        early = subst (λ (s : SheafValue). AreBelow until (merged s).lines) (sym sheaf) early;
-        has = new_has;
-        groups = ap (λ (x : Course). x.groups) rest ∙ groups;
-        ahead = ap (λ (x : Course). x.ahead) rest ∙ ahead;
-      }
+        behind = record { edge = behind.edge; gone = behind.gone; committed = behind.committed; few = behind.few; end = behind.end; groups = behind.groups };
+        committed = at;
+        early = early;
+        has = record { run = has.run; apart = has.apart };
+        groups = groups;
+        ahead = ahead;
+      })
 
 module _ (until : ℕ) (began c : Course) (text : List ℕ) (lines written : ℕ) (known now : Option (List ℕ)) (o : IsOwing until began c text lines written known now) where
   abbrev w : IsWriting until began o.was written known now

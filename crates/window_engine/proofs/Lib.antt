@@ -15,6 +15,7 @@ pub mod Unwritten
 pub mod Filled
 pub mod Grouped
 pub mod Called
+pub mod OneByOne
 pub mod Meant
 pub mod Desks
 pub mod DeskSent

@@ -65,10 +65,10 @@ broke_batch until old new position count batch text a b early gone at is took fe
     }
 
 -- lines of the run, and then more
-run_more : (s t u : State) (xs ys : List TraceLine) → run s (length xs) ≡ Some (xs, t) → run t (length ys) ≡ Some (ys, u) → run s (length (xs ++ ys)) ≡ Some (xs ++ ys, u)
+pub run_more : (s t u : State) (xs ys : List TraceLine) → run s (length xs) ≡ Some (xs, t) → run t (length ys) ≡ Some (ys, u) → run s (length (xs ++ ys)) ≡ Some (xs ++ ys, u)
 run_more s t u xs ys e f = ap (run s) (length-append xs ys) ∙ run_add s t u (length xs) (length ys) xs ys e f
 
-text_more : (from to : Reached) (xs ys : List TraceLine) → to.position ≡ from.position + length xs → text_from (from.position + 1) (xs ++ ys) ≡ text_from (from.position + 1) xs ++ text_from (to.position + 1) ys
+pub text_more : (from to : Reached) (xs ys : List TraceLine) → to.position ≡ from.position + length xs → text_from (from.position + 1) (xs ++ ys) ≡ text_from (from.position + 1) xs ++ text_from (to.position + 1) ys
 text_more from to xs ys e =
     let n : from.position + 1 + length xs ≡ to.position + 1 = omega (arith, e) in
     text_both (from.position + 1) xs ys ∙ ap (λ k. text_from (from.position + 1) xs ++ text_from k ys) n

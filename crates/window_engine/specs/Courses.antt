@@ -1,5 +1,5 @@
 -- The net on its way: what it is between windows, and what a window that was written leaves.
-use Rattle.std.specs.Prelude.{◌≡◌, ◌≤◌, ◌<◌, ◌+◌, ◌*◌, ◌^◌, ℕ, false, List, length, Option, Some, None, Result, Err, OnOk, IfOk, IfErr}
+use Rattle.std.specs.Prelude.{◌≡◌, ◌≤◌, ◌<◌, ◌+◌, ◌*◌, ◌^◌, ℕ, List, length, Option, Some, None, Result, Err, OnOk, IfOk, IfErr}
 use Rattle.std.specs.Io.KnownBytes.{Appends}
 use Rattle.scenario_image.specs.declared.parts.ScenarioParts.{ScenarioParts}
 use Rattle.scenario_image.specs.Scenario.{IsScenario}
@@ -38,12 +38,12 @@ pub record AtRest (c : Course) : Type 0 where
   pub end : c.end ≡ c.window.end
   pub groups : groups_of c.window.entries ≤ 64
 
--- the window's net is one that a scenario's run comes to, whose nodes these groups have; the least delay of a link between two of the groups is this
-pub record RunsIn (groups : List ℕ) (ahead : Option ℕ) (w : WindowValue) : Type 0 where
+-- the net is one that a scenario's run comes to, whose nodes these groups have; the least delay of a link between two of the groups is this
+pub record RunsIn (groups : List ℕ) (ahead : Option ℕ) (net : Reached) : Type 0 where
   pub scenario : ScenarioParts
   pub before : List TraceLine
   pub is_scenario : IsScenario scenario
-  pub comes : ComesTo scenario w.position before (edge_of w)
+  pub comes : ComesTo scenario net.position before net.state
   pub nodes : length groups ≡ length scenario.nodes
   pub ahead_is : ahead ≡ lookahead (group_in groups) scenario.links
 
@@ -51,10 +51,10 @@ pub record RunsIn (groups : List ℕ) (ahead : Option ℕ) (w : WindowValue) : T
 abbrev pub IsApart : List ℕ → Option ℕ → WindowValue → Type 0
 IsApart groups ahead w = (w.entries ≡ groups) × (w.ahead ≡ ahead)
 
--- the nodes are in the groups that were asked for, unless they are all in one
+-- the nodes are in the groups that were asked for
 pub record HasGroups (c : Course) : Type 0 where
-  pub run : RunsIn c.groups c.ahead c.window
-  pub apart : c.pace.joined ≡ false → IsApart c.groups c.ahead c.window
+  pub run : RunsIn c.groups c.ahead (reached_in c.window)
+  pub apart : IsApart c.groups c.ahead c.window
 
 -- the window is at its edge, and the sheaf has the lines that lead there from a net: the events up to that net are committed, and no others
 pub record IsBehind (net : Reached) (c : Course) : Type 0 where
@@ -136,6 +136,14 @@ pub record IsOwing (until : ℕ) (began c : Course) (text : List ℕ) (lines wri
   pub has : HasGroups c
   pub groups : c.groups ≡ was.groups
   pub ahead : c.ahead ≡ was.ahead
+
+-- all windows of a call so far are written, and the events that were run one after another between them
+pub record Rests (until : ℕ) (began c : Course) (written : ℕ) (known now : Option (List ℕ)) : Type 0 where
+  pub rest : AtRest c
+  pub has : HasGroups c
+  pub wrote : Wrote until (reached_in began.window) (reached_in c.window) written known now
+  pub groups : c.groups ≡ began.groups
+  pub ahead : c.ahead ≡ began.ahead
 
 -- a text is owed, and nothing of it was written; the sink has not failed
 pub record AwaitsSink (until : ℕ) (began c : Course) (owed : Owed) (written : ℕ) (known now : Option (List ℕ)) (failures failed : ℕ) : Type 0 where

@@ -1,9 +1,9 @@
 -- A window between a turn and the next events.
-use Rattle.std.specs.Prelude.{◌≡◌, ◌≤◌, ℕ, true, false, length}
+use Rattle.std.specs.Prelude.{◌≡◌, ℕ, true, false, length}
 use Rattle.table_run.specs.State.{State}
 use Rattle.net_machine.specs.Run.{Reached}
 use Rattle.window_core.specs.Groups.{group_at}
-use Rattle.window_core.specs.Partition.{group_in, groups_of}
+use Rattle.window_core.specs.Partition.{group_in}
 use Rattle.window_core.specs.Standing.{joined}
 use Rattle.window_core.specs.Window.{WindowValue, states_of, setting_in}
 use Rattle.window_core.specs.Windows.{none_fired, window_end}
@@ -30,10 +30,3 @@ pub record StaysNet (old new : WindowValue) : Type 0 where
   pub entries : new.entries ≡ old.entries
   pub ahead : new.ahead ≡ old.ahead
   pub end : new.end ≡ old.end
-
--- the same net, between windows: its nodes may be in other groups
-pub record IsSameNet (old new : WindowValue) : Type 0 where
-  pub edge : IsAtEdge new
-  pub net : reached_in new ≡ reached_in old
-  pub end : new.end ≡ old.end
-  pub few : groups_of new.entries ≤ 64

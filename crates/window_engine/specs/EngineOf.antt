@@ -8,6 +8,6 @@ use Rattle.window_engine.specs.Engines.{EngineValue}
 abbrev pub engine_of : Inside → EngineValue
 engine_of e = record { entries = e.course.groups; ahead = e.course.ahead; net = record { state = edge_of e.course.window; position = e.course.position }; failed = e.failed }
 
--- where no call had a fault, the net is between windows; the groups are those that were asked for, also while all nodes are in one
+-- where no call had a fault, the net is between windows; the groups are those that were asked for
 abbrev pub IsEngineInside : Inside → Type 0
 IsEngineInside e = e.failed ≡ false → AtRest e.course × HasGroups e.course

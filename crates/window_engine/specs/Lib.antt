@@ -12,4 +12,5 @@ pub mod EngineCode
 pub mod Edges
 pub mod Laid
 pub mod Courses
+pub mod Singly
 pub mod EngineOf

@@ -12,7 +12,7 @@ ghost use Rattle.window_engine.specs.Outcomes.{IsOfRun};
 ghost use Rattle.window_engine.specs.Parts.{IsWhole};
 
 use crate::fault::{EngineFault, Stop};
-use crate::pace::Pace;
+use crate::pace::{Pace, Turnout};
 use crate::slice::{aim, slice_after};
 use sim_time::Time;
 use std::alloc::Global;
@@ -31,7 +31,7 @@ pub(crate) struct Course {
     pub groups: Partition,
     /// The least delay of a link between two of them, in nanoseconds.
     pub ahead: Option<Time>,
-    /// Whether the net's nodes are in these groups or all in one, and for how long.
+    /// Whether events are run by windows or one after another, and for how long.
     pub pace: Pace,
     /// The net, by groups.
     pub window: Window,
@@ -148,7 +148,26 @@ impl Course {
     {
         let events = self.sheaf.len();
         let shared = self.sheaf.beside_most();
-        let aim = aim(workers, self.pace.joined, events, shared);
+        let aim = aim(workers, events, shared);
         slice_after(plan.span, self.busy(plan.next, plan.span), events, aim)
+    }
+    /// After a window, which ended by the lookahead or sooner and of whose groups threads ran so many, chooses whether
+    /// the next events are run by windows: not where the last windows held few events or threads came late to them, and
+    /// after a while again, to see how it is then; and always for a gate that asks for all workers in each window.
+    pub(crate) fn choose(&mut self, worth: usize, whole: bool, turnout: Turnout)
+        ensures { self.new ≡ record self.old { pace = self.new.pace } }
+    {
+        if worth == 0 {
+            return;
+        }
+        let turnout = if self.sheaf.beside_most() < worth {
+            // There was less to share than a thread is worth.
+            Turnout::none()
+        } else {
+            turnout
+        };
+        self.pace.count(self.sheaf.len(), whole, turnout);
+        let (nodes, groups) = (self.groups.nodes(), self.groups.groups());
+        self.pace.choose(nodes, groups);
     }
 }

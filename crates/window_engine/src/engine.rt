@@ -189,14 +189,6 @@ impl Engine {
             return Err(EngineFault::Failed);
         }
         let _reached = self.course.window.position();
-        match self.course.part() {
-            Ok(()) => {}
-            Err(_) => {
-                self.failed = true;
-                return Err(EngineFault::NoMemory);
-            }
-        }
-        let _parted = self.course.window.position();
         let alloc = self.course.alloc;
         let before = Snapshot::of(&self.course.window);
         let crew = Crew {
@@ -247,14 +239,6 @@ impl Engine {
             return Err(EngineFault::Failed);
         }
         let _reached = self.course.window.position();
-        match self.course.part() {
-            Ok(()) => {}
-            Err(_) => {
-                self.failed = true;
-                return Err(EngineFault::NoMemory);
-            }
-        }
-        let _parted = self.course.window.position();
         let alloc = self.course.alloc;
         let before = Snapshot::of(&self.course.window);
         let window = &mut self.course.window;

@@ -12,7 +12,7 @@ pub trait Gate: Sync {
 
     /// How many events a thread has to have to be worth it: a window that has fewer beside those of its
     /// busiest group is run by the calling thread. 0: each window is run by all workers,
-    /// and the nodes always stay in their groups.
+    /// and no event outside a window.
     fn worth(&self) -> usize;
 }
 

@@ -32,6 +32,17 @@ impl Owed {
         })
     }
 
+    /// Forgets the text, and has none, of no line. Its memory is used again.
+    pub(crate) fn forget(&mut self)
+        ensures empty { self.new.text.order.items ≡ [] }
+        ensures lines { self.new.lines ≡ 0 }
+        ensures waits { self.new.put ≡ None }
+    {
+        self.text.order.clear();
+        self.lines = 0;
+        self.put = None;
+    }
+
     /// Writes the text, where that was not done yet. The answer is how many bytes went out: all of them, or those
     /// before the sink failed. How the sink was before that is for clauses alone.
     pub(crate) fn put<S: Sink>(&mut self, _before: &Snapshot<S>, sink: &mut S) -> Result<u128, u128>

@@ -1,23 +1,23 @@
-//! When all nodes of the net go on in one group for a while: where windows hold few events, since each
+//! When events are run one after another for a while, and not by windows: where windows hold few events, since each
 //! of them costs something for every group, and where the threads that are to share a window come to it
 //! late, since the calling thread then runs all groups by itself.
-ghost use Rattle.std.specs.Prelude.{◌≡◌, false};
+ghost use Rattle.std.specs.Prelude.{◌≡◌};
 
 use crate::slice::WORTH;
 
 /// Over how many windows it is asked how many events they hold.
 const LOOK: u64 = 32;
 
-/// For at least so many events all nodes stay in one group,
+/// At least so many events are run one after another,
 const SHORTEST: u64 = 16_384;
 
-/// for so many for each pair of a node and a group, so that it costs little to part them again,
+/// so many for each pair of a node and a group, so that it costs little to go by groups again,
 const EACH: u64 = 32;
 
-/// and for at most so many.
+/// and at most so many.
 const LONGEST: u64 = 1_048_576;
 
-/// All nodes go into one group once threads came late so often more than in time. One is then taken off, so that
+/// Events are run one after another once threads came late so often more than in time. One is then taken off, so that
 /// one late window more is enough.
 const LATE: u64 = 4;
 
@@ -42,7 +42,7 @@ impl Turnout {
 pub enum Load {
     /// There were too few windows to say.
     Unknown,
-    /// Few events, so that one group costs less.
+    /// Few events, so that one after another costs less.
     Few,
     /// Many events.
     Many,
@@ -50,8 +50,8 @@ pub enum Load {
 
 /// What windows held, of which so many ended by the lookahead, with so many events in all. A window that was to end
 /// sooner says nothing of how many events the next ones hold. They hold few where a second thread would not be worth it:
-/// they cost something for every group, and what leaves a group is held back and handed over window by window, so that
-/// the same events in one group cost less.
+/// they cost something for every group, what leaves a group is held back and handed over window by window, and lines are
+/// kept until the window ends, so that the same events one after another cost less.
 pub fn load_of(windows: u64, events: u64) -> Load {
     if events >= LOOK.saturating_mul(WORTH as u64) {
         Load::Many
@@ -80,7 +80,7 @@ pub fn lateness(before: u64, turnout: Turnout) -> u64 {
     }
 }
 
-/// For how many events so many nodes of so many groups are to be in one, where it was for so many the
+/// How many events of so many nodes of so many groups are to be run one after another, where it was so many the
 /// last time and windows held few again, or threads came late; 0 where it is the first time.
 pub fn next_stretch(last: u64, nodes: usize, groups: usize) -> u64 {
     let pairs = (nodes as u64).saturating_mul(groups as u64);
@@ -88,16 +88,16 @@ pub fn next_stretch(last: u64, nodes: usize, groups: usize) -> u64 {
     last.saturating_mul(2).max(least).min(LONGEST)
 }
 
-/// Whether all nodes are in one group, what windows held since that was chosen, and how often threads came late.
+/// Whether events are run one after another, what windows held since that was chosen, and how often threads came late.
 #[derive(Clone, Copy, Debug, Drop)]
 pub(crate) struct Pace {
-    /// Whether all nodes are in one group.
-    pub joined: bool,
+    /// Whether events are run one after another.
+    single: bool,
     /// How many windows ended by the lookahead.
     windows: u64,
-    /// How many events all windows held.
+    /// How many events there were, by windows or one after another.
     events: u64,
-    /// For how many events all nodes are in one group, or were the last time; 0 where windows held many
+    /// How many events are run one after another, or were the last time; 0 where windows held many
     /// since then, with no late one left to make up for.
     stretch: u64,
     /// How often threads came late to a window, less how often they were in time.
@@ -105,12 +105,10 @@ pub(crate) struct Pace {
 }
 
 impl Pace {
-    /// The nodes are in their groups, and no window was run.
-    pub(crate) fn new() -> Pace
-        ensures { result.joined ≡ false }
-    {
+    /// Events are run by windows, and none was.
+    pub(crate) fn new() -> Pace {
         Pace {
-            joined: false,
+            single: false,
             windows: 0,
             events: 0,
             stretch: 0,
@@ -118,78 +116,65 @@ impl Pace {
         }
     }
 
+    /// Whether events are run one after another.
+    pub(crate) fn is_single(&self) -> bool
+        ensures { result ≡ self.now.single }
+    {
+        self.single
+    }
+
+    /// Forgets what was counted.
+    fn clear(&mut self) {
+        self.windows = 0;
+        self.events = 0;
+    }
+
+    /// Goes on by windows.
+    pub(crate) fn go_by_windows(&mut self) {
+        self.clear();
+        self.single = false;
+    }
+
+    /// Goes on one event after another, twice as long as the last time.
+    fn go_singly(&mut self, nodes: usize, groups: usize) {
+        self.clear();
+        self.stretch = next_stretch(self.stretch, nodes, groups);
+        self.single = true;
+    }
+
+    /// Counts so many events that were run one after another, and goes on by windows where they are enough.
+    pub(crate) fn pass(&mut self, events: u64) {
+        self.events = self.events.saturating_add(events);
+        if self.events >= self.stretch {
+            self.go_by_windows();
+        }
+    }
+
     /// Counts a window of so many events, which ended by the lookahead or sooner, and of whose groups threads ran
     /// so many.
-    pub(crate) fn count(&mut self, events: usize, whole: bool, turnout: Turnout)
-        ensures { self.new.joined ≡ self.old.joined }
-    {
+    pub(crate) fn count(&mut self, events: usize, whole: bool, turnout: Turnout) {
         self.windows = self.windows.saturating_add(u64::from(whole));
         self.events = self.events.saturating_add(events as u64);
         self.late = lateness(self.late, turnout);
     }
 
-    /// Forgets the windows that were counted.
-    fn clear(&mut self)
-        ensures { self.new.joined ≡ self.old.joined }
-    {
-        self.windows = 0;
-        self.events = 0;
-    }
-
-    /// All nodes are to be in one group, twice as long as the last time.
-    fn stretch_out(&mut self, nodes: usize, groups: usize)
-        ensures { self.new.joined ≡ self.old.joined }
-    {
-        self.clear();
-        self.stretch = next_stretch(self.stretch, nodes, groups);
-    }
-
-    /// Whether so many nodes of so many groups, which are in their groups, are to be in one.
-    fn is_to_join(&mut self, nodes: usize, groups: usize) -> bool
-        ensures { self.new.joined ≡ self.old.joined }
-    {
+    /// Chooses how the events of so many nodes of so many groups are run after the windows that were counted.
+    pub(crate) fn choose(&mut self, nodes: usize, groups: usize) {
         if self.late == LATE {
             // One late window more is then enough.
             self.late = LATE - 1;
-            self.stretch_out(nodes, groups);
-            return true;
+            self.go_singly(nodes, groups);
+            return;
         }
         match load_of(self.windows, self.events) {
-            Load::Unknown => false,
-            Load::Few => {
-                self.stretch_out(nodes, groups);
-                true
-            }
+            Load::Unknown => {}
+            Load::Few => self.go_singly(nodes, groups),
             Load::Many => {
                 self.clear();
                 if self.late == 0 {
                     self.stretch = 0;
                 }
-                false
             }
-        }
-    }
-
-    /// Whether nodes that are in one group are to be in their own.
-    fn is_to_part(&mut self) -> bool
-        ensures { self.new.joined ≡ self.old.joined }
-    {
-        if self.events < self.stretch {
-            return false;
-        }
-        self.clear();
-        true
-    }
-
-    /// Whether so many nodes are to go from their groups, so many, into one, or from one into their
-    /// groups. Where they are, windows are counted anew.
-    pub(crate) fn is_to_change(&mut self, nodes: usize, groups: usize) -> bool
-        ensures { self.new.joined ≡ self.old.joined }
-    {
-        if self.joined {
-            self.is_to_part()
-        } else {
-            self.is_to_join(nodes, groups)
         }
     }
 }

@@ -3,13 +3,13 @@
 //! workers that run the next one, once no group is left to them, so that no processor waits for the
 //! longest group. Then it is owed: the calling thread writes it while the others begin the window after that,
 //! so that they do not wait for the sink.
-ghost use Rattle.std.specs.Prelude.{◌≡◌, ◌+◌, ◌<◌, ◌≤◌, ◌^◌, ℕ, length, Err, None, IfOk, IfErr, OnOk};
+ghost use Rattle.std.specs.Prelude.{◌≡◌, ◌+◌, ◌<◌, ◌≤◌, ◌^◌, ℕ, [], length, true, Err, None, IfOk, IfErr, OnOk};
 ghost use Rattle.net_machine.specs.Run.{Reached};
 ghost use Rattle.window_core.specs.Full.{HasTooMany};
 ghost use Rattle.window_core.specs.Sheaves.{merged};
 ghost use Rattle.window_core.specs.Window.{IsWindow};
 ghost use Rattle.window_core.specs.Windows.{AreBelow};
-ghost use Rattle.window_engine.specs.Courses.{AtRest, AwaitsSink, HasGroups, IsOwing, IsWriting, HasEnded, StandsAt, Wrote, Broke, fails_after};
+ghost use Rattle.window_engine.specs.Courses.{AtRest, AwaitsSink, HasGroups, IsOwing, IsWriting, HasEnded, Rests, StandsAt, Wrote, Broke, fails_after};
 ghost use Rattle.window_engine.specs.Edges.{StaysNet, edge_of, reached_in};
 ghost use Rattle.window_engine.specs.Engines.{GoesOn, IsNext, IsStop};
 ghost use Rattle.window_engine.specs.Laid.{HasRunOr};
@@ -125,9 +125,8 @@ impl Course {
     }
 
     /// Completes the text of the lines before a window, which is then owed, and ends the window, which workers
-    /// have run or the calling thread runs; the sheaf then has its lines. After it the nodes may be in other
-    /// groups. The answer is how long the next window may be. Where the window can't be ended what is owed is
-    /// written at once. How the course and the sink were as the call began, and the window before it was run, is
+    /// have run or the calling thread runs; the sheaf then has its lines. The answer is how long the next window may
+    /// be. Where the window can't be ended what is owed is written at once. How the course and the sink were as the call began, and the window before it was run, is
     /// for clauses alone.
     fn go_on<G: Gate, S: Sink>(
         &mut self,
@@ -196,32 +195,96 @@ impl Course {
     }
 
     /// Makes the text of the lines that are left where windows end, commits their events and writes them.
-    fn end<S: Sink>(
+    fn come_to_rest<S: Sink>(
         &mut self,
-        stop: Stop,
         _workers: usize,
         _until: Time,
         _began: &Snapshot<Course>,
         _known: &Snapshot<S>,
         text: &mut Text,
-        written: u128,
+        written: &mut u128,
         sink: &mut S,
-    ) -> Result<Stop, EngineFault>
-        requires writing { IsWriting _until _began.now.value self.old written (S.contents _known.now.value) (S.contents sink.old) }
+    ) -> Result<(), EngineFault>
+        requires writing { IsWriting _until _began.now.value self.old written.old (S.contents _known.now.value) (S.contents sink.old) }
         requires failures { S.failures sink.old ≡ S.failures _known.now.value }
         requires workers { 0 < _workers }
-        requires stop { IsStop _until (edge_of self.old.window) stop }
-        ensures { HasEnded _workers _until _began.now.value self.new result (S.contents _known.now.value) (S.contents sink.new) (S.failures _known.now.value) (S.failures sink.new) }
+        ensures rests { OnOk result (Rests _until _began.now.value self.new written.new (S.contents _known.now.value) (S.contents sink.new)) }
+        ensures failures { OnOk result (S.failures sink.new ≡ S.failures _known.now.value) }
+        ensures rest { self.new ≡ record self.old { position = self.new.position } }
+        ensures ended { IfErr result (λ fault. HasEnded _workers _until _began.now.value self.new (Err fault) (S.contents _known.now.value) (S.contents sink.new) (S.failures _known.now.value) (S.failures sink.new)) }
     {
         let _reached = self.window.position();
         let made = text.make_all(&self.sheaf);
         match self.put_made(made, text, sink) {
-            Ok(_) => Ok(stop),
-            Err(fault) => Err(told(fault, written)),
+            Ok(count) => {
+                *written += count;
+                Ok(())
+            }
+            Err(fault) => Err(told(fault, *written)),
         }
     }
 
-    /// The same where the text of the window before is owed.
+    /// The same, and the call ends.
+    fn end<S: Sink>(
+        &mut self,
+        stop: Stop,
+        workers: usize,
+        until: Time,
+        began: &Snapshot<Course>,
+        known: &Snapshot<S>,
+        text: &mut Text,
+        written: u128,
+        sink: &mut S,
+    ) -> Result<Stop, EngineFault>
+        requires writing { IsWriting until began.now.value self.old written (S.contents known.now.value) (S.contents sink.old) }
+        requires failures { S.failures sink.old ≡ S.failures known.now.value }
+        requires workers { 0 < workers }
+        requires stop { IsStop until (edge_of self.old.window) stop }
+        ensures { HasEnded workers until began.now.value self.new result (S.contents known.now.value) (S.contents sink.new) (S.failures known.now.value) (S.failures sink.new) }
+    {
+        let mut written = written;
+        match self.come_to_rest(workers, until, began, known, text, &mut written, sink) {
+            Ok(()) => Ok(stop),
+            Err(fault) => Err(fault),
+        }
+    }
+
+    /// Where events are to be run one after another, writes what is left of windows, and goes on so for a while.
+    fn write_singly<S: Sink>(
+        &mut self,
+        workers: usize,
+        until: Time,
+        began: &Snapshot<Course>,
+        known: &Snapshot<S>,
+        text: &mut Text,
+        written: &mut u128,
+        sink: &mut S,
+    ) -> Result<(), EngineFault>
+        requires writing { IsWriting until began.now.value self.old written.old (S.contents known.now.value) (S.contents sink.old) }
+        requires failures { S.failures sink.old ≡ S.failures known.now.value }
+        requires workers { 0 < workers }
+        ensures writing { OnOk result (IsWriting until began.now.value self.new written.new (S.contents known.now.value) (S.contents sink.new)) }
+        ensures owing { OnOk result (self.old.pace.single ≡ true → IsOwing until began.now.value self.new [] 0 written.new (S.contents known.now.value) (S.contents sink.new)) }
+        ensures failures { OnOk result (S.failures sink.new ≡ S.failures known.now.value) }
+        ensures on { OnOk result (self.old.window.position ≤ self.new.window.position) }
+        ensures ended { IfErr result (λ fault. HasEnded workers until began.now.value self.new (Err fault) (S.contents known.now.value) (S.contents sink.new) (S.failures known.now.value) (S.failures sink.new)) }
+    {
+        if !self.pace.is_single() {
+            return Ok(());
+        }
+        match self.come_to_rest(workers, until, began, known, text, written, sink) {
+            Ok(()) => {}
+            Err(fault) => return Err(fault),
+        }
+        match self.go_singly(workers, until, began, known, written, sink) {
+            Ok(()) => {}
+            Err(fault) => return Err(fault),
+        }
+        self.sheaf = Sheaf::new(self.alloc, self.position + 1);
+        Ok(())
+    }
+
+    /// Ends the call where the text of the window before is owed.
     fn end_owing<S: Sink>(
         &mut self,
         stop: Stop,
@@ -266,9 +329,59 @@ impl Course {
         )
     }
 
+    /// The same where the text of the window before is owed: then there is none.
+    fn write_singly_owing<S: Sink>(
+        &mut self,
+        workers: usize,
+        until: Time,
+        began: &Snapshot<Course>,
+        known: &Snapshot<S>,
+        writing: &mut Writing,
+        sink: &mut S,
+    ) -> Result<(), EngineFault>
+        requires owing { AwaitsSink until began.now.value self.old writing.old.owed writing.old.written (S.contents known.now.value) (S.contents sink.old) (S.failures known.now.value) (S.failures sink.old) }
+        requires workers { 0 < workers }
+        ensures owing { OnOk result (AwaitsSink until began.now.value self.new writing.new.owed writing.new.written (S.contents known.now.value) (S.contents sink.new) (S.failures known.now.value) (S.failures sink.new)) }
+        ensures on { OnOk result (self.old.window.position ≤ self.new.window.position) }
+        ensures ended { IfErr result (λ fault. HasEnded workers until began.now.value self.new (Err fault) (S.contents known.now.value) (S.contents sink.new) (S.failures known.now.value) (S.failures sink.new)) }
+    {
+        if !self.pace.is_single() {
+            return Ok(());
+        }
+        let (before, now) = (Snapshot::of(sink), Snapshot::of(&self.window));
+        match self.settle(
+            workers,
+            until,
+            began,
+            known,
+            &before,
+            &now,
+            &mut writing.owed,
+            &mut writing.written,
+            sink,
+        ) {
+            Ok(()) => {}
+            Err(fault) => return Err(fault),
+        }
+        match self.write_singly(
+            workers,
+            until,
+            began,
+            known,
+            &mut writing.text,
+            &mut writing.written,
+            sink,
+        ) {
+            Ok(()) => {}
+            Err(fault) => return Err(fault),
+        }
+        writing.owed.forget();
+        Ok(())
+    }
+
     /// Runs windows on the calling thread and writes their lines, up to the run's end or until no event is
-    /// left below a moment. It starts no thread and waits for none. Where windows hold few events, all
-    /// nodes are in one group for a while.
+    /// left below a moment. It starts no thread and waits for none. Where windows hold few events, events are run
+    /// one after another for a while.
     pub(crate) fn write_alone<G: Gate, S: Sink>(
         &mut self,
         gate: &G,
@@ -287,6 +400,10 @@ impl Course {
         let mut slice = FIRST_SLICE;
         let mut written: u128 = 0;
         loop {
+            match self.write_singly(1, until, &began, &known, &mut text, &mut written, sink) {
+                Ok(()) => {}
+                Err(fault) => return Err(fault),
+            }
             let plan = match self.plan(until, slice) {
                 Ok(plan) => plan,
                 Err(stop) => {
@@ -349,6 +466,10 @@ impl Course {
         ensures shared { result ≡ Stage.ToShare → hall.entry ≡ None }
     {
         loop {
+            match self.write_singly_owing(crew.workers, until, began, known, writing, sink) {
+                Ok(()) => {}
+                Err(fault) => return Stage::Ended(Err(fault)),
+            }
             let (before, now) = (Snapshot::of(sink), Snapshot::of(&self.window));
             let plan = match self.plan(until, writing.slice.max(1)) {
                 Ok(plan) => plan,
@@ -484,8 +605,8 @@ impl Course {
 
     /// Has a crew run windows, and writes the lines of each while later ones run, up to the run's end or
     /// until no event is left below a moment. Nothing is left to write where they end. Threads are started once
-    /// a window is worth it, and stay. Where windows hold few events, or threads come late to them, all nodes are
-    /// in one group for a while.
+    /// a window is worth it, and stay. Where windows hold few events, or threads come late to them, events are run
+    /// one after another for a while.
     pub(crate) fn write_together<G: Gate, S: Sink, R: Threads + Wait + Sync>(
         &mut self,
         crew: &Crew<R, G>,

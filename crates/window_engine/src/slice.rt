@@ -10,9 +10,6 @@ pub const FIRST_SLICE: Time = 1_000_000;
 /// How many events a window is to have that one thread runs: their lines stay in the near cache.
 const NARROW: u64 = 1_024;
 
-/// How many events a window is to have while all nodes are in one group: a turn costs little then.
-const NARROWEST: u64 = 256;
-
 /// How many events a window is to have that threads share.
 const WIDE: u64 = 28_672;
 
@@ -25,12 +22,10 @@ pub const WORTH: usize = 1_000;
 /// The least part of a window's time, one of so many, in which its events are taken to be.
 const DENSEST: Time = 64;
 
-/// How many events a window is to have that so many workers run, while all nodes are in one group or
-/// not, after one of so many, of which so many were beside those of its busiest group.
-pub(crate) fn aim(workers: usize, joined: bool, events: usize, shared: usize) -> u64 {
-    if joined {
-        NARROWEST
-    } else if workers == 1 || shared < events / SHARE {
+/// How many events a window is to have that so many workers run, after one of so many, of which so many were beside
+/// those of its busiest group.
+pub(crate) fn aim(workers: usize, events: usize, shared: usize) -> u64 {
+    if workers == 1 || shared < events / SHARE {
         NARROW
     } else {
         WIDE
@@ -43,7 +38,7 @@ pub(crate) fn aim(workers: usize, joined: bool, events: usize, shared: usize) ->
 pub fn next_slice(span: Time, batch: &Batch, workers: usize) -> Time
     ensures { 1 ≤ result }
 {
-    let aim = aim(workers, false, batch.len(), batch.beside_most());
+    let aim = aim(workers, batch.len(), batch.beside_most());
     slice_after(span, span, batch.len(), aim)
 }
 

@@ -1,40 +1,17 @@
-use Rattle.std.proofs.Common.{arith, ap, ◌∙◌}
+use Rattle.std.proofs.Common.{ap, subst, sym}
+use Rattle.window_core.specs.Window.{WindowValue}
 use Rattle.window_engine.specs.declared.course.Course.{Course}
-use Rattle.window_engine.specs.Courses.{fails_after}
-use Rattle.window_engine.specs.Edges.{reached_in}
-use Rattle.window_engine.proofs.Called.{broken, done, tells}
-use Rattle.window_engine.proofs.Writing.{broke_later}
+use Rattle.window_engine.specs.Edges.{edge_of}
+use Rattle.window_engine.specs.Engines.{IsStop}
+use Rattle.window_engine.proofs.Called.{rested}
 use Rattle.window_engine.proofs.course.Course.end.Goals as goal
-
-pub make_all-made-requires : goal.make_all-made-requires
-make_all-made-requires g c =
-    let b = c.requires.writing.behind in let first = b.gone.first in let at = b.gone.position in let few = b.few in omega (arith, first, at, few)
-
-pub put_made-requires-clause-fits : goal.put_made-requires-clause-fits
-put_made-requires-clause-fits g c =
-    let b = c.requires.writing.behind in let at = b.gone.position in let few = b.few in let same = b.committed in omega (arith, same, at, few)
-
-pub told-requires : goal.told-requires
-told-requires g c =
-    let w = c.requires.writing in
-    tells c.args._until c.args._began.now.value c.args.self.now c.args.written (g.S.Sink.contents c.args._known.now.value) (g.S.Sink.contents c.args.sink.now) w 1 c.put_made.new.self.position (g.S.Sink.contents c.put_made.new.sink) c.in-Err.fault
-    (c.in-Err.ensures.broke c.args._until w.net (reached_in c.args.self.now.window) w.early w.behind.gone w.behind.committed)
-
-pub returns-in-Err : goal.returns-in-Err
-returns-in-Err g c =
-    let w = c.requires.writing in
-    let contents = g.S.Sink.contents in
-    let failures = g.S.Sink.failures in
-    let some = c.requires.workers in
-    rw c.told.ensures
-    (broken c.args._until c.args._began.now.value c.args.self.now c.args.written (contents c.args._known.now.value) (contents c.args.sink.now) w c.args._workers c.put_made.new.self (contents c.put_made.new.sink) c.in-Err.fault (failures c.args._known.now.value) (failures c.args.sink.now) (failures c.put_made.new.sink)
-    (broke_later 1 c.args._workers c.args._until c.args._until w.net c.put_made.new.self.position (contents c.args.sink.now) (contents c.put_made.new.sink) c.in-Err.fault (omega (arith, some)) (omega arith) (c.in-Err.ensures.broke c.args._until w.net (reached_in c.args.self.now.window) w.early w.behind.gone w.behind.committed))
-    (λ is. absurd (c.in-Err.ensures.not_full is)) c.requires.failures (c.put_made.ensures.failures ∙ ap (λ r. fails_after r (failures c.args.sink.now)) c.in-Err.is) (ap (λ (x : Course). x.groups) c.put_made.ensures.rest) (ap (λ (x : Course). x.ahead) c.put_made.ensures.rest))
 
 pub returns-in-Ok : goal.returns-in-Ok
 returns-in-Ok g c =
-    let w = c.requires.writing in
+    let a = c.args in
     let contents = g.S.Sink.contents in
     let failures = g.S.Sink.failures in
-    done c.args._until c.args._began.now.value c.args.self.now c.args.written (contents c.args._known.now.value) (contents c.args.sink.now) w c.args._workers c.in-Ok.field-0 c.put_made.new.self (contents c.put_made.new.sink) (failures c.args._known.now.value) (failures c.put_made.new.sink) c.args.stop
-    (c.in-Ok.ensures.wrote c.args._until w.net (reached_in c.args.self.now.window) w.early w.behind.gone) c.put_made.ensures.rest c.in-Ok.ensures.position (c.put_made.ensures.failures ∙ ap (λ r. fails_after r (failures c.args.sink.now)) c.in-Ok.is ∙ c.requires.failures) c.requires.stop
+    let rest = c.come_to_rest.new in
+    let window = ap (λ (x : Course). x.window) c.come_to_rest.ensures.rest in
+    rested a.workers a.until a.began.now.value rest.self rest.written (contents a.known.now.value) (contents rest.sink) (failures a.known.now.value) (failures rest.sink) a.stop c.in-Ok.ensures.rests c.in-Ok.ensures.failures
+    (subst (λ (v : WindowValue). IsStop a.until (edge_of v) a.stop) (sym window) c.requires.stop)

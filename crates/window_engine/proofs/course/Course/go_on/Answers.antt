@@ -1,10 +1,10 @@
 use Rattle.std.proofs.Common.{arith, ap, refl, subst, sym, min, ◌∙◌, ◌≡◌, ◌+◌, ◌≤◌, None, ℕ, List}
-use Rattle.net_machine.specs.Run.{Reached}
 use Rattle.window_core.specs.Partition.{groups_of}
 use Rattle.window_core.specs.Sheaves.{merged}
 use Rattle.window_core.specs.Windows.{AreBelow}
 use Rattle.window_engine.specs.declared.course.WriteFault.TheVariants.{Workers}
 use Rattle.window_engine.specs.declared.fault.EngineFault.TheVariants.{NoMemory}
+use Rattle.window_engine.specs.declared.course.Course.{Course}
 use Rattle.window_engine.specs.declared.text.Text.{Text}
 use Rattle.window_engine.specs.Failures.{failures_after}
 use Rattle.window_engine.specs.Owed.{owed_text}
@@ -50,19 +50,11 @@ returns-in-Err-put-clause-ended g c =
     failed_after a._until a._began.now.value (record a.self.now { window = a.now.now.value }) a.written (contents a._known.now.value) (contents a.sink.now) c.requires.writing a.workers (text_of c.swap.new.y.scribes.items c.swap.new.y.order.items) c.len.result c.in-Err-put.count new (contents c.put.new.sink) (failures a._known.now.value) (failures a.sink.now) (failures c.put.new.sink)
     text c.len.ensures refl broke.err broke.few_before c.requires.failures (c.put.ensures.failures ∙ ap (λ r. failures_after r (failures a.sink.now)) c.in-Err-put.is) refl refl
 
--- the nodes may be in other groups after a window
-pub choose-requires-clause-groups : goal.choose-requires-clause-groups
-choose-requires-clause-groups g c =
-    let a = c.args in
-    let gone = c.in-Ok-finish.ensures.gone in
-    groups_on (record a.self.now { window = a.now.now.value }) (record a.self.now { window = c.finish.new.window; sheaf = c.finish.new.lines }) (merged c.finish.new.lines).lines c.requires.writing.has refl c.finish.ensures.stays gone.is_run gone.position
-
 pub returns-clause-some : goal.returns-clause-some
 returns-clause-some g c time next =
     let more = c.in-Ok-finish.ensures.some time next in
     let at = c.in-Ok-finish.ensures.gone.position in
-    let same = c.choose.ensures.same.net in
-    let here = ap (λ (r : Reached). r.position) same in
+    let here = ap (λ (x : Course). x.window.position) c.choose.ensures in
     omega (arith, more, at, here)
 
 pub returns-clause-owing : goal.returns-clause-owing
@@ -76,7 +68,6 @@ returns-clause-owing g c =
     let ran = c.in-Ok-finish.ensures in
     let stays = c.finish.ensures.stays in
     let upto = c.requires.bound in
-    let chose = c.choose.ensures in
     let gone = ran.gone in
     let lines = c.len.result in
     let whole = c.in-Ok.ensures in
@@ -92,4 +83,5 @@ returns-clause-owing g c =
     in
     let early : AreBelow a._until (merged c.finish.new.lines).lines = below_later (min now.until a.plan.now.bound) a._until (merged c.finish.new.lines).lines (omega (arith, upto)) ran.early in
     let text : owed_text (record { text = c.swap.new.y; lines = lines; put = None }) ≡ text_from a.self.now.sheaf.first (merged a.self.now.sheaf).lines = ap (λ (t : Text). text_of t.scribes.items t.order.items) c.swap.ensures.y_after ∙ whole.is in
-    gone_on a._until a._began.now.value was a.written (contents a._known.now.value) (contents a.sink.now) w (owed_text (record { text = c.swap.new.y; lines = lines; put = None })) lines then c.choose.new.self text c.len.ensures refl refl refl behind early chose.same chose.rest chose.groups
+    let has = groups_on was then (merged c.finish.new.lines).lines w.has refl stays gone.is_run gone.position in
+    gone_on a._until a._began.now.value was a.written (contents a._known.now.value) (contents a.sink.now) w (owed_text (record { text = c.swap.new.y; lines = lines; put = None })) lines then c.choose.new.self text c.len.ensures refl refl refl behind early has c.choose.ensures

@@ -3,9 +3,10 @@ use Rattle.window_core.specs.Window.{WindowValue}
 use Rattle.window_engine.proofs.course.Course.write_on.Goals as goal
 
 -- the next event is below the window's bound, so the window has a line
-pub loop-plan-smaller : goal.loop-plan-smaller
-loop-plan-smaller g c =
-    let more = c.in-Ok-go_on.ensures.some c.in-Ok.plan.next (rw c.of-now.ensures c.in-Ok.ensures.next) in
+pub loop-fault-smaller : goal.loop-fault-smaller
+loop-fault-smaller g c =
+    let more = c.in-Ok-go_on.ensures.some c.in-Ok-plan.plan.next (rw c.of-now.ensures c.in-Ok-plan.ensures.next) in
     let few = c.in-Ok-go_on.ensures.owing.behind.few in
     let here = ap (λ (w : WindowValue). w.position) c.of-now.ensures in
-    omega (arith, more, few, here)
+    let on = c.in-Ok.ensures.on in
+    omega (arith, more, few, here, on)

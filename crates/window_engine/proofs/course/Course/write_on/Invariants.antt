@@ -3,9 +3,9 @@ use Rattle.std.proofs.Common.{◌-◌}
 use Rattle.window_engine.specs.Courses.{AwaitsSink}
 use Rattle.window_engine.proofs.course.Course.write_on.Given as goal
 
-abbrev pub invariant-loop-plan : goal.invariant-loop-plan
-invariant-loop-plan g l = AwaitsSink l.until l.began.value l.self l.writing.owed l.writing.written (g.S.Sink.contents l.known.value) (g.S.Sink.contents l.sink) (g.S.Sink.failures l.known.value) (g.S.Sink.failures l.sink)
+abbrev pub invariant-loop-fault : goal.invariant-loop-fault
+invariant-loop-fault g l = AwaitsSink l.until l.began.value l.self l.writing.owed l.writing.written (g.S.Sink.contents l.known.value) (g.S.Sink.contents l.sink) (g.S.Sink.failures l.known.value) (g.S.Sink.failures l.sink)
 
 -- each window has a line
-abbrev pub decreases-loop-plan : goal.decreases-loop-plan
-decreases-loop-plan g l = 1000000000000000 - l.self.window.position
+abbrev pub decreases-loop-fault : goal.decreases-loop-fault
+decreases-loop-fault g l = 1000000000000000 - l.self.window.position

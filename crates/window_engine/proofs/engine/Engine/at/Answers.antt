@@ -24,5 +24,5 @@ invariant_of-result c _ =
         end = c.end-end.ensures ∙ sym e.end;
         groups = subst (λ (l : List ℕ). groups_of l ≤ 64) (sym e.entries) (omega (arith, many, most));
       },
-      record { run = has.0; apart = λ _. has.1 },
+      record { run = has.0; apart = has.1 },
     )

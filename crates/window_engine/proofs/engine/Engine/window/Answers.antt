@@ -1,4 +1,4 @@
-use Rattle.std.proofs.Common.{◌∙◌, ap, arith, length, min, refl, subst, sym}
+use Rattle.std.proofs.Common.{ap, arith, length, min, refl, subst, sym}
 use Rattle.window_core.specs.Window.{WindowValue}
 use Rattle.window_engine.specs.Edges.{StaysNet, edge_of, reached_in}
 use Rattle.window_engine.specs.Engines.{EngineValue, GoesOn, NoneBelow, window_end_by}
@@ -6,7 +6,7 @@ use Rattle.window_core.specs.Full.{HasTooMany}
 use Rattle.window_core.specs.Sheaves.{SheafValue}
 use Rattle.window_core.specs.Windows.{AreBelow}
 use Rattle.window_engine.proofs.Between.{early_apart, left_apart, net_is}
-use Rattle.window_engine.proofs.Grouped.{parted_on}
+use Rattle.window_engine.proofs.Grouped.{ran_on}
 use Rattle.window_engine.proofs.Unwritten.{no_line}
 use Rattle.window_engine.proofs.engine.Engine.window.Goals as goal
 
@@ -16,32 +16,32 @@ run_once-ran-requires-clause-fits g c κs within = omega (arith, ap (λ (s : She
 pub returns-clause-none_left : goal.returns-clause-none_left
 returns-clause-none_left g c =
     let e = c.self.inside in
-    let parted = c.part.ensures in
-    let u = c.part.new.self.window in
+    let u = e.course.window in
+    let kept = c.self.invariant c.if-self.false in
     subst (λ (v : EngineValue). NoneBelow (window_end_by v c.args.until) (edge_of c.finish.new.window)) c.self.view_is
-    (left_apart e.course.window u e.course.groups e.course.ahead e.course.position c.args.until parted.same.edge c.position-parted.ensures.is_window parted.same.net c.in-Ok.ensures.apart.1 c.finish.new.window (subst (λ (w : WindowValue). NoneBelow (min w.until c.args.until) (edge_of c.finish.new.window)) c.of-before.ensures c.in-Ok-finish.ensures.none_left))
+    (left_apart e.course.window u e.course.groups e.course.ahead e.course.position c.args.until kept.0.edge c.position-reached.ensures.is_window refl kept.1.apart.1 c.finish.new.window (subst (λ (w : WindowValue). NoneBelow (min w.until c.args.until) (edge_of c.finish.new.window)) c.of-before.ensures c.in-Ok.ensures.none_left))
 
 pub returns-clause-early : goal.returns-clause-early
 returns-clause-early g c =
     let e = c.self.inside in
-    let parted = c.part.ensures in
-    let u = c.part.new.self.window in
+    let u = e.course.window in
+    let kept = c.self.invariant c.if-self.false in
     let lines = c.finish.new.lines.lines in
     subst (λ (v : EngineValue). AreBelow (window_end_by v c.args.until) lines) c.self.view_is
-    (early_apart e.course.window u e.course.groups e.course.ahead e.course.position c.args.until parted.same.edge c.position-parted.ensures.is_window parted.same.net c.in-Ok.ensures.apart.1 lines (subst (λ (w : WindowValue). AreBelow (min w.until c.args.until) lines) c.of-before.ensures c.in-Ok-finish.ensures.early))
+    (early_apart e.course.window u e.course.groups e.course.ahead e.course.position c.args.until kept.0.edge c.position-reached.ensures.is_window refl kept.1.apart.1 lines (subst (λ (w : WindowValue). AreBelow (min w.until c.args.until) lines) c.of-before.ensures c.in-Ok.ensures.early))
 
-pub returns-in-Err-finish-clause-full : goal.returns-in-Err-finish-clause-full
-returns-in-Err-finish-clause-full g c is =
+pub returns-in-Err-clause-full : goal.returns-in-Err-clause-full
+returns-in-Err-clause-full g c is =
     let e = c.self.inside in
     let rest = (c.self.invariant c.if-self.false).0 in
     subst (λ (v : EngineValue). HasTooMany v.net) c.self.view_is
-    (subst HasTooMany (c.part.ensures.same.net ∙ sym (net_is e.course.window e.course.position rest.committed)) (subst (λ (w : WindowValue). HasTooMany (reached_in w)) c.of-before.ensures (c.in-Err-finish.ensures.fault.1 is)))
+    (subst HasTooMany (sym (net_is e.course.window e.course.position rest.committed)) (subst (λ (w : WindowValue). HasTooMany (reached_in w)) c.of-before.ensures (c.in-Err.ensures.fault.1 is)))
 
 pub invariant_of-self-2 : goal.invariant_of-self-2
 invariant_of-self-2 g c _ =
-    let u = c.part.new.self in
+    let u = c.self.inside.course in
     let w = c.finish.new.window in
-    let ran = c.in-Ok-finish.ensures in
-    let parted = c.part.ensures in
+    let ran = c.in-Ok.ensures in
+    let kept = c.self.invariant c.if-self.false in
     let now = c.position-self-inside.ensures in
-    parted_on c.self.inside.course u (record u { window = w; position = c.position-self-inside.result }) c.finish.new.lines (c.self.invariant c.if-self.false).0 parted.same parted.rest parted.groups refl (subst (λ (x : WindowValue). StaysNet x w) c.of-before.ensures c.finish.ensures.stays) ran.edge (subst (λ (x : WindowValue). GoesOn (reached_in x) c.finish.new.lines (reached_in w)) c.of-before.ensures ran.gone) now.count now.is_window.split.fits
+    ran_on u (record u { window = w; position = c.position-self-inside.result }) c.finish.new.lines kept.0 kept.1 refl (subst (λ (x : WindowValue). StaysNet x w) c.of-before.ensures c.finish.ensures.stays) ran.edge (subst (λ (x : WindowValue). GoesOn (reached_in x) c.finish.new.lines (reached_in w)) c.of-before.ensures ran.gone) now.count now.is_window.split.fits

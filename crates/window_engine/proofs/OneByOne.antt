@@ -1,0 +1,258 @@
+-- Events that are run one after another: their text, and where they lead.
+use Rattle.std.proofs.Common.{◌≡◌, ◌≤◌, ◌<◌, ◌+◌, ◌-◌, ◌++◌, ◌^◌, ℕ, zero, suc, max, List, [], ◌∷◌, length, Option, Some, None, Err, option_map, refl, sym, ap, subst, ◌∙◌, ⊎_elim, arith, cond, append-nil, length-append, lt-ltb, le-ltb}
+use Rattle.std.proofs.lemmas.Bool.{cases_lt}
+use Rattle.std.specs.Io.KnownBytes.{Appends}
+use Rattle.sim_time.specs.declared.key.Key.{Key}
+use Rattle.ranking.specs.Keyed.{least}
+use Rattle.ranking.proofs.Maps.{not_some, same_some}
+use Rattle.node_core.specs.declared.event.Event.{Event}
+use Rattle.node_core.specs.TraceLine.{TraceLine}
+use Rattle.table_run.specs.State.{State, below, due, run, step}
+use Rattle.table_run.proofs.Runs.{of_step, run_cons, run_end}
+use Rattle.net_machine.specs.Run.{Reached, Stepped}
+use Rattle.trace_text.specs.Line.{line_bytes}
+use Rattle.window_core.specs.Full.{HasTooMany}
+use Rattle.window_core.specs.Partition.{groups_of}
+use Rattle.window_core.specs.Windows.{AreBelow}
+use Rattle.window_engine.specs.declared.course.Course.{Course}
+use Rattle.window_engine.specs.declared.course.WriteFault.{WriteFault}
+use Rattle.window_engine.specs.declared.course.WriteFault.TheVariants.{Workers}
+use Rattle.window_engine.specs.declared.fault.EngineFault.TheVariants.{CountFull}
+use Rattle.window_engine.specs.declared.pace.Pace.{Pace}
+use Rattle.window_engine.specs.Courses.{AtRest, HasEnded, IsApart, Rests, RunsIn, Broke, CanTell, Wrote, WroteFirst, fails_after, told_as}
+use Rattle.window_engine.specs.Edges.{IsAtEdge, edge_of, reached_in}
+use Rattle.window_engine.specs.Engines.{GoesOn, NoneBelow}
+use Rattle.window_engine.specs.Puts.{TakesFirst}
+use Rattle.window_engine.specs.Singly.{HasGone}
+use Rattle.window_engine.specs.Text.{text_from}
+use Rattle.window_engine.proofs.Called.{broken_at}
+use Rattle.window_engine.proofs.Grouped.{runs_on}
+use Rattle.window_engine.proofs.TooMany.{earlier_full}
+use Rattle.window_engine.proofs.Whole.{below_later, below_more}
+use Rattle.window_engine.proofs.Writing.{broke_batch, broke_later, can_tell, run_more, still_fits, text_more, wrote_batch, wrote_later, wrote_more, wrote_none}
+
+abbrev pub key_of : Option (Key × Event) → Option Key
+key_of o = option_map (λ (entry : Key × Event). entry.0) o
+
+-- a net went on by events below a moment, none later than the last one, and this is their text
+pub record IsGoing (until last : ℕ) (old new : Reached) (text : List ℕ) : Type 0 where
+  pub lines : List TraceLine
+  pub is_run : run old.state (length lines) ≡ Some (lines, new.state)
+  pub position : new.position ≡ old.position + length lines
+  pub early : AreBelow until lines
+  pub upto : AreBelow (last + 1) lines
+  pub text_is : text ≡ text_from (old.position + 1) lines
+
+-- none was run yet
+pub going_none : (until last : ℕ) (net : Reached) (text : List ℕ) → text ≡ [] → IsGoing until last net net text
+going_none until last net text none = record { lines = []; is_run = refl; position = omega arith; early = tt; upto = tt; text_is = none }
+
+-- the line is of the event that was due
+line_key : (s t : State) (line : TraceLine) (key : Key) → step s ≡ Some (line, t) → key_of (due s) ≡ Some key → line.key ≡ key
+line_key s t line key e is =
+    of_step s line t e (λ k v is_due _ line_is.
+    let same : k ≡ key = same_some k key (sym (ap key_of is_due) ∙ is) in
+    ap (λ (l : TraceLine). l.key) line_is ∙ same)
+
+-- one more was run
+pub going_on : (until last next : ℕ) (old mid new : Reached) (key : Key) (line : TraceLine) (text more : List ℕ) (n : ℕ) → IsGoing until last old mid text → key_of (due mid.state) ≡ Some key → key.time < until → Stepped mid (Some line) new → n ≡ mid.position + 1 → more ≡ text ++ line_bytes n line → next ≡ max last key.time
+    → IsGoing until next old new more
+going_on until last next old mid new key line text more n g is soon stepped number more_is next_is =
+    let ys : List TraceLine = line ∷ [] in
+    let time : line.key.time ≡ key.time = ap (λ (k : Key). k.time) (line_key mid.state new.state line key stepped.0 is) in
+    let one : run mid.state (suc zero) ≡ Some (ys, new.state) = run_cons mid.state new.state new.state line zero [] stepped.0 refl in
+    let count : length (g.lines ++ ys) ≡ length g.lines + 1 = length-append g.lines ys in
+    record {
+      lines = g.lines ++ ys;
+      is_run = run_more old.state mid.state new.state g.lines ys g.is_run one;
+      position = (let p = g.position in let q = stepped.1 in omega (arith, p, q, count));
+      early = below_more until g.lines ys g.early (omega (arith, soon, time), tt);
+      upto = below_more (next + 1) g.lines ys (below_later (last + 1) (next + 1) g.lines (omega (arith, next_is)) g.upto) (omega (arith, next_is, time), tt);
+      text_is =
+          more_is
+          ∙ ap (λ (k : ℕ). text ++ line_bytes k line) number
+          ∙ ap (λ (t : List ℕ). t ++ line_bytes (mid.position + 1) line) g.text_is
+          ∙ ap (λ (t : List ℕ). text_from (old.position + 1) g.lines ++ t) (sym (append-nil (line_bytes (mid.position + 1) line)))
+          ∙ sym (text_more old mid g.lines ys g.position);
+    }
+
+-- none is left below a moment
+sooner : (o : Option (Key × Event)) (end moment : ℕ) → below end o ≡ None → moment ≤ end → below moment o ≡ None
+sooner None end moment none upto = refl
+sooner (Some x) end moment none upto =
+    ⊎_elim
+    (λ (early : x.0.time < moment). absurd (not_some (sym none ∙ ap (λ b. cond b (Some x) None) (lt-ltb x.0.time end (omega (arith, early, upto))))))
+    (λ (late : moment ≤ x.0.time). ap (λ b. cond b (Some x) None) (le-ltb x.0.time moment late))
+    (cases_lt x.0.time moment)
+
+before_due : (o : Option (Key × Event)) (end moment : ℕ) (key : Key) → key_of (below end o) ≡ Some key → moment ≤ key.time → below moment o ≡ None
+before_due None end moment key is upto = absurd (not_some is)
+before_due (Some x) end moment key is upto =
+    ⊎_elim
+    (λ (soon : x.0.time < end).
+    let same : x.0 ≡ key = same_some x.0 key (sym (ap (λ b. key_of (cond b (Some x) None)) (lt-ltb x.0.time end soon)) ∙ is) in
+    let late : moment ≤ x.0.time = subst (λ (k : Key). moment ≤ k.time) (sym same) upto in
+    ap (λ b. cond b (Some x) None) (le-ltb x.0.time moment late))
+    (λ (past : end ≤ x.0.time). absurd (not_some (sym (ap (λ b. key_of (cond b (Some x) None)) (le-ltb x.0.time end past)) ∙ is)))
+    (cases_lt x.0.time end)
+
+module _ (until last : ℕ) (old new : Reached) (text : List ℕ) (g : IsGoing until last old new text) where
+  gone_by : (moment : ℕ) → AreBelow moment g.lines → NoneBelow moment new.state → HasGone until old new text
+  gone_by moment early none = record { lines = g.lines; is_run = g.is_run; position = g.position; early = g.early; whole = (moment, record { early = early; none_left = none }); text_is = g.text_is }
+
+  -- none is due
+  pub gone_all : key_of (due new.state) ≡ None → until ≤ old.state.end → HasGone until old new text
+  gone_all none within =
+      let ends : new.state.end ≡ old.state.end = run_end (length g.lines) old.state new.state g.lines g.is_run in
+      gone_by until g.early (sooner (least new.state.pending) new.state.end until (no_key (due new.state) none) (omega (arith, within, ends)))
+    where
+      no_key : (o : Option (Key × Event)) → key_of o ≡ None → o ≡ None
+      no_key None e = refl
+      no_key (Some x) e = absurd (not_some (sym e))
+
+  -- the next one is not before the moment
+  pub gone_until : (key : Key) → key_of (due new.state) ≡ Some key → until ≤ key.time → HasGone until old new text
+  gone_until key is late = gone_by until g.early (before_due (least new.state.pending) new.state.end until key is late)
+
+  -- the next one is later than the last one
+  pub gone_some : (key : Key) → key_of (due new.state) ≡ Some key → last < key.time → HasGone until old new text
+  gone_some key is later = gone_by key.time (below_later (last + 1) key.time g.lines (omega (arith, later)) g.upto) (before_due (least new.state.pending) new.state.end key.time key is (omega arith))
+
+  -- as many were run as there may be
+  pub gone_full : (key : Key) → key_of (due new.state) ≡ Some key → new.position ≡ 1000000000000000 → HasTooMany old
+  gone_full key is full =
+      let none : 1000000000000000 - new.position ≡ 0 = omega (arith, full) in
+      earlier_full old new g.lines g.is_run g.position (omega (arith, full))
+      (record { lines = []; last = new.state; is_run = ap (run new.state) none; one_due = λ e. not_some (sym (ap key_of e) ∙ is) })
+
+-- their text was taken
+module _ (until : ℕ) (old new : Reached) (text : List ℕ) (count : ℕ) (a b : Option (List ℕ)) (gone : HasGone until old new text) (few : count < 2 ^ 71) where
+  goes : GoesOn old (record { first = old.position + 1; lines = gone.lines }) new
+  goes = record { first = refl; is_run = gone.is_run; position = gone.position; whole = gone.whole }
+
+  pub wrote_gone : count ≡ length text → Appends a b text → Wrote until old new count a b
+  wrote_gone many took = wrote_batch until old new count (record { first = old.position + 1; lines = gone.lines }) text a b gone.early goes gone.text_is many few took
+
+  pub broke_gone : (position : ℕ) → position ≡ new.position → TakesFirst count text a b → WroteFirst until old position count a b
+  broke_gone position at took = broke_batch until old new position count (record { first = old.position + 1; lines = gone.lines }) text a b gone.early goes at gone.text_is took few
+
+-- a course whose events are run one after another by a net, which has gone on to here: they are committed and written
+pub record IsOn (until : ℕ) (old new : Course) (net : Reached) (written now : ℕ) (a b : Option (List ℕ)) : Type 0 where
+  pub rest : new ≡ record old { position = net.position; pace = new.pace }
+  pub count : ℕ
+  pub written_is : now ≡ written + count
+  pub wrote : Wrote until (reached_in old.window) net count a b
+  pub few : net.position ≤ 1000000000000000
+
+pub on_first : (until : ℕ) (c : Course) (net : Reached) (written : ℕ) (a : Option (List ℕ)) → AtRest c → net ≡ reached_in c.window → IsOn until c c net written written a a
+on_first until c net written a r is =
+    let at : net.position ≡ c.window.position = ap (λ (n : Reached). n.position) is in
+    let few = r.few in
+    let here = r.committed in
+    record {
+      rest = ap (λ (n : ℕ). record c { position = n }) (r.committed ∙ sym at);
+      count = 0;
+      written_is = omega arith;
+      wrote = subst (λ (n : Reached). Wrote until (reached_in c.window) n 0 a a) (sym is) (wrote_none until (reached_in c.window) a);
+      few = omega (arith, few, at, here);
+    }
+
+module _ (until : ℕ) (old c : Course) (net : Reached) (written now : ℕ) (a b : Option (List ℕ)) (o : IsOn until old c net written now a b) where
+  -- it stands where the net does
+  pub on_at : c.position ≡ net.position
+  on_at = ap (λ (x : Course). x.position) o.rest
+
+  -- its end is that of the run
+  pub on_end : AtRest old → net.state.end ≡ old.end
+  on_end r = let w = o.wrote in run_end (length w.lines) (edge_of old.window) net.state w.lines w.is_run ∙ sym r.end
+
+  -- some events more
+  pub on_more : (d : Course) (to : Reached) (more total : ℕ) (e : Option (List ℕ)) → Wrote until net to more b e → d ≡ record c { position = to.position; pace = d.pace } → total ≡ now + more → to.position ≤ 1000000000000000 → IsOn until old d to written total a e
+  on_more d to more total e wrote rest total_is few =
+      let count = o.count in
+      let was = o.written_is in
+      record {
+        rest = rest ∙ ap (λ (x : Course). record x { position = to.position; pace = d.pace }) o.rest;
+        count = count + more;
+        written_is = omega (arith, was, total_is);
+        wrote = wrote_more until (reached_in old.window) net to count more a b e o.wrote wrote;
+        few = few;
+      }
+
+-- what a call has written, where windows before that were written too
+module _ (until bound : ℕ) (began old c : Course) (net : Reached) (written now : ℕ) (known a b : Option (List ℕ)) (r : Rests until began old written known a) (o : IsOn bound old c net written now a b) (upto : bound ≤ until) where
+  abbrev from : Reached
+  from = reached_in began.window
+
+  pub all_written : Wrote until from net now known b
+  all_written =
+      subst (λ (n : ℕ). Wrote until from net n known b) (sym o.written_is)
+      (wrote_more until from (reached_in old.window) net written o.count known a b r.wrote (wrote_later bound until (reached_in old.window) net o.count a b upto o.wrote))
+
+  -- the bytes of some events more can be counted
+  pub more_fit : (to : Reached) (more : ℕ) (e : Option (List ℕ)) → Wrote bound net to more b e → to.position ≤ 1000000000000000 → now + more < 2 ^ 128
+  more_fit to more e wrote few = still_fits until from to now more known b e net all_written o.few (wrote_later bound until net to more b e upto wrote) few
+
+  later : (workers at : ℕ) (e : Option (List ℕ)) (fault : WriteFault) → 0 < workers → Broke 1 bound net at b e fault → Broke workers until net at b e fault
+  later workers at e fault some broke = broke_later 1 workers bound until net at b e fault (omega (arith, some)) upto broke
+
+  pub can_be_told : (at : ℕ) (e : Option (List ℕ)) (fault : WriteFault) → Broke 1 bound net at b e fault → CanTell now fault
+  can_be_told at e fault broke = can_tell 1 until from net now at known b e fault all_written o.few (later 1 at e fault (omega arith) broke)
+
+  -- the call ends by a fault in those that follow
+  pub broken_on : (workers : ℕ) (d : Course) (e : Option (List ℕ)) (fault : WriteFault) (f g h : ℕ) → 0 < workers → Broke 1 bound net d.position b e fault → (fault ≡ Workers CountFull → HasTooMany net) → g ≡ f → h ≡ fails_after {T = ℕ} (Err fault) g
+      → d.groups ≡ c.groups → d.ahead ≡ c.ahead → HasEnded workers until began d (Err (told_as now fault)) known e f h
+  broken_on workers d e fault f g h some broke full same fails groups ahead =
+      let all_groups : d.groups ≡ began.groups = groups ∙ ap (λ (x : Course). x.groups) o.rest ∙ r.groups in
+      let all_ahead : d.ahead ≡ began.ahead = ahead ∙ ap (λ (x : Course). x.ahead) o.rest ∙ r.ahead in
+      broken_at workers until began d net now known b e fault f g h all_written o.few (later workers d.position e fault some broke) full same fails all_groups all_ahead
+
+  -- the nodes are in the groups that were asked for
+  pub runs_there : RunsIn c.groups c.ahead net
+  runs_there =
+      let w = o.wrote in
+      let there = runs_on old.groups old.ahead (reached_in old.window) net w.lines r.has.run w.is_run w.position_is in
+      subst (λ (x : Course). RunsIn x.groups x.ahead net) (sym o.rest) there
+
+  pub few_there : groups_of c.groups ≤ 64
+  few_there =
+      let few : groups_of old.groups ≤ 64 = subst (λ (l : List ℕ). groups_of l ≤ 64) r.has.apart.0 r.rest.groups in
+      subst (λ (x : Course). groups_of x.groups ≤ 64) (sym o.rest) few
+
+  -- a window is open again
+  pub taken_up : (d : Course) → IsAtEdge d.window → reached_in d.window ≡ net → d.window.end ≡ net.state.end → IsApart c.groups c.ahead d.window → d ≡ record c { window = d.window } → Rests until began d now known b
+  taken_up d edge is end apart rest =
+      let same : d ≡ record old { position = net.position; pace = c.pace; window = d.window } = rest ∙ ap (λ (x : Course). record x { window = d.window }) o.rest in
+      let at : d.position ≡ net.position = ap (λ (x : Course). x.position) same in
+      let window_at : d.window.position ≡ net.position = ap (λ (n : Reached). n.position) is in
+      let groups : d.groups ≡ c.groups = ap (λ (x : Course). x.groups) rest in
+      let ahead : d.ahead ≡ c.ahead = ap (λ (x : Course). x.ahead) rest in
+      let w = o.wrote in
+      let ends : net.state.end ≡ old.window.end = run_end (length w.lines) (edge_of old.window) net.state w.lines w.is_run in
+      let few = o.few in
+      record {
+        rest = record {
+          edge = edge;
+          committed = at ∙ sym window_at;
+          few = omega (arith, few, at);
+          end = ap (λ (x : Course). x.end) same ∙ r.rest.end ∙ sym ends ∙ sym end;
+          groups = subst (λ (l : List ℕ). groups_of l ≤ 64) (sym apart.0) few_there;
+        };
+        has = record {
+          run = subst (λ (n : Reached). RunsIn d.groups d.ahead n) (sym is) (subst (λ (l : List ℕ). RunsIn l d.ahead net) (sym groups) (subst (λ (x : Option ℕ). RunsIn c.groups x net) (sym ahead) runs_there));
+          apart = (apart.0 ∙ sym groups, apart.1 ∙ sym ahead);
+        };
+        wrote = subst (λ (n : Reached). Wrote until from n now known b) (sym is) all_written;
+        groups = ap (λ (x : Course). x.groups) same ∙ r.groups;
+        ahead = ap (λ (x : Course). x.ahead) same ∙ r.ahead;
+      }
+
+-- what a pace says is nothing of what was written
+pub rests_paced : (until : ℕ) (began c : Course) (pace : Pace) (written : ℕ) (known now : Option (List ℕ)) → Rests until began c written known now → Rests until began (record c { pace = pace }) written known now
+rests_paced until began c pace written known now r = record {
+  rest = record { edge = r.rest.edge; committed = r.rest.committed; few = r.rest.few; end = r.rest.end; groups = r.rest.groups };
+  has = record { run = r.has.run; apart = r.has.apart };
+  wrote = r.wrote;
+  groups = r.groups;
+  ahead = r.ahead;
+}

@@ -1,0 +1,186 @@
+//! Events one after another on the calling thread, by the net itself: no line is kept, and each is written into the
+//! text right behind its event. A run goes on so for a while where windows hold few events, or threads come late to
+//! them.
+ghost use Rattle.std.specs.Prelude.{◌≡◌, ◌<◌, ◌≤◌, ℕ, List, [], length, IfOk, IfErr, IfSome, OnOk};
+ghost use Rattle.net_machine.specs.Run.{Reached};
+ghost use Rattle.window_core.specs.Full.{HasTooMany};
+ghost use Rattle.window_core.specs.Partition.{groups_of};
+ghost use Rattle.window_engine.specs.Courses.{Broke, HasEnded, IsApart, Rests, RunsIn, Wrote, fails_after};
+ghost use Rattle.window_engine.specs.Edges.{IsAtEdge, reached_in};
+ghost use Rattle.window_engine.specs.Outcomes.{IsWorkersFault};
+ghost use Rattle.window_engine.specs.Singly.{HasGone};
+
+use crate::course::{Course, WriteFault, told};
+use crate::fault::EngineFault;
+use crate::parts::LINE_BYTES;
+use crate::put::put_all;
+use crate::sink::Sink;
+use net_machine::Net;
+use net_machine::net::MOST_EVENTS;
+use node_core::Line;
+use sim_time::Time;
+use std::alloc::{AllocError, Global};
+use std::snapshot::Snapshot;
+use trace_text::Page;
+use window_core::Window;
+
+/// After so many events their text is written, once those of the same moment are run too.
+const AT_ONCE: usize = 1_024;
+
+/// A net that goes on one event at a time, and memory for what it tells.
+#[derive(Drop)]
+struct Single {
+    /// The net.
+    net: Net,
+    /// The line of the last event.
+    line: Line,
+    /// The text of the last events.
+    page: Page,
+}
+
+impl Single {
+    /// A net with memory for what it tells.
+    fn new(alloc: Global, net: Net) -> Result<Single, AllocError>
+        ensures { IfOk result (λ single. single.net ≡ net) }
+    {
+        Ok(Single {
+            net,
+            line: Line::new(alloc),
+            page: Page::new(alloc, AT_ONCE.saturating_mul(LINE_BYTES))?,
+        })
+    }
+}
+
+/// Runs events of a net that are before a moment, in nanoseconds, one after another, and has their text on an empty page:
+/// about so many as are written at once, or those that are left. It ends behind the last event of some moment.
+fn run_some(net: &mut Net, line: &mut Line, page: &mut Page, until: Time) -> Result<(), EngineFault>
+    requires empty { page.old ≡ [] }
+    requires until { until ≤ net.old.state.end }
+    ensures gone { OnOk result (HasGone until net.old net.new page.new) }
+    ensures fault { IfErr result (IsWorkersFault 1 (HasTooMany net.old)) }
+{
+    let enough = net.position().saturating_add(AT_ONCE as u64);
+    let mut last: Time = 0;
+    loop {
+        let Some(key) = net.due_key() else {
+            return Ok(());
+        };
+        if key.time >= until {
+            return Ok(());
+        }
+        let position = net.position();
+        if position >= enough && key.time > last {
+            return Ok(());
+        }
+        if position == MOST_EVENTS {
+            return Err(EngineFault::CountFull);
+        }
+        let Ok(()) = net.fire_into(key.node, line) else {
+            return Err(EngineFault::NoMemory);
+        };
+        let Ok(()) = page.put_line(position + 1, line) else {
+            return Err(EngineFault::NoMemory);
+        };
+        last = last.max(key.time);
+    }
+}
+
+impl Course {
+    /// Has a net, which goes on from where the windows ended, by groups again.
+    fn take_up(&mut self, net: Net) -> Result<(), AllocError>
+        requires runs { RunsIn self.old.groups self.old.ahead net }
+        requires few { groups_of self.old.groups ≤ 64 }
+        ensures edge { OnOk result (IsAtEdge self.new.window) }
+        ensures net { OnOk result (reached_in self.new.window ≡ net) }
+        ensures end { OnOk result (self.new.window.end ≡ net.state.end) }
+        ensures apart { OnOk result (IsApart self.old.groups self.old.ahead self.new.window) }
+        ensures rest { self.new ≡ record self.old { window = self.new.window } }
+    {
+        let groups = self.groups.copy()?;
+        match Window::new(self.alloc, net, groups) {
+            Ok(window) => {
+                self.window = window;
+                Ok(())
+            }
+            Err(_) => Err(AllocError),
+        }
+    }
+
+    /// Runs some events of a net that has gone on from where windows ended, commits them and writes their text. The answer
+    /// is how many bytes went out.
+    fn write_some<S: Sink>(
+        &mut self,
+        single: &mut Single,
+        until: Time,
+        sink: &mut S,
+    ) -> Result<u128, WriteFault>
+        requires until { until ≤ single.old.net.state.end }
+        requires committed { self.old.position ≡ single.old.net.position }
+        ensures wrote { IfOk result (λ bytes. Wrote until single.old.net single.new.net bytes (S.contents sink.old) (S.contents sink.new)) }
+        ensures committed { OnOk result (self.new.position ≡ single.new.net.position) }
+        ensures rest { self.new ≡ record self.old { position = self.new.position } }
+        ensures broke { IfErr result (Broke 1 until single.old.net self.new.position (S.contents sink.old) (S.contents sink.new)) }
+        ensures full { IfErr result (λ fault. fault ≡ WriteFault.Workers EngineFault.CountFull → HasTooMany single.old.net) }
+        ensures failures { S.failures sink.new ≡ fails_after result (S.failures sink.old) }
+    {
+        single.page.clear();
+        match run_some(&mut single.net, &mut single.line, &mut single.page, until) {
+            Ok(()) => {}
+            Err(fault) => return Err(WriteFault::Workers(fault)),
+        }
+        self.position = single.net.position();
+        let text = single.page.as_slice();
+        match put_all(sink, text) {
+            Ok(()) => Ok(text.len() as u128),
+            Err(count) => Err(WriteFault::Sink(count as u128)),
+        }
+    }
+
+    /// Goes on one event at a time from where windows ended, for as many events as the pace says or until none is left
+    /// below a moment; then the net is by groups again. Where memory for that is refused, windows go on at once. How
+    /// the course and the sink were as the call began is for clauses alone.
+    pub(crate) fn go_singly<S: Sink>(
+        &mut self,
+        _workers: usize,
+        until: Time,
+        _began: &Snapshot<Course>,
+        _known: &Snapshot<S>,
+        written: &mut u128,
+        sink: &mut S,
+    ) -> Result<(), EngineFault>
+        requires rests { Rests until _began.now.value self.old written.old (S.contents _known.now.value) (S.contents sink.old) }
+        requires failures { S.failures sink.old ≡ S.failures _known.now.value }
+        requires workers { 0 < _workers }
+        ensures rests { OnOk result (Rests until _began.now.value self.new written.new (S.contents _known.now.value) (S.contents sink.new)) }
+        ensures failures { OnOk result (S.failures sink.new ≡ S.failures _known.now.value) }
+        ensures on { OnOk result (self.old.window.position ≤ self.new.window.position) }
+        ensures ended { IfErr result (λ fault. HasEnded _workers until _began.now.value self.new (Err fault) (S.contents _known.now.value) (S.contents sink.new) (S.failures _known.now.value) (S.failures sink.new)) }
+    {
+        let _reached = self.window.position();
+        let Ok(net) = self.window.edge() else {
+            self.pace.go_by_windows();
+            return Ok(());
+        };
+        let Ok(mut single) = Single::new(self.alloc, net) else {
+            self.pace.go_by_windows();
+            return Ok(());
+        };
+        let bound = until.min(self.end);
+        let mut more = true;
+        while more && self.pace.is_single() {
+            let before = self.position;
+            let put = self.write_some(&mut single, bound, sink);
+            let _reached = single.net.position();
+            match put {
+                Ok(count) => *written += count,
+                Err(fault) => return Err(told(fault, *written)),
+            }
+            more = self.position != before;
+            self.pace.pass(self.position - before);
+        }
+        match self.take_up(single.net) {
+            Ok(()) => Ok(()),
+            Err(_) => Err(EngineFault::NoMemory),
+        }
+    }
+}
