@@ -5,8 +5,8 @@ bench/workers.py [--program PATH] [--rounds N] [--priority P] [--found]
 `bench/measure.py` writes the section too. Instructions are counted by valgrind, where no thread is started, and do
 not depend on the machine's speed. Seconds are whole runs, their trace thrown away but in one table, each kind of run in
 turn in each round, so that what else the machine does disturbs them alike; the least of all rounds counts.
-On a machine with other work a real-time priority keeps the cores for them (as root). With strace windows
-are counted by the writes of two workers, and the threads that four start. It wants valgrind, strace, taskset
+On a machine with other work a real-time priority keeps the cores for them (as root). With strace the texts
+are counted that two workers write, and the threads that four start. It wants valgrind, strace, taskset
 and GNU time. With --found only the table of the groups that `--groups auto` finds is made, and printed, with
 --drawn only that of groups drawn at random.
 """
@@ -53,7 +53,7 @@ BY_HAND = {'rate_jump': lambda _: '0,1,0,1,0,1', **{name: four_groups for name i
 CORES = os.cpu_count()
 FOUR = min(CORES, 4)
 EACH_CORE = 'each'                      # in the place of the cores of a run: one run on each of these
-Counted = namedtuple('Counted', 'name a_window plain one each')
+Counted = namedtuple('Counted', 'name a_text plain one each')
 
 
 def ran(program, path, words=(), before=(), trace=subprocess.DEVNULL):
@@ -75,7 +75,7 @@ def cost(program, name, words):
 
 def counted(program):
     for name, scenario in COUNTED.items():
-        many = windows(program, path_of(name + ' short', scenario()), ('--groups', 'each'))
+        many = texts(program, path_of(name + ' short', scenario()), ('--groups', 'each'))
         events = events_of(program, path_of(name + ' short', scenario()))
         plain, *grouped = (cost(program, name, words) for words in
                            ((), ('--workers', '2', '--groups', 'one'), ('--workers', '2', '--groups', 'each')))
@@ -87,8 +87,9 @@ def events_of(program, path):
     return number(r'end (\d+)\n$', done.stdout)
 
 
-def windows(program, path, groups):
-    """How many windows of a run by two workers have lines: those of each are one write, where the calling thread runs it."""
+def texts(program, path, groups):
+    """How many texts a run by two workers writes, where it starts no thread: one of each window, and one of some thousand
+    events that are run one after another."""
     return ran(program, path, ('--workers', '2', *groups), ('strace', '-qq', '-e', 'trace=write')).count('write(')
 
 
@@ -156,7 +157,7 @@ def small(program, rounds, before):
         used, plain = (processor_seconds(program, path, words, rounds)
                        for words in (('--workers', str(CREWS[-1]), '--groups', 'each'), ()))
         events = events_of(program, path)
-        yield (name, events, windows(program, path, ('--groups', 'each')), threads(program, path, ('--groups', 'each')),
+        yield (name, events, texts(program, path, ('--groups', 'each')), threads(program, path, ('--groups', 'each')),
                seconds(kinds, times(events, rounds), before), used / max(plain, 0.01))
 
 
@@ -294,13 +295,13 @@ def shown(words):
 
 def section(program, rounds, before):
     yield HEAD
-    yield ('Instructions of a run by two workers whose windows are so small that the calling thread runs them all, those of '
-           'its start taken off, beside those of `run` without options; '
+    yield ('Instructions of a run by two workers whose windows are so small that the calling thread runs a few of them, and nearly '
+           'all events one after another, those of its start taken off, beside those of `run` without options; '
            f'`--groups one` is to cost {ONE} times as much at most, `--groups each` {EACH} times. With one worker, or one '
            'group, the program runs one event at a time.\n')
-    yield from table(('Scenario', '`run`', '`--workers 2 --groups one`', 'times', '`--workers 2 --groups each`', 'times', 'events a window'),
+    yield from table(('Scenario', '`run`', '`--workers 2 --groups one`', 'times', '`--workers 2 --groups each`', 'times', 'events a text'),
                      [(f'`{c.name}`', f'{c.plain:,}', f'{c.one:,}', f'{c.one / c.plain:.2f}', f'{c.each:,}', f'{c.each / c.plain:.2f}',
-                       f'{c.a_window:,.0f}')
+                       f'{c.a_text:,.0f}')
                       for c in counted(program)])
     yield (f'Seconds of whole runs on {processor()}, {os.cpu_count()} cores, pinned to as many cores as workers'
            + (', with real-time priority' if before else '') + f', {rounds_said(rounds)}; the four '
@@ -321,11 +322,11 @@ def section(program, rounds, before):
     yield from table(('Scenario', 'MB of trace', '`run`', '4 workers', '`run` to four'),
                      [(f'`{name}`', f'{size / 1e6:,.0f}', *(f'{s:.3f}' for s in took), f'{took[0] / took[1]:.2f}')
                       for name, size, took in kept(program, rounds, before)])
-    yield (f'The same with a group for each node and no trace kept, so that windows are small: the calling thread runs all of those that would '
-           f'not pay for threads. No crew is to take more than {SMALL_MOST} times as long as `run`, nor more than {USED_MOST} times its '
+    yield (f'The same with a group for each node and no trace kept, so that windows are small: the calling thread runs the first of them, and '
+           f'then events one after another, with a few windows now and then. No crew is to take more than {SMALL_MOST} times as long as `run`, nor more than {USED_MOST} times its '
            'processor time.\n')
     narrow = list(small(program, rounds, before))
-    yield from table(('Scenario', 'Events', 'Events a window', 'Threads of 4 workers', '`run`', *(f'{n} worker{"s" * (n > 1)}' for n in CREWS),
+    yield from table(('Scenario', 'Events', 'Events a text', 'Threads of 4 workers', '`run`', *(f'{n} worker{"s" * (n > 1)}' for n in CREWS),
                       'most to `run`', f'processor time of {CREWS[-1]} to that of `run`'),
                      [(f'`{name}`', f'{events:,}', f'{events / many:,.0f}', f'{started_:,}', *(f'{s:.3f}' for s in took),
                        f'{max(took[1:]) / took[0]:.2f}', f'{used:.2f}')

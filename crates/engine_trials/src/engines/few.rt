@@ -1,7 +1,7 @@
-//! Where windows hold few events, or threads come late to them, all nodes are in one group for a while: the lines
+//! Where windows hold few events, or threads come late to them, events are run one after another for a while: the lines
 //! are the same.
 
-use super::nets::steady_flows;
+use super::nets::{long_flows, steady_flows};
 use super::{engine_of, run_to, text_of, whole_text, window};
 use crate::hands::AllHands;
 use scenario_image::Scenario;
@@ -67,23 +67,66 @@ fn entered(
     gate.entered()
 }
 
-// A window between two links of a millisecond holds some eight events.
+// A window between two links of a millisecond holds some eight events: after the first windows there are no more for
+// a while.
 #[test]
-fn nodes_of_small_windows_go_into_one_group(rt: HostRuntime) {
+fn events_of_small_windows_are_run_one_after_another(rt: HostRuntime) {
     let scenario = steady_flows(&rt, 2_000);
     let text = text_of(&rt, &scenario, &[0, 0, 0, 0], 1, &AllHands);
     let windows = entered(&rt, &scenario, 1, 0, text.as_slice()) / 4;
-    let alone = entered(&rt, &scenario, 1, WORTH, text.as_slice());
-    let several = entered(&rt, &scenario, 4, WORTH, text.as_slice());
+    let alone = entered(&rt, &scenario, 1, WORTH, text.as_slice()) / 4;
+    let several = entered(&rt, &scenario, 4, WORTH, text.as_slice()) / 4;
     assert!(rt;
-        windows > 500 && alone < windows && several < windows,
-        "{windows}"
+        windows > 500 && alone >= 32 && alone < 64 && several >= 32 && several < 64,
+        "{windows} {alone} {several}"
     );
 }
 
-// Half a run, then a window, and then the rest: for the window the nodes are in their own groups.
+// A longer run goes on by windows after a while, to see what they hold then.
 #[test]
-fn a_window_has_its_groups_after_one_group_ran(rt: HostRuntime) {
+fn windows_are_tried_again_after_a_while(rt: HostRuntime) {
+    let scenario = long_flows(&rt);
+    let text = text_of(&rt, &scenario, &[0, 0, 0, 0], 1, &AllHands);
+    let alone = entered(&rt, &scenario, 1, WORTH, text.as_slice()) / 4;
+    let several = entered(&rt, &scenario, 4, WORTH, text.as_slice()) / 4;
+    assert!(rt;
+        alone >= 64 && alone < 128 && several >= 64 && several < 128,
+        "{alone} {several}"
+    );
+}
+
+// A run that stops at many moments, some of them while events are run one after another, has the text of one that does
+// not stop.
+#[test]
+fn a_run_may_stop_while_events_are_run_one_after_another(rt: HostRuntime) {
+    let gate = Count::worth(WORTH);
+    let scenario = steady_flows(&rt, 2_000);
+    let whole = text_of(&rt, &scenario, &[0, 0, 0, 0], 1, &AllHands);
+    for workers in [1, 4] {
+        let mut engine = engine_of(&rt, &scenario, &GROUPS);
+        let mut text = Vec::new(rt.alloc());
+        let mut sink = OverWrite::new(&mut text);
+        for step in 1..40 {
+            let stop = run_to(
+                &rt,
+                &mut engine,
+                workers,
+                &gate,
+                step * 12_345_678,
+                &mut sink,
+            );
+            assert!(rt; stop == Ok(Stop::Until));
+        }
+        let stop = run_to(&rt, &mut engine, workers, &gate, u64::MAX, &mut sink);
+        assert!(rt; stop == Ok(Stop::End));
+        assert!(rt; text.as_slice() == whole.as_slice());
+        drop(engine);
+    }
+}
+
+// Half a run, then a window, and then the rest: for the window the nodes are in their groups.
+#[test]
+fn a_window_has_its_groups_after_events_one_after_another(rt: HostRuntime) {
     let gate = Count::worth(WORTH);
     let mut engine = engine_of(&rt, &steady_flows(&rt, 2_000), &GROUPS);
     let mut half = Vec::new(rt.alloc());
@@ -155,13 +198,13 @@ fn a_text_has_no_more_parts_than_it_may(rt: HostRuntime) {
     }
 }
 
-// For how many events so many nodes are in one group, where it was for so many the last time.
+// How many events of so many nodes of so many groups are run one after another, where it was so many the last time.
 fn expect_stretch(rt: &impl Abort, last: u64, (nodes, groups): (usize, usize), stretch: u64) {
     assert_eq!(rt; next_stretch(last, nodes, groups), stretch);
 }
 
 #[test]
-fn one_group_lasts_twice_as_long_each_time(rt: HostRuntime) {
+fn events_are_run_one_after_another_twice_as_long_each_time(rt: HostRuntime) {
     expect_stretch(&rt, 0, (4, 4), 16_384);
     expect_stretch(&rt, 16_384, (4, 4), 32_768);
     expect_stretch(&rt, 0, (256, 64), 524_288);

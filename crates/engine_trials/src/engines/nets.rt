@@ -23,9 +23,11 @@ pub(super) fn one_flow(rt: &(impl Abort + AllocGlobal), segments: u32) -> Scenar
     scenario(rt, text.expect(rt, "a text").as_bytes())
 }
 
-// The same, twice.
-const TWO_PAIRS: &str = "sim 1000000000
-node s sender
+// A second, in nanoseconds.
+const SECOND: u64 = 1_000_000_000;
+
+// The same, twice, for as long as is said before it.
+const TWO_PAIRS: &str = "node s sender
 node r receiver
 node t sender
 node u receiver
@@ -35,22 +37,28 @@ link c t u 8000000 1000000 droptail 10
 link d u t 8000000 1000000 droptail 10
 ";
 
-// Each sender gives its receiver so many segments, within a receiver's window of so many bytes.
-fn flows_within(rt: &(impl Abort + AllocGlobal), segments: u32, rwnd: u32) -> Scenario {
+// Each sender gives its receiver so many segments, within a receiver's window of so many bytes. The run ends after so many
+// nanoseconds.
+fn flows_within(rt: &(impl Abort + AllocGlobal), end: u64, segments: u32, rwnd: u32) -> Scenario {
     let text = format!(in rt.alloc();
-        "{TWO_PAIRS}flow f s r 1000 {segments} 0 {rwnd} 0\nflow g t u 1000 {segments} 0 {rwnd} 0\n"
+        "sim {end}\n{TWO_PAIRS}flow f s r 1000 {segments} 0 {rwnd} 0\nflow g t u 1000 {segments} 0 {rwnd} 0\n"
     );
     scenario(rt, text.expect(rt, "a text").as_bytes())
 }
 
 /// Two flows of so many segments, with no link between the two.
 pub(super) fn two_flows(rt: &(impl Abort + AllocGlobal), segments: u32) -> Scenario {
-    flows_within(rt, segments, 64_000)
+    flows_within(rt, SECOND, segments, 64_000)
 }
 
 /// The same with windows of 8 segments, so that nothing is lost and the links are always busy.
 pub(super) fn steady_flows(rt: &(impl Abort + AllocGlobal), segments: u32) -> Scenario {
-    flows_within(rt, segments, 8_000)
+    flows_within(rt, SECOND, segments, 8_000)
+}
+
+/// The same, to the end of a run of four seconds.
+pub(super) fn long_flows(rt: &(impl Abort + AllocGlobal)) -> Scenario {
+    flows_within(rt, 4 * SECOND, 10_000, 8_000)
 }
 
 /// The text of the run in which one sender gives one receiver one segment.
