@@ -20,8 +20,8 @@ use Rattle.window_engine.specs.Edges.{IsAtEdge, edge_of, reached_in}
 use Rattle.window_engine.specs.Engines.{IsStop}
 use Rattle.window_engine.specs.Failures.{counted}
 use Rattle.window_engine.specs.Outcomes.{IsOfWorkers}
-use Rattle.window_engine.specs.Owed.{Fares, IsReady, Owes, owed_text}
-use Rattle.window_engine.specs.Parts.{IsInside, text_of}
+use Rattle.window_engine.specs.Owed.{Fares, Owes, owed_text}
+use Rattle.window_engine.specs.Parts.{IsInside, IsReady, text_of}
 use Rattle.window_engine.specs.Puts.{TakesFirst}
 use Rattle.window_engine.specs.Text.{text_from}
 use Rattle.window_engine.proofs.Grouped.{groups_kept}

@@ -26,7 +26,8 @@ use Rattle.window_engine.specs.Edges.{IsAtEdge, edge_of, reached_in}
 use Rattle.window_engine.specs.Engines.{AreWhole, Commits, GoesOn, IsStop, sink_failures}
 use Rattle.window_engine.specs.Failures.{counted}
 use Rattle.window_engine.specs.Outcomes.{IsOfWorkers, IsRunFault}
-use Rattle.window_engine.specs.Owed.{IsReady, owed_text}
+use Rattle.window_engine.specs.Owed.{owed_text}
+use Rattle.window_engine.specs.Parts.{IsReady}
 use Rattle.window_engine.specs.Puts.{TakesFirst}
 use Rattle.window_engine.specs.Text.{text_from}
 

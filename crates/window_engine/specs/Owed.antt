@@ -1,20 +1,14 @@
 -- A window's text, and what becomes of it.
-use Rattle.std.specs.Prelude.{◌≡◌, ◌≤◌, ◌<◌, ◌^◌, ℕ, All, List, length, Option, Some, None, Result, Ok, Err}
+use Rattle.std.specs.Prelude.{◌≡◌, ◌<◌, ◌^◌, ℕ, List, length, Option, Some, None, Result, Ok, Err}
 use Rattle.std.specs.Io.KnownBytes.{Appends}
 use Rattle.window_engine.specs.declared.owed.Owed.{Owed}
-use Rattle.window_engine.specs.declared.text.Text.{Text}
 use Rattle.window_engine.specs.Failures.{counted}
-use Rattle.window_engine.specs.Parts.{IsInside, text_of}
+use Rattle.window_engine.specs.Parts.{IsReady, text_of}
 use Rattle.window_engine.specs.Puts.{TakesFirst}
 
 -- the text
 abbrev pub owed_text : Owed → List ℕ
 owed_text o = text_of o.text.scribes.items o.text.order.items
-
--- its bytes are where its places say
-pub record IsReady (text : Text) : Type 0 where
-  pub inside : All (IsInside text.scribes.items) text.order.items
-  pub few : length text.order.items ≤ 64
 
 -- what became of a text, by what the sink held before and holds now, and how often it had failed and has: nothing yet; all of it went out, so many bytes; or the sink failed after so many
 abbrev pub Fares : List ℕ → Option (List ℕ) → Option (List ℕ) → ℕ → ℕ → Option (Result ℕ ℕ) → Type 0

@@ -57,8 +57,12 @@ pub record IsPlaceAt (s : SheafValue) (scribes : List Scribe) (at : ℕ) (place 
   pub within : at + place.part.count ≤ length (merged s).lines
   pub is : bytes_at scribes place ≡ text_from (s.first + at) (take place.part.count (drop at (merged s).lines))
 
--- at the places, in their order, is the text of all lines
-pub record IsWhole (s : SheafValue) (text : Text) : Type 0 where
+-- a text's bytes are where its places say
+pub record IsReady (text : Text) : Type 0 where
   pub inside : All (IsInside text.scribes.items) text.order.items
   pub few : length text.order.items ≤ 64
+
+-- at the places, in their order, is the text of all lines
+pub record IsWhole (s : SheafValue) (text : Text) : Type 0 where
+  pub ready : IsReady text
   pub is : text_of text.scribes.items text.order.items ≡ text_from s.first (merged s).lines

@@ -255,8 +255,8 @@ impl Engine {
         Ok(lines)
     }
 
-    /// Runs windows by so many workers and writes their lines, up to the run's end or until no
-    /// event is left below a moment.
+    /// Runs events by so many workers and writes their lines, up to the run's end or until none is left below a moment:
+    /// by windows, or where these hold few one after another for a while.
     pub fn run<G: Gate, S: Sink, R: Threads + Wait + Sync>(
         &mut self,
         rt: &R,
@@ -296,9 +296,8 @@ impl Engine {
         outcome
     }
 
-    /// Runs windows on the calling thread and writes their lines, up to the run's end or until no
-    /// event is left below a moment: what `run` does with one worker. It starts no thread and waits
-    /// for none.
+    /// Runs events on the calling thread and writes their lines, up to the run's end or until none is left below a moment:
+    /// what `run` does with one worker. It starts no thread and waits for none.
     pub fn run_alone<G: Gate, S: Sink>(
         &mut self,
         gate: &G,

@@ -14,8 +14,8 @@ ghost use Rattle.window_engine.specs.Edges.{StaysNet, edge_of, reached_in};
 ghost use Rattle.window_engine.specs.Engines.{GoesOn, IsNext, IsStop};
 ghost use Rattle.window_engine.specs.Laid.{HasRunOr};
 ghost use Rattle.window_engine.specs.Outcomes.{IsWorkersFault};
-ghost use Rattle.window_engine.specs.Owed.{IsReady, Owes, owed_text};
-ghost use Rattle.window_engine.specs.Parts.{AreRight, IsWhole};
+ghost use Rattle.window_engine.specs.Owed.{Owes, owed_text};
+ghost use Rattle.window_engine.specs.Parts.{AreRight, IsReady, IsWhole};
 
 use crate::advance::finish;
 use crate::course::{Course, Plan, WriteFault, told};

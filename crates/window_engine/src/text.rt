@@ -3,7 +3,7 @@ ghost use Rattle.std.specs.Prelude.{◌≡◌, ◌+◌, ◌<◌, ◌≤◌, ◌^
 ghost use Rattle.std.specs.Io.KnownBytes.{Appends};
 ghost use Rattle.window_core.specs.Sheaves.{merged};
 ghost use Rattle.window_engine.specs.Failures.{failures_after};
-ghost use Rattle.window_engine.specs.Parts.{IsInside, AreRight, HasText, IsPlaceAt, IsRight, IsWhole, bytes_at, text_of};
+ghost use Rattle.window_engine.specs.Parts.{IsInside, AreRight, HasText, IsPlaceAt, IsReady, IsRight, IsWhole, bytes_at, text_of};
 ghost use Rattle.window_engine.specs.Puts.{TakesFirst};
 
 use crate::pace::Turnout;
@@ -166,8 +166,7 @@ impl Text {
     /// Writes the text. The answer is how many bytes went out: all of them, or those before the sink
     /// failed.
     pub(crate) fn put<S: Sink>(&self, sink: &mut S) -> Result<u128, u128>
-        requires inside { All (IsInside self.now.scribes.items) self.now.order.items }
-        requires few { length self.now.order.items ≤ 64 }
+        requires { IsReady self.now }
         ensures ok { OnOk result (Appends (S.contents sink.old) (S.contents sink.new) (text_of self.now.scribes.items self.now.order.items)) }
         ensures count { IfOk result (λ count. count ≡ length (text_of self.now.scribes.items self.now.order.items)) }
         ensures few { IfOk result (λ count. count < 2 ^ 71) }

@@ -16,7 +16,6 @@ returns c =
     let place : Place = record { scribe = 0; part = part } in
     let items = c.in_ok-push.ensures.items ∙ ap (λ (l : List Place). l ++ place ∷ []) c.clear.ensures.items in
     record {
-      inside = subst (All (IsInside news)) (sym items) (first_inside s ss scribe part some made.part);
-      few = omega (arith, ap length items);
+      ready = record { inside = subst (All (IsInside news)) (sym items) (first_inside s ss scribe part some made.part); few = omega (arith, ap length items) };
       is = ap (text_of news) items ∙ first_text s ss scribe part some made.part made.from made.count;
     }
