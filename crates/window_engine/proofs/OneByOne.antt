@@ -1,5 +1,5 @@
 -- Events that are run one after another: their text, and where they lead.
-use Rattle.std.proofs.Common.{◌≡◌, ◌≤◌, ◌<◌, ◌+◌, ◌-◌, ◌++◌, ◌^◌, ℕ, zero, suc, max, List, [], ◌∷◌, length, Option, Some, None, Err, option_map, refl, sym, ap, subst, ◌∙◌, ⊎_elim, arith, cond, append-nil, length-append, lt-ltb, le-ltb}
+use Rattle.std.proofs.Common.{◌≡◌, ◌≢◌, ◌≤◌, ◌<◌, ◌+◌, ◌-◌, ◌++◌, ◌^◌, ℕ, Bool, true, false, zero, suc, max, List, [], ◌∷◌, length, Option, Some, None, Err, option_map, refl, sym, ap, subst, ◌∙◌, inl, inr, ⊎_elim, arith, cond, append-nil, length-append, lt-ltb, le-ltb}
 use Rattle.std.proofs.lemmas.Bool.{cases_lt}
 use Rattle.std.specs.Io.KnownBytes.{Appends}
 use Rattle.sim_time.specs.declared.key.Key.{Key}
@@ -7,7 +7,7 @@ use Rattle.ranking.specs.Keyed.{least}
 use Rattle.ranking.proofs.Maps.{not_some, same_some}
 use Rattle.node_core.specs.declared.event.Event.{Event}
 use Rattle.node_core.specs.TraceLine.{TraceLine}
-use Rattle.table_run.specs.State.{State, below, due, run, step}
+use Rattle.table_run.specs.State.{State, below, due, run, step, step_at}
 use Rattle.table_run.proofs.Runs.{of_step, run_cons, run_end}
 use Rattle.net_machine.specs.Run.{Reached, Stepped}
 use Rattle.trace_text.specs.Line.{line_bytes}
@@ -21,18 +21,15 @@ use Rattle.window_engine.specs.declared.fault.EngineFault.TheVariants.{CountFull
 use Rattle.window_engine.specs.declared.pace.Pace.{Pace}
 use Rattle.window_engine.specs.Courses.{AtRest, HasEnded, IsApart, Rests, RunsIn, Broke, CanTell, Wrote, WroteFirst, fails_after, told_as}
 use Rattle.window_engine.specs.Edges.{IsAtEdge, edge_of, reached_in}
-use Rattle.window_engine.specs.Engines.{GoesOn, NoneBelow}
+use Rattle.window_engine.specs.Engines.{GoesOn}
 use Rattle.window_engine.specs.Puts.{TakesFirst}
-use Rattle.window_engine.specs.Singly.{HasGone}
+use Rattle.window_engine.specs.Singly.{CanStop, HasGone, IsBefore, key_of}
 use Rattle.window_engine.specs.Text.{text_from}
 use Rattle.window_engine.proofs.Called.{broken_at}
 use Rattle.window_engine.proofs.Grouped.{runs_on}
 use Rattle.window_engine.proofs.TooMany.{earlier_full}
 use Rattle.window_engine.proofs.Whole.{below_later, below_more}
 use Rattle.window_engine.proofs.Writing.{broke_batch, broke_later, can_tell, run_more, still_fits, text_more, wrote_batch, wrote_later, wrote_more, wrote_none}
-
-abbrev pub key_of : Option (Key × Event) → Option Key
-key_of o = option_map (λ (entry : Key × Event). entry.0) o
 
 -- a net went on by events below a moment, none later than the last one, and this is their text
 pub record IsGoing (until last : ℕ) (old new : Reached) (text : List ℕ) : Type 0 where
@@ -48,33 +45,41 @@ pub going_none : (until last : ℕ) (net : Reached) (text : List ℕ) → text �
 going_none until last net text none = record { lines = []; is_run = refl; position = omega arith; early = tt; upto = tt; text_is = none }
 
 -- the line is of the event that was due
-line_key : (s t : State) (line : TraceLine) (key : Key) → step s ≡ Some (line, t) → key_of (due s) ≡ Some key → line.key ≡ key
-line_key s t line key e is =
+line_before : (s t : State) (line : TraceLine) (until : ℕ) → step s ≡ Some (line, t) → IsBefore until s → line.key.time < until
+line_before s t line until e before =
     of_step s line t e (λ k v is_due _ line_is.
-    let same : k ≡ key = same_some k key (sym (ap key_of is_due) ∙ is) in
-    ap (λ (l : TraceLine). l.key) line_is ∙ same)
+    let soon : k.time < until = before k (ap key_of is_due) in
+    let time = ap (λ (l : TraceLine). l.key.time) line_is in
+    omega (arith, soon, time))
 
 -- one more was run
-pub going_on : (until last next : ℕ) (old mid new : Reached) (key : Key) (line : TraceLine) (text more : List ℕ) (n : ℕ) → IsGoing until last old mid text → key_of (due mid.state) ≡ Some key → key.time < until → Stepped mid (Some line) new → n ≡ mid.position + 1 → more ≡ text ++ line_bytes n line → next ≡ max last key.time
+pub going_on : (until last next : ℕ) (old mid new : Reached) (line : TraceLine) (text more : List ℕ) (n : ℕ) → IsGoing until last old mid text → IsBefore until mid.state → Stepped mid (Some line) new → n ≡ new.position → more ≡ text ++ line_bytes n line → next ≡ max last line.key.time
     → IsGoing until next old new more
-going_on until last next old mid new key line text more n g is soon stepped number more_is next_is =
+going_on until last next old mid new line text more n g before stepped number more_is next_is =
     let ys : List TraceLine = line ∷ [] in
-    let time : line.key.time ≡ key.time = ap (λ (k : Key). k.time) (line_key mid.state new.state line key stepped.0 is) in
+    let soon = line_before mid.state new.state line until stepped.0 before in
     let one : run mid.state (suc zero) ≡ Some (ys, new.state) = run_cons mid.state new.state new.state line zero [] stepped.0 refl in
     let count : length (g.lines ++ ys) ≡ length g.lines + 1 = length-append g.lines ys in
     record {
       lines = g.lines ++ ys;
       is_run = run_more old.state mid.state new.state g.lines ys g.is_run one;
       position = (let p = g.position in let q = stepped.1 in omega (arith, p, q, count));
-      early = below_more until g.lines ys g.early (omega (arith, soon, time), tt);
-      upto = below_more (next + 1) g.lines ys (below_later (last + 1) (next + 1) g.lines (omega (arith, next_is)) g.upto) (omega (arith, next_is, time), tt);
+      early = below_more until g.lines ys g.early (soon, tt);
+      upto = below_more (next + 1) g.lines ys (below_later (last + 1) (next + 1) g.lines (omega (arith, next_is)) g.upto) (omega (arith, next_is), tt);
       text_is =
           more_is
-          ∙ ap (λ (k : ℕ). text ++ line_bytes k line) number
+          ∙ ap (λ (k : ℕ). text ++ line_bytes k line) (number ∙ stepped.1)
           ∙ ap (λ (t : List ℕ). t ++ line_bytes (mid.position + 1) line) g.text_is
           ∙ ap (λ (t : List ℕ). text_from (old.position + 1) g.lines ++ t) (sym (append-nil (line_bytes (mid.position + 1) line)))
           ∙ sym (text_more old mid g.lines ys g.position);
     }
+
+-- a step that was made, or was not
+pub made : (old new : Reached) (line : TraceLine) (b : Bool) → b ≡ true → Stepped old (cond b (Some line) None) new → Stepped old (Some line) new
+made old new line b is = subst (λ x. Stepped old (cond x (Some line) None) new) is
+
+pub unmade : (old new : Reached) (line : TraceLine) (b : Bool) → b ≡ false → Stepped old (cond b (Some line) None) new → Stepped old None new
+unmade old new line b is = subst (λ x. Stepped old (cond x (Some line) None) new) is
 
 -- none is left below a moment
 sooner : (o : Option (Key × Event)) (end moment : ℕ) → below end o ≡ None → moment ≤ end → below moment o ≡ None
@@ -96,34 +101,73 @@ before_due (Some x) end moment key is upto =
     (λ (past : end ≤ x.0.time). absurd (not_some (sym (ap (λ b. key_of (cond b (Some x) None)) (le-ltb x.0.time end past)) ∙ is)))
     (cases_lt x.0.time end)
 
+no_key : (o : Option (Key × Event)) → key_of o ≡ None → o ≡ None
+no_key None e = refl
+no_key (Some x) e = absurd (not_some (sym e))
+
+no_step : (s : State) (o : Option (Key × Event)) → option_map {U = TraceLine × State} (step_at s) o ≡ None → key_of o ≡ None
+no_step s None e = refl
+no_step s (Some x) e = absurd (not_some (sym e))
+
+soon_due : (o : Option (Key × Event)) (end : ℕ) (key : Key) → key_of (below end o) ≡ Some key → key.time < end
+soon_due None end key is = absurd (not_some is)
+soon_due (Some x) end key is =
+    ⊎_elim
+    (λ (soon : x.0.time < end).
+    let same : x.0 ≡ key = same_some x.0 key (sym (ap (λ b. key_of (cond b (Some x) None)) (lt-ltb x.0.time end soon)) ∙ is) in
+    subst (λ (k : Key). k.time < end) same soon)
+    (λ (past : end ≤ x.0.time). absurd (not_some (sym (ap (λ b. key_of (cond b (Some x) None)) (le-ltb x.0.time end past)) ∙ is)))
+    (cases_lt x.0.time end)
+
+-- what is due is before the run's end
+pub before_end : (s : State) (until : ℕ) → s.end ≤ until → IsBefore until s
+before_end s until upto key is = let soon = soon_due (least s.pending) s.end key is in omega (arith, soon, upto)
+
+pub before_at : (s : State) (until : ℕ) (key : Key) → key_of (due s) ≡ Some key → key.time < until → IsBefore until s
+before_at s until key is soon other other_is =
+    let same : key ≡ other = same_some key other (sym is ∙ other_is) in
+    subst (λ (k : Key). k.time < until) same soon
+
+-- nothing is due
+pub stops_all : (s : State) (until last : ℕ) → key_of (due s) ≡ None → until ≤ s.end → CanStop until last s
+stops_all s until last none within = record { moment = until; none_left = sooner (least s.pending) s.end until (no_key (due s) none) within; after = inl (omega arith) }
+
+-- what is due is not before the moment
+pub stops_until : (s : State) (until last : ℕ) (key : Key) → key_of (due s) ≡ Some key → until ≤ key.time → CanStop until last s
+stops_until s until last key is late = record { moment = until; none_left = before_due (least s.pending) s.end until key is late; after = inl (omega arith) }
+
+-- it is later than the last one
+pub stops_behind : (s : State) (until last : ℕ) (key : Key) → key_of (due s) ≡ Some key → last < key.time → CanStop until last s
+stops_behind s until last key is later = record { moment = key.time; none_left = before_due (least s.pending) s.end key.time key is (omega arith); after = inr later }
+
 module _ (until last : ℕ) (old new : Reached) (text : List ℕ) (g : IsGoing until last old new text) where
-  gone_by : (moment : ℕ) → AreBelow moment g.lines → NoneBelow moment new.state → HasGone until old new text
-  gone_by moment early none = record { lines = g.lines; is_run = g.is_run; position = g.position; early = g.early; whole = (moment, record { early = early; none_left = none }); text_is = g.text_is }
+  -- a net may stop there
+  pub gone : CanStop until last new.state → HasGone until old new text
+  gone stop =
+      let early : AreBelow stop.moment g.lines =
+      ⊎_elim
+      (λ (upto : until ≤ stop.moment). below_later until stop.moment g.lines upto g.early)
+      (λ (later : last < stop.moment). below_later (last + 1) stop.moment g.lines (omega (arith, later)) g.upto)
+      stop.after in
+      record { lines = g.lines; is_run = g.is_run; position = g.position; early = g.early; whole = (stop.moment, record { early = early; none_left = stop.none_left }); text_is = g.text_is }
 
-  -- none is due
-  pub gone_all : key_of (due new.state) ≡ None → until ≤ old.state.end → HasGone until old new text
-  gone_all none within =
-      let ends : new.state.end ≡ old.state.end = run_end (length g.lines) old.state new.state g.lines g.is_run in
-      gone_by until g.early (sooner (least new.state.pending) new.state.end until (no_key (due new.state) none) (omega (arith, within, ends)))
-    where
-      no_key : (o : Option (Key × Event)) → key_of o ≡ None → o ≡ None
-      no_key None e = refl
-      no_key (Some x) e = absurd (not_some (sym e))
+  -- its end is that of the run
+  pub going_end : new.state.end ≡ old.state.end
+  going_end = run_end (length g.lines) old.state new.state g.lines g.is_run
 
-  -- the next one is not before the moment
-  pub gone_until : (key : Key) → key_of (due new.state) ≡ Some key → until ≤ key.time → HasGone until old new text
-  gone_until key is late = gone_by until g.early (before_due (least new.state.pending) new.state.end until key is late)
-
-  -- the next one is later than the last one
-  pub gone_some : (key : Key) → key_of (due new.state) ≡ Some key → last < key.time → HasGone until old new text
-  gone_some key is later = gone_by key.time (below_later (last + 1) key.time g.lines (omega (arith, later)) g.upto) (before_due (least new.state.pending) new.state.end key.time key is (omega arith))
+  -- no step was left
+  pub gone_all : (to : Reached) → Stepped new None to → until ≤ old.state.end → HasGone until old to text
+  gone_all to stepped within =
+      let ends = going_end in
+      let all : HasGone until old new text = gone (stops_all new.state until last (no_step new.state (due new.state) stepped.0) (omega (arith, within, ends))) in
+      subst (λ (r : Reached). HasGone until old r text) (sym stepped.1) all
 
   -- as many were run as there may be
-  pub gone_full : (key : Key) → key_of (due new.state) ≡ Some key → new.position ≡ 1000000000000000 → HasTooMany old
-  gone_full key is full =
+  pub gone_full : due new.state ≢ None → new.position ≡ 1000000000000000 → HasTooMany old
+  gone_full some full =
       let none : 1000000000000000 - new.position ≡ 0 = omega (arith, full) in
       earlier_full old new g.lines g.is_run g.position (omega (arith, full))
-      (record { lines = []; last = new.state; is_run = ap (run new.state) none; one_due = λ e. not_some (sym (ap key_of e) ∙ is) })
+      (record { lines = []; last = new.state; is_run = ap (run new.state) none; one_due = some })
 
 -- their text was taken
 module _ (until : ℕ) (old new : Reached) (text : List ℕ) (count : ℕ) (a b : Option (List ℕ)) (gone : HasGone until old new text) (few : count < 2 ^ 71) where

@@ -1,22 +1,20 @@
 //! Events one after another on the calling thread, by the net itself: no line is kept, and each is written into the
 //! text right behind its event. A run goes on so for a while where windows hold few events, or threads come late to
 //! them.
-ghost use Rattle.std.specs.Prelude.{◌≡◌, ◌<◌, ◌≤◌, ℕ, List, [], length, IfOk, IfErr, IfSome, OnOk};
-ghost use Rattle.net_machine.specs.Run.{Reached};
+ghost use Rattle.std.specs.Prelude.{◌≡◌, ◌<◌, ◌≤◌, [], true, false, IfOk, IfErr, OnOk};
 ghost use Rattle.window_core.specs.Full.{HasTooMany};
 ghost use Rattle.window_core.specs.Partition.{groups_of};
 ghost use Rattle.window_engine.specs.Courses.{Broke, HasEnded, IsApart, Rests, RunsIn, Wrote, fails_after};
 ghost use Rattle.window_engine.specs.Edges.{IsAtEdge, reached_in};
 ghost use Rattle.window_engine.specs.Outcomes.{IsWorkersFault};
-ghost use Rattle.window_engine.specs.Singly.{HasGone};
+ghost use Rattle.window_engine.specs.Singly.{CanStop, HasGone, IsBefore};
 
 use crate::course::{Course, WriteFault, told};
 use crate::fault::EngineFault;
 use crate::parts::LINE_BYTES;
 use crate::put::put_all;
 use crate::sink::Sink;
-use net_machine::Net;
-use net_machine::net::MOST_EVENTS;
+use net_machine::{Net, StepFault};
 use node_core::Line;
 use sim_time::Time;
 use std::alloc::{AllocError, Global};
@@ -51,6 +49,28 @@ impl Single {
     }
 }
 
+/// Whether a net goes on to its next event, before a moment, in nanoseconds: where many were run, only to one that is
+/// of the last one's moment. Unless that is asked, or the moment is sooner than the run's end, its next event is not
+/// looked at: a step finds it once more.
+#[inline(always)]
+fn goes_on(net: &Net, until: Time, sooner: bool, many: bool, last: Time) -> bool
+    requires until { until ≤ net.now.state.end }
+    requires whole { sooner ≡ false → net.now.state.end ≤ until }
+    ensures stops { result ≡ false → CanStop until last net.now.state }
+    ensures before { result ≡ true → IsBefore until net.now.state }
+{
+    if !sooner && !many {
+        return true;
+    }
+    let Some(key) = net.due_key() else {
+        return false;
+    };
+    if key.time >= until {
+        return false;
+    }
+    !many || key.time <= last
+}
+
 /// Runs events of a net that are before a moment, in nanoseconds, one after another, and has their text on an empty page:
 /// about so many as are written at once, or those that are left. It ends behind the last event of some moment.
 fn run_some(net: &mut Net, line: &mut Line, page: &mut Page, until: Time) -> Result<(), EngineFault>
@@ -60,28 +80,24 @@ fn run_some(net: &mut Net, line: &mut Line, page: &mut Page, until: Time) -> Res
     ensures fault { IfErr result (IsWorkersFault 1 (HasTooMany net.old)) }
 {
     let enough = net.position().saturating_add(AT_ONCE as u64);
+    let sooner = until < net.end();
     let mut last: Time = 0;
     loop {
-        let Some(key) = net.due_key() else {
+        let many = net.position() >= enough;
+        if !goes_on(net, until, sooner, many, last) {
             return Ok(());
-        };
-        if key.time >= until {
-            return Ok(());
+        }
+        match net.step_into(line) {
+            Ok(true) => {}
+            Ok(false) => return Ok(()),
+            Err(StepFault::CountFull) => return Err(EngineFault::CountFull),
+            Err(StepFault::NoMemory) => return Err(EngineFault::NoMemory),
         }
         let position = net.position();
-        if position >= enough && key.time > last {
-            return Ok(());
-        }
-        if position == MOST_EVENTS {
-            return Err(EngineFault::CountFull);
-        }
-        let Ok(()) = net.fire_into(key.node, line) else {
+        let Ok(()) = page.put_line(position, line) else {
             return Err(EngineFault::NoMemory);
         };
-        let Ok(()) = page.put_line(position + 1, line) else {
-            return Err(EngineFault::NoMemory);
-        };
-        last = last.max(key.time);
+        last = last.max(line.key.time);
     }
 }
 

@@ -1,29 +1,37 @@
-use Rattle.std.proofs.Common.{◌∙◌, ◌+◌, sym, arith}
-use Rattle.window_engine.proofs.OneByOne.{going_on, gone_all, gone_full, gone_some, gone_until}
+use Rattle.std.proofs.Common.{arith}
+use Rattle.std.proofs.lemmas.Bool.{ltb-false}
+use Rattle.node_core.specs.TraceLine.{shown}
+use Rattle.window_engine.proofs.OneByOne.{going_end, going_on, gone, gone_all, gone_full, made, unmade}
 use Rattle.window_engine.proofs.singly.run_some.Goals as goal
 
-pub returns-in_default-clause-gone : goal.returns-in_default-clause-gone
-returns-in_default-clause-gone c = gone_all c.args.until c.loop-key.last c.args.net.now c.loop-key.net c.loop-key.page c.loop-key.invariant (sym c.due_key.ensures ∙ c.in_default.is) c.requires.until
+pub goes_on-requires-clause-until : goal.goes_on-requires-clause-until
+goes_on-requires-clause-until c =
+    let end = going_end c.args.until c.loop-until.last c.args.net.now c.loop-until.net c.loop-until.page c.loop-until.invariant in
+    let within = c.requires.until in
+    omega (arith, end, within)
 
-pub returns-then-key-until-clause-gone : goal.returns-then-key-until-clause-gone
-returns-then-key-until-clause-gone c =
-    let late = c.if-key-until.true in
-    gone_until c.args.until c.loop-key.last c.args.net.now c.loop-key.net c.loop-key.page c.loop-key.invariant c.in-Some.key (sym c.due_key.ensures ∙ c.in-Some.is) (omega (arith, late))
+pub goes_on-requires-clause-whole : goal.goes_on-requires-clause-whole
+goes_on-requires-clause-whole c is =
+    let end = going_end c.args.until c.loop-until.last c.args.net.now c.loop-until.net c.loop-until.page c.loop-until.invariant in
+    let past = ltb-false c.args.until c.end.result is in
+    let ends = c.end.ensures in
+    omega (arith, end, past, ends)
 
-pub returns-then-key-last-clause-gone : goal.returns-then-key-last-clause-gone
-returns-then-key-last-clause-gone c =
-    let later = c.if-key-last.true in
-    gone_some c.args.until c.loop-key.last c.args.net.now c.loop-key.net c.loop-key.page c.loop-key.invariant c.in-Some.key (sym c.due_key.ensures ∙ c.in-Some.is) (omega (arith, later))
+pub returns-then-not-goes_on-clause-gone : goal.returns-then-not-goes_on-clause-gone
+returns-then-not-goes_on-clause-gone c =
+    gone c.args.until c.loop-until.last c.args.net.now c.loop-until.net c.loop-until.page c.loop-until.invariant (c.goes_on.ensures.stops c.if-not-goes_on.true)
 
-pub returns-then-position-eq-MOST_EVENTS-clause-fault : goal.returns-then-position-eq-MOST_EVENTS-clause-fault
-returns-then-position-eq-MOST_EVENTS-clause-fault c =
-    let most = c.if-position-eq-MOST_EVENTS.true in
-    let at = c.position-position.ensures.count in
-    (tt, λ _. gone_full c.args.until c.loop-key.last c.args.net.now c.loop-key.net c.loop-key.page c.loop-key.invariant c.in-Some.key (sym c.due_key.ensures ∙ c.in-Some.is) (omega (arith, most, at)))
+pub returns-in-Ok-false-clause-gone : goal.returns-in-Ok-false-clause-gone
+returns-in-Ok-false-clause-gone c =
+    let none = unmade c.loop-until.net c.step_into.new.self (shown c.step_into.new.line) c.in-Ok-false.field-0 c.in-Ok-false.field-0-test c.in-Ok-false.ensures.ok in
+    gone_all c.args.until c.loop-until.last c.args.net.now c.loop-until.net c.loop-until.page c.loop-until.invariant c.step_into.new.self none c.requires.until
 
-pub loop-key-preserved : goal.loop-key-preserved
-loop-key-preserved c =
-    let soon = c.if-key-until.false in
-    let at = c.position-position.ensures.count in
-    let n = c.position-position.result + 1 in
-    going_on c.args.until c.loop-key.last c.max-last.result c.args.net.now c.loop-key.net c.fire_into.new.self c.in-Some.key _ c.loop-key.page c.put_line.new.self n c.loop-key.invariant (sym c.due_key.ensures ∙ c.in-Some.is) (omega (arith, soon)) c.in-Ok.ensures.ok (omega (arith, at)) c.in-Ok-put_line.ensures.ok c.max-last.ensures
+pub returns-in-Err-CountFull-clause-fault : goal.returns-in-Err-CountFull-clause-fault
+returns-in-Err-CountFull-clause-fault c =
+    let full = c.in-Err-CountFull.ensures.full c.in-Err-CountFull.field-0-is in
+    (tt, λ _. gone_full c.args.until c.loop-until.last c.args.net.now c.loop-until.net c.loop-until.page c.loop-until.invariant full.0 full.1)
+
+pub loop-until-preserved : goal.loop-until-preserved
+loop-until-preserved c =
+    let one = made c.loop-until.net c.step_into.new.self (shown c.step_into.new.line) c.in-Ok-true.field-0 c.in-Ok-true.field-0-test c.in-Ok-true.ensures.ok in
+    going_on c.args.until c.loop-until.last c.max-last.result c.args.net.now c.loop-until.net c.step_into.new.self (shown c.step_into.new.line) c.loop-until.page c.put_line.new.self c.position-position.result c.loop-until.invariant (c.goes_on.ensures.before c.if-not-goes_on.false) one c.position-position.ensures.count c.in-Ok.ensures.ok c.max-last.ensures

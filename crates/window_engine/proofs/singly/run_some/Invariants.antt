@@ -3,8 +3,8 @@ use Rattle.std.proofs.Common.{◌-◌}
 use Rattle.window_engine.proofs.OneByOne.{IsGoing}
 use Rattle.window_engine.proofs.singly.run_some.Given as goal
 
-abbrev pub invariant-loop-key : goal.invariant-loop-key
-invariant-loop-key l = IsGoing l.fn.until l.last l.fn.net l.net l.page
+abbrev pub invariant-loop-until : goal.invariant-loop-until
+invariant-loop-until l = IsGoing l.fn.until l.last l.fn.net l.net l.page
 
-abbrev pub decreases-loop-key : goal.decreases-loop-key
-decreases-loop-key l = 1000000000000000 - l.net.position
+abbrev pub decreases-loop-until : goal.decreases-loop-until
+decreases-loop-until l = 1000000000000000 - l.net.position
