@@ -53,11 +53,19 @@ pub(crate) struct Crew<'a, R: Threads + Wait + Sync, G: Gate> {
 
 impl<'a, R: Threads + Wait + Sync, G: Gate> Crew<'a, R, G> {
     /// How many of the workers are to run a window, up to its end or a moment that is sooner, after one
-    /// that had so many events beside those of its busiest group.
-    pub(crate) fn hands(&self, window: &Window, shared: usize, until: Time) -> usize
+    /// that had so many events beside those of its busiest group, and then to make the text of so many lines.
+    pub(crate) fn hands(&self, window: &Window, shared: usize, lines: usize, until: Time) -> usize
+        requires { window.now.out ≡ false }
         ensures { (0 < result) × (result ≤ self.now.workers) }
     {
-        hands(window, self.workers, self.gate.worth(), shared, until)
+        hands(
+            window,
+            self.workers,
+            self.gate.worth(),
+            shared,
+            lines,
+            until,
+        )
     }
 
     /// A hall for all threads that may share windows of as many groups with the calling one. None is started.

@@ -200,7 +200,8 @@ impl Engine {
         let mut none = Sheaf::new(alloc, 1);
         let mut scribes = Vec::new(alloc);
         let window = &mut self.course.window;
-        let hands = crew.hands(window, self.shared, until);
+        // No text is made.
+        let hands = crew.hands(window, self.shared, 0, until);
         let ran = if hands == 1 {
             Ok(false)
         } else {

@@ -11,8 +11,9 @@ pub trait Gate: Sync {
     fn leave(&self, piece: u64);
 
     /// How many events a thread has to have to be worth it: a window that has fewer beside those of its
-    /// busiest group is run by the calling thread. 0: each window is run by all workers,
-    /// and no event outside a window.
+    /// busiest group is run by the calling thread. 0: each window is run by all workers, and no event outside a
+    /// window, but where a call by another gate stopped among events that it ran one after another: as many more
+    /// follow as it was to run so.
     fn worth(&self) -> usize;
 }
 

@@ -74,10 +74,15 @@ impl Pad {
         }
     }
 
-    /// Lets the lines go. The room stays.
+    /// Lets the lines go. The room stays, but not what was taken beyond it: a thread that once made another's text
+    /// too would keep twice the memory.
     pub(crate) fn clear(&mut self)
         ensures { self.new ≡ [] }
     {
+        if self.len() > self.room {
+            self.page = None;
+            self.room = 0;
+        }
         if let Some(page) = &mut self.page {
             page.clear();
         }

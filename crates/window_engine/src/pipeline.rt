@@ -489,7 +489,7 @@ impl Course {
                 }
             };
             let shared = self.sheaf.beside_most();
-            let hands = crew.hands(&self.window, shared, plan.bound);
+            let hands = crew.hands(&self.window, shared, self.sheaf.len(), plan.bound);
             if lacks_threads(hall, hands) {
                 return Stage::ToShare;
             }

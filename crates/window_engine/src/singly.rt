@@ -153,8 +153,9 @@ impl Course {
     }
 
     /// Goes on one event at a time from where windows ended, for as many events as the pace says or until none is left
-    /// below a moment; then the net is by groups again. Where memory for that is refused, windows go on at once. How
-    /// the course and the sink were as the call began is for clauses alone.
+    /// below a moment; then the net is by groups again. Where memory for the net as one is refused, windows go on at
+    /// once; where it is refused for the groups, the call ends by that. How the course and the sink were as the call
+    /// began is for clauses alone.
     pub(crate) fn go_singly<S: Sink>(
         &mut self,
         _workers: usize,
