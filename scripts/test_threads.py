@@ -19,6 +19,13 @@ NET = os.path.join(TOP, 'scripts', 'net.py')
 WIDE = ('islands', '--islands', '4', '--flows', '10', '--rate', '200M', '--between', '40ms', '--end', '2s')
 # One flow over links of 1 ms: a window holds a few events.
 SMALL = ('chain', '--hops', '3', '--flows', '1', '--rate', '10M', '--segments', '2000', '--end', '20s')
+PROCESSORS = len(os.sched_getaffinity(0)) if hasattr(os, 'sched_getaffinity') else os.cpu_count()
+
+
+def most_hands(groups):
+    """How many threads so many groups give something to do, the program's own among them: one for each, and as many more
+    for text, where there are processors."""
+    return max(groups, min(PROCESSORS, 2 * groups))
 
 
 class Threads(unittest.TestCase):
@@ -78,6 +85,10 @@ class Threads(unittest.TestCase):
         self.assertEqual(len(numbers), 4)
         return ','.join(str(numbers.index(it)) for it in group.values())
 
+    def halves(self):
+        """The same with two parts in a group."""
+        return self.parts().replace('1', '0').replace('2', '1').replace('3', '1')
+
     def test_threads_change_no_byte(self):
         """By fewer workers than groups, and where two of the groups are one."""
         text = self.text_of(WIDE)
@@ -113,8 +124,27 @@ class Threads(unittest.TestCase):
         window, and all have gone at the end."""
         text = self.text_of(WIDE)
         for workers in (2, 3, 4, 64):
-            self.assertEqual(self.run_of(text, '--groups', self.parts(), '--workers', str(workers)), min(workers, 4) - 1)
-            self.assertEqual(self.at_once, min(workers, 4) - 1)
+            expected = min(workers, most_hands(4)) - 1
+            self.assertEqual(self.run_of(text, '--groups', self.parts(), '--workers', str(workers)), expected)
+            self.assertEqual(self.at_once, expected)
+
+    def test_more_threads_than_groups_make_text_where_there_are_processors(self):
+        """For two groups at most two more, and none that would have no processor."""
+        text, three = self.text_of(WIDE), self.parts().replace('3', '2')
+        for groups, count in (self.halves(), 2), (three, 3):
+            for workers in (2, 3, 4, 64):
+                expected = min(workers, most_hands(count)) - 1
+                self.assertEqual(self.run_of(text, '--groups', groups, '--workers', str(workers)), expected)
+
+    @unittest.skipUnless(hasattr(os, 'sched_setaffinity'), 'no way to take processors away')
+    def test_on_one_processor_no_thread_is_started_for_text(self):
+        allowed = os.sched_getaffinity(0)
+        text, two = self.text_of(WIDE), self.halves()
+        os.sched_setaffinity(0, {min(allowed)})
+        try:
+            self.assertEqual(self.run_of(text, '--groups', two, '--workers', '4'), 1)
+        finally:
+            os.sched_setaffinity(0, allowed)
 
     def test_nobody_waits_for_threads_that_come_late(self):
         """Threads that start 3 s late find nothing to run: the calling thread takes back what they were to do, and the

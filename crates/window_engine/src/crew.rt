@@ -13,7 +13,7 @@ use crate::advance::run_apart;
 use crate::fault::EngineFault;
 use crate::gate::Gate;
 use crate::hall::Hall;
-use crate::hands::hands;
+use crate::hands::{hands, most_hands};
 use crate::order::Order;
 use crate::owed::Owed;
 use crate::scribe::Scribe;
@@ -23,7 +23,7 @@ use sim_time::Time;
 use std::alloc::{AllocError, Global};
 use std::snapshot::Snapshot;
 use std::sync::Wait;
-use std::thread::{Threads, join_mut};
+use std::thread::{Threads, available_parallelism, join_mut};
 use window_core::{Sheaf, Window};
 
 /// Whether threads are to share a window which so many workers are to run, and none wait for orders.
@@ -36,6 +36,14 @@ pub(crate) fn lacks_threads(hall: Option<&Hall<Order>>, hands: usize) -> bool
     }
 }
 
+/// On how many processors threads may run: on one where that is not known.
+pub(crate) fn processors<R: Threads>(rt: &R) -> usize {
+    match available_parallelism(rt) {
+        Ok(count) => count.get(),
+        Err(_) => 1,
+    }
+}
+
 /// Workers that run windows together: the calling thread, and threads that carry out its orders.
 #[derive(Drop)]
 pub(crate) struct Crew<'a, R: Threads + Wait + Sync, G: Gate> {
@@ -45,6 +53,8 @@ pub(crate) struct Crew<'a, R: Threads + Wait + Sync, G: Gate> {
     pub gate: &'a G,
     /// How many workers there are.
     pub workers: usize,
+    /// How many processors threads may run on that make text.
+    pub processors: usize,
     /// Where memory is taken.
     pub alloc: Global,
     ghost some: { 0 < workers },
@@ -55,17 +65,11 @@ impl<'a, R: Threads + Wait + Sync, G: Gate> Crew<'a, R, G> {
     /// How many of the workers are to run a window, up to its end or a moment that is sooner, after one
     /// that had so many events beside those of its busiest group, and then to make the text of so many lines.
     pub(crate) fn hands(&self, window: &Window, shared: usize, lines: usize, until: Time) -> usize
-        requires { window.now.out ≡ false }
         ensures { (0 < result) × (result ≤ self.now.workers) }
     {
-        hands(
-            window,
-            self.workers,
-            self.gate.worth(),
-            shared,
-            lines,
-            until,
-        )
+        let worth = self.gate.worth();
+        let processors = if lines < worth { 0 } else { self.processors };
+        hands(window, self.workers, worth, shared, processors, until)
     }
 
     /// A hall for all threads that may share windows of as many groups with the calling one. None is started.
@@ -75,7 +79,8 @@ impl<'a, R: Threads + Wait + Sync, G: Gate> Crew<'a, R, G> {
         let most = if self.gate.worth() == 0 {
             self.workers
         } else {
-            self.workers.min(window.groups())
+            self.workers
+                .min(most_hands(window.groups(), self.processors))
         };
         Hall::new(self.alloc, most.saturating_sub(1))
     }

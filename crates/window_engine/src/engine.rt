@@ -15,7 +15,7 @@ ghost use Rattle.window_engine.specs.Engines.{GoesOn, NoneBelow, Commits, IsNext
 
 use crate::advance::finish;
 use crate::course::Course;
-use crate::crew::Crew;
+use crate::crew::{Crew, processors};
 use crate::fault::{EngineFault, Stop};
 use crate::gate::Gate;
 use crate::pace::Pace;
@@ -195,12 +195,13 @@ impl Engine {
             rt,
             gate,
             workers,
+            // No text is made.
+            processors: 0,
             alloc,
         };
         let mut none = Sheaf::new(alloc, 1);
         let mut scribes = Vec::new(alloc);
         let window = &mut self.course.window;
-        // No text is made.
         let hands = crew.hands(window, self.shared, 0, until);
         let ran = if hands == 1 {
             Ok(false)
@@ -290,6 +291,7 @@ impl Engine {
             rt,
             gate,
             workers,
+            processors: processors(rt),
             alloc,
         };
         let outcome = self.course.write_together(&crew, until, sink);
