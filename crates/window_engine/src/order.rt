@@ -47,7 +47,17 @@ pub(crate) struct Begin {
     pub scribe: Scribe,
 }
 
-/// Goes over the board, then makes text, and lays that down. The answer is the seat.
+/// Which piece a worker at a place tries first, of so many pieces and workers: a worker keeps to groups that its core's
+/// cache has. Where workers are more than pieces the last ones have none of their own.
+fn first_piece(pieces: usize, place: usize, workers: usize) -> Option<usize> {
+    if workers <= pieces {
+        return Some(pieces.saturating_mul(place) / workers.max(1));
+    }
+    if place < pieces { Some(place) } else { None }
+}
+
+/// Goes over the board and makes text, and lays that down: a worker that has a piece of its own goes over the board first,
+/// one that has none takes only pieces that nobody has begun by the time that the text is made. The answer is the seat.
 pub(crate) fn serve<G: Gate>(tasks: &Tasks, gate: &G, begin: Begin) -> Seat
     requires board { IsOf tasks.now.board begin.seat }
     requires idle { HoldsNothing begin.seat }
@@ -62,11 +72,16 @@ pub(crate) fn serve<G: Gate>(tasks: &Tasks, gate: &G, begin: Begin) -> Seat
         workers,
         mut scribe,
     } = begin;
-    let first = tasks.board.pieces().saturating_mul(place) / workers.max(1);
+    let first = first_piece(tasks.board.pieces(), place, workers);
     let mut ran = 0;
-    let seat = work(&tasks.board, seat, first, gate, &mut ran);
     scribe.clear();
-    scribe.make_parts(&tasks.sheaf, &tasks.parts);
+    if first.is_none() {
+        scribe.make_parts(&tasks.sheaf, &tasks.parts);
+    }
+    let seat = work(&tasks.board, seat, first.unwrap_or(0), gate, &mut ran);
+    if first.is_some() {
+        scribe.make_parts(&tasks.sheaf, &tasks.parts);
+    }
     // Set last: a scribe that is refused memory forgets all.
     scribe.ran = ran;
     tasks.desk.lay_down(pass, place, scribe);
