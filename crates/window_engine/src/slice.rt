@@ -11,7 +11,7 @@ pub const FIRST_SLICE: Time = 1_000_000;
 const NARROW: u64 = 1_024;
 
 /// How many events a window is to have that threads share.
-const WIDE: u64 = 28_672;
+const WIDE: u64 = 16_384;
 
 /// Threads share a window where its busiest group leaves them at least one event of so many.
 const SHARE: usize = 8;
