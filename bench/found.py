@@ -2,12 +2,13 @@
 program does not tell them: found_groups(scenario, workers) answers a group for each node.
 """
 HEADERS = 40
-MOST_AN_EVENT, IN_FULLEST_GROUP, A_WINDOW = 9, 22, 10_000       # tenths of an event
+MOST_AN_EVENT, IN_FULLEST_GROUP, A_WINDOW = 9, 13, 10_000       # tenths of an event
+WHOLE = 1024
 EVER = 2**64 - 1
 
 
-def gains(events, most, windows):
-    return windows * A_WINDOW + most * IN_FULLEST_GROUP <= events * MOST_AN_EVENT
+def cost(most, windows):
+    return windows * A_WINDOW + most * IN_FULLEST_GROUP
 
 
 def way(s, first, routes, start, end):
@@ -19,7 +20,8 @@ def way(s, first, routes, start, end):
 
 
 def forecast(s):
-    """How many events each node is expected to have, and when the last flow is through."""
+    """How many events each node is expected to have, when the last flow is through, and of each flow its ways, its
+    round trip, and in how much of that its packets leave, in parts of WHOLE."""
     first = {link.source: k for k, link in reversed(list(enumerate(s.links)))}
     routes = {(router, end): link for router, end, link in s.routes}
     ways = [(way(s, first, routes, f.sender, f.receiver), way(s, first, routes, f.receiver, f.sender)) for f in s.flows]
@@ -28,18 +30,31 @@ def forecast(s):
         for number in there:
             shared[number] += 1
 
-    def gap(numbers, size):
-        return max(-(-size * 8 * 10**9 // s.links[k].rate) * max(shared[k], 1) for k in numbers)
-    events, end = [0] * len(s.nodes), 0
+    def gap(numbers, size, alone=False):
+        return max(-(-size * 8 * 10**9 // s.links[k].rate) * max(shared[k] * (not alone), 1) for k in numbers)
+    events, end, trains = [0] * len(s.nodes), 0, []
     for f, (there, back) in zip(s.flows, ways):
         round_trip = sum(s.links[k].delay for k in there + back)
-        apart = max(gap(there, f.mss + HEADERS), gap(back, HEADERS), round_trip * f.mss // max(f.rwnd, 1), 1)
+        by_links = max(gap(there, f.mss + HEADERS), gap(back, HEADERS))
+        apart = max(by_links, round_trip * f.mss // max(f.rwnd, 1), 1)
+        alone = max(gap(there, f.mss + HEADERS, True), gap(back, HEADERS, True))
+        trains.append((there + back, round_trip, WHOLE if apart <= by_links else max(alone * WHOLE // apart, 1)))
         packets = min(f.segments, max(s.end - f.start, 0) // apart)
         for number in there + back:
             events[s.links[number].source] += packets
             events[s.links[number].to] += packets
         end = max(end, f.start + packets * apart + round_trip)
-    return events, min(end, s.end)
+    return events, min(end, s.end), trains
+
+
+def busy_nodes(s, trains, ahead):
+    """In how much of the time packets arrive at each node, in parts of WHOLE, where windows span this lookahead: what
+    comes in trains a round trip apart is spread over windows that are as long."""
+    busy = [0] * len(s.nodes)
+    for numbers, round_trip, share in trains:
+        for number in numbers:
+            busy[s.links[number].to] += WHOLE if round_trip <= ahead else share
+    return busy
 
 
 def joined(s, ahead):
@@ -62,18 +77,31 @@ def packed(weights, workers):
     return groups, max(sums)
 
 
+def side_by_side(total, most, busy):
+    """How many events one after another take as long as those of groups side by side, each of which has events in so
+    much of the time."""
+    idle, times = WHOLE, 0
+    for part in busy:
+        idle, times = idle * (WHOLE - min(part, WHOLE)) // WHOLE, times + min(part, WHOLE)
+    return max(most, total * (WHOLE - idle) // max(times, 1))
+
+
 def found_groups(s, workers):
-    events, end = forecast(s)
-    total, ahead = sum(events), EVER
-    while gains(total, total // workers, end // max(ahead, 1) + 1):
-        windows, parts, weights = end // max(ahead, 1) + 1, joined(s, ahead), {}
+    events, end, trains = forecast(s)
+    total, ahead, found = sum(events), EVER, [0] * len(s.nodes)
+    least = total * MOST_AN_EVENT
+    while cost(total // workers, end // max(ahead, 1) + 1) < least:
+        windows, parts, busy, weights, times = end // max(ahead, 1) + 1, joined(s, ahead), busy_nodes(s, trains, ahead), {}, {}
         for node, part in enumerate(parts):
             weights[part] = weights.get(part, 0) + events[node]
+            times[part] = max(times.get(part, 0), busy[node])
         groups, most = packed(weights, workers)
-        if gains(total, max(weights.values()), windows) and gains(total, most, windows):
-            return [groups.get(part, 0) for part in parts]
+        sums = [sum(times[part] for part in groups if groups[part] == group) for group in range(workers)]
+        spent = cost(side_by_side(total, most, sums), windows)
+        if spent < least:
+            found, least = [groups.get(part, 0) for part in parts], spent
         shorter = [link.delay for link in s.links if link.delay < ahead]
         if not shorter:
             break
         ahead = max(shorter)
-    return [0] * len(s.nodes)
+    return found

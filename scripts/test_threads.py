@@ -19,6 +19,10 @@ NET = os.path.join(TOP, 'scripts', 'net.py')
 WIDE = ('islands', '--islands', '4', '--flows', '10', '--rate', '200M', '--between', '40ms', '--end', '2s')
 # One flow over links of 1 ms: a window holds a few events.
 SMALL = ('chain', '--hops', '3', '--flows', '1', '--rate', '10M', '--segments', '2000', '--end', '20s')
+# Two pairs of ends that hear nothing of each other.
+PAIRS = ''.join(['sim 10000000000\n', *(f'node {a} sender\nnode {b} receiver\n' for a, b in ('ab', 'cd')),
+                 *(f'link {a}{b} {a} {b} 800000000 100000 droptail 100\n' for a, b in ('ab', 'ba', 'cd', 'dc')),
+                 *(f'flow {f} {a} {b} 1000 20000 0 64000 0\n' for f, a, b in ('eab', 'fcd'))])
 PROCESSORS = len(os.sched_getaffinity(0)) if hasattr(os, 'sched_getaffinity') else os.cpu_count()
 
 
@@ -178,6 +182,18 @@ class Threads(unittest.TestCase):
         answers, threads = self.counted(text, 'debug', '--workers', '4', '--groups', self.parts())
         self.assertGreater(threads, 0)
         self.assertTrue(answers == plain)
+
+    def test_groups_that_are_found(self):
+        """Two halves are two groups in a run, and one in the debugger, which would start threads for each window; four
+        parts are four groups in both."""
+        self.assertGreater(self.run_of(PAIRS, '--groups', 'auto', '--workers', '2'), 0)
+        for text, starts in (PAIRS, False), (self.text_of(WIDE), True):
+            text += '---\nuntil 9000000000\n'
+            plain, _ = self.counted(text, 'debug')
+            answers, threads = self.counted(text, 'debug', '--workers', '4', '--groups', 'auto')
+            with self.subTest(starts=starts):
+                self.assertEqual(threads > 0, starts)
+                self.assertTrue(answers == plain)
 
     def test_the_debugger_starts_none_for_one_worker_or_one_group(self):
         """Neither with commands that are all there nor with lines that are typed, which by several workers start some."""

@@ -6,29 +6,27 @@ ghost use Rattle.scenario_image.specs.Limits.{IsInLimits};
 mod forecast;
 mod packing;
 
-use forecast::{Forecast, forecast_of};
+use forecast::{Forecast, WHOLE, busy_nodes, forecast_of};
 use packing::{packed, place_of_greatest};
 use scenario_image::limits::MOST_NODES;
 use scenario_image::{LinkPart, ScenarioParts};
 use sim_time::Time;
 
-// What a run costs, in tenths of an event of a run of one event at a time, which takes some 100
+// What a run costs, in tenths of an event of a run of one event at a time, which takes some 80
 // nanoseconds: the most that each event may cost in a run in windows, so that it gains a tenth; each
-// event of the group with the most, whose lines are put in order and read once more; and each window,
-// for which threads start and end (bench/RESULTS.md).
+// event of the group with the most, for which the others wait while they make text; and each window,
+// for which threads are told of it and waited for (bench/RESULTS.md).
 const MOST_AN_EVENT: u64 = 9;
 
-const IN_FULLEST_GROUP: u64 = 22;
+const IN_FULLEST_GROUP: u64 = 13;
 
 const A_WINDOW: u64 = 10_000;
 
-// Whether a run in so many windows gains a tenth over one of one event at a time, where the group
-// with the most has so many of the events.
-fn gains(events: u64, most: u64, windows: u64) -> bool {
-    let in_windows = windows
+// What a run in so many windows costs, in tenths of an event, where the group with the most has so many events.
+fn cost(most: u64, windows: u64) -> u64 {
+    windows
         .saturating_mul(A_WINDOW)
-        .saturating_add(most.saturating_mul(IN_FULLEST_GROUP));
-    in_windows <= events.saturating_mul(MOST_AN_EVENT)
+        .saturating_add(most.saturating_mul(IN_FULLEST_GROUP))
 }
 
 // The sum of these.
@@ -112,33 +110,74 @@ fn groups_of_nodes(parts: &[u8; 256], groups: &[u8; 256], workers: usize) -> [u8
     of_nodes
 }
 
-// The group of each node where windows span this lookahead, if that gains.
-fn groups_at(
-    links: &[LinkPart],
+// In how much of the time the nodes of each part have packets, by its number, in parts of `WHOLE`: that of the node that has
+// them most of it. A packet that leaves a node has arrived there.
+fn busy_parts(busy: &[u64; 256], parts: &[u8; 256]) -> [u64; 256] {
+    let mut most = [0u64; MOST_NODES];
+    for node in 0..MOST_NODES {
+        let part = usize::from(parts[node]);
+        most[part] = most[part].max(busy[node] / 2);
+    }
+    most
+}
+
+// How many events one after another take as long as all of these by groups side by side, of which one has so many of
+// them, and each has events in so much of the time: where one has some while the others have none, nothing is gained.
+fn side_by_side(events: u64, most: u64, busy: &[u64]) -> u64 {
+    let (mut idle, mut all): (u64, u64) = (WHOLE, 0);
+    for share in busy {
+        let share = (*share).min(WHOLE);
+        idle = idle.saturating_mul(WHOLE - share) / WHOLE;
+        all = all.saturating_add(share);
+    }
+    let together = events.saturating_mul(WHOLE.saturating_sub(idle)) / all.max(1);
+    most.max(together)
+}
+
+// Groups, and what a run by them costs.
+#[derive(Drop)]
+struct Grouping {
+    /// The group of each node.
+    groups: [u8; 256],
+    /// The cost, in tenths of an event.
+    cost: u64,
+}
+
+// The group of each node where windows span this lookahead, if that costs less than so much.
+fn grouping_at(
+    parts: &ScenarioParts,
     forecast: &Forecast,
     ahead: Time,
     workers: usize,
-) -> Option<[u8; 256]>
-    requires links { All (λ (link : LinkPart). (link.from < 256) × (link.to < 256)) links.now }
+    least: u64,
+) -> Option<Grouping>
+    requires limits { IsInLimits parts.now }
     requires workers { (1 ≤ workers) × (workers ≤ 64) }
-    ensures { IfSome result (All (λ group. group < workers)) }
+    ensures { IfSome result (λ grouping. All (λ group. group < workers) grouping.groups) }
 {
-    let events = total(&forecast.events);
     let windows = windows_before(forecast.end, ahead);
-    let parts = parts_of(links, ahead);
-    let of_parts = events_of(&forecast.events, &parts);
-    if !gains(events, of_parts[place_of_greatest(&of_parts)], windows) {
+    let of_nodes = parts_of(parts.links.as_slice(), ahead);
+    let events = events_of(&forecast.events, &of_nodes);
+    if cost(events[place_of_greatest(&events)], windows) >= least {
         return None;
     }
-    let packing = packed(of_parts, workers);
-    if !gains(events, packing.most, windows) {
+    let packing = packed(events, workers);
+    if cost(packing.most, windows) >= least {
         return None;
     }
-    Some(groups_of_nodes(&parts, &packing.groups, workers))
+    let busy = busy_parts(&busy_nodes(parts, forecast, ahead), &of_nodes);
+    let busy = events_of(&busy, &packing.groups);
+    let most = side_by_side(total(&forecast.events), packing.most, &busy);
+    let cost = cost(most, windows);
+    if cost >= least {
+        return None;
+    }
+    let groups = groups_of_nodes(&of_nodes, &packing.groups, workers);
+    Some(Grouping { groups, cost })
 }
 
-/// The group of each node of a scenario, for so many workers: the first grouping that gains, the
-/// longest lookahead first; one group where none does.
+/// The group of each node of a scenario, for so many workers: of the groupings that gain the one that costs least, of
+/// two that cost as much that with the longer lookahead; one group where none gains.
 pub(crate) fn found_groups(parts: &ScenarioParts, workers: usize) -> [u8; 256]
     requires limits { IsInLimits parts.now }
     requires workers { (1 ≤ workers) × (workers ≤ 64) }
@@ -148,20 +187,24 @@ pub(crate) fn found_groups(parts: &ScenarioParts, workers: usize) -> [u8; 256]
     let links = parts.links.as_slice();
     let forecast = forecast_of(parts);
     let events = total(&forecast.events);
+    let mut found = Grouping {
+        groups: [0; MOST_NODES],
+        cost: events.saturating_mul(MOST_AN_EVENT),
+    };
     let mut ahead = Time::MAX;
     for _delay in 0..=links.len() {
         let windows = windows_before(forecast.end, ahead);
-        // Even equal groups would not gain, and the windows to come are shorter.
-        if !gains(events, events / workers as u64, windows) {
+        // Even equal groups would cost more, and the windows to come are shorter.
+        if cost(events / workers as u64, windows) >= found.cost {
             break;
         }
-        if let Some(groups) = groups_at(links, &forecast, ahead, workers) {
-            return groups;
+        if let Some(better) = grouping_at(parts, &forecast, ahead, workers, found.cost) {
+            found = better;
         }
         let Some(shorter) = longest_below(links, ahead) else {
             break;
         };
         ahead = shorter;
     }
-    [0; MOST_NODES]
+    found.groups
 }

@@ -13,7 +13,7 @@ use crate::means::{Crew, Means};
 use crate::notes::Notes;
 use crate::outcome::Outcome;
 use crate::rest::{Rest, no_run_left, rest_of};
-use crate::run::{is_alone, told_groups};
+use crate::run::{groups_to_debug, is_alone};
 use crate::scenario_input::told_text;
 use crate::session::run_task;
 use crate::sharing::Sharing;
@@ -54,7 +54,7 @@ pub(crate) fn begin_commands<W: Sink, G: Gate, N: Notes>(
 {
     let (text, _commands) = split(input.as_slice());
     let scenario = told_text(means, text, notes)?;
-    let partition = told_groups(means, sharing, &scenario, notes)?;
+    let partition = groups_to_debug(means, sharing, &scenario, notes)?;
     let workers = sharing.workers();
     let commands = Commands {
         input,

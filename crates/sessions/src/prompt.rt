@@ -20,7 +20,7 @@ use crate::notes::Notes;
 use crate::output::put_all;
 use crate::refused_line::tell_refused;
 use crate::rest::Rest;
-use crate::run::{is_alone, told_groups};
+use crate::run::{groups_to_debug, is_alone};
 use crate::scenario_input::told_scenario;
 use crate::sharing::Sharing;
 use crate::source::Source;
@@ -202,7 +202,7 @@ pub(crate) fn begin_prompt<G, N: Notes>(
     ensures { (now : Streams) → Begins (IsPromptDone sharing.now.groups input.now now) result now }
 {
     let scenario = told_scenario(means, input, notes)?;
-    let partition = told_groups(means, sharing, &scenario, notes)?;
+    let partition = groups_to_debug(means, sharing, &scenario, notes)?;
     let prompt = open_prompt(means.alloc, sharing.workers(), &scenario, partition)?;
     drop(scenario);
     Ok(Rest::Typed(prompt))

@@ -19,6 +19,9 @@ use scenario_image::Scenario;
 use window_core::Partition;
 use window_engine::{Gate, Sink};
 
+/// So many groups that the program finds are worth their threads in the debugger.
+const FEWEST_TO_DEBUG: usize = 3;
+
 /// Whether nodes are in more groups than one.
 fn is_parted(partition: &Partition) -> bool {
     for node in 1..partition.nodes() {
@@ -56,6 +59,26 @@ pub(crate) fn told_groups<G, N: Notes>(
         }
     }
     found
+}
+
+/// The same for moves of the debugger. It makes no text that threads could share, and starts them for each window: two groups
+/// that the program finds gain next to nothing there, and cost much where threads come late, so that the nodes stay
+/// together.
+pub(crate) fn groups_to_debug<G, N: Notes>(
+    means: &Means<G>,
+    sharing: &Sharing,
+    scenario: &Scenario,
+    notes: &mut N,
+) -> Result<Partition, SessionFault>
+    ensures named { IfOk result (λ _. HasGroups sharing.now.groups scenario.now) }
+    ensures nodes { IfOk result (λ partition. length partition ≡ length scenario.now.nodes) }
+    ensures faults { IfErr result (LacksGroups sharing.now.groups scenario.now) }
+{
+    let partition = told_groups(means, sharing, scenario, notes)?;
+    if sharing.groups() == "auto" && partition.groups() < FEWEST_TO_DEBUG {
+        return Ok(Partition::one(partition.nodes()));
+    }
+    Ok(partition)
 }
 
 /// Runs a scenario to its end, and writes its trace: one event at a time where there is one worker, or

@@ -9,6 +9,9 @@ use sim_time::{Rate, Time, serial_ns};
 /// Bytes of a packet's headers, and of an acknowledgement.
 const HEADERS: u64 = 40;
 
+/// A share of the time is told in so many parts of it.
+pub(crate) const WHOLE: u64 = 1_024;
+
 /// What is expected of all flows.
 #[derive(Drop)]
 pub(crate) struct Forecast {
@@ -16,6 +19,8 @@ pub(crate) struct Forecast {
     pub events: [u64; 256],
     /// When the last flow is through, in nanoseconds, at most the scenario's end.
     pub end: Time,
+    /// How many flows send data over each link, by its number.
+    flows: [u16; 1024],
 }
 
 // A link that a way takes.
@@ -34,6 +39,8 @@ struct Carriage {
     delay: Time,
     /// How far apart packets leave the slowest link, in nanoseconds.
     gap: Time,
+    /// The same if no other flow sent over it.
+    alone: Time,
 }
 
 // What is expected of a flow.
@@ -43,6 +50,11 @@ struct Course {
     packets: u64,
     /// When the last is acknowledged, in nanoseconds.
     end: Time,
+    /// How long a packet and its acknowledgement are under way, in nanoseconds.
+    round_trip: Time,
+    /// In how much of that its packets follow each other, in parts of `WHOLE`: in all of it where a link is what holds
+    /// them back, and not the window.
+    share: u64,
 }
 
 // The link that a way takes from a node, if it goes on.
@@ -102,16 +114,26 @@ fn carriage_of(parts: &ScenarioParts, way: Way, bytes: u64, flows: &[u16; 1024])
 {
     let mut node = way.start;
     let mut delay: Time = 0;
-    let mut gap: Time = 0;
+    let (mut gap, mut alone): (Time, Time) = (0, 0);
     for _hop in 0..parts.nodes.len() {
         let Some(hop) = next_hop(parts, way, node) else {
             break;
         };
         delay = delay.saturating_add(hop.link.delay);
         gap = gap.max(gap_on(hop.link, bytes, flows[hop.number]));
+        alone = alone.max(gap_on(hop.link, bytes, 1));
         node = hop.link.to;
     }
-    Carriage { delay, gap }
+    Carriage { delay, gap, alone }
+}
+
+// In how much of the time the packets of a flow follow each other, in parts of `WHOLE`, where the slowest link would take them
+// so fast, alone and beside other flows, and they are so far apart, all in nanoseconds.
+fn share_of(alone: Time, by_links: Time, gap: Time) -> u64 {
+    if gap <= by_links {
+        return WHOLE;
+    }
+    (alone.saturating_mul(WHOLE) / gap.max(1)).max(1)
 }
 
 // What is expected of a flow: at most a window is sent in a round trip, and at most what the slowest
@@ -125,17 +147,21 @@ fn course_of(parts: &ScenarioParts, flow: FlowPart, flows: &[u16; 1024]) -> Cour
     let back = carriage_of(parts, Way::of_acks(flow), HEADERS, flows);
     let round_trip = there.delay.saturating_add(back.delay);
     let by_window = round_trip.saturating_mul(mss) / u64::from(flow.rwnd.max(1));
-    let gap = there.gap.max(back.gap).max(by_window).max(1);
+    let by_links = there.gap.max(back.gap);
+    let gap = by_links.max(by_window).max(1);
+    let alone = there.alone.max(back.alone);
     let span = parts.end.saturating_sub(flow.start);
     let packets = u64::from(flow.segments).min(span / gap);
     let sending = packets.saturating_mul(gap).saturating_add(round_trip);
     Course {
         packets,
         end: flow.start.saturating_add(sending),
+        round_trip,
+        share: share_of(alone, by_links, gap),
     }
 }
 
-// Adds the events of so many packets on a way: each leaves a node and arrives at the next.
+// Adds what so many packets are on a way to what each node has: they leave a node and arrive at the next.
 fn add_events(parts: &ScenarioParts, way: Way, packets: u64, events: &mut [u64; 256])
     requires { IsInLimits parts.now }
 {
@@ -168,5 +194,26 @@ pub(crate) fn forecast_of(parts: &ScenarioParts) -> Forecast
     Forecast {
         events,
         end: end.min(parts.end),
+        flows,
     }
+}
+
+/// In how much of the time packets leave each node and arrive there, both together, in parts of `WHOLE`, where windows
+/// span so much time: a flow that its window holds back sends trains of packets, a round trip apart, and a window that
+/// is as long has events of all its nodes.
+pub(crate) fn busy_nodes(parts: &ScenarioParts, forecast: &Forecast, ahead: Time) -> [u64; 256]
+    requires { IsInLimits parts.now }
+{
+    let mut busy = [0; MOST_NODES];
+    for flow in parts.flows.as_slice() {
+        let course = course_of(parts, *flow, &forecast.flows);
+        let share = if course.round_trip <= ahead {
+            WHOLE
+        } else {
+            course.share
+        };
+        add_events(parts, Way::of_data(*flow), share, &mut busy);
+        add_events(parts, Way::of_acks(*flow), share, &mut busy);
+    }
+    busy
 }
