@@ -105,17 +105,17 @@ def chain(routers, segments):
     return net.scenario(EVER)
 
 
-def islands(flows, crossing, segments):
-    """Four parts, each with a bottleneck of 1 Gbit/s of its own, joined in a ring by cables of 10 ms; of
-    the flows of each part some go over to the next."""
+def islands(flows, crossing, segments, parts=4, delay=10 * MS):
+    """Four parts or so many, each with a bottleneck of 1 Gbit/s of its own, joined in a ring by cables of 10 ms or
+    another delay; of the flows of each part some go over to the next."""
     net = Net()
-    near, far = ([net.node(ROUTER) for _ in range(4)] for _ in range(2))
-    for part in range(4):
+    near, far = ([net.node(ROUTER) for _ in range(parts)] for _ in range(2))
+    for part in range(parts):
         net.cable(near[part], far[part], GBIT, 200 * US, droptail(500))
-        net.cable(far[part], near[(part + 1) % 4], GBIT, 10 * MS, droptail(1000))
-    for n in range(4 * flows):
-        part, cable = n % 4, (GBIT, (50 + 37 * n) * US, droptail(1000))
-        to = part if n < 4 * (flows - crossing) else (part + 1) % 4
+        net.cable(far[part], near[(part + 1) % parts], GBIT, delay, droptail(1000))
+    for n in range(parts * flows):
+        part, cable = n % parts, (GBIT, (50 + 37 * n) * US, droptail(1000))
+        to = part if n < parts * (flows - crossing) else (part + 1) % parts
         net.ends(near[part], far[to], cable, cable, MSS, segments, n * 100 * US, 200 * MSS)
     return net.scenario(EVER)
 
@@ -211,6 +211,9 @@ SCENARIOS = {
     'chain': lambda: chain(16, 20_000),
     'few_islands': lambda: islands(3, 1, 7_500),
     'four_islands': lambda: islands(12, 2, 600),
+    'two_islands': lambda: islands(12, 2, 20_000, 2),
+    'two_near_islands': lambda: islands(12, 2, 20_000, 2, 3 * MS),
+    'three_islands': lambda: islands(12, 2, 20_000, 3),
     'islands': lambda: islands(12, 2, 20_000),
     'ring': lambda: ring(14, 10_000),
     'busy_islands': lambda: busy(24, 4, 8_000, 40),

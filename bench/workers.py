@@ -161,18 +161,25 @@ def small(program, rounds, before):
                seconds(kinds, times(events, rounds), before), used / max(plain, 0.01))
 
 
-def loaded(program, rounds):
-    """Seconds beside busy loops, of no priority: of `run`, and of four workers."""
+@contextlib.contextmanager
+def busy_loops():
+    """Busy loops, as many as four workers have cores."""
     loops = [subprocess.Popen(['sh', '-c', 'while :; do :; done']) for _ in range(LOOPS)]
     try:
+        yield
+    finally:
+        for loop in loops:
+            loop.kill()
+
+
+def loaded(program, rounds):
+    """Seconds beside busy loops, of no priority: of `run`, and of four workers."""
+    with busy_loops():
         for name in LOADED + LOADED_WIDE:
             scenario = SCENARIOS[name]()
             path, groups = path_of(name, scenario), four_groups(scenario) if name in LOADED_WIDE else 'each'
             kinds = [(program, path, words, f'0-{CORES - 1}') for words in ((), ('--workers', '4', '--groups', groups))]
             yield name, 'each' if groups == 'each' else 'four', seconds(kinds, rounds, ())
-    finally:
-        for loop in loops:
-            loop.kill()
 
 
 def said(rows, kind):
@@ -273,8 +280,12 @@ def megabytes(program, path, words):
     return number(r'(\d+) kB', said) / 1024
 
 
-def memory(program):
-    """The most resident memory of runs, by scenario and words."""
+def most_megabytes(program, path, words, rounds):
+    return max(megabytes(program, path, words) for _ in range(rounds))
+
+
+def memory(program, rounds):
+    """The most resident memory of so many runs, by scenario and words, and of as many beside busy loops."""
     long = path_of('ten million events', one_flow(2_500_000))
     jump, burst = (path_of(name, SCENARIOS[name]()) for name in ('rate_jump', 'under_way_100000'))
     cases = [('one flow, ten million events', long, ()), ('`rate_jump`', jump, ()),
@@ -285,7 +296,10 @@ def memory(program):
         path, groups = path_of(name, scenario), four_groups(scenario)
         cases += [(f'`{name}`', path, ()), (f'`{name}`', path, ('--workers', '4', '--groups', groups))]
     for name, path, words in cases:
-        yield name, path, words, megabytes(program, path, words)
+        alone = most_megabytes(program, path, words, rounds)
+        with busy_loops():
+            beside = most_megabytes(program, path, words, rounds)
+        yield name, words, alone, beside
 
 
 def shown(words):
@@ -340,8 +354,12 @@ def section(program, rounds, before):
     yield said([took[1] <= LOADED_MOST * took[0] for *_, took in under], 'hold it')
     yield from found_table(found(program, rounds, before))
     yield from drawn_table(drawn(program, few(rounds), before), few(rounds))
-    yield f'The most resident memory of a run (GNU time), at most {MOST} MB:\n'
-    yield from table(('Scenario', 'Run', 'MB'), [(name, shown(words), f'{most:.1f}') for name, _, words, most in memory(program)])
+    yield (f'The most resident memory of {rounds} runs (GNU time), and of as many beside {LOOPS} busy loops, where a thread comes late '
+           f'and another makes its text, at most {MOST} MB:\n')
+    taken = list(memory(program, rounds))
+    yield from table(('Scenario', 'Run', 'MB', 'beside loops'),
+                     [(name, shown(words), *(f'{most:.1f}' for most in both)) for name, words, *both in taken])
+    yield said([max(both) <= MOST for _, _, *both in taken], 'hold it')
 
 
 def main(words=None):
