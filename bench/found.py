@@ -96,7 +96,7 @@ def found_groups(s, workers):
             weights[part] = weights.get(part, 0) + events[node]
             times[part] = max(times.get(part, 0), busy[node])
         groups, most = packed(weights, workers)
-        sums = [sum(times[part] for part in groups if groups[part] == group) for group in range(workers)]
+        sums = [sum(times[part] for part in times if groups.get(part, 0) == group) for group in range(workers)]
         spent = cost(side_by_side(total, most, sums), windows)
         if spent < least:
             found, least = [groups.get(part, 0) for part in parts], spent
