@@ -59,7 +59,7 @@ def section(program, rounds):
     took = seconds(starts + many, rounds)
     yield HEAD
     yield (f'`{version}` on bench/ns2.tcl, the first flow above, its packets with the headers alone that are used here. What a '
-           'run of one segment costs is taken off. tcpsim has no run without a trace: it writes a line for each event; ns-2 writes '
+           'run of one segment costs is taken off. tcpsim writes its trace, a line for each event; ns-2 writes '
            'three for each packet and link, both to /dev/null. Their rules differ too, so this says only how large both are. '
            f'Instructions with {FEW:,} segments; seconds with {MANY:,}, on one core of {processor()}, each in turn, the least of '
            f'{rounds} rounds.\n')
