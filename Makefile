@@ -1,15 +1,15 @@
 # `make run` builds the program and runs it on the first example; `make test` passes all tests, those
-# of the gate, and those of the scripts and of the built program, side by side (`make test-scripts` passes
-# those of the scripts alone);
+# of the gate, and those of dev/ and python/tests, of the tools and of the built program, side by side
+# (`make test-tools` passes those that are in Python alone);
 # `make wrong-bodies` tries the wrong bodies that stand beside the gate, `make wrong-bodies NAME=aqm` those
 # of one crate;
 # `make bench` measures the built program and writes bench/RESULTS.md (python3 and valgrind);
 # `make pictures` draws the pictures of README.md and docs/TUTORIAL.md (python3 and matplotlib);
 # `make pages` writes the replay of every example and a list of them into pages/ (libjs-d3);
-# `make install PREFIX=DIR` puts the program, the scripts as tcpsim-NAME, their man pages, the documents with
+# `make install PREFIX=DIR` puts the program, the tools tcpsim-NAME, their man pages, the documents with
 # the examples, and completions for bash, zsh and fish below DIR, /usr/local if none is given, and
 # `make uninstall PREFIX=DIR` takes them away.
-.PHONY: run test test-scripts wrong-bodies bench pictures pages install uninstall
+.PHONY: run test test-tools wrong-bodies bench pictures pages install uninstall
 
 # A python3 that has matplotlib: the one that is found first, or Debian's own.
 PYTHON = $(shell for python in python3 /usr/bin/python3; do \
@@ -22,24 +22,24 @@ DOCUMENTS = share/doc/tcpsim
 BASH_COMPLETIONS = share/bash-completion/completions
 ZSH_COMPLETION = share/zsh/site-functions/_tcpsim
 FISH_COMPLETIONS = share/fish/vendor_completions.d
-# The scripts that are installed, and what they are made of.
+# The tools that are installed, each started by bin/tcpsim-NAME, and the packages below python/ that they are made of.
 TOOLS = plot flows net sweep replay follow stalls
-LIBRARY = trace_reader.py engine.py finding.py units.py causes.py lives.py
+PACKAGES = tcpsim tcpsim_model
 
 test:
-	@python3 scripts/build.py --ready
-	@python3 scripts/wrong_bodies.py --check
+	@python3 dev/build.py --ready
+	@python3 dev/wrong_bodies.py --check
 	rt ci
-	@python3 scripts/run_tests.py --python '$(PYTHON)'
+	@python3 dev/run_tests.py --python '$(PYTHON)'
 
-test-scripts:
-	@python3 scripts/run_tests.py --python '$(PYTHON)' $(wildcard scripts/test_*.py)
+test-tools:
+	@python3 dev/run_tests.py --python '$(PYTHON)' $(wildcard dev/test_*.py python/tests/test_*.py)
 
 wrong-bodies:
-	@python3 scripts/wrong_bodies.py $(NAME)
+	@python3 dev/wrong_bodies.py $(NAME)
 
 run:
-	@python3 scripts/build.py
+	@python3 dev/build.py
 	@$(PROGRAM) run < examples/one_segment.txt
 
 bench:
@@ -47,32 +47,29 @@ bench:
 
 pictures:
 	@[ -n '$(PYTHON)' ] || { echo 'no python3 with matplotlib: apt-get install python3-matplotlib'; exit 1; }
-	@'$(PYTHON)' scripts/pictures.py
-	@'$(PYTHON)' scripts/test_replay.py --pictures
+	@'$(PYTHON)' dev/pictures.py
+	@'$(PYTHON)' python/tests/test_replay.py --pictures
 
 pages:
-	@python3 scripts/pages.py -o pages
+	@python3 dev/pages.py -o pages
 
-# Below DIR: bin/tcpsim and bin/tcpsim-NAME, what these are made of in lib/tcpsim, and share/.
+# Below DIR: bin/tcpsim and bin/tcpsim-NAME, the packages in lib/tcpsim, and share/.
 install:
 	@test -x $(PROGRAM) || { echo '$(PROGRAM) is not there: build it with `make run`'; exit 1; }
 	install -D -m 755 $(PROGRAM) '$(DESTDIR)$(PREFIX)/bin/tcpsim'
-	install -d '$(DESTDIR)$(PREFIX)/lib/tcpsim/drawing' '$(DESTDIR)$(PREFIX)/lib/tcpsim/replay_page' \
-	'$(DESTDIR)$(PREFIX)/share/man/man1' \
+	install -d '$(DESTDIR)$(PREFIX)/share/man/man1' \
 	'$(DESTDIR)$(PREFIX)/$(BASH_COMPLETIONS)' '$(DESTDIR)$(PREFIX)/$(FISH_COMPLETIONS)'
-	install -m 644 $(LIBRARY:%=scripts/%) '$(DESTDIR)$(PREFIX)/lib/tcpsim'
-	install -m 644 scripts/drawing/*.py '$(DESTDIR)$(PREFIX)/lib/tcpsim/drawing'
-	install -m 644 scripts/replay_page/* '$(DESTDIR)$(PREFIX)/lib/tcpsim/replay_page'
-	install -m 755 $(TOOLS:%=scripts/%.py) '$(DESTDIR)$(PREFIX)/lib/tcpsim'
+	@for it in $$(find $(PACKAGES:%=python/%) -type f ! -path '*/__pycache__/*' ! -name '*.md'); do \
+	install -D -m 644 "$$it" '$(DESTDIR)$(PREFIX)/lib/tcpsim/'"$${it#python/}" || exit 1; done
+	install -m 755 $(TOOLS:%=bin/tcpsim-%) '$(DESTDIR)$(PREFIX)/bin'
 	install -m 644 man/*.1 '$(DESTDIR)$(PREFIX)/share/man/man1'
-	@for it in README.md docs/*.md docs/pictures/* bench/*.md examples/* scripts/model/README.md \
+	@for it in README.md docs/*.md docs/pictures/* bench/*.md examples/* python/tcpsim_model/README.md \
 	$$(find editors -type f); do \
 	install -D -m 644 "$$it" '$(DESTDIR)$(PREFIX)/$(DOCUMENTS)/'"$$it" || exit 1; done
 	install -m 644 completions/tcpsim.bash '$(DESTDIR)$(PREFIX)/$(BASH_COMPLETIONS)/tcpsim'
 	install -D -m 644 completions/_tcpsim '$(DESTDIR)$(PREFIX)/$(ZSH_COMPLETION)'
 	install -m 644 completions/tcpsim.fish '$(DESTDIR)$(PREFIX)/$(FISH_COMPLETIONS)/tcpsim.fish'
 	@for it in $(TOOLS); do \
-	ln -sfn "../lib/tcpsim/$$it.py" '$(DESTDIR)$(PREFIX)/bin/tcpsim-'"$$it" && \
 	ln -sfn tcpsim '$(DESTDIR)$(PREFIX)/$(BASH_COMPLETIONS)/tcpsim-'"$$it" && \
 	ln -sfn tcpsim.fish '$(DESTDIR)$(PREFIX)/$(FISH_COMPLETIONS)/tcpsim-'"$$it".fish || exit 1; done
 

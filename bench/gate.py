@@ -11,7 +11,7 @@ runs in a folder of its own).
 
 With --kept no command is run: what is proved anew is each CRATE with its tests, over what `make run` keeps.
 The table is of what was counted last of each crate, by whatever was run last: of its check by `make run`, of
-its tests by --kept, of all by the first form, and of the scripts' tests by scripts/run_tests.py. With -o the
+its tests by --kept, of all by the first form, and of the tools' tests by dev/run_tests.py. With -o the
 table between the two marks of that file is written anew.
 """
 import argparse
@@ -24,7 +24,7 @@ import threading
 import time
 
 TOP = os.path.dirname(os.path.dirname(os.path.abspath(__file__)))
-sys.path.insert(0, f"{TOP}/scripts")
+sys.path.insert(0, f"{TOP}/dev")
 import build  # pylint: disable=wrong-import-position
 
 TICKS = os.sysconf("SC_CLK_TCK")
@@ -134,9 +134,9 @@ def table():
         rows.append(f"| {name} | {' | '.join(spent)} | {most:.1f} |")
     spent = [sum(it[kind]["seconds"] for it in every.values() if kind in it) for kind in KINDS]
     rows.append(f"| all | {' | '.join(f'{it:.0f}' for it in spent)} | |")
-    scripts = build.cost_of("scripts").get("tests", {"seconds": 0})["seconds"]
-    whole = (sum(spent) + scripts) / 60
-    return "\n".join([*rows, "", f"{whole:.0f} processor minutes, {scripts / 60:.1f} of them for the scripts' tests."])
+    tools = build.cost_of("tools").get("tests", {"seconds": 0})["seconds"]
+    whole = (sum(spent) + tools) / 60
+    return "\n".join([*rows, "", f"{whole:.0f} processor minutes, {tools / 60:.1f} of them for the tools' tests."])
 
 
 def write(file, rows):

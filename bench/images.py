@@ -14,11 +14,11 @@ import time
 
 from results import ENVIRONMENT, PROGRAM, TOP, put_section, table
 
-sys.path.insert(0, os.path.join(TOP, 'scripts', 'model'))
+sys.path.insert(0, os.path.join(TOP, 'python'))
 
-import image  # noqa: E402
+from tcpsim_model import image  # noqa: E402
 from scenarios import SCENARIOS  # noqa: E402
-from text import assemble, disassemble  # noqa: E402
+from tcpsim_model.text import assemble, disassemble  # noqa: E402
 
 HEAD = '## Images\n'
 FIRST = os.path.join(TOP, 'examples', 'one_segment.txt')

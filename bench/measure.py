@@ -53,7 +53,7 @@ BARS = (
 )
 # The most data references and mispredicted branches that an event of this scenario is to cost.
 GUESSED, REFERENCES, MISPREDICTED = 'four_islands', 330, 6
-# The sections of bench/RESULTS.md that other scripts make, behind this one's.
+# The sections of bench/RESULTS.md that other files of bench/ make, behind this one's.
 OTHERS = re.compile(r'\n## (?!What ).*', re.S)
 DHAT = ('valgrind', '--tool=dhat', '--dhat-out-file=/dev/null')
 Case = namedtuple('Case', 'name segments path')
@@ -316,8 +316,8 @@ def report(start, runs, crowded, networks, long):
 
 
 def build():
-    print('building the program: scripts/build.py', flush=True)
-    subprocess.run([sys.executable, os.path.join(TOP, 'scripts', 'build.py')], check=True)
+    print('building the program: dev/build.py', flush=True)
+    subprocess.run([sys.executable, os.path.join(TOP, 'dev', 'build.py')], check=True)
 
 
 def scenario_name(word):

@@ -1,20 +1,20 @@
 #!/usr/bin/env python3
 """Writes the scenarios that are measured: bench/scenarios.py [--out DIR] [NAME ..]
 
-Without names all of them, to bench/work. They are made by scripts/net.py. Each is read by the model of
-scripts/model before it is written, so that none is refused; what is printed is its size.
+Without names all of them, to bench/work. They are made by tcpsim.scenario. Each is read by the model of
+python/tcpsim_model before it is written, so that none is refused; what is printed is its size.
 """
 import argparse
 import os
 import sys
 
 TOP = os.path.dirname(os.path.dirname(os.path.abspath(__file__)))
-sys.path[:0] = os.path.join(TOP, 'scripts'), os.path.join(TOP, 'scripts', 'model')
+sys.path.insert(0, os.path.join(TOP, 'python'))
 
-import net as nets  # noqa: E402
-from net import RECEIVER, ROUTER, SENDER  # noqa: E402
-from text import assemble, disassemble  # noqa: E402
-from units import Queue  # noqa: E402
+from tcpsim.scenario import shapes  # noqa: E402
+from tcpsim.scenario.shapes import RECEIVER, ROUTER, SENDER  # noqa: E402
+from tcpsim.scenario.units import Queue  # noqa: E402
+from tcpsim_model.text import assemble, disassemble  # noqa: E402
 
 EVER = 10**15                           # ns: the flows end long before
 MBIT, GBIT, MS, US = 10**6, 10**9, 10**6, 10**3
@@ -29,7 +29,7 @@ def codel(capacity, target, interval):
     return Queue('codel', capacity, target, interval)
 
 
-class Net(nets.Net):
+class Net(shapes.Net):
     """A net whose nodes, links and flows are called by their numbers."""
 
     def ends(self, at, to, up, down, *numbers):

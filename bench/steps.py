@@ -16,7 +16,7 @@ from concurrent.futures import ThreadPoolExecutor
 from results import CALLGRIND, ENVIRONMENT, TOP, instructions, put_section, saved, table
 from scenarios import SCENARIOS, disassemble, started
 
-sys.path.insert(0, os.path.join(TOP, 'scripts'))
+sys.path.insert(0, os.path.join(TOP, 'dev'))
 import build  # noqa: E402
 
 HEAD = '## An event by itself\n'

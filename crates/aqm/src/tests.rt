@@ -206,7 +206,7 @@ fn drop_tail_refuses_what_is_beyond_its_capacity(rt: HostRuntime) -> Result<(), 
     Ok(())
 }
 
-// scripts/refuse_tests.sh runs this with each request for memory refused in turn: the source stays,
+// dev/refuse_tests.sh runs this with each request for memory refused in turn: the source stays,
 // and a second copy is made. The gate refuses none: cells come from the C library's heap alone, and
 // no test can make that refuse.
 #[test]

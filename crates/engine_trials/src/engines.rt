@@ -1,5 +1,5 @@
 //! Runs by several workers where a window holds few events, and where they stop. What compares the bytes of
-//! runs alone is tried on the built program: scripts/test_whole.py and scripts/test_threads.py.
+//! runs alone is tried on the built program: dev/test_whole.py and dev/test_threads.py.
 
 mod bounds;
 mod few;

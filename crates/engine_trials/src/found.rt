@@ -1,4 +1,4 @@
-//! Groups that the program finds. That they change no byte is tried on the built program: scripts/test_whole.py.
+//! Groups that the program finds. That they change no byte is tried on the built program: dev/test_whole.py.
 
 use net_partition::Partition;
 use scenario_asm::assemble;

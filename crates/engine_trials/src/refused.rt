@@ -1,5 +1,5 @@
 //! The engine and the debugger where memory is refused, by one worker and by two. Each test passes
-//! whichever one request is refused, as scripts/refuse_tests.sh tries: what is refused is asked for
+//! whichever one request is refused, as dev/refuse_tests.sh tries: what is refused is asked for
 //! once more.
 
 use crate::engines::{run_to, window};

@@ -1,5 +1,5 @@
 //! The parts that an image is made of. What is shown of a refusal is tried on the built program:
-//! scripts/test_whole.py.
+//! dev/test_whole.py.
 
 use explanations::image_parts;
 use scenario_asm::assemble;

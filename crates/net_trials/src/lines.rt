@@ -1,5 +1,5 @@
 //! Numbers of each length in lines, which no run comes to. Lines of each form, as a run has them, are in the
-//! traces beside the texts of scripts/whole/, which scripts/test_whole.py compares on the built program.
+//! traces beside the texts of dev/whole/, which dev/test_whole.py compares on the built program.
 use node_core::{Act, Acts, After, Event, Line, SenderShown};
 use packet_chain::{Kind, Packet, PacketBytes};
 use reno_sender::SenderFields;

@@ -1,5 +1,5 @@
 //! The table of a run's figures. That of a net of flows and links is tried on the built program, by
-//! scripts/test_whole.py and scripts/test_figures.py.
+//! dev/test_whole.py and python/tests/test_figures.py.
 use figures_text::{RunSummary, figures_text};
 use std::test::Fail;
 

@@ -112,7 +112,7 @@ fn pops_past_the_end_and_pushes_again(rt: HostRuntime) {
 
 // A refused copy leaves the source its four packets, and a second one has them. The gate refuses
 // none: cells come from the C library's heap alone, and no test can make that refuse. So
-// scripts/refuse_tests.sh runs this with each request for memory refused in turn.
+// dev/refuse_tests.sh runs this with each request for memory refused in turn.
 #[test]
 fn a_refused_copy_leaves_its_source(rt: HostRuntime) {
     let source = made(&rt, rt.alloc(), &[1, 2, 3, 4]);

@@ -1,7 +1,7 @@
 //! Tests of the parts of a node, from times to wires and routes, by public calls alone, so that no library is
 //! proved a second time with its tests. Those of sim_time and ranking are in `times`, `rankings` and
 //! `timetables`: a module has no library's name. Whole nodes are tried on the built program, by
-//! scripts/test_whole.py.
+//! dev/test_whole.py.
 #![tactic(auto)]
 
 #[cfg(test)]

@@ -1,5 +1,5 @@
 //! Copies of a link. What links do at each moment is tried on the built program, which runs
-//! scripts/whole/codel_drops_before_it_sends.txt and scripts/whole/lost_by_number_and_full.txt.
+//! dev/whole/codel_drops_before_it_sends.txt and dev/whole/lost_by_number_and_full.txt.
 use aqm::{DropTail, Queue};
 use packet_chain::{Kind, Packet, PacketBytes, PacketCell, PacketChain};
 use port::{Acts, Port};
@@ -89,7 +89,7 @@ fn made(rt: &impl Abort, alloc: Global) -> Port {
 }
 
 // A refused copy leaves the source, and a second one is made. The gate refuses none, as no test can
-// make the heap refuse: scripts/refuse_tests.sh runs this with each request for memory refused in
+// make the heap refuse: dev/refuse_tests.sh runs this with each request for memory refused in
 // turn.
 #[test]
 fn copies_are_in_the_same_state(rt: HostRuntime) {

@@ -1,5 +1,5 @@
 //! A router's exits. Which they are is tried on the built program, by
-//! scripts/whole/two_flows_over_a_router.txt.
+//! dev/whole/two_flows_over_a_router.txt.
 use node_core::routes::{FlowExits, RouteTable};
 use packet_chain::{Kind, Packet, PacketBytes};
 use std::process::Abort;

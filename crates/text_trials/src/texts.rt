@@ -1,4 +1,4 @@
 //! What a refused text declares. Canonical texts, and where the faults of lines are, are tried on the built
-//! program, by scripts/test_whole.py.
+//! program, by dev/test_whole.py.
 
 mod named_parts;

@@ -1,5 +1,5 @@
 //! Tests of whole sessions, by public calls alone, so that no library is proved a second time with its
-//! tests. What compares bytes alone is tried on the built program, by scripts/test_whole.py.
+//! tests. What compares bytes alone is tried on the built program, by dev/test_whole.py.
 #![tactic(auto)]
 
 #[cfg(test)]

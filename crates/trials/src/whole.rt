@@ -1,5 +1,5 @@
 //! Whole sessions over memory. Runs, refusals and words that compare bytes alone are tried on the built
-//! program: scripts/test_whole.py, scripts/test_bounds.py, scripts/test_prompt.py and scripts/try_shell.sh.
+//! program: dev/test_whole.py, dev/test_bounds.py, dev/test_prompt.py and dev/try_shell.sh.
 
 mod broken;
 mod calls;

@@ -27,7 +27,7 @@ fn cleared(rt: &impl Abort, alloc: Global) -> Result<Vec<Slot>, AllocError> {
 }
 
 // Where memory is refused to `lay` or to `clear`, a new board of new pieces works: the test passes
-// whichever one request is refused, as scripts/refuse_tests.sh tries.
+// whichever one request is refused, as dev/refuse_tests.sh tries.
 fn cleared_at_last(rt: &impl Abort, alloc: Global) -> Vec<Slot> {
     match cleared(rt, alloc) {
         Ok(slots) => slots,

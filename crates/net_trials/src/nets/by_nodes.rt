@@ -1,5 +1,5 @@
 //! Each event of a run by its node's own call, over a copy of the node. With each request for memory
-//! refused in turn (scripts/refuse_tests.sh) it passes as well: what is refused is asked for again.
+//! refused in turn (dev/refuse_tests.sh) it passes as well: what is refused is asked for again.
 ghost use Rattle.std.specs.Prelude.{◌≡◌, ◌≢◌, ◌<◌, ◌≤◌, ◌^◌, ℕ, [], All, IfOk, length, replicate, Some};
 ghost use Rattle.sim_time.specs.declared.key.Key.{Key};
 ghost use Rattle.ranking.specs.Keyed.{least, next_key};

@@ -1,5 +1,5 @@
 //! A net that is copied goes on as one that is not, also where memory was refused to a copy. With each
-//! request for memory refused in turn (scripts/refuse_tests.sh) the test passes as well: what is
+//! request for memory refused in turn (dev/refuse_tests.sh) the test passes as well: what is
 //! refused is asked for again.
 
 use super::by_nodes::copied;

@@ -1,5 +1,5 @@
 //! Two flows over one router: every kind of event at every kind of node. With each request for memory
-//! refused in turn (scripts/refuse_tests.sh) it passes as well: what is refused is asked for again.
+//! refused in turn (dev/refuse_tests.sh) it passes as well: what is refused is asked for again.
 use crate::scenarios::net_of;
 use net_machine::net::{Net, StepFault};
 use node_core::{After, Line};

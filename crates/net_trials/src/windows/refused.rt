@@ -1,5 +1,5 @@
 //! Windows where memory is refused. Each test passes whichever one request is refused, as
-//! scripts/refuse_tests.sh tries: what is refused is asked for once more.
+//! dev/refuse_tests.sh tries: what is refused is asked for once more.
 ghost use Rattle.std.specs.Prelude.{◌≡◌, ◌<◌, false, length};
 
 use super::nets::{TWO_EACH, crossed, opened, pair};

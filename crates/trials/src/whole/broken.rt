@@ -1,6 +1,6 @@
 //! Sessions whose writer fails at one of its calls, behind two workers who are at each window. Those of one
 //! worker, those of the other subcommands, and a reader that fails are tried so on the built program, by
-//! scripts/test_bounds.py.
+//! dev/test_bounds.py.
 
 use super::taker::{Break, Taker};
 use super::texts::FIRST;

@@ -1,5 +1,5 @@
 //! Sessions over files, and over lines that are typed. What is told beside the answers is tried on the built
-//! program: scripts/test_prompt.py.
+//! program: dev/test_prompt.py.
 
 ghost use Rattle.std.specs.Prelude.{◌≡◌, ◌≤◌, length};
 ghost use Rattle.window_engine.specs.Failures.{counted};

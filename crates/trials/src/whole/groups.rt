@@ -1,4 +1,4 @@
-//! What texts of groups mean. Those that mean nothing are tried on the built program: scripts/test_whole.py.
+//! What texts of groups mean. Those that mean nothing are tried on the built program: dev/test_whole.py.
 
 use sessions::groups::partition_of;
 use std::process::Abort;

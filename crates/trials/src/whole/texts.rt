@@ -1,5 +1,5 @@
 //! Texts, what their runs write, and debugging sessions. What these answer is tried on the built program, by
-//! scripts/test_whole.py.
+//! dev/test_whole.py.
 
 /// One segment, which goes there and is acknowledged.
 pub(super) const FIRST: &str = "sim 1000000000

@@ -1,5 +1,5 @@
 //! What the command line says of workers and groups: who runs what changes no byte. How that is written, and
-//! what is refused, is tried on the built program: scripts/test_whole.py.
+//! what is refused, is tried on the built program: dev/test_whole.py.
 
 use super::texts::{
     EQUAL_TIMES, EQUAL_TIMES_TRACE, FIRST, FIRST_TRACE, MOVES, NEWRENO, OF_A_FLOW, QUEUE,

@@ -1,0 +1,305 @@
+#!/usr/bin/env python3
+"""Proves the program with all its libraries, and builds it.
+
+    dev/build.py [--jobs N] [--ready]
+
+Each crate is proved once, by `rattle build`, the prover behind `rt`, as soon as those that it stands on
+are: up to three crates side by side. The one on which most others stand gets the processors that the
+others leave, for as many functions at once; each of the others gets one, since a crate costs a third more
+by four jobs than by one. Of a library
+its statements are kept (crates/tcpsim/out/libs), so that what stands on it does not read its proofs;
+after a change the changed crate and those that stand on it are proved again. `rt ci` trusts nothing of
+it. Beside them NAME.cost says what each cost, for the table of bench/gate.py. With --ready it only says
+whether the toolchain is the one that is wanted, whether every file is in the layout that `rt fmt` gives,
+and whether a module has a library's name, as `rt ci` asks.
+"""
+import argparse
+import contextlib
+import hashlib
+import json
+import os
+import re
+import shutil
+import signal
+import subprocess
+import sys
+import time
+
+TOP = os.path.dirname(os.path.dirname(os.path.abspath(__file__)))
+PROGRAM = "tcpsim"
+KEPT = f"{TOP}/crates/{PROGRAM}/out/libs"
+MADE = f"{TOP}/crates/{PROGRAM}/out/{PROGRAM}"
+PARTS = ("src", "specs", "proofs")
+# How many crates are proved side by side.
+CRATES_AT_ONCE = 3
+# What one of the prover's processes may take, in bytes.
+JOB_MEMORY = 2_500_000_000
+# How often it says how far it is where nothing else is said, in seconds.
+PAUSE = 30
+# Lines of the prover that say nothing of what is wrong.
+QUIET = re.compile(r"so far: |antt: |rattle: |note: |\s*$")
+
+
+class Refused(Exception):
+    """Why nothing can be built: one sentence."""
+
+
+def toolchain():
+    """The folder of the toolchain, one of those that README.md names, or a refusal that says which are wanted."""
+    with open(f"{TOP}/README.md", encoding="utf-8") as file:
+        wanted = re.findall(r"`(rattle-kit-\S+ logic \S+)`", file.read())
+    said = " or ".join(f"`{it}`" for it in wanted)
+    if not shutil.which("rt"):
+        raise Refused(f"there is no command rt; the toolchain that is wanted is {said}")
+    found = subprocess.run(["rt", "version"], capture_output=True, text=True).stdout.strip()
+    if found not in wanted:
+        raise Refused(f"the toolchain is `{found}`, and the one that is wanted is {said}")
+    page = subprocess.run(["rt", "doc"], capture_output=True, text=True).stdout.strip()
+    return os.path.dirname(page)
+
+
+def look_at_layout(kit):
+    """Says which files are in another layout than `rt fmt` gives; answers the status."""
+    files = []
+    for name in declared():
+        for part in PARTS:
+            for at, _, names in os.walk(f"{TOP}/crates/{name}/{part}"):
+                files += [os.path.relpath(f"{at}/{it}", TOP) for it in names if it.endswith((".rt", ".antt"))]
+    words = [f"{kit}/bin/rattle", "fmt", "--check", *sorted(files)]
+    looked = subprocess.run(words, cwd=TOP, stdin=subprocess.DEVNULL, stderr=subprocess.STDOUT)
+    return 1 if looked.returncode else 0
+
+
+def look_at_names():
+    """Says which modules have the name of a library of their crate, by which another file's path could reach
+    them; answers the status."""
+    found = []
+    for crate, libraries in declared().items():
+        for at, _, names in os.walk(f"{TOP}/crates/{crate}/src"):
+            for name in sorted(it for it in names if it.endswith(".rt")):
+                with open(f"{at}/{name}", encoding="utf-8") as file:
+                    modules = re.findall(r"^ *(?:pub(?:\([^)]*\))? )?mod (\w+)", file.read(), re.M)
+                where = os.path.relpath(f"{at}/{name}", TOP)
+                found += [f"{where}: {it} is the name of a library: give the module another"
+                          for it in sorted({*modules} & {"core", "std", *libraries})]
+    print("".join(f"{it}\n" for it in found), end="")
+    return 1 if found else 0
+
+
+def declared():
+    """The libraries that each crate of crates.txt stands on, by its name."""
+    found = {}
+    with open(f"{TOP}/crates.txt", encoding="utf-8") as file:
+        for line in file:
+            head, colon, below = line.partition("#")[0].partition(":")
+            if colon:
+                found[head.split()[0]] = below.split()
+    return found
+
+
+def below(name, libraries, found=()):
+    """The project's crates that a crate stands on, each behind those that it stands on itself."""
+    found = list(found)
+    for it in libraries[name]:
+        if it in libraries and it not in found:
+            found = [*below(it, libraries, found), it]
+    return found
+
+
+def jobs_at_once(asked):
+    """As many jobs as asked, else one a processor where memory holds them."""
+    if asked:
+        return asked
+    with open("/proc/meminfo", encoding="ascii") as file:
+        free = 1024 * int(re.search(r"MemAvailable:\s+(\d+)", file.read())[1])
+    return max(1, min(len(os.sched_getaffinity(0)), free // JOB_MEMORY))
+
+
+def sum_of(name, kit, sums, libraries):
+    """A sum of all that a crate's proof reads: the toolchain, its own files, and what it stands on."""
+    taken = hashlib.sha256(kit.encode())
+    for it in libraries[name]:
+        taken.update(f"{it} {sums.get(it, '')}\n".encode())
+    for part in PARTS:
+        for at, folders, files in os.walk(f"{TOP}/crates/{name}/{part}"):
+            folders.sort()
+            for file in sorted(files):
+                with open(f"{at}/{file}", "rb") as it:
+                    taken.update(f"{os.path.relpath(at, TOP)}/{file}".encode() + b"\0" + it.read() + b"\0")
+    return taken.hexdigest()
+
+
+def words_of(name, kit, jobs, libraries):
+    """The command that proves a crate and writes what is kept of it."""
+    is_program = name == PROGRAM
+    words = [f"{kit}/bin/rattle", "build", "--crate-name", name]
+    words.append(f"{TOP}/crates/{name}/src/{'main' if is_program else 'lib'}.rt")
+    for it in dict.fromkeys(["core", "std", *libraries[name]]):
+        place = KEPT if it in libraries else f"{kit}/rlibs"
+        words += ["--extern", f"{it}={place}/{it}.rlib"]
+    words += ["-L", f"dependency={kit}/rlibs", "-L", f"dependency={KEPT}"]
+    words += ["--antt-project", f"{kit}/rattle/logic/antt-project.json", "--logic-built", f"{kit}/logic_built"]
+    words += ["--links", f"{name}=", "--jobs", str(jobs)]
+    if is_program:
+        return [*words, "--toolchain", f"{kit}/toolchain", "--backend", "llvm", "-o", f"{KEPT}/{name}.o"]
+    return [*words, "--statements", "-o", f"{KEPT}/{name}.rlib"]
+
+
+def cost_of(name):
+    """What is kept of what a crate's proof cost: by what was proved, the seconds of all processors, and the
+    most bytes that one process held."""
+    with contextlib.suppress(FileNotFoundError), open(f"{KEPT}/{name}.cost", encoding="utf-8") as file:
+        return json.load(file)
+    return {}
+
+
+def keep_cost(name, kind, seconds, memory):
+    """Keeps what was proved last of a crate, for the table of bench/gate.py."""
+    os.makedirs(KEPT, exist_ok=True)
+    costs = {**cost_of(name), kind: {"seconds": round(seconds, 1), "memory": memory}}
+    with open(f"{KEPT}/{name}.cost", "w", encoding="utf-8") as file:
+        json.dump(costs, file)
+
+
+class Crate:
+    """One crate: what it waits for, and its prover while that runs."""
+
+    def __init__(self, name, libraries, stamp):
+        self.name, self.stamp = name, stamp
+        self.waits = [it for it in libraries[name] if it in libraries]
+        self.above = sum(name in libraries[it] for it in libraries)
+        self.prover, self.begun, self.usage = None, 0, None
+
+    def mark(self):
+        return f"{KEPT}/{self.name}.stamp"
+
+    def is_kept(self):
+        with contextlib.suppress(FileNotFoundError), open(self.mark(), encoding="utf-8") as file:
+            return file.read() == self.stamp
+        return False
+
+    def start(self, words, gives_way):
+        """Starts its prover, one that gives way to another at work."""
+        if gives_way:
+            words = ["nice", "-n", "10", *words]
+        with contextlib.suppress(FileNotFoundError):
+            os.remove(self.mark())
+        self.begun = time.time()
+        with open(f"{KEPT}/{self.name}.log", "w", encoding="utf-8") as log:
+            how = {"stdin": subprocess.DEVNULL, "stdout": log, "stderr": subprocess.STDOUT}
+            self.prover = subprocess.Popen(words, cwd=TOP, start_new_session=True, **how)
+
+    def has_ended(self):
+        """Whether its prover has ended; what it used is then known."""
+        ended, status, self.usage = os.wait4(self.prover.pid, os.WNOHANG)
+        if ended:
+            self.prover.returncode = os.waitstatus_to_exitcode(status)
+        return bool(ended)
+
+    def keep(self):
+        with open(self.mark(), "w", encoding="utf-8") as file:
+            file.write(self.stamp)
+        keep_cost(self.name, "check", self.usage.ru_utime + self.usage.ru_stime, 1024 * self.usage.ru_maxrss)
+
+    def stop(self):
+        if self.prover and self.prover.poll() is None:
+            with contextlib.suppress(ProcessLookupError):
+                os.killpg(self.prover.pid, signal.SIGKILL)
+
+    def said(self):
+        """What its prover said of what is wrong."""
+        with open(f"{KEPT}/{self.name}.log", encoding="utf-8", errors="replace") as log:
+            return "".join(line for line in log if not QUIET.match(line))
+
+
+def prove(crates, count, jobs, words_for):
+    """Proves the crates that are not kept, each behind those that it stands on, by so many jobs at once, and
+    says how far it is; answers the crate that was refused, or None."""
+    begun = told = time.time()
+    done = {it.name for it in crates if it.is_kept()}
+    left = [it for it in crates if it.name not in done]
+    running = []
+    while left or running:
+        ready = [it for it in left if all(name in done for name in it.waits)]
+        for at, it in enumerate(ready[: CRATES_AT_ONCE - len(running)]):
+            beside = min(CRATES_AT_ONCE - 1, len(running) + len(ready) - at - 1)
+            left.remove(it)
+            gives_way = any(other.above > it.above for other in [*left, *running])
+            it.start(words_for(it.name, 1 if gives_way else max(1, jobs - beside)), gives_way)
+            running.append(it)
+        for it in [it for it in running if it.has_ended()]:
+            running.remove(it)
+            if it.prover.returncode:
+                return it
+            it.keep()
+            done.add(it.name)
+            told = time.time()
+            took = f"{told - it.begun:.0f} s"
+            print(f"{(told - begun) / 60:5.1f} min: {it.name} is proved ({took}), {len(done)} of {count} crates", flush=True)
+        if time.time() - told >= PAUSE and running:
+            told = time.time()
+            names = " and ".join(f"{it.name} ({told - it.begun:.0f} s)" for it in running)
+            print(f"{(told - begun) / 60:5.1f} min: proving {names}", flush=True)
+        time.sleep(0.1)
+    return None
+
+
+def link(kit):
+    """Links the program; answers the status, and prints what the linker says where it fails."""
+    words = [f"{kit}/bin/rattle-link", "--target", "x86_64-unknown-linux-gnu", "--toolchain", f"{kit}/toolchain"]
+    words += ["-o", MADE, f"{KEPT}/{PROGRAM}.o", f"{kit}/c/libos_c.a", f"{kit}/c/liblibc_c.a"]
+    linked = subprocess.run(words, stdin=subprocess.DEVNULL, capture_output=True, text=True)
+    if linked.returncode:
+        print(linked.stdout + linked.stderr, end="")
+    return linked.returncode
+
+
+def build(asked):
+    """Proves and builds the program; answers the status to end with."""
+    kit, libraries = toolchain(), declared()
+    names, sums = [*below(PROGRAM, libraries), PROGRAM], {}
+    for name in names:
+        sums[name] = sum_of(name, kit, sums, libraries)
+    crates = [Crate(name, libraries, sums[name]) for name in names]
+    # First those on which most others stand.
+    crates.sort(key=lambda it: -it.above)
+    left = sum(not it.is_kept() for it in crates)
+    if not left and os.path.isfile(MADE):
+        return 0
+    os.makedirs(KEPT, exist_ok=True)
+    jobs = jobs_at_once(asked)
+    print(f"Proving {left} of {len(crates)} crates; what is proved is kept for the next time.", flush=True)
+
+    def stop(number, _):
+        for it in crates:
+            it.stop()
+        os._exit(128 + number)
+
+    for it in (signal.SIGINT, signal.SIGTERM, signal.SIGHUP):
+        signal.signal(it, stop)
+    refused = prove(crates, len(crates), jobs, lambda name, most: words_of(name, kit, most, libraries))
+    if refused:
+        for it in crates:
+            it.stop()
+        print(refused.said(), end="")
+        print(f"{refused.name} is not proved, and nothing was built")
+        return 1
+    return 1 if link(kit) else 0
+
+
+def main():
+    reader = argparse.ArgumentParser(description="Proves the program with all its libraries, and builds it.")
+    reader.add_argument("--jobs", type=int, default=0, help="functions at once in all (left out: one a processor)")
+    reader.add_argument("--ready", action="store_true", help="only say whether the toolchain, the layout and the modules' names are right")
+    words = reader.parse_args()
+    try:
+        if words.ready:
+            return look_at_layout(toolchain()) or look_at_names()
+        return build(words.jobs)
+    except Refused as why:
+        print(f"tcpsim cannot be built: {why}", file=sys.stderr)
+        return 1
+
+
+if __name__ == "__main__":
+    sys.exit(main())

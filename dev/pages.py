@@ -1,0 +1,105 @@
+#!/usr/bin/env python3
+"""Writes the replay page of every example into a folder, with an index.html that lists them.
+
+Usage: dev/pages.py [-o FOLDER] [--examples FOLDER]
+
+An example is a scenario NAME.txt with its trace NAME.trace. The list gives the remark that each scenario
+begins with. The folder, `pages` where none is named, can be copied and shown without a network.
+"""
+import argparse
+import html
+import os
+import sys
+
+from paths import TOP
+from tcpsim.replay.recording import Part, lost_packets, page, read_d3, read_scenario, write_page
+from tcpsim.trace import Unreadable
+
+INDEX = '''<!DOCTYPE html>
+<html lang="en">
+<head>
+<meta charset="utf-8">
+<meta name="viewport" content="width=device-width">
+<title>Runs of tcpsim</title>
+<style>
+body {{ font: 16px/1.45 sans-serif; max-width: 60em; margin: 1.5em auto; padding: 0 1em; color: #111; }}
+li {{ margin: 0 0 .8em; }}
+a:focus-visible {{ outline: 3px solid #0072B2; }}
+</style>
+</head>
+<body>
+<h1>Runs of tcpsim</h1>
+<ol>
+{rows}
+</ol>
+</body>
+</html>
+'''
+
+
+def names_in(folder):
+    """The examples of a folder: scenarios that have a trace beside them."""
+    files = set(os.listdir(folder))
+    return sorted(file[:-4] for file in files if file.endswith('.txt') and file[:-4] + '.trace' in files)
+
+
+def remark(text):
+    """The words of the comment lines that a scenario begins with."""
+    words = []
+    for line in text.split('\n'):
+        if not line.startswith('#'):
+            break
+        words.append(line[1:].strip())
+    return ' '.join(words)
+
+
+def write_one(folder, name, out):
+    """Writes one example's page; answers its row of the list."""
+    given = os.path.join(folder, name)
+    scenario, text = read_scenario(given + '.txt')
+    try:
+        with open(given + '.trace', 'rb') as file:
+            part = Part(scenario, file, 0, None, lost_packets(text))
+    except Unreadable as wrong:
+        raise Unreadable(f'{given}.trace: {wrong}') from wrong
+    title = name.replace('_', ' ')
+    write_page(os.path.join(out, name + '.html'), page(title, scenario, text, part))
+    return (f'<li><a href="{html.escape(name)}.html">{html.escape(title)}</a> ({len(part.lines):,} events)<br>'
+            f'{html.escape(remark(text))}</li>')
+
+
+def write_all(folder, out):
+    """Writes every example's page and the list; answers how many."""
+    names = names_in(folder)
+    if not names:
+        raise Unreadable(f'{folder} has no scenario NAME.txt with its NAME.trace')
+    read_d3()
+    os.makedirs(out, exist_ok=True)
+    rows = [write_one(folder, name, out) for name in names]
+    write_page(os.path.join(out, 'index.html'), INDEX.format(rows='\n'.join(rows)))
+    return len(names)
+
+
+def main():
+    words = argparse.ArgumentParser(description='The replay pages of all examples, and a list of them.')
+    words.add_argument('-o', dest='out', default='pages', metavar='FOLDER', help='else `pages`, here')
+    words.add_argument('--examples', default=os.path.join(TOP, 'examples'), metavar='FOLDER')
+    given = words.parse_args()
+    try:
+        print(f'{write_all(given.examples, given.out)} pages: {os.path.join(given.out, "index.html")}')
+        sys.stdout.flush()
+    except Unreadable as wrong:
+        print(f'pages.py: {wrong}', file=sys.stderr)
+        return 1
+    except BrokenPipeError:
+        os.dup2(os.open(os.devnull, os.O_WRONLY), sys.stdout.fileno())
+    except OSError as wrong:
+        print(f'pages.py: {wrong.filename}: {wrong.strerror}', file=sys.stderr)
+        return 1
+    except KeyboardInterrupt:
+        return 130
+    return 0
+
+
+if __name__ == '__main__':
+    sys.exit(main())

@@ -1,0 +1,66 @@
+#!/usr/bin/env python3
+"""Draws the pictures of README.md and docs/TUTORIAL.md into docs/pictures, from the traces in examples/.
+
+Usage: dev/pictures.py [NAME...]
+"""
+import os
+import sys
+
+from paths import TOP
+from tcpsim import plot
+
+EXAMPLES, FOLDER = os.path.join(TOP, 'examples'), os.path.join(TOP, 'docs', 'pictures')
+OF_ONE_RUN = (
+    'one_segment', 'delayed_acks_and_their_alarm', 'slow_start_into_a_full_queue', 'two_timeouts_in_a_row',
+    'a_lost_retransmission', 'sawtooth_of_congestion_avoidance', 'bufferbloat', 'a_slow_way_back', 'fast_recovery',
+    'bufferbloat_with_codel', 'two_flows_share_fairly', 'two_round_trips_do_not_share_fairly',
+    'lock_out_at_equal_times', 'four_flows_share_a_long_queue', 'four_flows_share_codel',
+    'parking_lot_of_three_routers', 'acks_share_the_bottleneck')
+
+
+def run_of(name):
+    """The words that name a scenario and its trace."""
+    return [os.path.join(EXAMPLES, name + ending) for ending in ('.txt', '.trace')]
+
+
+# Each picture and the words that draw it.
+PICTURES = {name: run_of(name) for name in OF_ONE_RUN}
+PICTURES['drop_tail_and_codel'] = [
+    *run_of('bufferbloat'), '--beside', *run_of('bufferbloat_with_codel'), '--panels', 'delay,progress',
+    '--flow', 'g', '--log', '--names', 'drop-tail,CoDel', '--title',
+    '700 kB fill a link of 1 Mbit/s, and 10 kB follow at 3 s: behind a queue of 1,000 packets, and with CoDel']
+
+PICTURES['a_larger_initial_window'] = [
+    *run_of('a_larger_initial_window'), '--panels', 'window,sequence', '--longer', '400ms', '--title',
+    'Thirty segments over a round trip of 320 ms, with an initial window of three and of ten']
+PICTURES['reno_and_newreno'] = [
+    *run_of('three_losses_in_a_window'), '--beside', *run_of('three_losses_in_a_window_with_newreno'),
+    '--panels', 'window,sequence', '--names', 'Reno,NewReno', '--title',
+    '150 kB over a round trip of 81 ms, of which three segments of one window are lost']
+
+
+def file_of(name):
+    return os.path.join(FOLDER, name + '.svg')
+
+
+def figure_of(name):
+    return plot.figure_of(plot.words_of([*PICTURES[name], '-o', file_of(name)]))
+
+
+def main():
+    names = sys.argv[1:] or list(PICTURES)
+    unknown = [name for name in names if name not in PICTURES]
+    if unknown:
+        print(f'pictures.py: no picture is named {unknown[0]}', file=sys.stderr)
+        return 2
+    os.makedirs(FOLDER, exist_ok=True)
+    for name in names:
+        figure = figure_of(name)
+        plot.save(figure, file_of(name))
+        plot.plt.close(figure)
+        print(os.path.relpath(file_of(name), TOP))
+    return 0
+
+
+if __name__ == '__main__':
+    sys.exit(main())

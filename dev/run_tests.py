@@ -1,0 +1,154 @@
+#!/usr/bin/env python3
+"""Runs the tests of dev/ and python/tests side by side, one a processor, and prints what each said, in one order.
+
+    dev/run_tests.py [--jobs N] [--python PATH] [TEST ..]
+
+Without names these are dev/refuse_tests.sh, each test_*.py of the two folders, and dev/try_shell.sh. It goes after
+`rt ci`: without that dev/refuse_tests.sh has the crates of its tests proved first, which takes a quarter of an
+hour and more. After `make run` alone leave it out, by naming the others. Each
+test has a folder of its own for what it makes; all are ended, and the folders taken away, where this script is
+interrupted. What wants matplotlib is run by the python of --python, and left out where that is empty. What all
+of them cost is kept for the table of bench/gate.py. The last line is 'N tests passed, N failed', and the
+status is 1 where one failed.
+"""
+import argparse
+import contextlib
+import glob
+import os
+import shutil
+import signal
+import subprocess
+import sys
+import tempfile
+import time
+
+import build
+
+TOP = os.path.dirname(os.path.dirname(os.path.abspath(__file__)))
+DRAWING = ('python/tests/test_trace.py', 'python/tests/test_plot.py')
+# Those that take longest, which are begun first.
+LONG = ('dev/try_shell.sh', 'dev/test_systematic.py', 'python/tests/test_sweep.py', 'python/tests/test_trace.py',
+        'python/tests/test_plot.py', 'dev/test_bounds.py', 'dev/refuse_tests.sh')
+# How long what was ended may take to end, in seconds.
+GRACE = 5
+
+
+def all_tests():
+    found = [os.path.relpath(it, TOP) for place in ('dev', 'python/tests')
+             for it in sorted(glob.glob(f'{TOP}/{place}/test_*.py'))]
+    return ['dev/refuse_tests.sh', *found, 'dev/try_shell.sh']
+
+
+class Test:
+    """One test, its process while it runs, and what it said."""
+
+    def __init__(self, name, python, folder):
+        self.name, self.folder = name, f'{folder}/{os.path.basename(name)}'
+        self.words = [python, name] if name.endswith('.py') else [f'./{name}']
+        self.process, self.seconds, self.begun, self.usage = None, 0, 0, None
+
+    def start(self):
+        os.mkdir(self.folder)
+        self.begun = time.monotonic()
+        with open(f'{self.folder}.said', 'wb') as said:
+            self.process = subprocess.Popen(self.words, cwd=TOP, stdin=subprocess.DEVNULL, stdout=said,
+                                            stderr=subprocess.STDOUT, preexec_fn=os.setpgrp,
+                                            env={**os.environ, 'TMPDIR': self.folder})
+
+    def has_ended(self):
+        ended, status, self.usage = os.wait4(self.process.pid, os.WNOHANG)
+        if ended:
+            self.process.returncode = os.waitstatus_to_exitcode(status)
+            self.seconds = time.monotonic() - self.begun
+        return bool(ended)
+
+    def spent(self):
+        """The seconds of processors that it took."""
+        return self.usage.ru_utime + self.usage.ru_stime
+
+    def end(self):
+        """Asks all of it to end, and then makes it."""
+        if self.process:
+            for number in (signal.SIGTERM, signal.SIGKILL):
+                with contextlib.suppress(ProcessLookupError):
+                    os.killpg(self.process.pid, number)
+                with contextlib.suppress(subprocess.TimeoutExpired):
+                    self.process.wait(GRACE)
+
+    def said(self):
+        with open(f'{self.folder}.said', encoding='utf-8', errors='replace') as file:
+            return file.read()
+
+    def tell(self):
+        """Prints what it said; answers whether it passed."""
+        passed = self.process.returncode == 0
+        how = 'passed' if passed else f'FAILED, status {self.process.returncode}'
+        took = f'{self.seconds:.0f} s, {self.spent():.0f} s of processors'
+        print(f'== {self.name}: {how} ({took})\n{self.said()}', end='', flush=True)
+        return passed
+
+
+@contextlib.contextmanager
+def room():
+    """A temporary folder, which goes however this script is ended."""
+    def end(number, _):
+        sys.exit(128 + number)
+
+    ends = [it for it in (signal.SIGINT, signal.SIGTERM, signal.SIGHUP) if signal.getsignal(it) is not signal.SIG_IGN]
+    for number in ends:
+        signal.signal(number, end)
+    folder = tempfile.mkdtemp(prefix='run-tests-')
+    try:
+        yield folder
+    finally:
+        for number in ends:
+            signal.signal(number, signal.SIG_IGN)
+        shutil.rmtree(folder, ignore_errors=True)
+
+
+def run(tests, jobs):
+    """Runs the tests, so many at once, and tells of each once those before it were told; answers how many
+    failed, and what was left out."""
+    rank = {name: at for at, name in enumerate(LONG)}
+    left = sorted(tests, key=lambda it: rank.get(it.name, len(LONG)))
+    running, untold, failed, out = [], list(tests), 0, []
+    try:
+        while untold:
+            while left and len(running) < jobs:
+                running.append(left.pop(0))
+                running[-1].start()
+            running = [it for it in running if not it.has_ended()]
+            while untold and untold[0].process and untold[0] not in running:
+                test = untold.pop(0)
+                failed += not test.tell()
+                out += [line for line in test.said().splitlines() if line.startswith('LEFT OUT')]
+            time.sleep(0.05)
+    finally:
+        for test in running:
+            test.end()
+    return failed, out
+
+
+def main():
+    reader = argparse.ArgumentParser(description="Runs the tests of dev/ and python/tests side by side.")
+    reader.add_argument('--jobs', type=int, default=len(os.sched_getaffinity(0)), help='how many at once (left out: one a processor)')
+    reader.add_argument('--python', metavar='PATH', help='a python3 that has matplotlib, or nothing where there is none')
+    reader.add_argument('names', nargs='*', metavar='TEST', help='left out: all')
+    words = reader.parse_args()
+    python = sys.executable if words.python is None else words.python
+    names = words.names or all_tests()
+    gone = [it for it in names if it in DRAWING and not python]
+    with room() as folder:
+        tests = [Test(it, python or sys.executable, folder) for it in names if it not in gone]
+        failed, out = run(tests, max(1, words.jobs))
+    if not words.names and not failed:
+        build.keep_cost('tools', 'tests', sum(it.spent() for it in tests), 0)
+    if gone:
+        out.append(f'LEFT OUT, not passed: {" ".join(gone)} (no python3 with matplotlib)')
+    print(''.join(f'{it}\n' for it in out), end='')
+    print(f'{len(tests) - failed} tests passed, {failed} failed')
+    sys.exit(1 if failed else 0)
+
+
+if __name__ == '__main__':
+    main()

@@ -1,0 +1,195 @@
+#!/usr/bin/env python3
+"""Tests of dev/compare.py at a prompt: a program that is right differs in no session, and each of some that are
+wrong in one place differs in one. These programs are the model with one thing changed.
+
+Usage: dev/test_compare.py. The last line is 'N passed, N failed'.
+"""
+import argparse
+import os
+import random
+import subprocess
+import sys
+import tempfile
+import unittest
+from unittest import mock
+
+import compare
+from compare import debugger, prompt
+from paths import TOP
+from tcpsim_model.scenario import Refused
+
+ENOUGH = 400        # sessions in which a fault has to show
+# A program beside the model's: the folder of its package, and a statement that makes it wrong.
+STAND_IN = '''#!{python}
+import sys
+sys.path.insert(0, {model!r})
+from tcpsim_model import prompt
+{fault}
+with open({model!r} + '/tcpsim_model/command_line.py') as file:
+    exec(compile(file.read(), 'command_line.py', 'exec'))
+'''
+at_prompt = prompt.Prompt
+right = {name: getattr(place, name) for place, name in (
+    (at_prompt, 'answer'), (at_prompt, 'quits'), (at_prompt, 'on_break'), (at_prompt, 'where'), (at_prompt, 'of_node'),
+    (at_prompt, 'of_flow'), (prompt, 'time_in'), (prompt, 'numbered'), (prompt.Marked, 'is_met'), (prompt, 'standing'),
+    (prompt, 'waiting'), (prompt, 'edits'))}
+
+
+def empty_lines_do_nothing(self, line):
+    return right['answer'](self, line) if line.strip(b' ') else ''
+
+
+def refused_lines_count_as_moves(self, line):
+    try:
+        return right['answer'](self, line)
+    except Refused:
+        self.last = None
+        raise
+
+
+def quit_may_have_words_behind(self, line):
+    return right['quits'](self, line) or right['quits'](self, line.strip(b' ').split(b' ')[0])
+
+
+def times_may_begin_with_zeros(word):
+    return right['time_in'](word.lstrip(b'0') or b'0' if b'.' not in word else word)
+
+
+def the_last_number_is_answered(self, words):
+    right['on_break'](self, words)
+    return self.named(len(self.debugger.breaks) - 1)
+
+
+def the_last_that_matches(self):
+    now = self.debugger.net.position
+    return ([''] + [self.named(place) for place, it in enumerate(self.debugger.breaks) if self.debugger.is_matched(it, now)])[-1]
+
+
+def only_ends_and_events(self, flow):
+    return ''.join(line for line in right['of_flow'](self, flow).splitlines(keepends=True) if not line.startswith('link'))
+
+
+def back_to_where_it_is(self):
+    stops = [position for position in range(1, self.net.position + 1) if self.stops_at(position)]
+    self.back(self.net.position - (stops[-1] if stops else 0))
+
+
+def matches_either(self, breakpoint, position):
+    return any(self.is_met(*condition, position) for condition in breakpoint)
+
+
+def drops_are_at_no_link(self, sort, value, position):
+    acts = self.lines[position - 1].acts
+    return right['is_met'](self, sort, value, position) and (sort != b'link' or any(' tx=' in act for act in acts))
+
+
+def stalls_match_as_long_as_they_last(self):
+    line = debugger.Debugger.event(self)
+    if line is not None:
+        self.marks.append((self.net.touched, self.stalled()))
+    return line
+
+
+def names_the_congestion_window(net, flow):
+    return right['standing'](net, flow).replace('rwnd', 'cwnd')
+
+
+# What is wrong in each program: since which step it can be, and what is changed.
+FAULTS = {
+    'a long line is read': (1, prompt, 'MOST_LINE', 10**9),
+    'a microsecond is a millisecond': (1, prompt, 'PLACES', {**prompt.PLACES, b'us': 6}),
+    'a time may begin with zeros': (1, prompt, 'time_in', times_may_begin_with_zeros),
+    'the most is one less': (1, prompt, 'MOST', 10**15 - 1),
+    'st is state': (1, prompt, 'NAMES', {b'state': 1, **prompt.NAMES}),
+    'b is break': (1, prompt, 'NAMES', {b'break': 1, **prompt.NAMES}),
+    'an empty line does nothing': (1, at_prompt, 'answer', empty_lines_do_nothing),
+    'a refused line takes the last move away': (1, at_prompt, 'answer', refused_lines_count_as_moves),
+    'quit may have words behind': (1, at_prompt, 'quits', quit_may_have_words_behind),
+    'one that is set answers the last number': (2, at_prompt, 'on_break', the_last_number_is_answered),
+    'a line is missing in help': (2, prompt, 'LAST_OF_HELP', ''),
+    'breaks is break': (2, prompt, 'NAMES', {b'breaks': 2, **prompt.NAMES}),
+    'eleven lines are shown': (3, prompt, 'MOST_SHOWN', 11),
+    'a thousand lines are too many': (3, prompt, 'MOST_LINES', 999),
+    'lines are shown in another order': (3, prompt, 'numbered', lambda *of: right['numbered'](*of)[::-1]),
+    'the end is not told': (3, at_prompt, 'where', lambda self: right['where'](self).replace(', the end', '')),
+    'the last that matches is told': (3, at_prompt, 'what_matched', the_last_that_matches),
+    'a node has its neighbour\'s line': (4, at_prompt, 'of_node', lambda self, node: right['of_node'](self, max(node - 1, 0))),
+    'packets that wait are left out': (4, at_prompt, 'of_flow', only_ends_and_events),
+    'why names cwnd where rwnd binds': (5, prompt, 'standing', names_the_congestion_window),
+    'places are told from 0': (5, prompt, 'waiting', lambda net, flow: [it.replace('place 1 ', 'place 0 ') for it in right['waiting'](net, flow)]),
+    'r is reverse': (6, prompt, 'NAMES', {b'reverse': 5, **prompt.NAMES}),
+    'reverse stops where it is': (6, debugger.Debugger, 'reverse', back_to_where_it_is),
+    'a breakpoint of two conditions matches either': (7, prompt.Marked, 'is_matched', matches_either),
+    'conditions are told in another order': (7, prompt, 'CONDITIONS', prompt.CONDITIONS[::-1]),
+    'a drop is at no link': (7, prompt.Marked, 'is_met', drops_are_at_no_link),
+    'a stall that goes on matches again': (8, prompt.Marked, 'event', stalls_match_as_long_as_they_last),
+    'a word of four bytes has no nearest name': (1, prompt, 'MOST_WORD', 3),
+    'the last of the nearest is told': (1, prompt, 'edits', lambda word, name: right['edits'](word, name) - list(prompt.NAMES).index(name) / 99),
+    'a 64th breakpoint is refused': (1, debugger, 'MOST_BREAKS', 63),
+}
+
+
+def cases(count, steps):
+    args = argparse.Namespace(count=count, options=False, steps=steps)
+    return compare.prompts(random.Random(f'self-test {steps}'), args)
+
+
+def answers(case):
+    return compare.model_answers_kept.__wrapped__(*case, compare.MOST_BYTES)
+
+
+class Prompts(unittest.TestCase):
+    def test_each_fault_is_found(self):
+        for name, (step, place, attribute, wrong) in FAULTS.items():
+            with self.subTest(fault=name):
+                for case in cases(ENOUGH, max(step, prompt.STEPS)):
+                    expected = answers(case)
+                    with mock.patch.object(place, attribute, wrong):
+                        if not compare.agree(answers(case), expected):
+                            break
+                else:
+                    self.fail('no session shows it')
+
+    def compared(self, fault, count):
+        """The status and the output of a comparison with a program that has this fault."""
+        with tempfile.TemporaryDirectory() as folder:
+            path = os.path.join(folder, 'tcpsim')
+            with open(path, 'w', encoding='ascii') as file:
+                file.write(STAND_IN.format(python=sys.executable, model=os.path.join(TOP, 'python'), fault=fault))
+            os.chmod(path, 0o755)
+            done = subprocess.run([sys.executable, os.path.join(TOP, 'dev', 'compare.py'), '--kind', 'prompt',
+                                   '--count', str(count), '--program', path], capture_output=True, text=True, timeout=1200, check=False)
+        self.assertEqual(done.stderr, '')
+        return done.returncode, done.stdout.splitlines()
+
+    def test_a_program_that_is_right(self):
+        self.assertEqual(self.compared('', 12), (0, ['prompt: 12 compared', '12 compared, 0 different']))
+
+    def test_a_program_that_is_wrong(self):
+        """What differs is shown, made shorter."""
+        status, shown = self.compared("prompt.PROMPT = '(tcpsim)'", 2)
+        self.assertEqual((status, shown[-1]), (1, '2 compared, 2 different'))
+        self.assertIn('same output', shown)
+
+    def test_a_prompt_of_no_step_has_the_other_forms_grammar(self):
+        for words, data in cases(60, 0):
+            scenario, keys = compare.parts_of(words, data)
+            lines = [line for line in keys.split(b'\n') if len(line) <= prompt.MOST_LINE and line.strip(b' ') != b'quit']
+            status, out, note = answers((words, scenario + compare.TYPED + b'\n'.join(lines)))
+            if status == 0:
+                text = compare.disassemble(compare.command_line.read(scenario))
+                whole = ''.join(debugger.session(text + b'---\n' + b'\n'.join(lines))).splitlines()
+                refused = [line for line in whole if line.startswith('refused ')]
+                self.assertEqual(out.decode().splitlines(), [line for line in whole if not line.startswith('refused ')])
+                self.assertEqual(note.replace(prompt.PROMPT, '').splitlines(), refused)
+
+
+def main():
+    done = unittest.main(exit=False).result
+    failed = len({getattr(test, 'test_case', test).id() for test, _ in done.failures + done.errors})
+    print(f'{done.testsRun - failed} passed, {failed} failed')
+    return 1 if failed else 0
+
+
+if __name__ == '__main__':
+    sys.exit(main())

@@ -1,0 +1,282 @@
+#!/usr/bin/env python3
+"""Tries the built program with images: which are a scenario, and the first fault of others, at each bound of
+each number and for each fault of the whole. What is expected stands in the tables below, worked out by hand
+from docs/FORMATS.md. It goes after `make run`.
+
+Usage: dev/test_images.py [--program PATH] [TEST..]. The last line is 'N passed, N failed'.
+"""
+import argparse
+import itertools
+import os
+import struct
+import subprocess
+import sys
+import unittest
+
+TOP = os.path.dirname(os.path.dirname(os.path.abspath(__file__)))
+PROGRAM = os.path.join(TOP, 'crates', 'tcpsim', 'out', 'tcpsim')
+LONGEST = 60                # seconds that a run may take
+S, R, P = 0, 1, 2           # sender, receiver, router
+
+# A sender, two routers and a receiver in a row; the first link with CoDel and three lost packets, the third
+# with one; a flow with the larger initial window; four routes.
+ROW = bytes.fromhex('''
+54434232 0000000077359400 0004 0006 0001 00000004
+00 02 02 01
+0000 0001 00000000007a1200 00000000000f4240 01 012c 00000000004c4b40 0000000005f5e100 05dc 03
+    00000003 00000009 3b9aca00
+0001 0002 000000e8d4a51000 0000000000000001 00 000a 0000000000000000 0000000000000000 0000 00
+0002 0001 00000000000003e8 00000002540be400 00 ffff 0000000000000000 0000000000000000 0000 01
+    00000007
+0001 0000 00000000007a1200 00000000000f4240 00 000a 0000000000000000 0000000000000000 0000 00
+0002 0003 00000000007a1200 00000000000f4240 00 000a 0000000000000000 0000000000000000 0000 00
+0003 0002 00000000007a1200 00000000000f4240 00 000a 0000000000000000 0000000000000000 0000 00
+0000 0003 03e8 00011170 0000000000000005 0000fa00 0bebc200 02
+0001 0000 0003
+0001 0003 0001
+0002 0000 0002
+0002 0003 0004
+''')
+# Places in that image, the bytes put there, and the fault of the bytes with them.
+CHANGED = (
+    # Counts that take more bytes than there are, or more than any file has.
+    (12, 'ffff', 'L1'), (14, 'ffff', 'L1'), (16, 'ffff', 'L1'), (18, 'ffffffff', 'L1'), (67, '04', 'L1'),
+    (0, '54434233', 'L2'),
+    # The layout of version 1 is judged, so the routes begin at the variant's byte.
+    (0, '54434231', 'L3'),
+    # Lost packets that fall, stand, are numbered 0 or past the most, and one fewer of them.
+    (68, '00000009 00000003', 'L3'), (68, '00000009 00000009', 'L3'), (68, '00000000', 'L3'), (76, '3b9aca01', 'L3'),
+    (67, '02', 'L3'),
+    # A variant of none of the four.
+    (320, '04', 'L3'), (320, 'ff', 'L3'),
+    # Routes that stand or fall, from a node and over a link that are not there.
+    (327, '0001 0000', 'L3'), (333, '0000 0003', 'L3'), (339, '0004', 'L3'), (343, '0006', 'L3'),
+    # A byte left over, alone, behind a number out of its range, and before a route of the wrong kind.
+    (343, '0004 00', 'L4'), (343, '0006 00', 'L3'), (343, '0000 00', 'L4'),
+    # A route of no router, for a router, over another node's link.
+    (321, '0000', 'L6'), (329, '0002', 'L6'), (343, '0003', 'L6'),
+    # No route to the receiver, and one that leads back.
+    (331, '0003', 'L7'), (343, '0002', 'L8'),
+)
+# A sender, a receiver, a link each way and a flow, in version 1 and in version 2.
+FIRST = bytes.fromhex('''
+54434231 000000003b9aca00 0002 0002 0001 00000000
+00 01
+0000 0001 00000000007a1200 00000000000f4240 00 000a 0000000000000000 0000000000000000 0000 00
+0001 0000 00000000007a1200 00000000000f4240 00 000a 0000000000000000 0000000000000000 0000 00
+0000 0001 03e8 00000001 0000000000000000 0000fa00 00000000
+''')
+SECOND = FIRST[:3] + b'2' + FIRST[4:] + b'\0'
+# One of the two, a place, the bytes put there, and the fault.
+LAYOUTS = ((FIRST, 3, '32', 'L1'), (FIRST, 3, '33', 'L2'), (FIRST, 134, '00', 'L4'), (SECOND, 3, '33', 'L2'),
+           (SECOND, 3, '31', 'L4'), (SECOND, 134, '04', 'L3'), (SECOND, 134, '04 00', 'L3'), (SECOND, 134, '03 00', 'L4'))
+SENDERS = (('00', 'reno iw3'), ('01', 'newreno iw3'), ('02', 'reno iw10'), ('03', 'newreno iw10'))
+
+# Numbers, and whether they are in their ranges.
+CODEL = (       # target, interval, maxpacket
+    (0, 100_000_000, 1_500, False), (1, 100_000_000, 1_500, True), (10_000_000_000, 100_000_000, 1_500, True),
+    (10_000_000_001, 100_000_000, 1_500, False), (5_000_000, 0, 1_500, False), (5_000_000, 1, 1_500, True),
+    (5_000_000, 10_000_000_000, 1_500, True), (5_000_000, 10_000_000_001, 1_500, False), (5_000_000, 100_000_000, 0, False),
+    (5_000_000, 100_000_000, 1, True), (5_000_000, 100_000_000, 65_535, True))
+LINKS = (       # from, to, rate, delay, capacity
+    (0, 1, 8_000_000, 1_000_000, 10, True), (1, 0, 8_000_000, 1_000_000, 10, True), (2, 1, 8_000_000, 1_000_000, 10, False),
+    (0, 2, 8_000_000, 1_000_000, 10, False), (0, 1, 999, 1_000_000, 10, False), (0, 1, 1_000, 1_000_000, 10, True),
+    (0, 1, 1_000_000_000_000, 1_000_000, 10, True), (0, 1, 1_000_000_000_001, 1_000_000, 10, False),
+    (0, 1, 8_000_000, 0, 10, False), (0, 1, 8_000_000, 1, 10, True), (0, 1, 8_000_000, 10_000_000_000, 10, True),
+    (0, 1, 8_000_000, 10_000_000_001, 10, False), (0, 1, 8_000_000, 1_000_000, 0, False), (0, 1, 8_000_000, 1_000_000, 1, True),
+    (0, 1, 8_000_000, 1_000_000, 65_535, True))
+LOST = (        # numbers of lost packets
+    ((0, 1), False), ((1, 2), True), ((1, 1), False), ((2, 1), False), ((1, 1_000_000_000), True), ((1, 1_000_000_001), False),
+    ((*range(1, 65),), True), ((*range(1, 66),), False))
+FLOWS = (       # sender, receiver, mss, segments, start, rwnd, delack, of a scenario that ends at 100 ns
+    (0, 1, 1_000, 1, 0, 64_000, 0, True), (1, 1, 1_000, 1, 0, 64_000, 0, True), (2, 1, 1_000, 1, 0, 64_000, 0, False),
+    (0, 2, 1_000, 1, 0, 64_000, 0, False), (0, 1, 0, 1, 0, 64_000, 0, False), (0, 1, 1, 1, 0, 64_000, 0, True),
+    (0, 1, 9_000, 1, 0, 64_000, 0, True), (0, 1, 9_001, 1, 0, 64_000, 0, False), (0, 1, 1_000, 0, 0, 64_000, 0, False),
+    (0, 1, 1_000, 1_000_000_000, 0, 64_000, 0, True), (0, 1, 1_000, 1_000_000_001, 0, 64_000, 0, False),
+    (0, 1, 1_000, 1, 99, 64_000, 0, True), (0, 1, 1_000, 1, 100, 64_000, 0, False), (0, 1, 1_000, 1, 0, 999, 0, False),
+    (0, 1, 1_000, 1, 0, 1_000, 0, True), (0, 1, 1_000, 1, 0, 1_073_741_824, 0, True),
+    (0, 1, 1_000, 1, 0, 1_073_741_825, 0, False), (0, 1, 1_000, 1, 0, 64_000, 500_000_000, True),
+    (0, 1, 1_000, 1, 0, 64_000, 500_000_001, False))
+ROUTES = (      # router, destination, link, with 4 nodes and 6 links; whether within, and whether behind (2, 1)
+    (3, 0, 0, True, True), (3, 0, 5, True, True), (3, 0, 6, False, True), (4, 0, 0, False, True), (2, 2, 0, True, True),
+    (2, 3, 0, True, True), (2, 4, 0, False, True), (2, 1, 0, True, False), (2, 0, 0, True, False), (1, 3, 0, True, False))
+COUNTS = (      # end, how many nodes, links and flows
+    (0, 2, 2, 1, False), (1, 2, 2, 1, True), (10**15, 2, 2, 1, True), (10**15 + 1, 2, 2, 1, False), (1, 1, 2, 1, False),
+    (1, 256, 2, 1, True), (1, 257, 2, 1, False), (1, 2, 0, 1, False), (1, 2, 1, 1, True), (1, 2, 1_024, 1, True),
+    (1, 2, 1_025, 1, False), (1, 2, 2, 0, False), (1, 2, 2, 128, True), (1, 2, 2, 129, False))
+
+# A sender, a receiver and a router: the first two of three links (the third is from the router to the sender), the
+# flow, a route, and the fault.
+THERE, BACK = (0, 1), (1, 0)
+OF_ONE_FLOW = (
+    (THERE, BACK, (0, 1), (2, 0, 2), None), (THERE, BACK, (0, 3), (2, 0, 2), 'L3'), (THERE, (3, 0), (0, 1), (2, 0, 2), 'L3'),
+    (THERE, BACK, (1, 1), (2, 3, 2), 'L3'), (THERE, THERE, (0, 1), (2, 0, 2), 'L5'), (THERE, BACK, (1, 1), (2, 0, 2), 'L5'),
+    (THERE, BACK, (0, 0), (2, 0, 2), 'L5'), (THERE, BACK, (0, 0), (2, 2, 2), 'L5'), (THERE, BACK, (1, 0), (2, 0, 2), 'L6'),
+    ((0, 0), BACK, (0, 1), (2, 0, 2), 'L6'), ((0, 2), BACK, (0, 1), (2, 2, 2), 'L6'), ((0, 2), BACK, (0, 1), (2, 0, 1), 'L6'),
+    (THERE, BACK, (0, 1), (1, 0, 1), 'L6'), ((0, 2), BACK, (0, 1), (2, 0, 2), 'L7'), ((0, 2), BACK, (0, 1), (2, 1, 2), 'L7'),
+    ((0, 2), (1, 2), (0, 1), (2, 1, 2), 'L7'))
+# Two flows, from 0 to 4 and from 1 to 5, over routers 2 and 3.
+TWO_LINKS = ((0, 2), (1, 2), (2, 3), (3, 2), (3, 4), (3, 5), (4, 3), (5, 3), (2, 0), (2, 1))
+TWO_ROUTES = ((2, 0, 8), (2, 1, 9), (2, 4, 2), (2, 5, 2), (3, 0, 3), (3, 1, 3), (3, 4, 4), (3, 5, 5))
+# Two routes in the place of those at these places, and the fault.
+STAYS = (7, (3, 5, 5))
+WAYS = (
+    (STAYS, STAYS, None), ((6, (3, 4, 3)), STAYS, 'L8'), ((4, (3, 0, 4)), STAYS, 'L7'), ((6, (3, 4, 5)), STAYS, 'L7'),
+    ((2, (2, 4, 8)), STAYS, 'L7'), ((0, (2, 0, 2)), STAYS, 'L8'), ((6, (3, 4, 3)), (7, (3, 6, 5)), 'L3'),
+    ((6, (3, 4, 3)), (5, (3, 1, 2)), 'L6'), ((6, (3, 4, 3)), (7, (3, 5, 4)), 'L7'), ((6, (3, 4, 3)), (5, (3, 1, 5)), 'L7'),
+    ((6, (3, 4, 3)), (7, (3, 5, 3)), 'L8'))
+# A sender, a receiver and a router with a link of its own: three links before that, two flows, and whether each end
+# has one link and one flow.
+ENDS = (
+    (THERE, BACK, (2, 0), (0, 1), (2, 2), True), (THERE, BACK, (2, 0), (1, 0), (2, 2), True),
+    (THERE, BACK, (2, 0), (0, 0), (1, 1), True), (THERE, BACK, (2, 0), (0, 0), (2, 2), False),
+    (THERE, BACK, (2, 0), (1, 1), (2, 2), False), (THERE, BACK, (2, 0), (0, 1), (0, 2), False),
+    (THERE, BACK, (2, 0), (0, 1), (2, 1), False), (THERE, BACK, (2, 0), (0, 1), (2, 0), False),
+    (THERE, BACK, (0, 1), (0, 1), (2, 2), False), (THERE, BACK, (1, 0), (0, 1), (2, 2), False),
+    (THERE, (2, 0), (2, 0), (0, 1), (2, 2), False), ((2, 1), BACK, (2, 0), (0, 1), (2, 2), False))
+
+
+def link(source, to, rate=8_000_000, delay=1_000_000, capacity=10, codel=None, lost=()):
+    numbers = (1, capacity, *codel) if codel else (0, capacity, 0, 0, 0)
+    return struct.pack(f'>HHQQBHQQHB{len(lost)}I', source, to, rate, delay, *numbers, len(lost), *lost)
+
+
+def flow(sender, receiver, mss=1_000, segments=1, start=0, rwnd=64_000, delack=0):
+    return struct.pack('>HHHIQIIB', sender, receiver, mss, segments, start, rwnd, delack, 0)
+
+
+def image(nodes, links, flows, routes=(), end=1_000_000_000):
+    """An image of kinds of nodes, of links and flows in bytes, and of routes."""
+    head = struct.pack('>4sQHHHI', b'TCB2', end, len(nodes), len(links), len(flows), len(routes))
+    return head + bytes(nodes) + b''.join([*links, *flows, *(struct.pack('>HHH', *it) for it in routes)])
+
+
+def with_bytes(data, place, digits):
+    put = bytes.fromhex(digits)
+    return data[:place] + put + data[place + len(put):]
+
+
+def outcome(data, word='asm'):
+    """What the program comes to: its output, or the code of a refusal."""
+    done = subprocess.run([PROGRAM, word], input=data, capture_output=True, timeout=LONGEST, check=False)
+    if done.returncode == 0:
+        return done.stdout
+    assert (done.returncode, done.stdout) == (1, b''), done
+    return done.stderr.decode().removeprefix('refused ').removesuffix('\n')
+
+
+class Images(unittest.TestCase):
+    def expect(self, row, data, fault):
+        self.assertEqual(outcome(data), fault or data, row)
+
+    def judged(self, row, data, is_right, fault='L3'):
+        """Refused for this fault exactly where it is not right; for none that is looked for before."""
+        found = outcome(data)
+        self.assertEqual(found != fault, is_right, row)
+        self.assertNotIn(found, ('L1', 'L2', 'L3', 'L4') if fault == 'L5' else ('L1', 'L2', 'L4'), row)
+
+    # ---- loading and saving
+
+    def test_an_image_is_loaded_and_saved_again(self):
+        self.expect('row', ROW, None)
+
+    def test_too_few_bytes_come_before_all_else(self):
+        data = with_bytes(ROW, 22, '03')        # of no kind of node
+        self.expect('whole', data, 'L3')
+        for size in range(3, len(data)):
+            self.expect(size, data[:size], 'L1')
+
+    def test_the_first_fault_of_an_image_counts(self):
+        for place, digits, fault in CHANGED:
+            self.expect((place, digits), with_bytes(ROW, place, digits), fault)
+
+    def test_an_image_of_the_first_version_is_saved_in_the_second(self):
+        self.assertEqual((len(FIRST), len(SECOND)), (134, 135))
+        for data in (FIRST, SECOND):
+            self.assertEqual(outcome(data), SECOND)
+
+    def test_a_last_byte_tells_the_variant(self):
+        for digits, words in SENDERS:
+            data = with_bytes(SECOND, 134, digits)
+            self.expect(digits, data, None)
+            self.assertTrue(outcome(data, 'dis').decode().endswith(f' {words}\n'))
+
+    def test_the_fourth_byte_tells_which_layout_is_judged(self):
+        for data, place, digits, fault in LAYOUTS:
+            self.expect((place, digits, fault), with_bytes(data, place, digits), fault)
+
+    # ---- ranges; two senders are no scenario, but numbers are judged first
+
+    def test_codel_has_limits(self):
+        for *codel, is_right in CODEL:
+            self.judged(codel, image([S, S], [link(0, 1, codel=codel)], [flow(0, 1)], end=1), is_right)
+
+    def test_a_link_has_limits(self):
+        for *numbers, is_right in LINKS:
+            self.judged(numbers, image([S, S], [link(*numbers)], [flow(0, 1)], end=1), is_right)
+
+    def test_lost_packets_have_limits(self):
+        for lost, is_right in LOST:
+            self.judged(lost, image([S, S], [link(0, 1, lost=lost)], [flow(0, 1)], end=1), is_right)
+
+    def test_a_flow_has_limits(self):
+        for *numbers, is_right in FLOWS:
+            self.judged(numbers, image([S, S], [link(0, 1)], [flow(*numbers)], end=100), is_right)
+
+    def test_routes_have_limits_and_an_order(self):
+        def of(nodes, links, *routes):
+            return image([S] * nodes, [link(0, 1)] * links, [flow(0, 1)], routes, end=1)
+        for *route, is_within, is_later in ROUTES:
+            self.judged(route, of(4, 6, route), is_within)
+            # With one node and one link more all of them are there, so that the order alone counts.
+            self.judged(route, of(5, 7, route), True)
+            self.judged(route, of(5, 7, (2, 1, 0), route), is_later)
+
+    def test_an_end_and_the_counts_have_limits(self):
+        for end, nodes, links, flows, is_right in COUNTS:
+            self.judged((end, nodes, links, flows), image([S] * nodes, [link(0, 1)] * links, [flow(0, 1)] * flows, end=end), is_right)
+        # As many routes as there may be are one for each two nodes, so one more does not rise either.
+        routes = list(itertools.product(range(256), range(256), (0,)))
+        for more, is_right in ((), True), (((255, 255, 0),), False):
+            self.judged(more, image([S] * 256, [link(0, 1)] * 2, [flow(0, 1)], (*routes, *more), end=1), is_right)
+
+    # ---- the whole
+
+    def test_the_first_fault_of_one_flow_counts(self):
+        for first, second, ends, route, fault in OF_ONE_FLOW:
+            links = [link(*first), link(*second), link(2, 0)]
+            self.expect((first, second, ends, route), image([S, R, P], links, [flow(*ends)], [route]), fault)
+
+    def test_a_break_of_any_way_comes_before_a_return_of_one(self):
+        for one, other, fault in WAYS:
+            routes = list(TWO_ROUTES)
+            for place, route in (one, other):
+                routes[place] = route
+            data = image([S, S, P, P, R, R], [link(*ends) for ends in TWO_LINKS], [flow(0, 4), flow(1, 5)], routes)
+            self.expect((one, other), data, fault)
+
+    def test_a_sender_and_a_receiver_have_a_link_and_a_flow_each(self):
+        for *ends, one, other, is_right in ENDS:
+            links = [link(*it) for it in (*ends, (2, 1))]
+            self.judged((ends, one, other), image([S, R, P], links, [flow(*one), flow(*other)]), is_right, 'L5')
+
+    def test_a_router_has_1_to_16_links(self):
+        for count, is_right in ((0, False), (1, True), (16, True), (17, False)):
+            self.judged(count, image([P, P], [link(0, 1)] * count + [link(1, 0)], [flow(0, 1)]), is_right, 'L5')
+
+
+def main():
+    global PROGRAM  # pylint: disable=global-statement
+    words = argparse.ArgumentParser(description=__doc__.partition('\n')[0])
+    words.add_argument('--program', default=PROGRAM)
+    words.add_argument('tests', nargs='*')
+    args = words.parse_args()
+    PROGRAM = os.path.abspath(args.program)
+    done = unittest.main(argv=[sys.argv[0], *args.tests], exit=False).result
+    failed = len({getattr(test, 'test_case', test).id() for test, _ in done.failures + done.errors})
+    print(f'{done.testsRun - failed} passed, {failed} failed')
+    return 1 if failed else 0
+
+
+if __name__ == '__main__':
+    sys.exit(main())

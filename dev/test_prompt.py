@@ -1,0 +1,385 @@
+#!/usr/bin/env python3
+"""Tests of `tcpsim debug FILE` with the built program: commands are typed one by one, into a pseudo-terminal and
+into pipes, and each answer has to be out before the next command goes in.
+
+What a line answers is what the model of python/tcpsim_model says of it. It goes after `make run`.
+Usage: dev/test_prompt.py [--program PATH] [--steps N] [TEST..]. --steps N is for a program whose prompt has the
+first N steps of its grammar (python/tcpsim_model/prompt.py), else all. The last line is 'N passed, N failed'.
+"""
+import argparse
+import glob
+import os
+import pty
+import random
+import re
+import select
+import signal
+import subprocess
+import sys
+import tempfile
+import termios
+import time
+import tty
+import unittest
+
+from paths import TOP
+from tcpsim_model import debugger, prompt, sessions, simulate
+from tcpsim_model.scenario import Refused
+from tcpsim_model.command_line import read as scenario_in
+
+PROGRAM = os.path.join(TOP, 'crates', 'tcpsim', 'out', 'tcpsim')
+PROMPT = b'(tcpsim) '
+LONGEST = 60        # seconds that a session may take
+MOST_LINE = 65_536  # bytes of a line
+STEPS = prompt.BUILT
+# What is noted of a line that is refused as no command.
+NO_NAME = b'refused B1\nB1: no command has this name, or no sort of breakpoint\n'
+
+ONE = os.path.join(TOP, 'examples', 'one_segment.txt')
+TWO = os.path.join(TOP, 'examples', 'two_timeouts_in_a_row.txt')
+HUNT = [b'break kind rto', b'run', b'run', b'back 2', b'clear', b'break drop', b'back 25', b'run', b'state']
+# What each step of the grammar brought: lines typed over the two timeouts, and the refusals of some.
+LINES = {
+    0: HUNT,
+    1: [b'b', b's', b'', b'st 2', b'  ', b'sta', b'u 3.08ms', b'until 3080us', b'', b'unti 3080000ns', b'u 1s', b'br kind rto',
+        b'brea flow 0', b'cl', b'break drop', b'r', b'break', b'', b'ru', b'back 3', b'', b'until 0.0000000001s', b'', b'c', b'ba 99'],
+    2: [b'breaks', b'br node 0', b'break drop', b'brea kind rto', b'break drop', b'breaks', b'delete 2', b'd 3', b'breaks', b'd 1', b'del 1',
+        b'breaks', b'help', b'h until', b'help h', b'he br', b'help breaks', b'clear', b'help numbers', b'h t', b'h kin', b'help stal', b'h sta', b'h w'],
+    3: [b'lines', b'b 99', b'l', b'lines 1000', b's', b'l', b's 10', b's 11', b'l 3', b'lines 0', b'back 10', b'back 11', b'b 0', b's 0',
+        b'br kind free', b'br flow 0', b'br node 1', b's 4', b'', b'r', b'b', b'u 4s', b'd 1', b'', b'r', b'', b'', b'state', b'l 1000'],
+    4: [b'back 99', b'state flow 0', b'step', b'state', b'state node 0', b'sta node 1', b'state link 0', b'sta link 1', b'state flow 0', b'',
+        b's 20', b'sta flow 0', b'u 9s', b'sta flow 0'],
+    5: [b'back 999', b'why 0', b'step', b'w 0', b's 20', b'wh 0', b'', b'w 0', b'b 3', b'why 0', b'u 9s', b'why 0'],
+    6: [b'clear', b'reverse', b'', b'u 9s', b're', b'br kind rto', b'u 9s', b'rev', b'', b's', b'', b'', b'br drop', b'u 9s', b'reve', b'', b'', b'',
+        b'', b'r', b'', b're', b's 3', b'b', b're', b'', b'c'],
+    7: [b'break kind data flow 0', b'br flow 0  kind data', b'br link 0 drop', b'br link 1', b'br byte 4000 kind ack', b'breaks', b'r', b'', b'd 1',
+        b'r', b'', b'', b'd 2', b'r', b'', b'', b'', b're', b'', b'c', b'br byte 5000 link 1 drop kind delack flow 0 node 1', b'br byte 9000000000000',
+        b'br byte 3000', b'br node 0 link 0', b'breaks', b're', b'', b'r', b'', b'd 1', b'd 4', b'breaks', b'c', b'help', b'h br'],
+    8: [b'back 999', b'br stall', b'break stall 0', b'br  stall', b'r', b'w 0', b'', b'w 0', b'', b're', b'', b'', b'd 1', b'r', b'br kind rto', b'r', b're',
+        b'breaks', b'c'],
+}
+REFUSALS = {
+    0: [(b'bak 1', b'B1'), (b'step 01', b'B3'), (b'break flow 1', b'B3'), (b'run 1', b'B2'), (b'break', b'B2')],
+    1: [(b'stepp', b'B1'), (b'y', b'B1'), (b'step 1 2', b'B2'), (b'step x', b'B3'), (b'back 1000000000000001', b'B3'), (b'until', b'B2'),
+        (b'until 1 s', b'B2'), (b'until 1.5', b'B3'), (b'u 1.0ns', b'B3'), (b'u 1.0000us', b'B3'), (b'u .5s', b'B3'), (b'u 5.s', b'B3'),
+        (b'u 01s', b'B3'), (b'u 1000000.000000001s', b'B3'), (b'u 1S', b'B3'), (b'br n 0', b'B1'), (b'br kind', b'B2'),
+        (b'clear x', b'B2'), (b'step\t1', b'B1'), (b'quit now', b'B2')],
+    2: [(b'breaks 1', b'B2'), (b'delete', b'B2'), (b'd 1 2', b'B2'), (b'd 01', b'B3'), (b'd x', b'B3'), (b'd 0', b'B5'), (b'd 1', b'B5'),
+        (b'delete 99999999999999999999999', b'B5'), (b'help stepp', b'B1'), (b'h x y', b'B1'), (b'h s t', b'B2'), (b'help stalls', b'B1'), (b'h k rto', b'B2')],
+    3: [(b'lines 1 2', b'B2'), (b'l 1001', b'B3'), (b'l 01', b'B3'), (b'l x', b'B3')],
+    4: [(b'state 1', b'B1'), (b'state kind rto', b'B1'), (b'state n 1', b'B1'), (b'state flows 1 2', b'B1'), (b'state node', b'B2'),
+        (b'state link 0 1', b'B2'), (b'state node 2', b'B3'), (b'state link 2', b'B3'), (b'state flow 1', b'B3'), (b'state flow 00', b'B3')],
+    5: [(b'why', b'B2'), (b'w 0 0', b'B2'), (b'why 1', b'B3'), (b'wh 00', b'B3'), (b'why f', b'B3'), (b'whys 0', b'B1')],
+    6: [(b'reverse 1', b'B2'), (b'rev drop', b'B2'), (b'reverses', b'B1')],
+    7: [(b'break drop 1', b'B1'), (b'br node 0 1', b'B1'), (b'br node 2 lin 0', b'B1'), (b'br kind acks link 0 1', b'B1'), (b'br drop drop', b'B2'),
+        (b'br drop foo drop', b'B1'), (b'br node 0 node 1', b'B2'), (b'br node 2 node 1', b'B2'), (b'br node 0 node', b'B2'), (b'br node 2 flow', b'B2'),
+        (b'br node 0 node 1 foo', b'B2'), (b'br link', b'B2'), (b'br drop byte', b'B2'), (b'br node node', b'B3'), (b'br flow drop', b'B3'),
+        (b'br node 0 flow 1', b'B3'), (b'br link 2', b'B3'), (b'br drop byte 9000000000001', b'B3'), (b'br byte 01 kind ack', b'B3')],
+    8: [(b'br stall 1', b'B3'), (b'br stall x', b'B3'), (b'br stall 00', b'B3'), (b'br stall 0 0', b'B2'), (b'br stall 1 x', b'B2'), (b'br stal', b'B1'),
+        (b'br stall drop', b'B3'), (b'br drop stall', b'B1'), (b'br node 0 stall 0', b'B1')],
+}
+
+
+def of_steps(found):
+    """What there is of the steps that the program has."""
+    return [it for step, those in found.items() if step <= STEPS for it in those]
+
+
+def read(path):
+    with open(path, 'rb') as file:
+        return file.read()
+
+
+def scenario(path):
+    return scenario_in(read(path))
+
+
+def answers(path, lines):
+    """What each of the lines is answered with, and what is noted of it, where the others are typed before it."""
+    session, found = prompt.Prompt(scenario(path), STEPS), []
+    for line in lines:
+        try:
+            found.append((session.answer(line).encode(), b''))
+        except Refused as refusal:
+            found.append((b'', session.noted(line, refusal).encode()))
+    return found
+
+
+def model(path, lines):
+    """What all the lines are answered with."""
+    return b''.join(answer for answer, _ in answers(path, lines))
+
+
+def debug(path, given, *options, **more):
+    """A session whose lines are all there: its status, what it answers, and what it notes."""
+    done = subprocess.run([PROGRAM, 'debug', path, *options], input=given, capture_output=True, timeout=LONGEST,
+                          check=False, **more)
+    return done.returncode, done.stdout, done.stderr
+
+
+def page():
+    """What docs/DEBUGGING.md shows: of each session its file, its lines and what is answered, and of each command of
+    the shell what it prints. A line `...` stands for some lines that are left out."""
+    with open(os.path.join(TOP, 'docs', 'DEBUGGING.md'), encoding='utf-8') as file:
+        blocks = re.findall(r'^```\n(.*?)^```$', file.read(), re.M | re.S)
+    sessions_, commands = [], []
+    for block in blocks:
+        for line in block.splitlines():
+            if started := re.fullmatch(r'\$ crates/tcpsim/out/tcpsim debug (\S+)', line):
+                sessions_.append((os.path.join(TOP, started[1]), [], ['']))
+            elif line.startswith('{ '):
+                commands.append((line, ['']))
+            elif line.startswith('(tcpsim) '):
+                sessions_[-1][1].append(line.removeprefix('(tcpsim) ').encode())
+            else:
+                (commands[-1] if commands else sessions_[-1])[-1][0] += r'(?:.*\n)+' if line == '...' else re.escape(line + '\n')
+    return sessions_, commands
+
+
+class Typed:
+    """A session into which lines are typed, by a pseudo-terminal or by pipes."""
+
+    def __init__(self, path, *options, terminal):
+        self.notes, told = os.pipe()
+        if terminal:
+            self.keys, theirs = pty.openpty()
+            tty.setraw(theirs, termios.TCSANOW)
+            self.screen, ends = self.keys, (theirs, theirs)
+        else:
+            theirs, self.keys = os.pipe()
+            self.screen, shown = os.pipe()
+            ends = (theirs, shown)
+        # A shell has what it runs behind itself ignore interrupts, and what that runs would too.
+        self.program = subprocess.Popen([PROGRAM, 'debug', path, *options], stdin=ends[0], stdout=ends[1], stderr=told,
+                                        preexec_fn=lambda: signal.signal(signal.SIGINT, signal.SIG_DFL))
+        for end in {*ends, told}:
+            os.close(end)
+        self.seen = b''
+
+    def until_asked(self):
+        """What is on standard error up to the next prompt. Standard output is read meanwhile, so that none is full."""
+        noted, until = b'', time.monotonic() + LONGEST
+        while not noted.endswith(PROMPT):
+            ready, _, _ = select.select([self.notes, self.screen], [], [], max(0, until - time.monotonic()))
+            assert ready, f'no prompt after {noted!r}'
+            if self.notes not in ready:
+                self.seen += os.read(self.screen, 65_536)
+                continue
+            byte = os.read(self.notes, 1)
+            assert byte, f'the session ended after {noted!r}'
+            noted += byte
+        return noted[:-len(PROMPT)]
+
+    def shown(self):
+        """What is on standard output now, without waiting for more."""
+        while select.select([self.screen], [], [], 0)[0]:
+            piece = os.read(self.screen, 65_536)
+            if not piece:
+                break
+            self.seen += piece
+        found, self.seen = self.seen, b''
+        return found
+
+    def type(self, line):
+        while line:
+            line = line[os.write(self.keys, line):]
+
+    def end(self):
+        """The status and the rest of standard error, after the keys are taken away."""
+        status = self.program.wait(LONGEST)
+        rest = b''
+        while piece := os.read(self.notes, 65_536):
+            rest += piece
+        for end in {self.keys, self.screen, self.notes}:
+            os.close(end)
+        return status, rest
+
+
+class AtThePrompt(unittest.TestCase):
+    def typed(self, path, lines, *options, terminal):
+        """Types lines one by one: each is answered before the next one is asked for."""
+        session = Typed(path, *options, terminal=terminal)
+        self.assertEqual(session.until_asked(), b'')
+        self.assertEqual(session.shown(), b'')
+        for line, (answer, note) in zip(lines, answers(path, lines)):
+            session.type(line + b'\n')
+            noted = session.until_asked()
+            with self.subTest(line=line, terminal=terminal):
+                self.assertEqual((session.shown(), noted), (answer, note))
+        session.type(b'quit\n')
+        self.assertEqual(session.end(), (0, b''))
+
+    def test_each_answer_is_out_before_the_next_command_goes_in(self):
+        lines, refused = of_steps(LINES), [line for line, _ in of_steps(REFUSALS)]
+        for terminal in (True, False):
+            self.typed(TWO, lines, terminal=terminal)
+            self.typed(TWO, lines, '--workers', '2', '--groups', 'each', terminal=terminal)
+            self.typed(ONE, refused + [b'', b'   ', b'step 3', b' back  2 '], terminal=terminal)
+
+    def test_random_commands(self):
+        pick = random.Random(35)
+        for count in range(40):
+            path = pick.choice((ONE, TWO))
+            net = simulate.Network(scenario(path))
+            moments = [line.time for line in iter(net.step, None)]
+            session = prompt.Prompt(net.scenario, STEPS)
+            lines = [line for line in (sessions.any_line(pick, net.scenario, moments, STEPS) for _ in range(12))
+                     if not session.quits(line)]
+            with self.subTest(count=count):
+                self.typed(path, lines, terminal=bool(count % 2))
+
+    def test_all_lines_at_once(self):
+        """What is there before it is asked for is answered in turn, with a prompt a line."""
+        lines = of_steps(LINES)
+        noted = b''.join(PROMPT + note for _, note in answers(TWO, lines)) + PROMPT
+        for groups in 'one', 'each':
+            for workers in '1', '2', '64':
+                told = debug(TWO, b''.join(line + b'\n' for line in lines), '--groups', groups, '--workers', workers)
+                with self.subTest(groups=groups, workers=workers):
+                    self.assertEqual(told, (0, model(TWO, lines), noted))
+
+    def test_the_end_of_input(self):
+        self.assertEqual(debug(ONE, b''), (0, b'', PROMPT))
+        for last in (b'step 3\n', b'step 3'):
+            self.assertEqual(debug(ONE, last), (0, model(ONE, [b'step 3']), PROMPT * 2))
+
+    def test_quit(self):
+        """Nothing behind the line is read: it is there for who reads on."""
+        for line in (b'quit', b'  quit ', b' quit', *((b'q', b' qu', b'qui') if STEPS else ())):
+            with tempfile.TemporaryFile() as keys:
+                keys.write(b'step 1\n' + line + b'\nstep 2\n')
+                keys.seek(0)
+                done = subprocess.run([PROGRAM, 'debug', ONE], stdin=keys, capture_output=True, timeout=LONGEST,
+                                      check=False)
+                self.assertEqual((done.returncode, done.stdout, done.stderr), (0, model(ONE, [b'step 1']), PROMPT * 2))
+                self.assertEqual(os.lseek(keys.fileno(), 0, os.SEEK_CUR), len(b'step 1\n' + line + b'\n'))
+
+    def test_refused_lines(self):
+        for line, code in of_steps(REFUSALS):
+            with self.subTest(line=line):
+                (_, note), = answers(ONE, [line])
+                self.assertTrue(note.startswith(b'refused ' + code + b'\n'))
+                self.assertEqual(debug(ONE, line + b'\nstep 1\n'), (0, model(ONE, [b'step 1']), PROMPT + note + PROMPT * 2))
+
+    def test_the_nearest_command(self):
+        for word, nearest in ((b'stpe', b'step'), (b'bak', b'back'), (b'brak', b'break'), (b'brakes', b'breaks'), (b'halp', b'help'),
+                              (b'exit', b'quit'), (b'x', b'run'), (b'x' * 32, b'step'), (b'\xff\trun', b'run')):
+            with self.subTest(word=word):
+                shown = word.replace(b'\xff\t', b'??')
+                noted = PROMPT + NO_NAME + b'tcpsim: no command ' + shown + b'; the nearest is ' + nearest + b'\n' + PROMPT
+                for line in (word, b'  ' + word + b'  1'):
+                    self.assertEqual(debug(ONE, line + b'\n'), (0, b'', noted))
+        for line in (b'x' * 33, b'break n 0', b'state kind rto', b'help stpe'):
+            self.assertEqual(debug(ONE, line + b'\n'), (0, b'', PROMPT + NO_NAME + PROMPT))
+
+    def test_long_lines(self):
+        step = model(ONE, [b'step 1'])
+        for line, code in ((b'a' * MOST_LINE, b'B1'), (b'a' * (MOST_LINE + 1), b'B2'),
+                           (b'step 1' + b' ' * MOST_LINE, b'B2'), (b' ' * (MOST_LINE + 2) + b'quit', b'B2'),
+                           (b'b' * 3_000_000 + b' step 1', b'B2')):
+            with self.subTest(length=len(line), code=code):
+                told = debug(ONE, line + b'\nstep 1\n')
+                means = prompt.MEANINGS[code.decode()].encode()
+                self.assertEqual(told, (0, step, PROMPT + b'refused ' + code + b'\n' + means + b'\n' + PROMPT * 2))
+        self.assertEqual(debug(ONE, b'step 1'.ljust(MOST_LINE) + b'\n'), (0, step, PROMPT * 2))
+
+    def test_a_refused_scenario_has_no_prompt(self):
+        with tempfile.TemporaryDirectory() as folder:
+            path = os.path.join(folder, 'short.txt')
+            with open(path, 'wb') as file:
+                file.write(b'sim 5\nnode s sender\n')
+            with tempfile.TemporaryFile() as keys:
+                keys.write(b'step 1\n')
+                keys.seek(0)
+                done = subprocess.run([PROGRAM, 'debug', path], stdin=keys, capture_output=True, timeout=LONGEST,
+                                      check=False)
+                self.assertEqual((done.returncode, done.stdout, done.stderr), (1, b'', b'refused L3 line 0\n'))
+                self.assertEqual(os.lseek(keys.fileno(), 0, os.SEEK_CUR), 0)
+            self.assertEqual(debug(ONE, b'step 1\n', '--groups', '0'), (2, b'', b'refused groups\n'))
+            none = os.path.join(folder, 'none.txt')
+            self.assertEqual(debug(none, b'step 1\n'), (3, b'', f'cannot read {none}\n'.encode()))
+            self.assertEqual(debug(folder, b'step 1\n'), (3, b'', f'cannot read {folder}\n'.encode()))
+
+    def test_an_image(self):
+        with tempfile.TemporaryDirectory() as folder:
+            path = os.path.join(folder, 'one.tcb')
+            with open(path, 'wb') as file:
+                subprocess.run([PROGRAM, 'asm', ONE], stdout=file, check=True, timeout=LONGEST)
+            self.assertEqual(debug(path, b'step 3\n'), (0, model(ONE, [b'step 3']), PROMPT * 2))
+
+    def test_standard_input_has_both_where_no_file_is_named(self):
+        given = read(ONE) + b'---\nstep 3\nquit\n'
+        for words in ((), ('-',)):
+            done = subprocess.run([PROGRAM, 'debug', *words], input=given, capture_output=True, timeout=LONGEST,
+                                  check=False)
+            expected = b''.join(piece.encode() for piece in debugger.session(given))
+            self.assertTrue(expected.endswith(b'refused B1\n'))
+            self.assertEqual((done.returncode, done.stdout, done.stderr), (0, expected, b''))
+
+    def test_the_hunts_of_the_examples(self):
+        found = sorted(glob.glob(os.path.join(TOP, 'examples', '*.commands')))
+        self.assertEqual(len(found), 2)
+        for path in found:
+            given = read(path.replace('.commands', '.txt')) + b'---\n' + read(path)
+            done = subprocess.run([PROGRAM, 'debug'], input=given, capture_output=True, timeout=LONGEST, check=False)
+            expected = ''.join(debugger.session(given)).encode()
+            self.assertEqual((done.returncode, done.stdout, done.stderr), (0, expected, b''), path)
+
+    def test_the_page(self):
+        """What docs/DEBUGGING.md shows is what is answered."""
+        shown, commands = page()
+        self.assertEqual((len(shown), len(commands)), (3, 1))
+        for path, lines, (answer,) in shown:
+            status, out, _ = debug(path, b''.join(line + b'\n' for line in lines))
+            with self.subTest(path=path):
+                self.assertEqual(status, 0)
+                self.assertIsNotNone(re.fullmatch(answer, out.decode()), out.decode())
+        for line, (answer,) in commands:
+            done = subprocess.run(line.replace('crates/tcpsim/out/tcpsim', PROGRAM), shell=True, capture_output=True, cwd=TOP,
+                                  timeout=LONGEST, check=False)
+            self.assertEqual((done.returncode, done.stderr), (0, b''))
+            self.assertIsNotNone(re.fullmatch(answer, done.stdout.decode()), done.stdout)
+
+    def test_an_interrupt_ends_it_as_any_program(self):
+        session = Typed(ONE, terminal=False)
+        session.until_asked()
+        session.type(b'step\n')
+        session.until_asked()
+        session.program.send_signal(signal.SIGINT)
+        self.assertEqual(session.end(), (-signal.SIGINT, b''))
+
+    def test_ends_that_fail(self):
+        with open('/dev/full', 'wb') as full:
+            done = subprocess.run([PROGRAM, 'debug', ONE], input=b'step 1\nstep 1\n', stdout=full,
+                                  stderr=subprocess.PIPE, timeout=LONGEST, check=False)
+            self.assertEqual((done.returncode, done.stderr), (3, PROMPT + b'write failed\n'))
+            # What fails on standard error is ignored.
+            done = subprocess.run([PROGRAM, 'debug', ONE], input=b'bak 1\nstep 3\n', stdout=subprocess.PIPE,
+                                  stderr=full, timeout=LONGEST, check=False)
+            self.assertEqual((done.returncode, done.stdout), (0, model(ONE, [b'step 3'])))
+        # A folder opens and cannot be read: no line comes.
+        keys = os.open(TOP, os.O_RDONLY)
+        self.addCleanup(os.close, keys)
+        done = subprocess.run([PROGRAM, 'debug', ONE], stdin=keys, capture_output=True, timeout=LONGEST, check=False)
+        self.assertEqual((done.returncode, done.stdout, done.stderr), (3, b'', PROMPT + b'read failed\n'))
+
+
+def main():
+    global PROGRAM, STEPS
+    arguments = argparse.ArgumentParser(add_help=False)
+    arguments.add_argument('--program', default=PROGRAM)
+    arguments.add_argument('--steps', type=int, default=STEPS)
+    options, rest = arguments.parse_known_args()
+    PROGRAM, STEPS = os.path.abspath(options.program), options.steps
+    if not os.path.exists(PROGRAM):
+        print(f"{PROGRAM} is not there: build it with 'make run'")
+        print('LEFT OUT, not passed: dev/test_prompt.py')
+        return 0
+    done = unittest.main(argv=[sys.argv[0], *rest], exit=False).result
+    failed = len({getattr(test, 'test_case', test).id() for test, _ in done.failures + done.errors})
+    print(f'{done.testsRun - failed} passed, {failed} failed')
+    return 1 if failed else 0
+
+
+if __name__ == '__main__':
+    sys.exit(main())

@@ -1,0 +1,229 @@
+#!/usr/bin/env python3
+"""Tests of how many threads the program starts: dev/test_threads.py, after `make run`. A library that
+is loaded before the program counts them. It wants a C compiler, `cc`; where there is none the tests are
+left out, which is said. The last line is `N passed, M failed`.
+"""
+import os
+import shutil
+import subprocess
+import sys
+import tempfile
+import time
+import unittest
+from itertools import accumulate
+
+TOP = os.path.dirname(os.path.dirname(os.path.abspath(__file__)))
+PROGRAM = os.path.join(TOP, 'crates', 'tcpsim', 'out', 'tcpsim')
+NET = os.path.join(TOP, 'bin', 'tcpsim-net')
+# Four parts with a bottleneck each, joined by cables of 40 ms: each part has thousands of events in a window.
+WIDE = ('islands', '--islands', '4', '--flows', '10', '--rate', '200M', '--between', '40ms', '--end', '2s')
+# One flow over links of 1 ms: a window holds a few events.
+SMALL = ('chain', '--hops', '3', '--flows', '1', '--rate', '10M', '--segments', '2000', '--end', '20s')
+# Two pairs of ends that hear nothing of each other.
+PAIRS = ''.join(['sim 10000000000\n', *(f'node {a} sender\nnode {b} receiver\n' for a, b in ('ab', 'cd')),
+                 *(f'link {a}{b} {a} {b} 800000000 100000 droptail 100\n' for a, b in ('ab', 'ba', 'cd', 'dc')),
+                 *(f'flow {f} {a} {b} 1000 20000 0 64000 0\n' for f, a, b in ('eab', 'fcd'))])
+PROCESSORS = len(os.sched_getaffinity(0)) if hasattr(os, 'sched_getaffinity') else os.cpu_count()
+
+
+def most_hands(groups):
+    """How many threads so many groups give something to do, the program's own among them: one for each, and as many more
+    for text, where there are processors."""
+    return max(groups, min(PROCESSORS, 2 * groups))
+
+
+class Threads(unittest.TestCase):
+    @classmethod
+    def setUpClass(cls):
+        cls.folder = tempfile.TemporaryDirectory()
+        cls.library = os.path.join(cls.folder.name, 'threads.so')
+        source = os.path.join(TOP, 'dev', 'threads.c')
+        subprocess.run(['cc', '-O1', '-shared', '-fPIC', source, '-o', cls.library, '-ldl'], check=True)
+
+    @classmethod
+    def tearDownClass(cls):
+        cls.folder.cleanup()
+
+    def text_of(self, shape):
+        return subprocess.run([sys.executable, NET, *shape], check=True, capture_output=True, text=True).stdout
+
+    def ran(self, text, *words):
+        """What the program writes, and what beside it, and how many threads it started; `at_once` is then how many of
+        them there were at a time at most."""
+        counts = os.path.join(self.folder.name, 'counts')
+        with open(counts, 'wb'):
+            pass
+        env = {**os.environ, 'LD_PRELOAD': self.library, 'THREADS': counts}
+        done = subprocess.run([PROGRAM, *words], input=text, capture_output=True, text=True, env=env, check=True)
+        with open(counts, 'rb') as file:
+            marks = file.read()
+        self.at_once = max(accumulate((1 if mark == ord('t') else -1 for mark in marks), initial=0))
+        return done.stdout, done.stderr, marks.count(b't')
+
+    def counted(self, text, *words):
+        """What the program writes, and how many threads it started."""
+        written, _, threads = self.ran(text, *words)
+        return written, threads
+
+    def run_of(self, text, *words):
+        """How many threads a run starts; its trace is that of a run without options."""
+        plain, none = self.counted(text, 'run')
+        trace, threads = self.counted(text, 'run', *words)
+        self.assertEqual(none, 0)
+        self.assertTrue(trace == plain)
+        return threads
+
+    def test_the_library_counts(self):
+        """Where windows hold thousands of events, threads are started; without this no other row says anything."""
+        self.assertGreater(self.run_of(self.text_of(WIDE), '--groups', self.parts(), '--workers', '4'), 0)
+
+    def parts(self):
+        """The group of each node of the wide scenario: those that links of less than 40 ms join are in one."""
+        words = [line.split() for line in self.text_of(WIDE).splitlines()]
+        group = {it[1]: it[1] for it in words if it[:1] == ['node']}
+        for it in words:
+            if it[:1] == ['link'] and int(it[5]) < 40_000_000:
+                old, new = group[it[3]], group[it[2]]
+                group = {name: new if has == old else has for name, has in group.items()}
+        numbers = sorted(set(group.values()))
+        self.assertEqual(len(numbers), 4)
+        return ','.join(str(numbers.index(it)) for it in group.values())
+
+    def halves(self):
+        """The same with two parts in a group."""
+        return self.parts().replace('1', '0').replace('2', '1').replace('3', '1')
+
+    def test_threads_change_no_byte(self):
+        """By fewer workers than groups, and where two of the groups are one."""
+        text = self.text_of(WIDE)
+        four = self.parts()
+        for groups in (four, four.replace('1', '0'), four.replace('3', '2').replace('1', '0')):
+            for workers in ('2', '3'):
+                self.assertGreater(self.run_of(text, '--groups', groups, '--workers', workers), 0)
+
+    def test_threads_tell_of_each_hundredth(self):
+        """A window ends at each hundredth of a run that is told. One worker tells of those that an event passes."""
+        text, words = self.text_of(WIDE), ('run', '--progress', '--groups', self.parts(), '--workers')
+        trace, told, none = self.ran(text, *words, '1')
+        self.assertEqual((none, told), (0, self.ran(text, 'run', '--progress')[1]))
+        noted = [self.ran(text, *words, workers) for workers in ('2', '4')]
+        for found, said, threads in noted:
+            self.assertGreater(threads, 0)
+            self.assertTrue(found == trace)
+            self.assertEqual(said.count('% of 2 s simulated'), 100)
+        self.assertEqual(noted[0][1], noted[1][1])
+
+    def test_one_worker_or_one_group_starts_none(self):
+        text = self.text_of(WIDE)
+        self.assertEqual(self.run_of(text, '--groups', self.parts(), '--workers', '1'), 0)
+        self.assertEqual(self.run_of(text, '--groups', 'one', '--workers', '64'), 0)
+
+    def test_small_windows_start_none(self):
+        text = self.text_of(SMALL)
+        for workers in ('2', '4', '64'):
+            self.assertEqual(self.run_of(text, '--groups', 'each', '--workers', workers), 0)
+
+    def test_the_calling_thread_is_one_of_the_workers(self):
+        """For four workers three threads are started beside the program's own, which works too; they stay from window to
+        window, and all have gone at the end."""
+        text = self.text_of(WIDE)
+        for workers in (2, 3, 4, 64):
+            expected = min(workers, most_hands(4)) - 1
+            self.assertEqual(self.run_of(text, '--groups', self.parts(), '--workers', str(workers)), expected)
+            self.assertEqual(self.at_once, expected)
+
+    def test_more_threads_than_groups_make_text_where_there_are_processors(self):
+        """For two groups at most two more, and none that would have no processor."""
+        text, three = self.text_of(WIDE), self.parts().replace('3', '2')
+        for groups, count in (self.halves(), 2), (three, 3):
+            for workers in (2, 3, 4, 64):
+                expected = min(workers, most_hands(count)) - 1
+                self.assertEqual(self.run_of(text, '--groups', groups, '--workers', str(workers)), expected)
+
+    @unittest.skipUnless(hasattr(os, 'sched_setaffinity'), 'no way to take processors away')
+    def test_on_one_processor_no_thread_is_started_for_text(self):
+        allowed = os.sched_getaffinity(0)
+        text, two = self.text_of(WIDE), self.halves()
+        os.sched_setaffinity(0, {min(allowed)})
+        try:
+            self.assertEqual(self.run_of(text, '--groups', two, '--workers', '4'), 1)
+        finally:
+            os.sched_setaffinity(0, allowed)
+
+    def test_nobody_waits_for_threads_that_come_late(self):
+        """Threads that start 3 s late find nothing to run: the calling thread takes back what they were to do, and the
+        whole trace is there before they come. The run ends once they have gone."""
+        name = os.path.join(self.folder.name, 'late.txt')
+        with open(name, 'w', encoding='utf-8') as file:
+            file.write(self.text_of(WIDE))
+        plain = subprocess.run([PROGRAM, 'run', name], capture_output=True, check=True).stdout
+        env = {**os.environ, 'LD_PRELOAD': self.library, 'THREADS': os.path.join(self.folder.name, 'counts'),
+               'THREADS_LATE': '3000000'}
+        words = ['run', '--workers', '4', '--groups', self.parts(), name]
+        begun = time.monotonic()
+        with subprocess.Popen([PROGRAM, *words], stdout=subprocess.PIPE, env=env) as running:
+            lines = running.stdout.read(plain.rindex(b'end '))
+            early = time.monotonic() - begun
+            last = running.stdout.read()
+            late = time.monotonic() - begun
+        self.assertEqual(running.returncode, 0)
+        self.assertTrue(lines + last == plain)
+        self.assertLess(early, 3)
+        self.assertGreaterEqual(late, 3)
+
+    def test_the_debugger_goes_by_the_same_rule(self):
+        text = self.text_of(SMALL) + '---\nuntil 19000000000\n'
+        plain, none = self.counted(text, 'debug')
+        answers, threads = self.counted(text, 'debug', '--workers', '4', '--groups', 'each')
+        self.assertEqual((none, threads), (0, 0))
+        self.assertTrue(answers == plain)
+        text = self.text_of(WIDE) + '---\nuntil 19000000000\n'
+        plain, _ = self.counted(text, 'debug')
+        answers, threads = self.counted(text, 'debug', '--workers', '4', '--groups', self.parts())
+        self.assertGreater(threads, 0)
+        self.assertTrue(answers == plain)
+
+    def test_groups_that_are_found(self):
+        """Two halves are two groups in a run, and one in the debugger, which would start threads for each window; four
+        parts are four groups in both."""
+        self.assertGreater(self.run_of(PAIRS, '--groups', 'auto', '--workers', '2'), 0)
+        for text, starts in (PAIRS, False), (self.text_of(WIDE), True):
+            text += '---\nuntil 9000000000\n'
+            plain, _ = self.counted(text, 'debug')
+            answers, threads = self.counted(text, 'debug', '--workers', '4', '--groups', 'auto')
+            with self.subTest(starts=starts):
+                self.assertEqual(threads > 0, starts)
+                self.assertTrue(answers == plain)
+
+    def test_the_debugger_starts_none_for_one_worker_or_one_group(self):
+        """Neither with commands that are all there nor with lines that are typed, which by several workers start some."""
+        text, commands = self.text_of(WIDE), 'until 19000000000\n'
+        name = os.path.join(self.folder.name, 'wide.txt')
+        with open(name, 'w', encoding='utf-8') as file:
+            file.write(text)
+        for given, words in ((f'{text}---\n{commands}', ('debug',)), (commands, ('debug', name))):
+            plain, none = self.counted(given, *words)
+            self.assertEqual(none, 0)
+            for shared, starts in (((self.parts(), '1'), False), (('one', '64'), False), ((self.parts(), '4'), True)):
+                answers, threads = self.counted(given, *words, '--groups', shared[0], '--workers', shared[1])
+                with self.subTest(words=words, shared=shared):
+                    self.assertEqual(threads > 0, starts)
+                    self.assertTrue(answers == plain)
+
+
+def main():
+    if not shutil.which('cc'):
+        print('LEFT OUT, not passed: the count of threads (no C compiler: apt-get install gcc)')
+        print('0 passed, 0 failed')
+        return 0
+    if not os.path.exists(PROGRAM):
+        print(f'test_threads.py: {os.path.relpath(PROGRAM)} is not there: build it with `make run`', file=sys.stderr)
+        return 1
+    result = unittest.main(argv=sys.argv, exit=False, verbosity=0).result
+    failed = len({getattr(test, 'test_case', test).id() for test, _ in result.failures + result.errors})
+    print(f'{result.testsRun - failed} passed, {failed} failed')
+    return 1 if failed else 0
+
+
+if __name__ == '__main__':
+    sys.exit(main())

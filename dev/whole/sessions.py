@@ -1,0 +1,287 @@
+"""Debugging sessions, whose answers were worked out by hand over one segment that goes, and whose acknowledgement
+comes, and by the model of python/tcpsim_model over two flows of equal times: their commands, and what they answer.
+dev/test_whole.py has the texts, and of two more texts the sessions stand in files beside this one.
+"""
+
+# How a session whose commands are all there is shared out. Its answers are the same.
+SHARED = [
+    ['debug'],
+    ['debug', '--workers', '2'],
+    ['debug', '--groups', 'each'],
+    ['debug', '--workers', '2', '--groups', 'each'],
+    ['debug', '--groups=1,0', '--workers=64'],
+    ['debug', '--workers=+64', '--groups=one'],
+]
+
+# The same where a text has any number of nodes.
+CREWS = [['debug', '--groups', groups, '--workers', workers] for groups in ('one', 'each') for workers in ('1', '2', '64')]
+
+# Groups that the text's two nodes don't have.
+NO_GROUPS = ['', '0', '0,0,0', '0,64', 'two']
+
+MOVES = '''\
+step 3
+back 2
+back 9
+run
+'''
+
+ANSWERS = '''\
+at 3
+node 0 sender 0 una=0 nxt=1000 high=1000 cwnd=4000 ssthresh=64000 dups=0 lt=0 fr=0 timing=1000@0 srtt=- rttvar=0 rto=1000000000 resent=0
+node 1 receiver 0 next=1000 held=-
+link 0 offered=1 sent=1 queue=-
+link 1 offered=1 sent=1 queue=-
+event 2080000 1 0 3 free 1
+event 3080000 0 2 1 ack 0 1000
+event 1000000000 0 0 1 rto 0
+at 1
+node 0 sender 0 una=0 nxt=1000 high=1000 cwnd=4000 ssthresh=64000 dups=0 lt=0 fr=0 timing=1000@0 srtt=- rttvar=0 rto=1000000000 resent=0
+node 1 receiver 0 next=0 held=-
+link 0 offered=1 sent=1 queue=-
+link 1 offered=0 sent=0 queue=-
+event 1040000 0 0 3 free 0
+event 2040000 1 1 1 data 0 0
+event 1000000000 0 0 1 rto 0
+at 0
+node 0 sender 0 una=0 nxt=0 high=0 cwnd=4000 ssthresh=64000 dups=0 lt=0 fr=0 timing=- srtt=- rttvar=0 rto=1000000000 resent=0
+node 1 receiver 0 next=0 held=-
+link 0 offered=0 sent=0 queue=-
+link 1 offered=0 sent=0 queue=-
+event 0 0 0 0 start 0
+at 5
+node 0 sender 0 una=1000 nxt=1000 high=1000 cwnd=5000 ssthresh=64000 dups=0 lt=0 fr=0 timing=- srtt=3080000 rttvar=1540000 rto=1000000000 resent=0
+node 1 receiver 0 next=1000 held=-
+link 0 offered=1 sent=1 queue=-
+link 1 offered=1 sent=1 queue=-
+'''
+
+BREAKS = '''\
+break kind data
+run
+run
+back 1
+until 2040000
+bak 1
+'''
+
+STOPS = '''\
+break 1
+at 3
+node 0 sender 0 una=0 nxt=1000 high=1000 cwnd=4000 ssthresh=64000 dups=0 lt=0 fr=0 timing=1000@0 srtt=- rttvar=0 rto=1000000000 resent=0
+node 1 receiver 0 next=1000 held=-
+link 0 offered=1 sent=1 queue=-
+link 1 offered=1 sent=1 queue=-
+event 2080000 1 0 3 free 1
+event 3080000 0 2 1 ack 0 1000
+event 1000000000 0 0 1 rto 0
+at 5
+node 0 sender 0 una=1000 nxt=1000 high=1000 cwnd=5000 ssthresh=64000 dups=0 lt=0 fr=0 timing=- srtt=3080000 rttvar=1540000 rto=1000000000 resent=0
+node 1 receiver 0 next=1000 held=-
+link 0 offered=1 sent=1 queue=-
+link 1 offered=1 sent=1 queue=-
+at 4
+node 0 sender 0 una=0 nxt=1000 high=1000 cwnd=4000 ssthresh=64000 dups=0 lt=0 fr=0 timing=1000@0 srtt=- rttvar=0 rto=1000000000 resent=0
+node 1 receiver 0 next=1000 held=-
+link 0 offered=1 sent=1 queue=-
+link 1 offered=1 sent=1 queue=-
+event 3080000 0 2 1 ack 0 1000
+event 1000000000 0 0 1 rto 0
+at 4
+node 0 sender 0 una=0 nxt=1000 high=1000 cwnd=4000 ssthresh=64000 dups=0 lt=0 fr=0 timing=1000@0 srtt=- rttvar=0 rto=1000000000 resent=0
+node 1 receiver 0 next=1000 held=-
+link 0 offered=1 sent=1 queue=-
+link 1 offered=1 sent=1 queue=-
+event 3080000 0 2 1 ack 0 1000
+event 1000000000 0 0 1 rto 0
+refused B1
+'''
+
+# Each refusal, the first that holds; a line with no words says nothing.
+FAULTS = '''\
+bak 1
+break
+break sort 1
+break node
+break drop 1
+break node 2
+break flow 1
+break kind acks
+step 01
+step 1000000000000001
+run 1
+
+   
+step # 1
+---
+break node 1
+ break  drop 
+break node 1
+clear'''
+
+REFUSED_FOR = '''\
+refused B1
+refused B2
+refused B1
+refused B2
+refused B2
+refused B3
+refused B3
+refused B3
+refused B3
+refused B3
+refused B2
+refused B2
+refused B1
+break 1
+break 2
+break 2
+clear
+'''
+
+# How a session into which lines are typed is shared out; a file follows.
+TYPED = [['debug'], ['debug', '--workers', '2', '--groups', 'each'], ['debug', '--workers=64']]
+
+# Names are cut short, a moment has a unit, and an empty line does the last move again, whatever was refused since.
+CUT_SHORT = ['', 'u 2.08ms', 'bak', 'u 1.5', 'b 2', 'step 1 2', '', 'u 1.0ns', 'q x', 'r', 'q', 'r']
+
+# A line that is refused is told beside the answers.
+REFUSED = ['bak', 'step 3', 'back x', 'back 2', 'quit 1', 'back 9', 'break node 2', 'run']
+
+# What is answered to `step 3`, `back 2`, `back 9` and `run`.
+MOVED = '''\
+1 0 0 0 0 start 0 una=0 nxt=1000 cwnd=4000 ssthresh=64000 phase=ss tx=0:0:0
+2 1040000 0 0 3 free 0 una=0 nxt=1000 cwnd=4000 ssthresh=64000 phase=ss
+3 2040000 1 1 1 data 0 0 next=1000 tx=1:0:1000
+at 3 of the run, time 2040000 ns
+3 2040000 1 1 1 data 0 0 next=1000 tx=1:0:1000
+2 1040000 0 0 3 free 0 una=0 nxt=1000 cwnd=4000 ssthresh=64000 phase=ss
+at 1 of the run, time 0 ns
+1 0 0 0 0 start 0 una=0 nxt=1000 cwnd=4000 ssthresh=64000 phase=ss tx=0:0:0
+at 0 of the run, time 0 ns, the beginning
+1 0 0 0 0 start 0 una=0 nxt=1000 cwnd=4000 ssthresh=64000 phase=ss tx=0:0:0
+2 1040000 0 0 3 free 0 una=0 nxt=1000 cwnd=4000 ssthresh=64000 phase=ss
+3 2040000 1 1 1 data 0 0 next=1000 tx=1:0:1000
+4 2080000 1 0 3 free 1 next=1000
+5 3080000 0 2 1 ack 0 1000 una=1000 nxt=1000 cwnd=5000 ssthresh=64000 phase=ss
+at 5 of the run, time 3080000 ns, the end
+'''
+
+# Breakpoints have numbers, and help is typed.
+BREAKPOINTS = ['breaks', 'break node 1', 'br drop', 'break kind delack', 'break drop', 'delete 1', 'breaks', 'delete 3', 'd 0',
+               'd 65', 'd 01', 'c', 'breaks', 'h d', 'h x']
+
+NUMBERED = '''\
+no breakpoint
+break 1: node 1
+break 2: drop
+break 3: kind delack
+break 2: drop
+deleted 1: node 1
+break 1: drop
+break 2: kind delack
+clear
+no breakpoint
+delete I     take breakpoint I away
+I is its number, as breaks lists it.
+delete 1
+'''
+
+# A move forwards tells the first breakpoint that matches where it ends, and `lines` tells the last lines there.
+LINES = ['lines', 'b', 'br kind free', 'br node 1', 'r', 's', '', 'b', 'l 2', 'l 1001', 'l 1 2', 'lines 0', 'c', 'u 1s', 'l 1', 's']
+
+TOLD = '''\
+at 0 of the run, time 0 ns, the beginning
+break 1: kind free
+break 2: node 1
+1 0 0 0 0 start 0 una=0 nxt=1000 cwnd=4000 ssthresh=64000 phase=ss tx=0:0:0
+2 1040000 0 0 3 free 0 una=0 nxt=1000 cwnd=4000 ssthresh=64000 phase=ss
+at 2 of the run, time 1040000 ns
+break 1: kind free
+3 2040000 1 1 1 data 0 0 next=1000 tx=1:0:1000
+at 3 of the run, time 2040000 ns
+break 2: node 1
+4 2080000 1 0 3 free 1 next=1000
+at 4 of the run, time 2080000 ns
+break 1: kind free
+4 2080000 1 0 3 free 1 next=1000
+at 3 of the run, time 2040000 ns
+2 1040000 0 0 3 free 0 una=0 nxt=1000 cwnd=4000 ssthresh=64000 phase=ss
+3 2040000 1 1 1 data 0 0 next=1000 tx=1:0:1000
+clear
+4 2080000 1 0 3 free 1 next=1000
+5 3080000 0 2 1 ack 0 1000 una=1000 nxt=1000 cwnd=5000 ssthresh=64000 phase=ss
+at 5 of the run, time 3080000 ns, the end
+5 3080000 0 2 1 ack 0 1000 una=1000 nxt=1000 cwnd=5000 ssthresh=64000 phase=ss
+at 5 of the run, time 3080000 ns, the end
+'''
+
+# Breakpoints of several conditions over two flows of equal times, and words that are none.
+CONDITIONS = ['br kind data flow 1', 'br link 4', 'br byte 0 link 2 node 2 flow 0', 'br  flow 1 kind data', 'breaks', 'r', '', 're',
+              'br node 5 flow 0', 'br link 8', 'br kind ack kind ack', 'br node 5 node 1 kin ack', 'br drop drop', 'br drop byte', 'br node',
+              'br link 1 0', 'br drop byte 9000000000001', 'br byte 9000000000000 link 7 drop kind delack flow 1 node 4', 'd 1', 'r']
+
+MATCHED = '''\
+break 1: flow 1 kind data
+break 2: link 4
+break 3: node 2 flow 0 link 2 byte 0
+break 1: flow 1 kind data
+break 1: flow 1 kind data
+break 2: link 4
+break 3: node 2 flow 0 link 2 byte 0
+1 0 0 0 0 start 0 una=0 nxt=1000 cwnd=4000 ssthresh=64000 phase=ss tx=0:0:0
+2 0 1 0 0 start 1 una=0 nxt=1000 cwnd=4000 ssthresh=64000 phase=ss tx=1:1:0
+3 1040000 0 0 3 free 0 una=0 nxt=1000 cwnd=4000 ssthresh=64000 phase=ss
+4 1040000 1 0 3 free 1 una=0 nxt=1000 cwnd=4000 ssthresh=64000 phase=ss
+5 2040000 2 1 1 data 0 0 tx=2:0:0
+at 5 of the run, time 2040000 ns
+break 3: node 2 flow 0 link 2 byte 0
+6 2040000 2 2 1 data 1 0 tx=4:1:0
+at 6 of the run, time 2040000 ns, the end
+break 1: flow 1 kind data
+6 2040000 2 2 1 data 1 0 tx=4:1:0
+at 5 of the run, time 2040000 ns
+break 3: node 2 flow 0 link 2 byte 0
+break 4: node 4 flow 1 kind delack drop link 7 byte 9000000000000
+deleted 1: flow 1 kind data
+6 2040000 2 2 1 data 1 0 tx=4:1:0
+at 6 of the run, time 2040000 ns, the end
+break 1: link 4
+'''
+
+
+# What the codes mean.
+MEANT = {
+    'B1': 'B1: no command has this name, or no sort of breakpoint',
+    'B2': 'B2: the number of words is another',
+    'B3': 'B3: a word is no number, or out of its range; there is no such node, flow or kind',
+    'B5': 'B5: there is no breakpoint of this number',
+}
+
+
+def refused(*codes):
+    """The notes of lines that are refused with these codes."""
+    return [note for code in codes for note in (f'refused {code}', MEANT[code])]
+
+
+# The notes of lines that could have the number of a node, a link or a flow, over each of the scenarios.
+OUTSIDE = [*refused('B3'), 'tcpsim: there are nodes 0 to 1, links 0 to 1, flows 0 to 0: see help numbers']
+
+OUTSIDE_TWO = [*refused('B3'), 'tcpsim: there are nodes 0 to 4, links 0 to 7, flows 0 to 1: see help numbers']
+
+# What a word is refused with that begins no name, and the name that is nearest to it.
+NO_NAME = [*refused('B1'), 'tcpsim: no command bak; the nearest is back']
+
+# The lines that are typed, how many of them are read and one more where the input ends, what is answered, and what is
+# told of lines that are refused.
+LINES_TYPED = [
+    (CUT_SHORT, 11, MOVED, NO_NAME + refused('B3', 'B2', 'B3', 'B2')),
+    (REFUSED, 9, MOVED, NO_NAME + refused('B3', 'B2') + OUTSIDE),
+    (BREAKPOINTS, 16, NUMBERED, refused('B5', 'B5', 'B5', 'B3', 'B1')),
+    (LINES, 17, TOLD, refused('B3', 'B2')),
+]
+
+# The same over two flows of equal times.
+LINES_OF_EQUAL_TIMES = [
+    (CONDITIONS, 21, MATCHED, OUTSIDE_TWO * 2 + refused('B2', 'B2', 'B2', 'B2', 'B2', 'B1') + OUTSIDE_TWO),
+]

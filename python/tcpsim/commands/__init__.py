@@ -1,0 +1,1 @@
+"""The commands tcpsim-NAME, a module each; a launcher in bin/ calls its `main`."""

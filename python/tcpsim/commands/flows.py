@@ -1,0 +1,4 @@
+"""The command tcpsim-flows."""
+from tcpsim.figures import main
+
+__all__ = ['main']

@@ -1,0 +1,4 @@
+"""The command tcpsim-follow."""
+from tcpsim.follow import main
+
+__all__ = ['main']

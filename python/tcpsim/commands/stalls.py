@@ -1,0 +1,4 @@
+"""The command tcpsim-stalls."""
+from tcpsim.stalls import main
+
+__all__ = ['main']

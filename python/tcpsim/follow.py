@@ -1,0 +1,340 @@
+"""The life of one segment and of the acknowledgements that carry its number, as a table or as CSV.
+
+Usage: bin/tcpsim-follow SCENARIO [TRACE] --flow F --byte B [--csv] [--program FILE]
+
+The segment is the one that has byte B. The table says when it was offered, where it waited, for how long
+and behind how many, when each link began to send it, when it arrived or why it was dropped, why it was
+sent again, how it was answered and when it was acknowledged. Without TRACE the program is run.
+
+The sums at the end part the whole time, from the first offering to the acknowledgement (or to the end of
+the run). At each moment the acknowledgement above the segment that was sent first and is still in the net
+counts, or else the copy of the segment that was sent first and is still in the net: it waits in a queue,
+or a link is sending it (serialized), or it is under way. Where there is none the segment stands still.
+"""
+import csv
+import io
+from collections import namedtuple
+
+from tcpsim.causes import counted, seconds
+from tcpsim.lives import ALARM, CAME, CODEL, DATA, FIRST, FULL, TIMEOUT, Walk, Watch, flow_named, opened
+from tcpsim.trace import Unreadable
+from tcpsim.scenario.units import Words, as_type, count, refuse, to_standard_output
+
+WAITED, SERIALIZED, UNDER_WAY, STOOD = 'waited', 'serialized', 'under way', 'stood still'
+WHY_AGAIN = {'third duplicate': 'the third duplicate', 'timeout': 'the timeout',
+             'after a timeout': 'a timeout had made the sender begin again',
+             'partial acknowledgement': 'a partial acknowledgement in recovery'}
+# Of the rows of one line: a packet arrives, then its end takes it, then packets are offered.
+RANKS = {'arrives': 0, 'held': 1, 'answer waits': 1, 'not new': 1, 'duplicate': 1, 'acknowledged': 1}
+
+# A state that a packet was in; `end` is None where it still is.
+State = namedtuple('State', 'name begin end')
+
+
+class Row:
+    """One row of the table. `span` is the time that it tells of (a wait, a sending, a way) or None."""
+
+    def __init__(self, line, time, order, packet, event, at, words, span, behind):
+        self.line, self.time, self.order, self.packet, self.event = line, time, order, packet, event
+        self.at, self.words, self.span, self.behind = at, words, span, behind
+
+
+class Life(Watch):
+    """A followed packet: its name, its rows, and the states that it was in."""
+
+    def __init__(self, walk, name):
+        self.walk, self.name, self.rows, self.states, self.wait = walk, name, [], [], None
+
+    def row(self, event, at, words, span=None, behind=None):
+        return self.walk.row(self.rows, self.name, event, at, words, span, behind)
+
+    def turn(self, name):
+        """The packet is in another state from now on, or (None) in none. Answers how long it was in the last."""
+        time, spent = self.walk.time, 0
+        if self.states and self.states[-1].end is None:
+            self.states[-1] = self.states[-1]._replace(end=time)
+            spent = time - self.states[-1].begin
+        if name is not None:
+            self.states.append(State(name, time, None))
+        return spent
+
+    def entered(self, packet, port):
+        self.turn(WAITED)
+        waiting = len(port.waiting)
+        behind = waiting + (port.sending is not None)
+        if not behind:
+            words = 'behind no packet: the link is idle'
+        else:
+            words = f'behind {counted(behind, "packet")} ({waiting} in the queue, 1 being sent)'
+        self.wait = self.row('waits', port.link.name, words, behind=behind)
+
+    def began(self, packet, port):
+        self.wait.span = self.turn(SERIALIZED)
+        if self.wait.span:
+            self.wait.words += f', for {seconds(self.wait.span)}'
+        span = packet.hop.span
+        self.row('tx', port.link.name, f'begins to be sent, for {seconds(span)}', span)
+
+    def left(self, packet, port):
+        self.turn(UNDER_WAY)
+
+    def came(self, packet, port):
+        span = self.turn(None)
+        self.row('arrives', self.walk.name_of(port.link.to), f'over {port.link.name}, under way for {seconds(span)}', span)
+
+    def dropped(self, packet, port):
+        waited = self.turn(None)
+        if packet.fate == CODEL:
+            self.wait.span = waited
+            why = f'codel: dropped at the head of the queue, after {seconds(waited)}'
+        elif packet.fate == FULL:
+            why = f'full: {counted(len(port.waiting), "packet")} in the queue'
+        else:
+            why = 'lost: the scenario says so'
+        self.row('dropped', port.link.name, why, waited if packet.fate == CODEL else None)
+
+
+class Request(Watch):
+    """An acknowledgement that asks for a followed segment: that it was dropped can be why it was not sent again."""
+
+    def __init__(self, walk, segment):
+        self.walk, self.segment = walk, segment
+
+    def dropped(self, packet, port):
+        self.walk.row(self.segment.rows, f'ack {packet.number}', 'dropped', port.link.name,
+                      f'{packet.fate}: it would have asked for the segment')
+
+
+class Segment:
+    """What became of one segment: its copies, the acknowledgements above it in the order in which they
+    were sent, rows of its own, and when it arrived, was in order, was answered, was acknowledged."""
+
+    def __init__(self, number):
+        self.number, self.copies, self.acks, self.rows = number, [], [], []
+        self.arrived = self.passed = self.answered = self.done = None
+
+    def answers(self):
+        """The acknowledgements up to the first that was not dropped: it comes before all later ones."""
+        for at, ack in enumerate(self.acks):
+            if ack.fate in (None, CAME):
+                return self.acks[:at + 1]
+        return self.acks
+
+    def table(self):
+        rows = self.rows + [row for packet in self.copies + self.answers() for row in packet.watch.rows]
+        return sorted(rows, key=lambda row: row.order)
+
+    def stands(self, time):
+        """Why the segment stands still from this moment on, when nothing of it is in the net."""
+        if self.arrived is None or time < self.arrived:
+            return 'it was dropped and not yet sent again'
+        if self.passed is None or time < self.passed:
+            return 'at the receiver, as a segment before it was missing'
+        if self.answered is None or time < self.answered:
+            return 'at the receiver, as the answer waited'
+        return 'its acknowledgement was dropped'
+
+
+class Follow(Walk):
+    """Follows a segment of a flow while a run is read, or all of the flow where `only` is None."""
+
+    def __init__(self, scenario, flow, only=None):
+        super().__init__(scenario)
+        self.target, self.only = self.flows[flow], only
+        self.segments, self.open = {}, {}       # by number: all, and those not yet acknowledged
+        self.made = 0                           # how many rows were made
+
+    def name_of(self, node):
+        return self.scenario.nodes[node].name
+
+    def row(self, rows, packet, event, at, words, span=None, behind=None):
+        self.made += 1
+        rows.append(Row(self.line, self.time, (self.line, RANKS.get(event, 2), self.made), packet, event, at,
+                        words, span, behind))
+        return rows[-1]
+
+    # ---- hooks
+
+    def born(self, packet):
+        if packet.flow is not self.target:
+            return
+        if packet.sort != DATA:
+            if self.open:
+                self._answers(packet)
+        elif self.only is None or packet.number == self.only:
+            self._sent(packet)
+
+    def _sent(self, packet):
+        segment = self.segments.get(packet.number)
+        if segment is None:
+            segment = self.segments[packet.number] = self.open[packet.number] = Segment(packet.number)
+        segment.copies.append(packet)
+        copies = len(segment.copies)
+        life = packet.watch = Life(self, f'segment {packet.number}' + (f' (copy {copies})' if copies > 1 else ''))
+        sender = self.name_of(self.target.flow.sender)
+        if packet.why is FIRST:
+            life.row('sent', sender, 'offered for the first time')
+        else:
+            after = f' after {seconds(self.expired[0])}' if packet.why is TIMEOUT else ''
+            life.row('sent again', sender, f'offered again: {WHY_AGAIN[packet.why]}{after}')
+
+    def _answers(self, packet):
+        below = [segment for number, segment in self.open.items() if number < packet.number]
+        if not below:
+            if packet.number in self.open:
+                packet.watch = Request(self, self.open[packet.number])
+            return
+        for segment in below:
+            segment.acks.append(packet)
+            if segment.answered is None:
+                segment.answered = self.time
+        words, span = f'answers segment {packet.of.number} {packet.why}', None
+        if packet.since is not None:
+            span = self.time - packet.since
+            words += f', after a wait of {seconds(span)}' + ('' if packet.why is ALARM else ' for a second segment')
+        life = packet.watch = Life(self, f'ack {packet.number}')
+        life.row('answered', self.name_of(self.target.flow.receiver), words, span)
+
+    def at_receiver(self, flow, packet, answer, before):
+        if flow is not self.target:
+            return
+        if packet is not None and packet.watch is not None:
+            self._arrived(self.segments[packet.number], packet.watch, answer)
+        if flow.next != before:
+            for number, segment in self.open.items():
+                if segment.passed is None and number < flow.next:
+                    segment.passed = self.time
+
+    def _arrived(self, segment, life, answer):
+        at, flow = self.name_of(self.target.flow.receiver), self.target
+        if segment.arrived is not None:
+            life.row('not new', at, 'the receiver has it already')
+            return
+        segment.arrived = self.time
+        if flow.next <= segment.number:
+            life.row('held', at, f'{flow.next} is missing before it, and asked for at once')
+        elif answer is None:
+            life.row('answer waits', at, f'for the alarm in {seconds(flow.flow.delack)}, or for another segment')
+
+    def at_sender(self, flow, kind, packet, before):
+        if flow is not self.target or packet is None:
+            return
+        name, at = f'ack {packet.number}', self.name_of(flow.flow.sender)
+        if flow.una > before:
+            for number in [number for number in self.open if number < flow.una]:
+                segment = self.open.pop(number)
+                segment.done = self.time
+                whole = self.time - segment.copies[0].offered
+                self.row(segment.rows, name, 'acknowledged', at, f'{seconds(whole)} after the first offering', whole)
+        elif packet.number == before and flow.una < flow.nxt and before in self.open:
+            self.row(self.open[before].rows, name, 'duplicate', at, f'duplicate {flow.dups} asks for the segment')
+
+    # ---- the sums
+
+    def end_of(self, segment):
+        """Where the whole time ends: the acknowledgement, else the run's end (of a trace without `end`
+        its last line)."""
+        return segment.done if segment.done is not None else self.scenario.end if self.ended else self.time
+
+    def sums(self, segment):
+        """The whole time, its four parts, and what the segment stood still for as (reason, time)."""
+        begin, end = segment.copies[0].offered, self.end_of(segment)
+        states = [(rank, state.name, state.begin, end if state.end is None else min(state.end, end))
+                  for rank, packet in enumerate(segment.answers() + segment.copies)
+                  for state in packet.watch.states if state.begin < end]
+        edges = {begin, end, *(edge for _, _, since, to in states for edge in (since, to)),
+                 *(edge for edge in (segment.arrived, segment.passed, segment.answered) if edge is not None and edge < end)}
+        edges = sorted(edges)
+        parts, reasons = dict.fromkeys((WAITED, SERIALIZED, UNDER_WAY, STOOD), 0), {}
+        for since, to in zip(edges, edges[1:]):
+            there = min((state for state in states if state[2] <= since and to <= state[3]), default=None)
+            parts[STOOD if there is None else there[1]] += to - since
+            if there is None:
+                reason = segment.stands(since)
+                reasons[reason] = reasons.get(reason, 0) + to - since
+        return end - begin, parts, list(reasons.items())
+
+
+def follow(scenario, lines, flow, byte):
+    """The walk that followed the segment of a byte of a flow (by the flow's number), and the segment."""
+    declared = scenario.flows[flow]
+    total = declared.mss * declared.segments
+    if byte >= total:
+        raise Unreadable(f'flow {declared.name} has the bytes 0 to {total - 1}, and not {byte}')
+    number = byte // declared.mss * declared.mss
+    walk = Follow(scenario, flow, number)
+    walk.read(lines)
+    if number not in walk.segments:
+        raise Unreadable(f'the segment {number} of flow {declared.name} was never sent in this run')
+    return walk, walk.segments[number]
+
+
+# ---- as text
+
+def write_table(walk, segment, file):
+    rows = [('line', 'time s', 'packet', 'what', 'at', '')]
+    rows += [(str(row.line), f'{row.time / 10**9:.9f}', row.packet, row.event, row.at, row.words) for row in segment.table()]
+    widths = [max(map(len, column)) for column in zip(*rows)]
+    for row in rows:
+        words = [row[0].rjust(widths[0]), row[1].rjust(widths[1])]
+        words += [word.ljust(width) for word, width in zip(row[2:], widths[2:])]
+        print('  '.join(words).rstrip(), file=file)
+    print(file=file)
+    write_sums(walk, segment, file)
+
+
+def write_sums(walk, segment, file):
+    whole, parts, reasons = walk.sums(segment)
+    width = max(len(f'{whole / 10**9:.9f}'), 12)
+    for name, time in parts.items():
+        print(f'{name.ljust(12)} {time / 10**9:>{width}.9f} s', file=file)
+    for reason, time in reasons:
+        print(f'{"".ljust(12)} {time / 10**9:>{width}.9f} s of it: {reason}', file=file)
+    until = 'its acknowledgement' if segment.done is not None else \
+        'the end of the run, never acknowledged' if walk.ended else \
+        'the last line of the trace, which has no end; not acknowledged so far'
+    print(f'{"whole".ljust(12)} {whole / 10**9:>{width}.9f} s, from the first offering to {until}', file=file)
+
+
+def write_csv(walk, segment, file):
+    out = csv.writer(file, lineterminator='\n')
+    out.writerow(('line', 'time', 'packet', 'event', 'at', 'ns', 'behind', 'words'))
+    for row in segment.table():
+        out.writerow((row.line, row.time, row.packet, row.event, row.at, row.span, row.behind, row.words))
+    whole, parts, reasons = walk.sums(segment)
+    name = f'segment {segment.number}'
+    for words, time in parts.items():
+        out.writerow((None, None, name, 'sum', None, time, None, words))
+    for words, time in reasons:
+        out.writerow((None, None, name, 'part of stood still', None, time, None, words))
+    out.writerow((None, None, name, 'sum', None, whole, None, 'whole'))
+
+
+def words_of():
+    words = Words(description='The life of one segment and of its acknowledgements.')
+    words.add_argument('scenario', metavar='SCENARIO', help='a text; - is standard input')
+    words.add_argument('trace', metavar='TRACE', nargs='?', help='else the program is run')
+    words.add_argument('--flow', metavar='F', required=True, help='the flow, by its name or number')
+    words.add_argument('--byte', metavar='B', type=as_type(count), required=True, help='a byte of the segment')
+    words.add_argument('--csv', action='store_true',
+                       help='line,time,packet,event,at,ns,behind,words; times in nanoseconds')
+    words.add_argument('--program', metavar='FILE', help='the program that is run where no trace is given')
+    return words.parse_args()
+
+
+def show():
+    given, text = words_of(), io.StringIO()
+    with opened(given.scenario, given.trace, given.program) as (scenario, lines):
+        walk, segment = follow(scenario, lines, flow_named(scenario, given.flow), given.byte)
+    (write_csv if given.csv else write_table)(walk, segment, text)
+    to_standard_output(text.getvalue())
+
+
+def main():
+    try:
+        show()
+    except Unreadable as wrong:
+        refuse(wrong, 1)
+    except KeyboardInterrupt:
+        return 130
+    return 0

@@ -1,0 +1,239 @@
+"""The words of the command line, and what of the runs they choose."""
+import argparse
+import os
+from collections import namedtuple
+
+import numpy as np
+
+from tcpsim.program import BUILT, found
+from tcpsim.trace import Unreadable, read_run
+from tcpsim.scenario.units import Words, Wrong, time, tool
+
+from .clock import Clock, idle_spans, length_text
+from .layout import FIRST_CHOICE, PANELS
+from .picture import FlowView, LinkView, Picture
+
+S = 10**9
+MOST_LINKS = 4
+Named = namedtuple('Named', 'name run')
+
+
+# ---- words
+
+def moment(text):
+    """Nanoseconds of a time: 2.5 is seconds, 20ms and 2.5s have their unit."""
+    try:
+        value = time(text if text.endswith('s') else text + 's')
+    except Wrong as wrong:
+        raise argparse.ArgumentTypeError(f'{text!r} is no time: write seconds, or a number and a unit, as 20ms') \
+            from wrong
+    if not 0 <= value <= 10**6 * S:
+        raise argparse.ArgumentTypeError('from 0 to 1,000,000 seconds')
+    return value
+
+
+def panel_names(text):
+    names = text.split(',')
+    wrong = [name for name in names if name not in PANELS]
+    if wrong:
+        raise argparse.ArgumentTypeError(f'no panel {wrong[0]!r}: they are {", ".join(PANELS)}')
+    return names
+
+
+def list_of_names(text):
+    names = text.split(',')
+    twice = [name for name in names if names.count(name) > 1]
+    if twice:
+        raise argparse.ArgumentTypeError(f'{twice[0]} is named twice')
+    return names
+
+
+def picture_file(text):
+    if os.path.splitext(text)[1] not in ('.png', '.svg', '.pdf'):
+        raise argparse.ArgumentTypeError('the file ends in .png, .svg or .pdf')
+    return text
+
+
+def words_of(given=None):
+    words = Words(prog=tool(), description='Draws a run of a scenario.')
+    words.add_argument('scenario', metavar='SCENARIO')
+    words.add_argument('trace', metavar='TRACE', nargs='?', help='else the program is run')
+    words.add_argument('-o', dest='file', metavar='FILE', required=True, type=picture_file,
+                       help='what is written: .png, .svg or .pdf')
+    words.add_argument('--panels', type=panel_names,
+                       help=f'of {",".join(PANELS)}; else {",".join(FIRST_CHOICE)}')
+    words.add_argument('--flow', '--flows', dest='flows', type=list_of_names, metavar='NAMES',
+                       help='names, else all; the links are then those of their ways')
+    words.add_argument('--link', '--links', dest='links', type=list_of_names, metavar='NAMES',
+                       help='names, else those where packets waited longest')
+    words.add_argument('--from', dest='begin', type=moment, metavar='T',
+                       help='seconds, or a number and a unit, as 20ms; else the first flow\'s start')
+    words.add_argument('--to', dest='end', type=moment, metavar='T', help='else a little after the end of the run')
+    words.add_argument('--longer', type=moment, metavar='T', default=None,
+                       help='stalls are marked, spans without a new acknowledgement longer than this; else '
+                            'than 200ms and a 20th of the picture')
+    words.add_argument('--log', action='store_true', help='delays on a logarithmic axis')
+    words.add_argument('--whole', action='store_true', help='leave no idle span out of the axis of time')
+    words.add_argument('--title', help='else the scenario\'s name and what is in it')
+    words.add_argument('--beside', nargs='+', action='append', metavar=('SCENARIO', 'TRACE'), default=[],
+                       help='one more run, drawn in the same panels or beside them; any number of times')
+    words.add_argument('--names', type=list_of_names, metavar='NAMES',
+                       help='of the runs, in the place of their files\' names')
+    words.add_argument('--program', help='the program that is run where no trace is given; else the one beside '
+                                         'this script, on PATH or in the clone')
+    given = words.parse_args(given)
+    if any(len(other) > 2 for other in given.beside):
+        words.error('--beside takes a scenario and at most a trace; for one more run write --beside again')
+    if given.names and len(given.names) != 1 + len(given.beside):
+        words.error(f'--names has {len(given.names)}, and there are {1 + len(given.beside)} runs')
+    given.panels = given.panels or list(FIRST_CHOICE)
+    return given
+
+
+# ---- names
+
+def name_of(path):
+    return os.path.splitext(os.path.basename(path))[0]
+
+
+def title_of(name, run):
+    count = len(run.flows)
+    return f'{name}: {count} flow{"" if count == 1 else "s"}, {run.lines:,} events'
+
+
+def distinct(paths):
+    """The runs' names; of equal ones each but the first gets a number."""
+    names = []
+    for path in paths:
+        name, count = name_of(path), 1
+        while name in names:
+            count += 1
+            name = f'{name_of(path)} {count}'
+        names.append(name)
+    return names
+
+
+def named(names, entries, what):
+    """The numbers of the entries of these names, in the names' order."""
+    by_name = {entry.name: number for number, entry in enumerate(entries)}
+    unknown = [name for name in names if name not in by_name]
+    if unknown:
+        raise Unreadable(f'no {what} is named {unknown[0]}')
+    return [by_name[name] for name in names]
+
+
+# ---- what is shown
+
+def known_until(run):
+    """Up to when nothing more can happen that the trace does not tell."""
+    return run.scenario.end if run.whole else run.last
+
+
+def window_of(given, runs):
+    """The picture's begin and end, and the idle spans that its axis leaves out."""
+    if not all(run.lines for run in runs):
+        raise Unreadable('the trace has no line: there is nothing to draw')
+    first, last = min(run.begin() for run in runs), max(run.last for run in runs)
+    end = max(run.end() for run in runs)
+    begin = first if given.begin is None else given.begin
+    if given.end is not None and begin >= given.end:
+        raise Unreadable('no time lies between the begin and the end of the picture')
+    if begin > last:
+        raise Unreadable(f'nothing happens from {length_text(begin)} on: the last event is at {length_text(last)}')
+    if given.end is not None and given.end <= first:
+        raise Unreadable(f'nothing happens before {length_text(given.end)}: '
+                         f'the first flow starts at {length_text(first)}')
+    if given.end is not None:
+        end = min(given.end, max(known_until(run) for run in runs))
+    end = max(end, begin + 1)
+    cuts = [] if given.whole else idle_spans(moments(runs), begin, end, given.longer or S // 5)
+    if given.end is None and end < max(run.scenario.end for run in runs):
+        end += (end - begin - sum(b - a for a, b in cuts)) // 40
+    return (begin, end), cuts
+
+
+def stall_of(given, window):
+    """How long a span without a new acknowledgement is at least to be marked: as asked for, else 200 ms or a
+    20th of the window, in a number of one digit."""
+    if given.longer is not None:
+        return given.longer
+    least = max(S // 5, (window[1] - window[0]) // 20)
+    return next(digit * 10**power for power in range(8, 16) for digit in (1, 2, 5) if digit * 10**power >= least)
+
+
+def moments(runs):
+    """When something happens: at senders and receivers, and at links."""
+    found_times = [[run.last for run in runs]]
+    for run in runs:
+        for flow in run.flows:
+            found_times += [flow.times, flow.next_times]
+        for link in run.links:
+            busy_to = np.asarray(link.busy_to, dtype=np.int64)
+            found_times += [link.busy_from, busy_to, busy_to + link.link.delay]
+    return np.concatenate([np.asarray(times, dtype=np.int64) for times in found_times])
+
+
+def worst_links(run, window, among):
+    """Of these links those at which packets waited longest in all within the window, if a tenth as long as
+    at the worst; where none waited the busiest. In the scenario's order."""
+    waited = {number: within(run.links[number].wait_times, run.links[number].waits, window) for number in among}
+    if not any(waited.values()):
+        waited = {number: within(run.links[number].busy_from, np.asarray(run.links[number].busy_to) -
+                                 np.asarray(run.links[number].busy_from), window) for number in among}
+    ranked = sorted(waited, key=lambda number: (-waited[number], number))[:MOST_LINKS]
+    return sorted(number for number in ranked if waited[number] * 10 >= waited[ranked[0]])
+
+
+def within(times, lengths, window):
+    times, lengths = np.asarray(times, dtype=np.int64), np.asarray(lengths, dtype=np.int64)
+    return int(lengths[(times >= window[0]) & (times <= window[1])].sum())
+
+
+def ways_of(run, flows):
+    """The links over which these flows go."""
+    return sorted({link for flow in flows for way in run.scenario.ways[flow] for link in way})
+
+
+def shown_of(given, run, window, most_links=None):
+    """The flows and links of a run that are shown."""
+    flows = list(range(len(run.flows))) if given.flows is None else named(given.flows, run.scenario.flows, 'flow')
+    if given.links is not None:
+        return flows, named(given.links, run.scenario.links, 'link')
+    among = range(len(run.links)) if given.flows is None else ways_of(run, flows)
+    links = worst_links(run, window, among)
+    if most_links == 1:
+        links = sorted(links, key=lambda number: (-sum(run.links[number].waits), number))[:1]
+    return flows, links
+
+
+def picture_of(given, run):
+    window, cuts = window_of(given, (run,))
+    flows, links = shown_of(given, run, window)
+    until = known_until(run)
+    return Picture([FlowView(run.flows[n], run.scenario.flows[n].name, at, until) for at, n in enumerate(flows)],
+                   [LinkView(run.links[n], run.scenario.links[n].name, at, until) for at, n in enumerate(links)],
+                   Clock(window, cuts), longer=stall_of(given, window), log=given.log)
+
+
+def beside(given, runs):
+    """Several runs: the flows of each, and of each the link at which packets waited longest, or those asked
+    for, under the names of their scenarios."""
+    window, cuts = window_of(given, [run for _, run in runs])
+    flows, links = [], []
+    for name, run in runs:
+        of_flows, of_links = shown_of(given, run, window, most_links=1)
+        flows += [FlowView(run.flows[n], name + f', flow {run.scenario.flows[n].name}', 0, known_until(run))
+                  for n in of_flows]
+        links += [LinkView(run.links[n], name + ('' if len(of_links) == 1 else f', {run.scenario.links[n].name}'),
+                           0, known_until(run)) for n in of_links]
+    return Picture([view._replace(number=at) for at, view in enumerate(flows)],
+                   [view._replace(number=at) for at, view in enumerate(links)],
+                   Clock(window, cuts), True, stall_of(given, window), given.log)
+
+
+def runs_of(given):
+    """The runs that the words name: (name, run)."""
+    wanted = [(given.scenario, given.trace)] + [(other[0], (other[1:] or [None])[0]) for other in given.beside]
+    program = given.program or found() or BUILT
+    return [(name, read_run(path, trace, program))
+            for name, (path, trace) in zip(given.names or distinct([path for path, _ in wanted]), wanted)]

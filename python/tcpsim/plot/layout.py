@@ -1,0 +1,146 @@
+"""The whole picture: flows to the left, links to the right, titled."""
+import math
+
+import matplotlib.pyplot as plt
+import numpy as np
+
+from tcpsim.trace import Unreadable
+
+from .flow_panels import (columns_of, progress_panel, sequence_key, sequence_panel, window_key, window_panel)
+from .labels import place_labels
+from .link_panels import delay_cdf_panel, delay_panel, queue_panel, utilization_panel
+from .style import KEY, columns_that_fit, link_text
+
+FLOW_PANELS = ('window', 'sequence')
+LINK_PANELS = ('queue', 'delay', 'delay-cdf', 'utilization')
+PANELS = FLOW_PANELS + LINK_PANELS + ('progress',)
+FIRST_CHOICE = ('window', 'sequence', 'queue', 'delay', 'utilization')
+DRAWING = {'queue': queue_panel, 'delay': delay_panel, 'delay-cdf': delay_cdf_panel, 'utilization': utilization_panel}
+KEYS = {'window': window_key, 'sequence': sequence_key}
+KEY_HEIGHT = .07        # of a panel's
+MOST_IN_FULL = 2
+ABOVE_LEFT = -5, 5      # of a curve that rises what is free
+POINTS = 72
+
+
+def draw(picture, panels, title):
+    """The figure with these panels."""
+    flow_panels = [panel for panel in FLOW_PANELS if panel in panels and picture.flows]
+    link_panels = [panel for panel in LINK_PANELS if panel in panels and picture.links]
+    link_panels += ['progress'] if 'progress' in panels and picture.flows else []
+    if not flow_panels and not link_panels:
+        raise Unreadable('there is nothing to draw')
+    size = (14, 8) if flow_panels else (10, 2 + 2 * len(link_panels))
+    figure = plt.figure(figsize=size, layout='constrained')
+    figure.suptitle(title, fontsize=11, fontweight='bold')
+    if not flow_panels or not link_panels:
+        parts, widths = [figure.subfigures(1, 1)], (1, 1)
+    else:
+        parts, widths = figure.subfigures(1, 2, width_ratios=(3, 2), wspace=.02), (.6, .4)
+    if flow_panels:
+        draw_flows(picture, parts[0], flow_panels, size[0] * widths[0] * POINTS - 60)
+    if link_panels:
+        draw_links(picture, parts[-1], link_panels, size[0] * widths[1] * POINTS - 60)
+    put_labels(picture, figure)
+    return figure
+
+
+def put_labels(picture, figure):
+    """Gives labels their places, once it is known where the panels are."""
+    if picture.labels:
+        figure.draw_without_rendering()
+        renderer = figure.canvas.get_renderer()
+    for axes, labels in picture.labels.items():
+        others = [text.get_window_extent(renderer).extents for text in axes.texts if text not in labels]
+        place_labels(axes, labels, [*others, *picture.clock.cut_boxes(axes)], ABOVE_LEFT)
+
+
+# ---- flows
+
+def draw_flows(picture, figure, panels, width):
+    """Few flows: window and sequence numbers each. Many: a window each, and one panel of all."""
+    views = picture.flows
+    in_full = len(views) <= MOST_IN_FULL
+    across = len(views) if in_full else columns_of(len(views))
+    down = math.ceil(len(views) / across)
+    rows = flow_rows(panels, in_full, down)
+    grid = figure.add_gridspec(len(rows), across, height_ratios=[height for *_, height in rows])
+    for at, (panel, row, _) in enumerate(rows):
+        if panel == 'key':
+            draw_key(figure.add_subplot(grid[at, :]), KEYS[row](picture), width)
+        elif panel == 'sequence' and not in_full:
+            axes = figure.add_subplot(grid[at, :])
+            progress_panel(picture, axes, views, width)
+            finish(picture, axes, True)
+        else:
+            last = at == len(rows) - 1
+            for place, number in enumerate(range(row * across, min(len(views), (row + 1) * across))):
+                axes = figure.add_subplot(grid[at, place])
+                flow_panel(picture, axes, panel, views[number], width / across - 30, in_full)
+                lowest = last or (panel == 'window' and not in_full and number + across >= len(views))
+                finish(picture, axes, lowest, small=across > 2)
+
+
+def flow_rows(panels, in_full, down):
+    """Each row's panel, its row among those of its kind (of a key whose key it is), and its height."""
+    rows = []
+    if 'window' in panels:
+        rows += [('key', 'window', KEY_HEIGHT * down)] + [('window', row, 1) for row in range(down)]
+    if 'sequence' in panels and in_full:
+        rows += [('key', 'sequence', KEY_HEIGHT)]
+    if 'sequence' in panels:
+        rows.append(('sequence', 0, 1 if in_full else max(1, .45 * down)))
+    return rows
+
+
+def flow_panel(picture, axes, panel, view, width, in_full):
+    drawing, what = {'window': (window_panel, 'congestion window'),
+                     'sequence': (sequence_panel, 'sequence numbers')}[panel]
+    name = f'{view.name}' if picture.beside else f'flow {view.name}'
+    drawing(picture, axes, view, f'{name}: {what}' if in_full else name, width, in_full)
+
+
+def draw_key(axes, handles, width):
+    axes.axis('off')
+    columns = columns_that_fit([handle.get_label() for handle in handles], width)
+    axes.legend(handles=handles, loc='center', ncol=columns, **KEY)
+
+
+# ---- links
+
+def draw_links(picture, figure, panels, width):
+    all_axes = np.atleast_1d(figure.subplots(len(panels), 1))
+    timed = [axes for panel, axes in zip(panels, all_axes) if panel != 'delay-cdf']
+    many = len(picture.links) > 1
+    for panel, axes in zip(panels, all_axes):
+        if panel == 'progress':
+            progress_panel(picture, axes, picture.flows, width)
+        else:
+            DRAWING[panel](picture, axes, picture.links, width, many and axes is all_axes[0])
+        if panel == 'delay-cdf':
+            common_look(axes)
+        else:
+            finish(picture, axes, axes is timed[-1])
+    texts = [link_text(view.run.link, view.name) for view in picture.links if set(panels) & set(LINK_PANELS)]
+    before = '' if picture.beside or not texts else 'link ' if len(texts) == 1 else 'links '
+    if texts:
+        figure.suptitle(before + '\n'.join(texts), fontsize=9 if len(texts) == 1 else 8)
+
+
+# ---- what all panels have
+
+def finish(picture, axes, lowest, small=False):
+    """The axis of time; named and numbered at the lowest panel."""
+    common_look(axes, small)
+    picture.clock.set(axes, 4 if small else 7)
+    picture.clock.mark_cuts(axes)
+    axes.tick_params(labelbottom=lowest)
+    if lowest:
+        axes.set_xlabel(f'time, {picture.clock.unit}', fontsize=9)
+
+
+def common_look(axes, small=False):
+    axes.grid(True, color='#DDDDDD', lw=.6)
+    axes.set_axisbelow(True)
+    axes.tick_params(labelsize=7 if small else 8)
+    axes.yaxis.label.set_size(8 if small else 9)

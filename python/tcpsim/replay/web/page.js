@@ -1,0 +1,319 @@
+'use strict';
+// The page: the present moment, the keys, the address, and what is shown of it.
+
+// How many rows a line takes that is wrapped between its words.
+function rowsOf(line, letters) {
+  let rows = 1, room = letters;
+  for (const {length} of line.split(' ')) {
+    if (length > room && room < letters) { rows += 1; room = letters; }
+    for (; room < length; room += letters) rows += 1;
+    room -= length + 1;
+  }
+  return rows;
+}
+
+class Page {
+  constructor(record) {
+    Object.assign(this, {record, facts: record.facts, time: record.times[0], playing: false, picked: null, frames: 0});
+    this.makeTicks();
+    this.net = new Net(d3.select('#net'), record, what => this.pick(what));
+    this.windows = new Chart(d3.select('#windows'), record, 'cwnd (thick), ssthresh (thin; along the top where it is higher)', 'bytes', time => this.goTo(time));
+    this.lengths = new Chart(d3.select('#lengths'), record, 'packets that wait', '', time => this.goTo(time));
+    this.drawFlows(); this.drawLinks(); this.makeLines(); this.makeControls();
+    this.fromAddress();
+    window.addEventListener('hashchange', () => this.fromAddress());
+    window.addEventListener('keydown', event => this.key(event));
+  }
+
+  // ---- where we are
+
+  goEvent(event) {
+    this.record.go(event);
+    this.time = this.record.timeOf(this.record.at);
+    this.carry = 0;
+    this.show();
+  }
+  // The moment `time`, as `until` of the debugger goes there: events before it are done.
+  goTo(time) {
+    this.record.go(this.record.eventsBefore(Math.round(time)));
+    this.time = Math.max(time, this.record.timeOf(this.record.at));
+    this.show();
+  }
+  fromAddress() {
+    const found = /^#event=(\d{1,16})$/.exec(location.hash);
+    if (!found) { this.show(); return; }
+    if (this.playing) this.play(false);
+    this.goEvent(+found[1]);
+  }
+  address() {
+    const words = `#event=${this.record.at}`;
+    if (location.hash !== words) history.replaceState(null, '', words);
+  }
+
+  // ---- drawing
+
+  show() {
+    this.draw();
+    this.address();
+    this.drawLines();
+    if (!this.playing) this.drawWords();
+  }
+  draw() {
+    const record = this.record;
+    this.net.draw(this.time, this.fallTime());
+    this.windows.mark(this.time); this.lengths.mark(this.time);
+    const where = document.getElementById('where');
+    where.textContent = `event ${number(record.at)} of ${number(record.last)}   ${seconds(this.time)}`;
+    where.dataset.event = record.at;
+    document.documentElement.dataset.event = record.at;
+  }
+  // A drop is seen to fall for 0.9 s of the reader's time.
+  fallTime() {
+    if (!this.playing) return 0;
+    return this.unit.value === 'time' ? 9e8 * this.pace() : 9e8 * this.pace() * this.meanGap;
+  }
+
+  makeLines() {
+    this.list = document.getElementById('lines');
+    const measure = () => {
+      this.fit = Math.min(41, Math.max(3, Math.floor((this.list.clientHeight - 4) / 16)));
+      this.letters = Math.floor((this.list.clientWidth - 14) / textWidth('0', getComputedStyle(this.list).font));
+    };
+    measure();
+    window.addEventListener('resize', () => { measure(); this.windows.resize(); this.lengths.resize(); this.show(); });
+    this.rows = d3.range(41).map(() => {
+      const row = document.createElement('li');
+      row.tabIndex = -1;
+      row.addEventListener('click', () => { if (row.dataset.event) this.pick({event: +row.dataset.event}); });
+      return this.list.appendChild(row);
+    });
+  }
+  // As many lines around the present one as there is room for, each whole.
+  drawLines() {
+    const record = this.record, rows = event => rowsOf(record.line(event), this.letters);
+    let begin = record.at, end = record.at - 1, room = this.fit;
+    const add = event => {
+      if (event <= record.first || event > record.last || rows(event) > room) return false;
+      room -= rows(event);
+      return true;
+    };
+    if (record.at > record.first) { end = record.at; room -= rows(record.at); } else begin = record.at + 1;
+    for (let more = true; more;) {
+      more = false;
+      if (add(begin - 1)) { begin -= 1; more = true; }
+      if (add(end + 1)) { end += 1; more = true; }
+    }
+    this.rows.forEach((row, i) => {
+      const event = begin + i, shown = event <= end;
+      if (row.hidden === shown) row.hidden = !shown;
+      if (!shown) { row.removeAttribute('data-event'); row.className = ''; return; }
+      const line = record.line(event);
+      if (row.dataset.event !== String(event)) { row.textContent = line; row.dataset.event = event; }
+      const look = (event === record.at ? 'present' : '') + (line.includes(' drop=') ? ' dropping' : '');
+      if (row.className !== look) row.className = look;
+      if (event === record.at) row.setAttribute('aria-current', 'true'); else row.removeAttribute('aria-current');
+    });
+  }
+
+  // ---- the words of what was picked; of the present line where nothing is
+
+  pick(what) {
+    this.picked = what;
+    if (what.event !== undefined && what.event !== this.record.at) { this.play(false); this.picked = what; this.drawWords(); return; }
+    this.drawWords();
+  }
+  drawWords() {
+    const box = document.getElementById('words'), what = this.picked || {event: this.record.at};
+    box.textContent = '';
+    const rows = what.packet ? this.packetRows(what) : what.node !== undefined ? this.nodeRows(what.node) :
+      what.link !== undefined ? this.linkRows(what.link) : this.lineRows(what.event);
+    const code = text => { const made = document.createElement('code'); made.textContent = text; return made; };
+    const table = document.createElement('table');
+    for (const [word, means, section] of rows) {
+      const row = table.insertRow();
+      if (section === undefined) {        // the words that a line begins with
+        const cell = row.insertCell();
+        cell.colSpan = 3; cell.className = 'first';
+        cell.append(code(word), ` ${means}`);
+        continue;
+      }
+      row.insertCell().textContent = word;
+      row.insertCell().textContent = means;
+      if (!section) { row.lastChild.colSpan = 2; continue; }
+      const cell = row.insertCell();
+      section.split(', ').forEach((one, k) => {
+        const name = document.createElement('span');
+        name.textContent = one;
+        cell.append(k ? ', ' : '', name);
+      });
+    }
+    const event = what.event !== undefined ? what.event : this.record.at;
+    const commands = document.createElement('p');
+    const moment = this.record.timeOf(Math.min(this.record.last, Math.max(this.record.first, event)));
+    commands.append('tcpsim debug: ', code(`step ${event}`), ' to just after it, ', code(`until ${moment}`),
+      ' to before its moment');
+    box.append(commands, table);
+    box.dataset.event = event;
+  }
+  lineRows(event) {
+    if (event <= this.record.first) return [['', event ? `before the page's first line: ${number(event)} events were run` : 'before the first event', '']];
+    return explainLine(this.facts, this.record.line(event), this.before(event));
+  }
+  // The sender's state before an event, for the words of an acknowledgement.
+  before(event) {
+    const at = this.record.at, name = +this.record.line(event).split(' ')[6];
+    this.record.go(event - 1);
+    const state = name < this.facts.flows.length ? this.record.flow(name) : null;
+    this.record.go(at);
+    return state;
+  }
+  packetRows({packet, link, sent}) {
+    const track = this.record.tracks[link], l = this.facts.links[link];
+    return [['packet', packetName(this.facts, packet), ''], ['link', `${l.name}, ${rateText(l.rate)}, ${milliseconds(l.delay)}`, ''],
+      ['waited', `from ${seconds(packet.entered, 9)}, ${milliseconds(track.begun[sent] - packet.entered)}`, ''],
+      ['tx', `begun ${seconds(track.begun[sent], 9)}`, ''], ['arrives', seconds(track.arrives[sent], 9), ''],
+      ['again', packet.again ? 'this segment was sent before' : 'sent for the first time', packet.again ? 'RFC 5681 section 3.2, RFC 6298 section 5.4' : '']];
+  }
+  linkRows(l) {
+    const link = this.facts.links[l], now = this.record.link(l);
+    const words = d3.range(now.head, Math.min(now.tail, now.head + 8)).map(k => packetName(this.facts, this.record.packet(l, k)));
+    return [['queue', `of link ${link.name}, ${link.queue === 'codel' ? 'CoDel' : 'drop-tail'}`, link.queue === 'codel' ? 'RFC 8289' : ''],
+      ['waiting', `${number(now.length)} of at most ${number(link.limit)}`, ''],
+      ['from the head', words.join('; ') + (now.length > 8 ? '; ..' : ''), ''],
+      ['offered', number(now.offered), ''], ['sent', number(now.sent), '']];
+  }
+  nodeRows(n) {
+    const node = this.facts.nodes[n], f = this.record.endOf[n], rows = [['node', `${node.name}, a ${node.kind}`, '']];
+    if (node.kind === 'sender') {
+      const now = this.record.flow(f), phase = now.recovery ? 'fr' : now.cwnd < now.ssthresh ? 'ss' : 'ca';
+      rows.push(...['una', 'nxt', 'cwnd', 'ssthresh'].map(word => explainWord(this.facts, `${word}=${now[word]}`)),
+        explainWord(this.facts, `phase=${phase}`), ['dups', `${now.dups} duplicate acknowledgements in a row`, 'RFC 5681 section 3.2']);
+    } else if (node.kind === 'receiver') rows.push(explainWord(this.facts, `next=${this.record.flow(f).next}`));
+    this.facts.links.forEach((link, l) => { if (link.from === n) rows.push(...this.linkRows(l).slice(0, 2)); });
+    return rows;
+  }
+
+  // ---- which flows and queues are ticked
+
+  makeTicks() {
+    const record = this.record, facts = this.facts, ticks = (id, names, ticked, changed, mark) => {
+      const boxes = names.map(([i, name]) => {
+        const label = document.createElement('label'), box = document.createElement('input');
+        box.type = 'checkbox'; box.checked = ticked(i); box.dataset.index = i;
+        box.addEventListener('change', changed);
+        const text = document.createElement('span');
+        text.textContent = name; mark(text, i);
+        label.append(box, text); document.getElementById(id).append(label);
+        return box;
+      });
+      return () => boxes.filter(box => box.checked).map(box => +box.dataset.index);
+    };
+    const lineStyle = i => ['solid', 'dashed', 'dotted', 'double'][i % 4];
+    const curves = new Map(), of = (key, make) => { if (!curves.has(key)) curves.set(key, make()); return curves.get(key); };
+    const flows = ticks('flows', facts.flows.map((flow, f) => [f, `${f} ${flow.name}`]), f => f < 4, () => this.drawFlows(),
+      (text, f) => { text.className = 'dash'; text.style.borderBottom = `3px ${lineStyle(f)} ${colourOf(f)}`; });
+    this.drawFlows = () => this.windows.show(flows().flatMap(f => [[CWND, 'cwnd'], [SSTHRESH, 'ssthresh']].map(([what, name]) => ({
+      curve: of(`f${f} ${what}`, () => record.curve(record.ofFlow(f, what))), colour: colourOf(f), thin: what === SSTHRESH,
+      dash: DASHES[f % 4], name: `${name} of ${facts.flows[f].name}`}))));
+    const queue = l => of(`q${l}`, () => record.queueCurve(l));
+    // The queues that grew longest come first.
+    const order = facts.links.map((_, l) => l).sort((a, b) => record.longest[b] - record.longest[a] || a - b);
+    const links = ticks('links', order.map(l => [l, facts.links[l].name]), l => order.indexOf(l) < 2, () => this.drawLinks(),
+      (text, l) => { text.className = 'dash'; text.style.borderBottom = `3px ${lineStyle(l)} ${colourOf(l)}`; });
+    this.drawLinks = () => this.lengths.show(links().map(l => ({
+      curve: queue(l), colour: colourOf(l), dash: DASHES[l % 4], name: `queue of ${facts.links[l].name}`})));
+  }
+
+  // ---- keys and buttons
+
+  makeControls() {
+    const on = (id, what) => document.getElementById(id).addEventListener('click', event => { what(); event.currentTarget.blur(); });
+    on('start', () => this.goEvent(this.record.first)); on('back', () => this.step(-1)); on('on', () => this.step(1));
+    on('play', () => this.play(!this.playing)); on('drop', () => this.next('drop', 1));
+    on('timeout', () => this.next('timeout', 1)); on('stall', () => this.next('stall', 1));
+    this.speed = document.getElementById('speed'); this.unit = document.getElementById('unit');
+    const span = this.record.times[this.record.count] - this.record.times[0];
+    this.meanGap = span / 1e9 / Math.max(1, this.record.count);
+    // At first the whole page takes a minute, or real time where that is shorter.
+    this.speed.value = Math.round(100 * Math.log10(Math.min(1, Math.max(0.001, span / 6e10)) / 0.001));
+    const told = () => { document.getElementById('pace').textContent = this.unit.value === 'time' ?
+      `${+this.pace().toPrecision(2)} ×` : `${+this.pace().toPrecision(2)} a second`; };
+    this.speed.addEventListener('input', told); this.unit.addEventListener('change', told);
+    told();
+  }
+  // A thousandth to ten times real time, or 1 to 10,000 events a second.
+  pace() { return 10 ** (this.speed.value / 100) * (this.unit.value === 'time' ? 0.001 : 1); }
+
+  key(event) {
+    if (event.ctrlKey || event.altKey || event.metaKey) return;
+    const tag = event.target.tagName;
+    if ((tag === 'INPUT' && event.target.type === 'range' || tag === 'SELECT') && event.key !== ' ') return;
+    if (event.key === ' ' && (tag === 'BUTTON' || tag === 'SELECT' || tag === 'INPUT' && event.target.type === 'checkbox')) return;
+    const does = {ArrowRight: () => this.step(1), ArrowLeft: () => this.step(-1), ' ': () => this.play(!this.playing),
+      d: () => this.next('drop', 1), D: () => this.next('drop', -1), r: () => this.next('timeout', 1),
+      R: () => this.next('timeout', -1), s: () => this.next('stall', 1), S: () => this.next('stall', -1),
+      Home: () => this.jump(this.record.first), End: () => this.jump(this.record.last)}[event.key];
+    if (does) { does(); event.preventDefault(); }
+  }
+  step(by) { this.jump(this.record.at + by); }
+  jump(event) { this.play(false); this.picked = null; this.say(''); this.goEvent(event); }
+
+  // The next drop, timeout or stall after the present event, or the one before it.
+  next(what, way) {
+    const events = {drop: () => this.record.drops.map(drop => drop.event), timeout: () => this.record.timeouts,
+      stall: () => this.record.stalls.map(stall => stall.event)}[what]().filter(event => way * (event - this.record.at) > 0);
+    if (!events.length) { this.play(false); this.say(`no ${what} ${way > 0 ? 'after' : 'before'} this event`); return; }
+    this.jump(way > 0 ? d3.min(events) : d3.max(events));
+    if (what === 'stall') {
+      const stalls = this.record.stalls.filter(stall => stall.event === this.record.at);
+      this.say(stalls.map(stall => `${this.facts.flows[stall.flow].name}: no new acknowledgement for ${seconds(stall.to - stall.from)}`).join('; ') +
+        ' (tcpsim-stalls says why)');
+    }
+  }
+  say(words) { document.getElementById('notice').textContent = words; }
+
+  play(on) {
+    if (on === this.playing) return;
+    if (on && this.record.at === this.record.last) this.goEvent(this.record.first);
+    this.playing = on;
+    document.getElementById('play').textContent = on ? '❚❚ pause' : '▶ play';
+    if (!on) { this.show(); return; }
+    this.picked = null; this.say('');
+    this.then = null; this.carry = 0;
+    requestAnimationFrame(now => this.frame(now));
+  }
+  frame(now) {
+    if (!this.playing) return;
+    const passed = this.then === null ? 0 : Math.min(100, now - this.then), record = this.record;
+    this.then = now; this.frames += 1;
+    if (this.unit.value === 'time') {
+      this.time += passed * 1e6 * this.pace();
+      record.go(Math.max(record.at, record.eventsBefore(this.time + 0.5)));
+    } else {
+      this.carry += passed / 1000 * this.pace();
+      const events = Math.floor(this.carry);
+      this.carry -= events;
+      record.go(record.at + events);
+      const at = record.timeOf(record.at), next = record.at < record.last ? record.timeOf(record.at + 1) : at;
+      this.time = at + (next - at) * this.carry;
+    }
+    if (record.at === record.last) { this.time = record.timeOf(record.last); this.play(false); return; }
+    this.draw();
+    if (this.frames % 6 === 0) this.drawLines();
+    if (this.frames % 20 === 0) { this.address(); }
+    requestAnimationFrame(then => this.frame(then));
+  }
+}
+
+(async () => {
+  const facts = JSON.parse(document.getElementById('facts').textContent);
+  const begun = performance.now();
+  try {
+    const lines = await unpack(document.getElementById('trace').textContent);
+    window.page = new Page(new Record(facts, lines));
+    document.documentElement.dataset.ready = Math.round(performance.now() - begun);
+  } catch (wrong) {
+    document.getElementById('notice').textContent = `This browser cannot show the page: ${wrong.message}`;
+    document.documentElement.dataset.failed = wrong.stack || wrong.message;
+  }
+})();

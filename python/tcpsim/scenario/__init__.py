@@ -1,0 +1,1 @@
+"""Scenarios: `shapes` builds and writes nets, `units` reads rates, times, sizes and queues as words."""

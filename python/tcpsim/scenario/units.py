@@ -1,0 +1,234 @@
+"""Rates, times, sizes and queues as a command line has them: 10M, 5ms, droptail:50, codel:5ms:100ms.
+
+Each reader takes a word and answers a number in the scenario's own unit (bit/s, ns, bytes, packets), or
+raises `Wrong` with what is wrong with the word. Used by the commands; nothing but Python's
+standard library.
+"""
+import argparse
+import os
+import re
+import sys
+from collections import namedtuple
+from fractions import Fraction
+
+HEADER_BYTES = 40
+BITS_NS = 8 * 10**9         # bits of a byte times nanoseconds of a second
+
+# From docs/FORMATS.md: the least and the greatest of each number.
+RANGES = {
+    'end': (1, 10**15), 'rate': (1_000, 10**12), 'delay': (1, 10**10), 'capacity': (1, 65_535),
+    'target': (1, 10**10), 'interval': (1, 10**10), 'maxpacket': (1, 65_535), 'mss': (1, 9_000),
+    'segments': (1, 10**9), 'start': (0, 10**15 - 1), 'rwnd': (1, 2**30), 'delack': (0, 5 * 10**8),
+}
+RATE_UNITS = {'': 1, 'k': 10**3, 'M': 10**6, 'G': 10**9}
+TIME_UNITS = {'ns': 1, 'us': 10**3, 'ms': 10**6, 's': 10**9}
+SIZE_UNITS = {'': 1, 'k': 10**3, 'M': 10**6, 'G': 10**9}
+WORD = re.compile(r'([0-9]{1,20})(?:\.([0-9]{1,20}))?([A-Za-z/]*)')
+CODEL_LIMIT = 1000          # packets, where `codel:TARGET:INTERVAL` names no limit
+
+
+class Wrong(Exception):
+    """A word that is not what is asked for. The text says what is wrong, without a full stop."""
+
+
+# ---- numbers
+
+def _amount(word, units, what, example):
+    found = WORD.fullmatch(word)
+    if not found or found[3] not in units:
+        raise Wrong(f'{word!r} is no {what}: write a number and a unit, as {example}')
+    amount = Fraction(int(found[1] + (found[2] or '')), 10**len(found[2] or '')) * units[found[3]]
+    if amount.denominator != 1:
+        raise Wrong(f'{word!r} is no {what}: it is finer than the smallest unit')
+    return int(amount)
+
+
+def rate(word):
+    """Bits a second: 10M, 1.5M, 800k, 1G; a number alone is bit/s."""
+    return _amount(word, RATE_UNITS, 'rate', '10M (units k, M, G of bit/s)')
+
+
+def time(word):
+    """Nanoseconds: 20ms, 0.5s, 100us, 1ns; of the numbers alone only 0."""
+    if word == '0':
+        return 0
+    return _amount(word, TIME_UNITS, 'time', '20ms (units ns, us, ms, s)')
+
+
+def size(word):
+    """Bytes: 64000, 64k, 1M, units of a thousand."""
+    return _amount(word, SIZE_UNITS, 'size', '64k (bytes; units k, M, G)')
+
+
+def count(word):
+    """A whole number."""
+    if not re.fullmatch('[0-9]{1,20}', word):
+        raise Wrong(f'{word!r} is no whole number')
+    return int(word)
+
+
+def within(name, value, shown=None):
+    """The value, where the program's range of `name` has it."""
+    least, greatest = RANGES[name]
+    if not least <= value <= greatest:
+        spell = SPELLED.get(name, '{:,}'.format)
+        raise Wrong(f'{shown or spell(value)} is out of range: {name} is from {spell(least)} to {spell(greatest)}')
+    return value
+
+
+def number(name, word):
+    """The number that a scenario's field `name` has by this word, in its range."""
+    return within(name, READERS[name](word), repr(word))
+
+
+# ---- as words again
+
+def _spelled(value, units):
+    unit, scale = max(((unit, scale) for unit, scale in units.items() if scale <= max(value, 1)),
+                      key=lambda entry: entry[1])
+    whole, rest = divmod(value, scale)
+    digits = str(scale + rest)[1:].rstrip('0')
+    return f'{whole}{"." + digits if digits else ""}{unit}'
+
+
+def spelled_rate(bits):
+    return _spelled(bits, RATE_UNITS)
+
+
+def spelled_time(ns):
+    return _spelled(ns, TIME_UNITS) if ns else '0'
+
+
+READERS = {'end': time, 'rate': rate, 'delay': time, 'capacity': count, 'target': time, 'interval': time,
+           'maxpacket': size, 'mss': size, 'segments': count, 'start': time, 'rwnd': size, 'delack': time}
+SPELLED = {name: {rate: spelled_rate, time: spelled_time}.get(reader, '{:,}'.format)
+           for name, reader in READERS.items()}
+
+
+# ---- queues
+
+class Queue(namedtuple('Queue', 'kind capacity target interval maxpacket', defaults=(0, 0, None))):
+    """A link's queue. The capacity is None where it is to be the bandwidth-delay product, CoDel's maxpacket where it
+    is to be the greatest packet."""
+
+    def __str__(self):
+        if self.kind == 'droptail':
+            return f'droptail:{"BDP" if self.capacity is None else self.capacity}'
+        times = f'codel:{spelled_time(self.target)}:{spelled_time(self.interval)}'
+        if self.maxpacket is not None:
+            return f'{times}:{self.capacity}:{self.maxpacket}'
+        return times if self.capacity == CODEL_LIMIT else f'{times}:{self.capacity}'
+
+    def words(self, packet, product):
+        """The words of a link's statement from the kind of queue on. `packet` is the greatest in bytes, `product`
+        the bandwidth-delay product in packets."""
+        capacity = product if self.capacity is None else self.capacity
+        if self.kind == 'droptail':
+            return f'droptail {capacity}'
+        maxpacket = packet if self.maxpacket is None else self.maxpacket
+        return f'codel {capacity} {self.target} {self.interval} {maxpacket}'
+
+
+def queue(word, default_kind=None):
+    """The queue of a word: droptail:N, droptail:BDP or codel:TARGET:INTERVAL[:LIMIT[:MAXPACKET]]. With
+    `default_kind` the kind may be left out."""
+    kind, *numbers = word.split(':')
+    if kind not in ('droptail', 'codel') and default_kind:
+        kind, numbers = default_kind, [kind, *numbers]
+    if kind == 'droptail' and len(numbers) == 1:
+        return Queue(kind, None if numbers[0] == 'BDP' else _limit(word, numbers[0]))
+    if kind == 'codel' and len(numbers) in (2, 3, 4):
+        limit = _limit(word, numbers[2]) if numbers[2:] else CODEL_LIMIT
+        return Queue(kind, limit, time(numbers[0]), time(numbers[1]), size(numbers[3]) if numbers[3:] else None)
+    raise Wrong(f'{word!r} is no queue: write droptail:N, droptail:BDP or codel:TARGET:INTERVAL[:LIMIT[:MAXPACKET]]')
+
+
+def _limit(word, packets):
+    if not re.fullmatch('[0-9]{1,20}', packets):
+        raise Wrong(f'{word!r} is no queue: {packets!r} is no number of packets')
+    return int(packets)
+
+
+def queue_in_range(word):
+    """The queue of a word, each of its numbers in its range."""
+    read = queue(word)
+    if read.capacity is not None:
+        within('capacity', read.capacity)
+    if read.kind == 'codel':
+        within('target', read.target)
+        within('interval', read.interval)
+        if read.maxpacket is not None:
+            within('maxpacket', read.maxpacket)
+    return read
+
+
+def queues(words):
+    """The queues of a list; where a kind is left out, it is that of the queue before:
+    droptail:10,50,codel:5ms:100ms has three."""
+    read = []
+    for word in words.split(','):
+        read.append(queue(word, read[-1].kind if read else None))
+    return read
+
+
+def product(bits, round_trip_of, packet):
+    """The bandwidth-delay product in whole packets, at least one: what is under way in a round trip."""
+    return max(1, bits * round_trip_of // (packet * BITS_NS))
+
+
+def round_trip(link, ways, delays):
+    """The mean round trip, of delays alone, of the flows whose data goes over a link, or of those whose
+    acknowledgements do where no data does; 0 where nothing does. `ways` are each flow's links there and back."""
+    for sort in (0, 1):
+        trips = [sum(delays[n] for way in both for n in way) for both in ways if link in both[sort]]
+        if trips:
+            return sum(trips) // len(trips)
+    return 0
+
+
+# ---- command lines
+
+def as_type(read):
+    """A reader as argparse takes it."""
+    def read_word(word):
+        try:
+            return read(word)
+        except Wrong as wrong:
+            raise argparse.ArgumentTypeError(str(wrong)) from None
+    return read_word
+
+
+class Words(argparse.ArgumentParser):
+    """A command line whose every fault is one sentence and status 2."""
+
+    def __init__(self, **given):
+        super().__init__(allow_abbrev=False, **given)
+
+    def error(self, message):
+        refuse(message)
+
+    def print_help(self, file=None):
+        to_standard_output(self.format_help())
+
+
+def tool():
+    """The name under which the script was called."""
+    return os.path.basename(sys.argv[0])
+
+
+def refuse(message, status=2):
+    """Ends with one sentence on standard error."""
+    print(f'{tool()}: {" ".join(str(message).split())}', file=sys.stderr)
+    sys.exit(status)
+
+
+def to_standard_output(text):
+    """Writes a text; a reader that has seen enough, as `head`, ends it quietly."""
+    try:
+        sys.stdout.write(text)
+        sys.stdout.flush()
+    except BrokenPipeError:
+        os.dup2(os.open(os.devnull, os.O_WRONLY), sys.stdout.fileno())
+    except OSError as wrong:
+        os.dup2(os.open(os.devnull, os.O_WRONLY), sys.stdout.fileno())
+        refuse(f'standard output: {wrong.strerror}', 1)

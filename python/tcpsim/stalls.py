@@ -1,0 +1,300 @@
+"""Why a flow stood still: each span without a new acknowledgement, its cause and how to see it.
+
+Usage: bin/tcpsim-stalls SCENARIO [TRACE] [--longer 200ms] [--flow F] [--csv] [--program FILE]
+       bin/tcpsim-stalls --causes
+
+A span begins at a flow's start or at a new acknowledgement and ends at the next one, or where the run
+ends. Without TRACE the built program is run. `--causes` prints the rule of each cause.
+"""
+import csv
+import io
+from collections import namedtuple
+
+from tcpsim.causes import CAUSES, cause_of, name_of, rule_of, seconds
+from tcpsim.lives import ACK, CODEL, DATA, PARTIAL, Walk, Watch, flow_named, opened
+from tcpsim.trace import Unreadable
+from tcpsim.scenario.units import Words, as_type, refuse, time, to_standard_output
+
+LONGER = 200 * 10**6
+Timer = namedtuple('Timer', 'time line value doubled')
+Row = namedtuple('Row', 'flow begin end length cause found positions')
+
+
+class Place:
+    """How many packets of a flow are at a port: those that wait and the one that the link is sending."""
+    __slots__ = ('flow', 'port', 'packets')
+
+    def __init__(self, flow, port):
+        self.flow, self.port, self.packets = flow, port, 0
+
+    def waits(self):
+        """Whether one of them waits."""
+        sending = self.port.sending
+        return self.packets > 1 or self.packets == 1 and (sending is None or sending.flow is not self.flow)
+
+
+class Watched(Watch):
+    """What is known of a flow: its segments from una on, its acknowledgements that were dropped, the present
+    span (None before the start and after the end), and where its packets are. Of each port at which all of
+    them waited `queued` has for how long they did in the present span, the longest time of that, and the
+    line in which it began."""
+
+    def __init__(self, walk, flow):
+        self.walk, self.copies, self.acks_dropped, self.span = walk, {}, [], None
+        places = {}
+        for hop in flow.hops():
+            hop.place = places.setdefault(hop.port, Place(flow, hop.port))
+        self.places, self.flying = set(), 0         # where some of its packets are; how many are under way
+        self.at, self.since, self.line = None, 0, 0     # the place where all wait, since when
+        self.queued = {}
+
+    def entered(self, packet, port):
+        place = packet.hop.place
+        place.packets += 1
+        if place.packets == 1:
+            self.places.add(place)
+        if not self.flying:
+            self.look()
+
+    def began(self, packet, port):
+        if self.at is not None:
+            self.look()
+
+    def left(self, packet, port):
+        self.leave(packet.hop.place)
+        self.flying += 1
+        if self.at is not None:
+            self.look()
+
+    def came(self, packet, port):
+        self.flying -= 1
+        if not self.flying:
+            self.look()
+
+    def dropped(self, packet, port):
+        if packet.fate == CODEL:
+            self.leave(packet.hop.place)
+        if packet.sort == ACK:
+            self.acks_dropped.append(packet)
+        if not self.flying:
+            self.look()
+
+    def leave(self, place):
+        place.packets -= 1
+        if not place.packets:
+            self.places.remove(place)
+
+    def look(self):
+        """After packets moved: whether all are at one place now, and one of them waits."""
+        at = None
+        if not self.flying and len(self.places) == 1:
+            place, = self.places
+            if place.waits():
+                at = place
+        if at is not self.at:
+            self.settle()
+            self.at = at
+
+    def settle(self):
+        """Adds what the present waiting came to."""
+        walk = self.walk
+        if self.at is not None:
+            port, waited = self.at.port, walk.time - self.since
+            total, longest, line = self.queued.get(port, (0, -1, 0))
+            self.queued[port] = (total + waited, *max((longest, line), (waited, self.line)))
+        self.since, self.line = walk.time, walk.line
+
+    def begin(self, span):
+        """A span begins, or none: what came before it doesn't count."""
+        self.since, self.line, self.span, self.queued = self.walk.time, self.walk.line, span, {}
+
+    def forget(self, flow, before):
+        """What is acknowledged is no longer of interest."""
+        for number in range(before, flow.una, flow.mss):
+            self.copies.pop(number, None)
+        if self.acks_dropped:
+            self.acks_dropped = [ack for ack in self.acks_dropped if ack.number >= flow.una]
+
+
+class Span:
+    """A span of a flow without a new acknowledgement, so far."""
+
+    def __init__(self, flow, begin, line):
+        self.begin, self.line, self.una, self.nxt = begin, line, flow.una, flow.nxt
+        self.full, self.timers, self.duplicates, self.recover = is_full(flow), [], 0, flow.recover
+
+
+def is_again(packet, span):
+    """Whether a segment was sent in the span, or by the acknowledgement with which it began since that was partial."""
+    return packet.line > span.line or packet.line == span.line and packet.why is PARTIAL
+
+
+def is_full(flow):
+    return flow.nxt < flow.total and flow.nxt + flow.mss > flow.una + flow.flow.rwnd
+
+
+class Stall:
+    """A span of a flow without a new acknowledgement, as things are at its end.
+
+    `copies` are the sendings of the segment at una up to the span's beginning, `resent` those after it and the
+    one by the partial acknowledgement with which the span began, if there was one;
+    `acks_dropped` are acknowledgements of una or above; `ack` is the one that ended the span, or None;
+    `waits_since` says since when an answer waits that the run's end cut off; `queued` is that of `Watched`."""
+
+    def __init__(self, walk, flow, watched, ack):
+        span = watched.span
+        self.flow, self.una, self.nxt, self.full = flow, span.una, span.nxt, span.full
+        self.begin, self.begin_line, self.end, self.end_line = span.begin, span.line, walk.time, walk.line
+        self.length, self.longer, self.ack = self.end - self.begin, walk.longer, ack
+        self.waits_since = flow.waits_since if ack is None else None
+        self.copies = [packet for packet in watched.copies[span.una] if not is_again(packet, span)]
+        self.resent = [packet for packet in watched.copies[span.una] if is_again(packet, span)]
+        self.acks_dropped = [packet for packet in watched.acks_dropped if packet.number >= span.una]
+        self.timers, self.duplicates, self.queued = span.timers, span.duplicates, watched.queued
+        self.recover = span.recover     # NewReno's, when the span began
+        self.rto, self.doubled, self.sendings = flow.rto, flow.doubled, watched.copies
+
+    def behind(self):
+        """The segments above una that could make duplicates: the receiver asked for una when they came, or
+        they didn't come."""
+        return [packet for number, packets in self.sendings.items() if number > self.una
+                for packet in packets if packet.asked in (None, self.una)]
+
+
+class Stalls(Walk):
+    """Finds the stalls of a run while it is read; `rows` has them in the order in which they ended."""
+
+    def __init__(self, scenario, longer):
+        super().__init__(scenario)
+        self.longer, self.rows = longer, []
+        self.watched = [Watched(self, flow) for flow in self.flows]
+
+    def born(self, packet):
+        packet.watch = watched = self.watched[packet.flow.number]
+        if packet.sort == DATA:
+            copies = watched.copies
+            if packet.number in copies:
+                copies[packet.number].append(packet)
+            else:
+                copies[packet.number] = [packet]
+
+    def at_sender(self, flow, kind, packet, before):
+        watched = self.watched[flow.number]
+        span = watched.span
+        if flow.una > before:
+            self.close(flow, packet)
+            watched.forget(flow, before)
+            self.open(flow)
+        elif kind == 'start':
+            self.open(flow)
+        elif span is not None:
+            span.full = span.full and is_full(flow)
+            span.nxt = max(span.nxt, flow.nxt)
+            if kind == 'rto':
+                span.timers.append(Timer(self.time, self.line, *self.expired))
+            elif not span.timers:
+                span.duplicates = flow.dups
+
+    def open(self, flow):
+        self.watched[flow.number].begin(Span(flow, self.time, self.line) if flow.una < flow.total else None)
+
+    def close(self, flow, ack):
+        watched = self.watched[flow.number]
+        if watched.span is not None and self.time - watched.span.begin > self.longer:
+            watched.settle()
+            self.rows.append(self.row(Stall(self, flow, watched, ack)))
+
+    def row(self, stall):
+        """A stall's row, made at its end: later its packets can be dropped too."""
+        cause, found = cause_of(stall)
+        return Row(stall.flow.flow.name, stall.begin, stall.end, stall.length, name_of(cause), found.words,
+                   sorted({stall.begin_line, *found.lines, stall.end_line}))
+
+    def finish(self):
+        """The run is over: open spans end with it, or with the last line of a trace without `end`. All
+        rows, by flow and then by their beginnings."""
+        if self.ended:
+            self.time = self.scenario.end
+        for flow in self.flows:
+            self.close(flow, None)
+        order = {flow.flow.name: flow.number for flow in self.flows}
+        return sorted(self.rows, key=lambda row: (order[row.flow], row.begin))
+
+
+def stalls_of(scenario, lines, longer=LONGER):
+    """The rows of all stalls of a run."""
+    walk = Stalls(scenario, longer)
+    walk.read(lines)
+    return walk.finish()
+
+
+# ---- as text
+
+def commands(positions):
+    """The debugger's commands that go from its start to each position."""
+    return [f'step {to - since}' for since, to in zip([0, *positions], positions)]
+
+
+def write_csv(rows, file):
+    out = csv.writer(file, lineterminator='\n')
+    out.writerow(('flow', 'from', 'to', 'ns', 'cause', 'found', 'commands'))
+    for *words, positions in rows:
+        out.writerow((*words, '; '.join(commands(positions))))
+
+
+def write_table(rows, longer, file):
+    """Three lines a stall: its row, what was found, the commands of `tcpsim debug`."""
+    width = max([4, *(len(row.flow) for row in rows)])
+    print(f'{"flow".ljust(width)}  {"from s":>16}  {"to s":>16}  {"long s":>14}  cause', file=file)
+    for row in rows:
+        begin, end, length = (f'{time / 10**9:.9f}' for time in (row.begin, row.end, row.length))
+        print(f'{row.flow.ljust(width)}  {begin:>16}  {end:>16}  {length:>14}  {row.cause}', file=file)
+        print(f'{"".ljust(width)}    {row.found}', file=file)
+        print(f'{"".ljust(width)}    debug: {", ".join(commands(row.positions))}', file=file)
+    print(f'{len(rows)} {"stall" if len(rows) == 1 else "stalls"} longer than {seconds(longer)}', file=file)
+
+
+def write_causes(file):
+    for cause in CAUSES:
+        print(f'{name_of(cause)}\n    {rule_of(cause)}', file=file)
+
+
+def words_of():
+    words = Words(description='Each span of a flow without a new acknowledgement, and its cause.')
+    words.add_argument('scenario', metavar='SCENARIO', nargs='?', help='a text; - is standard input')
+    words.add_argument('trace', metavar='TRACE', nargs='?', help='else the program is run')
+    words.add_argument('--longer', metavar='TIME', type=as_type(time), default=LONGER,
+                       help='spans longer than this (default 200ms)')
+    words.add_argument('--flow', metavar='F', help='only this flow, by its name or number')
+    words.add_argument('--csv', action='store_true', help='flow,from,to,ns,cause,found,commands; times in nanoseconds')
+    words.add_argument('--program', metavar='FILE', help='the program that is run where no trace is given')
+    words.add_argument('--causes', action='store_true', help='print the rule of each cause')
+    given = words.parse_args()
+    if given.scenario is None and not given.causes:
+        words.error('SCENARIO is missing')
+    return given
+
+
+def show():
+    given, text = words_of(), io.StringIO()
+    if given.causes:
+        write_causes(text)
+    else:
+        with opened(given.scenario, given.trace, given.program) as (scenario, lines):
+            only = None if given.flow is None else scenario.flows[flow_named(scenario, given.flow)].name
+            rows = [row for row in stalls_of(scenario, lines, given.longer) if only in (None, row.flow)]
+        if given.csv:
+            write_csv(rows, text)
+        else:
+            write_table(rows, given.longer, text)
+    to_standard_output(text.getvalue())
+
+
+def main():
+    try:
+        show()
+    except Unreadable as wrong:
+        refuse(wrong, 1)
+    except KeyboardInterrupt:
+        return 130
+    return 0

@@ -1,0 +1,585 @@
+"""Reads a scenario and its trace (docs/FORMATS.md) and finds what became of each packet.
+
+The trace says what a link begins to send and what is dropped; what only enters a queue it leaves to
+its reader. Every packet that a node offers follows from the states on the lines ("What a trace leaves
+to its reader" in docs/FORMATS.md), and a queue gives its packets in their order. `Reader` goes through
+a trace line by line and keeps only the present state; `Run` keeps all curves. Used by the modules beside
+it; nothing but Python's standard library. All times are nanoseconds, all sizes bytes.
+"""
+import codecs
+import subprocess
+import sys
+from array import array
+from collections import Counter, deque, namedtuple
+from contextlib import contextmanager
+from itertools import chain
+
+from tcpsim.program import NoProgram, find_program
+
+HEADER_BYTES = 40
+BITS_NS = 8 * 10**9
+DATA, ACK = 0, 1
+BLOCK = 1 << 18         # bytes of a trace that are read at once
+IMAGE_BEGINS = b'TCB'
+NEVER = 1 << 62         # past every moment of a run
+
+Node = namedtuple('Node', 'name kind')
+Link = namedtuple('Link', 'name source to rate delay queue capacity target interval')
+Flow = namedtuple('Flow', 'name sender receiver mss segments start rwnd delack newreno iw10', defaults=(False, False))
+VARIANTS = {'reno': False, 'newreno': True}, {'iw3': False, 'iw10': True}      # a flow's last two words: both or neither
+
+
+class Unreadable(Exception):
+    """A scenario or trace that cannot be read, or a trace of another scenario."""
+
+
+# ---- the scenario
+
+class Scenario:
+    """A scenario that the program has taken: names and numbers, and each flow's two ways."""
+
+    def __init__(self, text):
+        self.end, self.nodes, self.links, self.flows, self.routes = None, [], [], [], {}
+        self._numbers = {}
+        statements = {'sim': self._sim, 'node': self._node, 'link': self._link, 'flow': self._flow,
+                      'route': self._route, 'lose': self._lose}
+        for number, line in enumerate(text.split('\n'), 1):
+            words = line.partition('#')[0].split()
+            try:
+                if words:
+                    statements[words[0]](*words[1:])
+            except (KeyError, TypeError, ValueError) as wrong:
+                raise Unreadable(f'the scenario, line {number}: {line.strip()[:100]}') from wrong
+        if self.end is None or not self.flows:
+            raise Unreadable('the scenario has no `sim` or no flow')
+        self.leaves = [[n for n, link in enumerate(self.links) if link.source == node]
+                       for node in range(len(self.nodes))]
+        self.ways = [(self._way(f.sender, f.receiver), self._way(f.receiver, f.sender))
+                     for f in self.flows]
+
+    def _declare(self, name, entries, entry):
+        self._numbers[name] = len(entries)
+        entries.append(entry)
+
+    def _sim(self, end):
+        self.end = int(end)
+
+    def _node(self, name, kind):
+        if kind not in ('sender', 'receiver', 'router'):
+            raise ValueError(kind)
+        self._declare(name, self.nodes, Node(name, kind))
+
+    def _link(self, name, source, to, rate, delay, queue, capacity, target=0, interval=0, _maxpacket=0):
+        if queue not in ('droptail', 'codel') or int(rate) < 1:
+            raise ValueError(queue)
+        self._declare(name, self.links, Link(
+            name, self._numbers[source], self._numbers[to], int(rate), int(delay), queue, int(capacity),
+            int(target), int(interval)))
+
+    def _flow(self, name, sender, receiver, mss, segments, start, rwnd, delack, *variant):
+        if len(variant) not in (0, 2):
+            raise ValueError(variant)
+        self._declare(name, self.flows, Flow(
+            name, self._numbers[sender], self._numbers[receiver], *map(int, (mss, segments, start, rwnd, delack)),
+            *(words[word] for words, word in zip(VARIANTS, variant))))
+
+    def _route(self, router, to, link):
+        self.routes[self._numbers[router], self._numbers[to]] = self._numbers[link]
+
+    def _lose(self, link, number):
+        pass
+
+    def hop(self, node, to):
+        """The link over which a node sends what is for `to`."""
+        if self.nodes[node].kind == 'router':
+            return self.routes.get((node, to))
+        return self.leaves[node][0] if self.leaves[node] else None
+
+    def _way(self, node, to):
+        """The links of a way, in order."""
+        way = []
+        while node != to:
+            link = self.hop(node, to) if node < len(self.nodes) else None
+            if link is None or link in way:
+                raise Unreadable('the scenario has a flow whose way does not come to its end')
+            way.append(link)
+            node = self.links[link].to
+        return way
+
+
+# ---- a trace, line by line
+
+class Stream:
+    """The packets of one sort that a flow sends."""
+    __slots__ = 'flow', 'sort', 'size'
+
+    def __init__(self, flow, sort, size):
+        self.flow, self.sort, self.size = flow, sort, size
+
+
+class FlowState:
+    """A flow's sender and receiver as they were after their last line. The methods that are None here a
+    kind of its own may have: each is told what happened."""
+
+    on_sent = None          # (time, number): a segment was sent for the first time
+    on_again = None         # (time, number, by_dups): sent again, in fast recovery (by a third duplicate, or by a
+                            # partial acknowledgement of NewReno's) or else by a timeout
+    on_acknowledged = None  # (time): `last_una` rose
+    on_received = None      # (time): `expected` rose
+    on_window = None        # (time, cwnd, ssthresh, flight), the first two as words: after a sender's line
+    on_turn = None          # (time, recovering): a recovery begins or ends
+    on_timeout = None       # (time)
+    on_drop = None          # (time, link, reason, DATA or ACK, number)
+
+    def __init__(self, flow, number):
+        self.flow, self.number, self.text = flow, number, f'{number}:'
+        self.data = Stream(number, DATA, HEADER_BYTES + flow.mss)
+        self.acks = Stream(number, ACK, HEADER_BYTES)
+        self.high = self.nxt = self.last_una = 0
+        self.recovering = False
+        self.timed = deque()            # (the ACK that matches, when it was sent)
+        self.round_trips = array('q')
+        self.completed = None           # when all was acknowledged
+        self.expected = 0
+        self.highest = -1               # the greatest number received: from `expected` on, there is a gap
+        self.answer_waits = False
+        self.hops = {}                  # of each router, as a word, its links for data and for acknowledgements
+
+    def delivered(self):
+        """Bytes that the receiver has in order."""
+        return self.expected
+
+    def sends(self, kind, words, time):
+        """What a sender's line says: the numbers of the segments that it sends, in order, and the place of
+        its first act."""
+        at = 7
+        low = una_before = self.last_una
+        if kind == 'ack':
+            low, at = int(words[7]), 8
+        una, nxt, recovering = int(words[at][4:]), int(words[at + 1][4:]), words[at + 4] == 'phase=fr'
+        by_dups = False
+        if kind == 'rto':
+            numbers = (una,)
+            if self.on_timeout:
+                self.on_timeout(time)
+        elif recovering and not self.recovering and kind == 'ack' and low <= una_before:
+            numbers, by_dups = (una,), True
+        elif recovering and self.recovering and kind == 'ack' and low > una_before:
+            numbers, by_dups = (una, *range(self.nxt, nxt, self.flow.mss)), True    # a partial acknowledgement
+            if len(numbers) > 2 or not self.flow.newreno:
+                raise ValueError('a recovery goes on as that of no NewReno sender')
+        else:
+            numbers = range(max(self.nxt, low), nxt, self.flow.mss)
+            # what finds no room has an act each
+            if len(numbers) > 100 and len(numbers) > self.first_link.link.capacity + len(words):
+                raise ValueError('more is sent than there is room for')
+        if recovering is not self.recovering:
+            self.recovering = recovering
+            if self.on_turn:
+                self.on_turn(time, recovering)
+        if una > una_before:
+            self._acknowledge(una, time)
+        for number in numbers:
+            self._note_sent(number, by_dups, time)
+        self.nxt = nxt
+        if self.on_window:
+            self.on_window(time, words[at + 2][5:], words[at + 3][9:], nxt - una)
+        return numbers, at + 5
+
+    def _acknowledge(self, una, time):
+        self.last_una = una
+        if self.on_acknowledged:
+            self.on_acknowledged(time)
+        timed = self.timed
+        while timed and timed[0][0] <= una:
+            matching, sent = timed.popleft()
+            if matching == una:
+                self.round_trips.append(time - sent)
+        if una >= self.flow.mss * self.flow.segments and self.completed is None:
+            self.completed = time
+
+    def _note_sent(self, number, by_dups, time):
+        """A resending ends every timing, as it ends the sender's own (RFC 6298 section 3)."""
+        if number < self.high:
+            self.timed.clear()
+            if self.on_again:
+                self.on_again(time, number, by_dups)
+        else:
+            self.high = number + self.flow.mss
+            self.timed.append((self.high, time))
+            if self.on_sent:
+                self.on_sent(time, number)
+
+    def answers(self, seq, expected, time):
+        """Whether a receiver's line offers an acknowledgement, or waits for its delay."""
+        before = self.expected
+        if expected > before:
+            self.expected = expected
+            if self.on_received:
+                self.on_received(time)
+        if seq == before and self.highest < before and self.flow.delack and not self.answer_waits:
+            self.answer_waits = True
+            return False
+        if seq is not None and seq > self.highest:
+            self.highest = seq
+        self.answer_waits = False
+        return True
+
+
+class LinkState:
+    """A link's queue as it was after the last line."""
+
+    on_queue = None         # (time): how many packets wait may have changed
+    on_drop = None          # (time, reason, flow, DATA or ACK, number)
+
+    def __init__(self, link, number, kind):
+        self.link, self.number, self.sends = link, number, f'tx={number}:'
+        self.node, self.first = str(link.source), 7 + {'sender': 5, 'receiver': 1, 'router': 0}[kind]
+        self.waiting = deque()          # (text, stream, when it entered)
+        self.busy = False
+        self.greatest = 0               # the most packets that waited at once
+        self.waited = 0                 # moments of leaving the queue less moments of entering it, summed
+
+    def on_taken(self, time, stream, entered):
+        """Told that it begins to send a packet."""
+
+
+class Reader:
+    """Goes through a trace. `flows` and `links` are what was found of each; `last` is the last line's time,
+    `lines` how many were read, `whole` that the trace has its line `end N`."""
+
+    def __init__(self, scenario, flow_kind=FlowState, link_kind=LinkState):
+        self.scenario = scenario
+        self.flows = [flow_kind(flow, number) for number, flow in enumerate(scenario.flows)]
+        self.links = [link_kind(link, number, scenario.nodes[link.source].kind)
+                      for number, link in enumerate(scenario.links)]
+        self.last, self.lines, self.whole = 0, 0, False
+        self._flows = {str(flow.number): flow for flow in self.flows}
+        self._links = {str(link.number): link for link in self.links}
+        for flow in self.flows:
+            sender, receiver = flow.flow.sender, flow.flow.receiver
+            flow.sender, flow.receiver = str(sender), str(receiver)
+            flow.first_link = self.links[scenario.hop(sender, receiver)]
+            flow.back_link = self.links[scenario.hop(receiver, sender)]
+            for node in range(len(scenario.nodes)):
+                if scenario.nodes[node].kind == 'router':
+                    forth, back = scenario.hop(node, receiver), scenario.hop(node, sender)
+                    flow.hops[str(node)] = (None if forth is None else self.links[forth],
+                                            None if back is None else self.links[back])
+
+    def reached(self, time):
+        """Told before the first line that is not before the moment that it answered last; answers the next
+        such moment, or None where no further line is to be read."""
+        return NEVER
+
+    def read(self, lines, moment=NEVER):
+        """Reads lines to `end N`, to their end, or until `reached` answers None."""
+        count, words = self.lines, []
+        try:
+            for line in lines:
+                words = line.split()
+                time = int(words[1])
+                if words[0] == 'end':
+                    self._end(words, count)
+                    break
+                if int(words[0]) != count + 1 or not self.last <= time < NEVER:
+                    raise ValueError('a line is missing')
+                if time >= moment:
+                    moment = self.reached(time)
+                    if moment is None:
+                        break
+                self.last = time
+                self._line(words, words[5], time)
+                count += 1
+        except (AttributeError, IndexError, KeyError, OverflowError, ValueError) as wrong:
+            raise Unreadable(f'line {count + 1} is no line of this scenario\'s trace: '
+                             f'{" ".join(words)[:200]}') from wrong
+        finally:
+            self.lines = count
+
+    def _end(self, words, count):
+        if int(words[1]) != count or len(words) != 2:
+            raise ValueError('another count of events')
+        self.whole = True
+
+    def _line(self, words, kind, time):
+        if kind == 'free':
+            link = self._links[words[6]]
+            if link.node != words[2] or not link.busy:
+                raise ValueError('the link is not busy')
+            link.busy = False
+            at = link.first
+            if link.waiting:
+                at = self._take(link, words, at, time)
+        else:
+            flow, node = self._flows[words[6]], words[2]
+            if kind == 'data' and node == flow.receiver:
+                link, at = flow.back_link, 9
+                if flow.answers(int(words[7]), int(words[8][5:]), time):
+                    at = self._offer(link, f'{flow.text}{flow.expected}', flow.acks, words, 9, time)
+            elif kind == 'data' or (kind == 'ack' and node != flow.sender):
+                link = flow.hops[node][kind == 'ack']
+                stream = flow.data if kind == 'data' else flow.acks
+                at = self._offer(link, flow.text + words[7], stream, words, 8, time)
+            else:
+                link, at = self._end_line(flow, node, kind, words, time)
+        if at != len(words):
+            raise ValueError('an act that no packet explains')
+        if link.on_queue:
+            link.on_queue(time)
+
+    def _end_line(self, flow, node, kind, words, time):
+        """A line of a flow's end that is no segment: at its sender, or of its receiver's alarm."""
+        if kind == 'delack' and node == flow.receiver:
+            flow.answers(None, int(words[7][5:]), time)
+            return flow.back_link, self._offer(flow.back_link, f'{flow.text}{flow.expected}', flow.acks, words, 8, time)
+        if node != flow.sender or kind not in ('ack', 'start', 'rto'):
+            raise ValueError('no event of this node')
+        numbers, at = flow.sends(kind, words, time)
+        for number in numbers:
+            at = self._offer(flow.first_link, f'{flow.text}{number}', flow.data, words, at, time)
+        return flow.first_link, at
+
+    # Offering to a link and taking from its queue. `words[at]` is the first act that is not yet used.
+
+    def _offer(self, link, text, stream, words, at, time):
+        act = words[at] if at < len(words) else None
+        if act is not None and act[:10] in ('drop=full:', 'drop=lost:') and act[10:] == text:
+            self._drop(link, text, stream, act[5:9], time)
+            return at + 1
+        if link.busy:
+            link.waiting.append((text, stream, time))
+            link.waited -= time
+            if len(link.waiting) > link.greatest:
+                link.greatest = len(link.waiting)
+            return at
+        if act != link.sends + text:
+            raise ValueError('another packet is sent')
+        link.busy = True
+        link.on_taken(time, stream, time)
+        return at + 1
+
+    def _take(self, link, words, at, time):
+        """A link that became free takes from its queue: first what CoDel drops, then what it sends."""
+        while at < len(words) and words[at].startswith('drop=codel:'):
+            text, stream, _ = link.waiting.popleft()
+            link.waited += time
+            if words[at][11:] != text:
+                raise ValueError('another packet is dropped')
+            self._drop(link, text, stream, 'codel', time)
+            at += 1
+        if not link.waiting and at == len(words):
+            return at
+        text, stream, entered = link.waiting.popleft()
+        link.waited += time
+        if words[at] != link.sends + text:
+            raise ValueError('another packet is at the head of the queue')
+        link.busy = True
+        link.on_taken(time, stream, entered)
+        return at + 1
+
+    def _drop(self, link, text, stream, reason, time):
+        number, flow = int(text.partition(':')[2]), self.flows[stream.flow]
+        if flow.on_drop:
+            flow.on_drop(time, link.number, reason, stream.sort, number)
+        if link.on_drop:
+            link.on_drop(time, reason, stream.flow, stream.sort, number)
+
+
+# ---- a whole run, kept
+
+class FlowRun(FlowState):
+    """What a run did with one flow. Columns that belong together have one entry a line."""
+
+    def __init__(self, flow, number=0):
+        super().__init__(flow, number)
+        self.times, self.cwnd, self.ssthresh, self.flight = (array('q') for _ in range(4))
+        self.una_times, self.una = array('q'), array('q')       # where una rose
+        self.next_times, self.next = array('q'), array('q')     # where the receiver's next byte rose
+        self.sent_times, self.sent = array('q'), array('q')     # segments sent for the first time
+        self.again_times, self.again = array('q'), array('q')   # segments sent again
+        self.by_fast_retransmit = self.by_timeout = 0
+        self.timeouts = array('q')
+        self.recoveries = []            # [begin, end or None]
+        self.drops = []                 # (time, link, reason, DATA or ACK, number)
+
+    def on_window(self, time, cwnd, ssthresh, flight):
+        self.times.append(time)
+        self.cwnd.append(int(cwnd))
+        self.ssthresh.append(int(ssthresh))
+        self.flight.append(flight)
+
+    def on_sent(self, time, number):
+        self.sent_times.append(time)
+        self.sent.append(number)
+
+    def on_again(self, time, number, by_dups):
+        self.again_times.append(time)
+        self.again.append(number)
+        if by_dups:
+            self.by_fast_retransmit += 1
+        else:
+            self.by_timeout += 1
+
+    def on_acknowledged(self, time):
+        self.una_times.append(time)
+        self.una.append(self.last_una)
+
+    def on_received(self, time):
+        self.next_times.append(time)
+        self.next.append(self.expected)
+
+    def on_timeout(self, time):
+        self.timeouts.append(time)
+
+    def on_turn(self, time, recovering):
+        if recovering:
+            self.recoveries.append([time, None])
+        else:
+            self.recoveries[-1][1] = time
+
+    def on_drop(self, *drop):
+        self.drops.append(drop)
+
+
+class LinkRun(LinkState):
+    """What a run did at one link."""
+
+    def __init__(self, link, number=0, kind='router'):
+        super().__init__(link, number, kind)
+        self.queue_times, self.queue = array('q'), array('q')   # packets that wait, where that changed
+        self.wait_times, self.waits = array('q'), array('q')    # of each packet sent: when it began, its wait
+        self.busy_from, self.busy_to = array('q'), array('q')
+        self.drops = []                 # (time, reason, flow, DATA or ACK, number)
+        self.bytes_of = Counter()       # bytes sent of each flow
+
+    def on_taken(self, time, stream, entered):
+        self.wait_times.append(time)
+        self.waits.append(time - entered)
+        self.busy_from.append(time)
+        self.busy_to.append(time - -stream.size * BITS_NS // self.link.rate)
+        self.bytes_of[stream.flow] += stream.size
+
+    def on_queue(self, time):
+        length = len(self.waiting)
+        if length != (self.queue[-1] if self.queue else 0):
+            self.queue_times.append(time)
+            self.queue.append(length)
+
+    def on_drop(self, *drop):
+        self.drops.append(drop)
+
+
+class Run(Reader):
+    """A scenario's run as its trace tells it, with all its curves: `flows`, `links`, `last` (the last line's
+    time), `whole` (the trace has its line `end N`) and `lines`."""
+
+    def __init__(self, scenario, lines):
+        super().__init__(scenario, FlowRun, LinkRun)
+        self.read(lines)
+
+    def begin(self):
+        return min(flow.start for flow in self.scenario.flows)
+
+    def end(self):
+        """Where the figures' span ends: the last line where every flow is complete or the trace is
+        cut short, else the scenario's end."""
+        done = all(flow.completed is not None for flow in self.flows)
+        return self.last if done or not self.whole else self.scenario.end
+
+
+# ---- files
+
+def read_run(scenario_path, trace_path=None, program=None):
+    """The run of a scenario's file: from its trace's file, or else by running the program."""
+    with opened_run(scenario_path, trace_path, program) as (scenario, lines):
+        return Run(scenario, lines)
+
+
+@contextmanager
+def opened_run(scenario_path, trace_path=None, program=None):
+    """A scenario's file, a text or an image (`-`: standard input), and its trace's lines, one by one: of the
+    trace's file, or else as the program prints them."""
+    try:
+        source = scenario_bytes(scenario_path)
+        if trace_path is not None:
+            scenario = Scenario(scenario_text(source, scenario_path, program))
+            with open(trace_path, 'rb') as file:
+                yield scenario, chain.from_iterable(blocks(file.read, trace_path))
+            return
+        with _running(source, program) as blocks_of_lines:
+            first = next(blocks_of_lines, [])
+            scenario = Scenario(scenario_text(source, scenario_path, program))
+            yield scenario, chain(first, chain.from_iterable(blocks_of_lines))
+    except NoProgram as wrong:
+        raise Unreadable(str(wrong)) from wrong
+    except OSError as wrong:
+        raise Unreadable(': '.join(filter(None, (wrong.filename, wrong.strerror or str(wrong))))) from wrong
+
+
+def scenario_bytes(path):
+    if path == '-':
+        return sys.stdin.buffer.read()
+    with open(path, 'rb') as file:
+        return file.read()
+
+
+def scenario_text(source, name, program=None):
+    """The text of a scenario: itself, or of an image what `tcpsim dis` writes."""
+    if source.startswith(IMAGE_BEGINS):
+        done = subprocess.run([find_program(program), 'dis'], input=source, capture_output=True, check=False)
+        if done.returncode:
+            raise refusal(done.returncode, done.stderr)
+        source = done.stdout
+    try:
+        return source.decode('ascii')
+    except UnicodeDecodeError as wrong:
+        raise Unreadable(f'{name} is no scenario: its byte {wrong.start} is not ASCII') from wrong
+
+
+def refusal(status, note):
+    return Unreadable(f'the program ended with status {status}: {note.decode("utf-8", "replace").strip()}')
+
+
+def blocks(read, name):
+    """The whole lines of each block that is read; a last line that is cut short is refused."""
+    decoder, rest, count = codecs.getincrementaldecoder('ascii')(), '', 0
+    while block := read(BLOCK):
+        try:
+            *lines, rest = (rest + decoder.decode(block)).split('\n')
+        except UnicodeDecodeError as wrong:
+            raise Unreadable(f'{name} is no trace: behind line {count} there is a byte that is not ASCII') from wrong
+        count += len(lines)
+        yield lines
+    if rest.startswith('end '):
+        yield [rest]
+    elif rest:
+        raise Unreadable(f'{name}: line {count + 1} is cut short')
+
+
+@contextmanager
+def _running(source, program):
+    """Runs the program; gives the blocks of its trace's lines, and ends it where they are not all wanted."""
+    with subprocess.Popen([find_program(program), 'run'], stdin=subprocess.PIPE, stdout=subprocess.PIPE,
+                          stderr=subprocess.PIPE, bufsize=0) as process:
+        def lines():
+            yield from blocks(process.stdout.read, 'the program\'s trace')
+            status = process.wait()
+            if status:
+                raise refusal(status, process.stderr.read())
+        try:
+            try:
+                with process.stdin:
+                    _write_all(process.stdin, source)
+            except BrokenPipeError:     # what is refused is not always read to its end
+                pass
+            yield lines()
+        finally:
+            process.stdout.close()
+            process.kill()
+
+
+def _write_all(file, data):
+    rest = memoryview(data)
+    while rest:
+        rest = rest[file.write(rest):]

@@ -1,0 +1,202 @@
+"""The figures of a run: what its flows delivered and sent again, and what its links carried, dropped and let wait.
+
+A run is counted state by state; all numbers of which a percentile is asked for are kept."""
+from array import array
+from collections import deque
+
+from tcpsim_model.scenario import SENDER
+from tcpsim_model.simulate import BITS_NS, Network
+
+HEADING = 'what,number,figure,unit,value'
+
+
+# Percentiles, of numbers that are counted in classes.
+
+def halvings(value):
+    return max(0, value.bit_length() - 6)
+
+
+def class_of(value):
+    """Numbers below 64 have a class each; above, each power of two is parted into 32 classes."""
+    return 32 * halvings(value) + (value >> halvings(value))
+
+
+def top(number):
+    """The greatest value of a class."""
+    shift = max(0, number // 32 - 1)
+    return ((number - 32 * shift + 1) << shift) - 1
+
+
+def nearest_rank(values, percent):
+    """The least value that at least `percent` in a hundred of the values don't exceed; None of no values."""
+    return sorted(values)[-(-percent * len(values) // 100) - 1] if values else None
+
+
+def percentile(values, percent):
+    """The top of the class in which the nearest rank lies, or the greatest value where that is less."""
+    exact = nearest_rank(values, percent)
+    return None if exact is None else min(top(class_of(exact)), max(values))
+
+
+# What is counted.
+
+class FlowCount:
+    __slots__ = ('completed', 'sent', 'in_recovery', 'otherwise', 'timeouts', 'trips')
+
+    def __init__(self):
+        self.completed = None       # when una came to all bytes
+        self.sent = 0               # segments, new or again
+        self.in_recovery = self.otherwise = 0       # of them sent again
+        self.timeouts = 0
+        self.trips = array('q')     # samples of the round trip
+
+
+class LinkCount:
+    __slots__ = ('lost', 'full', 'codel', 'sent', 'bytes', 'busy', 'length', 'since', 'longest', 'waited', 'entries',
+                 'delays')
+
+    def __init__(self):
+        self.lost = self.full = self.codel = self.sent = self.bytes = self.busy = 0
+        self.length = self.since = 0    # of the queue, and from when on
+        self.longest = self.waited = 0
+        self.entries = deque()          # of the packets that wait: when offered, bytes
+        self.delays = array('q')        # of those sent: from the offering to the sending
+
+    def state(self, now, length):
+        """The queue's length in the state from this moment on."""
+        self.waited += self.length * (now - self.since)
+        self.length, self.since = length, now
+        self.longest = max(self.longest, length)
+
+
+class Counted(Network):
+    """A net that counts what its events do."""
+
+    def __init__(self, scenario):
+        super().__init__(scenario)
+        self.of_flows = [FlowCount() for _ in scenario.flows]
+        self.of_links = [LinkCount() for _ in scenario.links]
+        self.last = 0               # the last event's moment
+        self.plan = self.used = ()  # what the event's sender sends, and the port to which its packets went
+
+    def at_sender(self, node, now, numbers):
+        self.plan = numbers
+        return super().at_sender(node, now, numbers)
+
+    def offer(self, port, packet, now, acts):
+        count, before = self.of_links[port.number], len(acts)
+        self.used = (port,)
+        count.entries.append((now, packet[3]))
+        super().offer(port, packet, now, acts)
+        for act in acts[before:]:
+            if act.startswith((' drop=lost', ' drop=full')):
+                count.entries.pop()
+                count.lost += act.startswith(' drop=lost')
+                count.full += act.startswith(' drop=full')
+
+    def take(self, port, now, acts):
+        count, before = self.of_links[port.number], len(acts)
+        self.used = (port,)
+        super().take(port, now, acts)
+        for act in acts[before:]:
+            entered, size = count.entries.popleft()
+            if act.startswith(' drop=codel'):
+                count.codel += 1
+            else:
+                count.sent += 1
+                count.bytes += size
+                count.busy += min(-(-size * BITS_NS // port.rate), self.end - now)
+                count.delays.append(now - entered)
+
+    def step(self):
+        event = self.due()
+        if event is None:
+            return None
+        self.plan = self.used = ()
+        sender = self.ends[event[1]] if self.kinds[event[1]] == SENDER else None
+        before = sender and (sender.high, sender.timing)
+        line = super().step()
+        self.last = line.time
+        for port in self.used:
+            self.of_links[port.number].state(line.time, len(port.queue.entries))
+        if sender and line.flow is not None:
+            self.count_sender(self.of_flows[line.flow], sender, line, *before)
+        return line
+
+    def count_sender(self, count, sender, line, high, timing):
+        """`high` and `timing` are the sender's before the event."""
+        again = sum(number < high for number in self.plan)
+        count.sent += len(self.plan)
+        count.timeouts += line.kind == 'rto'
+        if line.kind == 'ack' and sender.recovery:
+            count.in_recovery += again
+        else:
+            count.otherwise += again
+        if line.kind == 'ack' and timing is not None and int(line.names.split()[1]) >= timing[0]:
+            count.trips.append(line.time - timing[1])
+        if count.completed is None and sender.una == sender.total:
+            count.completed = line.time
+
+
+def run(scenario):
+    """The net after its last event, all counted to the scenario's end."""
+    net = Counted(scenario)
+    while net.step() is not None:
+        pass
+    for port in net.ports:
+        net.of_links[port.number].state(net.end, len(port.queue.entries))
+    return net
+
+
+# What is written.
+
+def of_values(values, *names):
+    """The median, the 99th percentile and the greatest of values, by these names."""
+    return zip(names, ('ns',) * 3, (percentile(values, 50), percentile(values, 99), max(values, default=None)))
+
+
+def flow_rows(net, number):
+    """A flow's figures: (figure, unit, value), value None where there is none."""
+    flow, count = net.flows[number], net.of_flows[number]
+    return [('start', 'ns', flow.start),
+            ('delivered', 'bytes', net.ends[flow.receiver].next),
+            ('completed', 'ns', count.completed),
+            ('sent', 'segments', count.sent),
+            ('sent again by fast retransmit', 'segments', count.in_recovery),
+            ('sent again by timeout', 'segments', count.otherwise),
+            ('timeouts', 'times', count.timeouts),
+            ('round trips', 'times', len(count.trips)),
+            ('least round trip', 'ns', min(count.trips, default=None)),
+            *of_values(count.trips, 'median round trip', '99th percentile of round trips', 'greatest round trip')]
+
+
+def link_rows(net, number):
+    """A link's figures, as those of a flow."""
+    count = net.of_links[number]
+    return [('offered', 'packets', net.ports[number].offered),
+            ('dropped as lost', 'packets', count.lost),
+            ('dropped as full', 'packets', count.full),
+            ('dropped by CoDel', 'packets', count.codel),
+            ('sent', 'packets', count.sent),
+            ('sent', 'bytes', count.bytes),
+            ('busy', 'ns', count.busy),
+            ('greatest queue', 'packets', count.longest),
+            ('waited', 'packet-ns', count.waited),
+            *of_values(count.delays, 'median delay in the queue', '99th percentile of delay in the queue',
+                       'greatest delay in the queue')]
+
+
+def rows(net):
+    """All figures: (what, number, figure, unit, value)."""
+    for number in range(len(net.flows)):
+        yield from (('flow', number, *row) for row in flow_rows(net, number))
+    for number in range(len(net.ports)):
+        yield from (('link', number, *row) for row in link_rows(net, number))
+    yield 'run', '', 'events', 'events', net.position
+    yield 'run', '', 'end', 'ns', net.last
+
+
+def figures(scenario):
+    """The CSV of a scenario's figures."""
+    lines = [','.join(map(str, (*words, '-' if value is None else value))) for *words, value in rows(run(scenario))]
+    return '\n'.join([HEADING, *lines, ''])

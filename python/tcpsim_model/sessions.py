@@ -1,0 +1,178 @@
+"""Random lines that are typed at a prompt: valid ones, names cut short, times in each unit, refused ones, empty
+lines, long ones, and spaces of all kinds."""
+from tcpsim_model.debugger import KINDS, MOST, MOST_BREAKS
+from tcpsim_model.prompt import MOST_LINE, NAMES, PLACES, TOPICS
+
+# Numbers and times of a wrong form or out of range, and some at a bound.
+WRONG_NUMBERS = (b'01', b'00', b'-1', b'+1', b'1.0', b'1_0', b'x', b'1x', b'0x1', b'\xd9\xa3', b'%d' % (MOST + 1), b'9' * 25,
+                 b'1' * 5000)
+TIMES_AT_BOUNDS = (b'0', b'0s', b'0.0s', b'0.5s', b'0.000000001s', b'0.0000000001s', b'1000000s', b'1000000.000000000s',
+                   b'1000000.000000001s', b'1000001s', b'1000000000ms', b'1000000000us', b'1000000000000us',
+                   b'1000000000000.001us', b'1000000000000000ns', b'1000000000000001ns', b'1.000us', b'1.0000us', b'1.000000ms',
+                   b'1.0000000ms', b'1.0ns', b'1.ns', b'1.')
+WRONG_TIMES = (b'1.5', b'1.s', b'.5s', b's', b'ms', b'.', b'.s', b'01s', b'00.5s', b'1m', b'1S', b'1Ms', b'1sec', b'1e3', b'1e3ns',
+               b'1,5s', b'-1s', b'+1s', b'1.5.5s', b'1..5s', b'1 s', b'1.5 ms', b'1.-5s', b'1\xc2\xb5s', b'1\tms', b'9' * 25 + b's',
+               b'1.' + b'0' * 30 + b's')
+NO_COMMANDS = (b'bak', b'stepp', b'Step', b'S', b'steps', b'runn', b'x', b'?', b'---', b'#', b'# step', b'0', b'w', b'why', b'quitt',
+               b'exit', b'cl ear', b'unti1', b'\xff', b'\0', b'step\t1', b'step\r', b'\tstep', b'\t', b'\r', b'\xc2\xa0', b'\x0b',
+               b'step\xc2\xa01', b'run\x0c')
+SPACES = (b' ', b' ', b' ', b' ', b' ', b'  ', b'   ', b'      ')
+
+
+def cut_short(pick, name):
+    """A beginning of a name, often all of it."""
+    return name if pick.random() < 0.5 else name[:pick.randint(1, len(name))]
+
+
+def number(pick, *values):
+    return pick.choice(WRONG_NUMBERS) if pick.random() < 0.12 else b'%d' % pick.choice(values)
+
+
+def time(pick, moments, end):
+    """A moment near an event's, or at the end, in one of the forms; or a wrong one."""
+    chance = pick.random()
+    if chance < 0.2:
+        return pick.choice(TIMES_AT_BOUNDS + WRONG_TIMES + WRONG_NUMBERS)
+    moment = pick.choice((*[pick.choice(moments) + pick.choice((0, 0, 1))] * 6, pick.randint(0, moments[-1] + 10**6), end, MOST))
+    unit = pick.choice((b'', *PLACES))
+    places = PLACES.get(unit, 0)
+    whole, part = divmod(moment, 10**places)
+    digits = b'%0*d' % (places, part) if places else b''
+    if pick.random() < 0.7:
+        digits = digits.rstrip(b'0')
+    if pick.random() < 0.05:
+        digits += b'0'
+    return b'%d' % whole + (b'.' + digits if digits else b'') + unit
+
+
+def breakpoint_of(pick, scenario, steps):
+    """The words of a breakpoint, most of them right."""
+    if steps >= 8 and pick.random() < 0.3:
+        return [b'stall'] + [number(pick, pick.randrange(len(scenario.flows)))] * pick.choice((0, 1, 1))
+    words = condition(pick, scenario, steps)
+    while steps >= 7 and pick.random() < 0.4:
+        words += condition(pick, scenario, steps)
+    return words
+
+
+def condition(pick, scenario, steps):
+    """The words of one condition of a breakpoint, most of them right."""
+    sorts = (b'node', b'node', b'flow', b'flow', b'kind', b'kind', b'drop')
+    sort = pick.choice(sorts if steps < 7 else (*sorts, b'link', b'link', b'byte'))
+    if pick.random() < 0.1:
+        sort = pick.choice((b'nod', b'n', b'f', b'link', b'kinds', b'queue', b'Drop', b'tx', b'break', b'', b'stall', b'byt'))
+    words = [sort]
+    if sort != b'drop' or pick.random() < 0.05:
+        words.append(pick.choice(KINDS + (b'tx', b'Rto', b'rt')) if sort == b'kind' else value_of(pick, sort, scenario))
+    return words
+
+
+def value_of(pick, sort, scenario):
+    """The number behind the sort of a condition."""
+    if sort == b'byte':
+        return number(pick, pick.choice(scenario.flows).mss * pick.choice((0, 1, 2, 3, 8)), pick.choice((1, 9 * 10**12, 9 * 10**12 + 1)))
+    count = {b'node': len(scenario.nodes), b'flow': len(scenario.flows), b'link': len(scenario.links)}.get(sort, 2)
+    return number(pick, pick.randrange(count), pick.randrange(count + 1))
+
+
+def part(pick, scenario):
+    """The words of a part of a state, most of them right."""
+    counts = {b'node': len(scenario.nodes), b'link': len(scenario.links), b'flow': len(scenario.flows)}
+    sort = pick.choice((b'node', b'link', b'flow', b'flow')) if pick.random() < 0.92 else pick.choice((b'nod', b'l', b'flows', b'kind', b'drop'))
+    return [sort, number(pick, *(pick.randrange(counts.get(sort, 2)) for _ in range(4)), counts.get(sort, 1))]
+
+
+def words_behind(pick, name, scenario, moments, steps):
+    """Words that go with a name."""
+    if name in (b'step', b'back'):
+        return [number(pick, 0, 1, 1, 2, 5, 12, 40, 300, MOST)] if pick.random() < 0.6 else []
+    if name == b'until':
+        return [time(pick, moments, scenario.end)]
+    if name == b'break':
+        return breakpoint_of(pick, scenario, steps)
+    if name == b'why':
+        return [number(pick, *(pick.randrange(len(scenario.flows)) for _ in range(5)), len(scenario.flows))]
+    if name == b'state' and pick.random() < 0.65:
+        return part(pick, scenario)
+    if name == b'lines':
+        return [number(pick, 0, 1, 3, 9, 10, 11, 40, 999, 1000, 1001)] if pick.random() < 0.6 else []
+    if name == b'delete':
+        return [number(pick, 0, 1, 1, 1, 2, 2, 3, 5, 64, 65, 100)]
+    if name == b'help':
+        return pick.choice(([], [cut_short(pick, pick.choice(list(NAMES)))], [cut_short(pick, pick.choice(list(NAMES)))],
+                            [cut_short(pick, pick.choice(list(TOPICS)))], [pick.choice(NO_COMMANDS[:-3])]))
+    return []
+
+
+def changed(pick, words):
+    """With a word more, a word less, a word twice, or a byte changed."""
+    change, at = pick.randrange(5), pick.randrange(len(words))
+    if change == 0:
+        return words + [pick.choice((b'1', b'0', b'x', b'drop', b'step', words[-1]))]
+    if change == 1 and len(words) > 1:
+        return words[:at] + words[at + 1:]
+    if change == 2:
+        return words[:at] + [words[at]] + words[at:]
+    if change == 3:
+        return words[:at] + [words[at].swapcase()] + words[at + 1:]
+    place, byte = pick.randint(0, len(words[at])), pick.choice(b'0159abstxz.-\t\0 \xff')
+    return words[:at] + [words[at][:place] + bytes((byte,)) + words[at][place:]] + words[at + 1:]
+
+
+def spaced(pick, words):
+    """The words with spaces between them, and maybe around."""
+    line = words[0]
+    for word in words[1:]:
+        line += pick.choice(SPACES) + word
+    if pick.random() < 0.15:
+        line = pick.choice(SPACES) + line
+    if pick.random() < 0.15:
+        line += pick.choice(SPACES)
+    return line
+
+
+def lengthened(pick, line):
+    """As long as a line may be, or longer by a little or much."""
+    size = MOST_LINE + pick.choice((-1, 0, 0, 1, 1, 2, 70_000))
+    if pick.random() < 0.3:
+        return b'x' * size
+    return line.ljust(size) if pick.random() < 0.5 else line.rjust(size)
+
+
+def any_line(pick, scenario, moments, steps):
+    chance = pick.random()
+    if chance < 0.12:
+        return pick.choice((b'', b'', b'', b' ', b'   '))
+    if chance < 0.17:
+        return pick.choice(NO_COMMANDS)
+    weights = {b'quit': 0.08, b'clear': 0.5, b'run': 2, b'reverse': 2, b'step': 2, b'break': 2, b'until': 2}
+    names = [name for name, step in NAMES.items() if step <= max(steps, 1) or pick.random() < 0.05]
+    name = pick.choices(names, [weights.get(name, 1) for name in names])[0]
+    words = [cut_short(pick, name) if steps else name, *words_behind(pick, name, scenario, moments, steps)]
+    if name == b'quit' and pick.random() < 0.5:
+        words.append(b'now')
+    if pick.random() < 0.06:
+        words = changed(pick, words)
+    line = spaced(pick, words)
+    return lengthened(pick, line) if pick.random() < 0.004 else line
+
+
+def many_breaks(pick, scenario):
+    """More breakpoints than there may be, where the scenario has so many nodes and flows."""
+    many = [b'break node %d' % n for n in range(len(scenario.nodes))] + [b'break flow %d' % n for n in range(len(scenario.flows))]
+    many += [b'break kind ' + kind for kind in KINDS] + [b'break drop']
+    pick.shuffle(many)
+    return many
+
+
+def any_session(pick, scenario, moments, steps):
+    """The bytes that are typed."""
+    count = 300 if pick.random() < 0.01 else pick.choice((0, 1, 2, 5, 10, 20, 40, 40))
+    lines = [any_line(pick, scenario, moments, steps) for _ in range(count)]
+    many = many_breaks(pick, scenario)
+    if pick.random() < (0.5 if len(many) > MOST_BREAKS else 0.05):
+        lines[:0] = many
+        lines[len(many) // 2:len(many) // 2] = [any_line(pick, scenario, moments, steps) for _ in range(5)]
+        if steps >= 2:
+            lines += [b'breaks'] + [b'delete %d' % pick.randint(1, len(many)) for _ in range(5)] + [b'breaks', pick.choice(many)]
+    return b'\n'.join(lines) + pick.choice((b'', b'\n'))

@@ -1,0 +1,239 @@
+"""The simulation: one set of pending events, and the event of the least key run next."""
+from collections import namedtuple
+from heapq import heappop, heappush
+
+from tcpsim_model.queues import queue_of
+from tcpsim_model.receiver import Receiver
+from tcpsim_model.scenario import ROUTER, SENDER
+from tcpsim_model.sender import Sender
+
+START, RTO, DELACK, FIRST_FREE = 0, 1, 2, 3     # a node's alarms; port p is free: FIRST_FREE + p
+HEADER_BYTES = 40
+BITS_NS = 8 * 10**9
+
+# One event that was run: its key, its kind ('start', 'rto', 'delack', 'free', 'data', 'ack'), its
+# numbers as they are written, its flow (None for 'free'), its node's state and its acts as written.
+Line = namedtuple('Line', 'time node source number kind names flow after acts')
+
+
+def line_text(n, line):
+    time, node, source, number, kind, names, _, after, acts = line
+    return f'{n} {time} {node} {source} {number} {kind} {names}{after}{"".join(acts)}\n'
+
+
+class Port:
+    """The sending side of a link."""
+    __slots__ = ('number', 'to', 'rate', 'delay', 'lose', 'queue', 'alarm', 'busy', 'offered', 'sent')
+
+    def __init__(self, number, link, place):
+        self.number, self.to, self.rate, self.delay = number, link.to, link.rate, link.delay
+        self.lose = frozenset(link.lose)
+        self.queue = queue_of(link)
+        self.alarm = FIRST_FREE + place     # the node's alarm for "this port is free"
+        self.busy = False
+        self.offered = self.sent = 0
+
+
+class Network:
+    """A state of the net. `position` is the number of events that were run.
+
+    Pending events lie in a heap. An alarm that was replaced or cleared stays there until it comes
+    to the top, where `alarms` tells that it isn't set any more."""
+
+    def __init__(self, scenario):
+        self.scenario, self.end, self.position = scenario, scenario.end, 0
+        self.kinds, self.flows = scenario.nodes, scenario.flows
+        count = len(scenario.nodes)
+        self.alarms = [{} for _ in range(count)]    # of each node: alarm number to its time
+        self.pending = []                           # (time, node, source, number, packet or None)
+        self.ends = [None] * count                  # sender or receiver at each node
+        self.flow_at = [None] * count
+        self.ports = [None] * len(scenario.links)
+        self.own_ports = [[] for _ in range(count)]
+        for node, numbers in enumerate(scenario.outgoing()):
+            for place, number in enumerate(numbers):
+                self.ports[number] = Port(number, scenario.links[number], place)
+                self.own_ports[node].append(self.ports[number])
+        self.routes = {(router, to): self.ports[link] for router, to, link in scenario.routes}
+        self.inside = [0] * len(scenario.flows)     # of each flow: its packets that wait or are under way
+        self.touched = set()                        # the links over which the last event sent, or where it dropped
+        for number, flow in enumerate(self.flows):
+            self.ends[flow.sender] = Sender(flow.mss, flow.segments, flow.rwnd, flow.newreno, flow.iw10)
+            self.ends[flow.receiver] = Receiver(flow.mss, flow.delack)
+            self.flow_at[flow.sender] = self.flow_at[flow.receiver] = number
+            self.set_alarm(flow.sender, START, flow.start)
+
+    # Pending events.
+
+    def set_alarm(self, node, number, time):
+        """Sets an alarm in place of the one of that number; None clears it."""
+        alarms = self.alarms[node]
+        if time is None:
+            alarms.pop(number, None)
+        elif alarms.get(number) != time:
+            alarms[number] = time
+            heappush(self.pending, (time, node, 0, number, None))
+
+    def is_stale(self, event):
+        return event[2] == 0 and self.alarms[event[1]].get(event[3]) != event[0]
+
+    def least(self):
+        """The pending event of the least key, or None."""
+        pending = self.pending
+        while pending and self.is_stale(pending[0]):
+            heappop(pending)
+        return pending[0] if pending else None
+
+    def due(self):
+        """The event that is run next: the least, where it lies below the end."""
+        event = self.least()
+        return event if event is not None and event[0] < self.end else None
+
+    # Offering a packet to a link, and taking from its queue.
+
+    def offer(self, port, packet, now, acts):
+        port.offered += 1
+        self.inside[packet[0]] += 1
+        if port.offered in port.lose:
+            self.drop('lost', port, packet, acts)
+        elif not port.queue.offer(packet, now):
+            self.drop('full', port, packet, acts)
+        elif not port.busy:
+            self.take(port, now, acts)
+
+    def drop(self, reason, port, packet, acts):
+        self.inside[packet[0]] -= 1
+        self.touched.add(port.number)
+        acts.append(f' drop={reason}:{packet[0]}:{packet[2]}')
+
+    def take(self, port, now, acts):
+        dropped, packet = port.queue.take(now)
+        for lost in dropped:
+            self.drop('codel', port, lost, acts)
+        if packet is None:
+            port.busy = False
+            return
+        free = now - -packet[3] * BITS_NS // port.rate      # rounded up
+        port.busy = True
+        port.sent += 1
+        node = self.scenario.links[port.number].source
+        self.set_alarm(node, port.alarm, free)
+        heappush(self.pending, (free + port.delay, port.to, port.number + 1, port.sent, packet))
+        self.touched.add(port.number)
+        acts.append(f' tx={port.number}:{packet[0]}:{packet[2]}')
+
+    # The rows: what each event does. Each answers the acts in their order.
+
+    def at_sender(self, node, now, numbers):
+        """The packets that the sender's row sends are offered in order; the timer follows."""
+        acts, flow, port = [], self.flow_at[node], self.own_ports[node][0]
+        size = self.flows[flow].mss + HEADER_BYTES
+        for seq in numbers:
+            self.offer(port, (flow, False, seq, size), now, acts)
+        self.set_alarm(node, RTO, self.ends[node].deadline)
+        return acts
+
+    def at_receiver(self, node, now, number):
+        """An acknowledgement is offered at once, or (None) the answer waits."""
+        acts, receiver = [], self.ends[node]
+        if number is not None:
+            self.offer(self.own_ports[node][0], (self.flow_at[node], True, number, HEADER_BYTES), now, acts)
+        self.set_alarm(node, DELACK, receiver.alarm)
+        return acts
+
+    def at_router(self, node, now, packet):
+        flow = self.flows[packet[0]]
+        acts = []
+        self.offer(self.routes[node, flow.sender if packet[1] else flow.receiver], packet, now, acts)
+        return acts
+
+    def arrive(self, node, now, packet):
+        kind = self.kinds[node]
+        if kind == ROUTER:
+            return self.at_router(node, now, packet)
+        if kind == SENDER:
+            return self.at_sender(node, now, self.ends[node].on_ack(packet[2], now))
+        return self.at_receiver(node, now, self.ends[node].on_data(packet[2], now))
+
+    def alarm(self, node, now, number):
+        if number == START:
+            return self.at_sender(node, now, self.ends[node].on_start(now))
+        if number == RTO:
+            return self.at_sender(node, now, self.ends[node].on_rto(now))
+        if number == DELACK:
+            return self.at_receiver(node, now, self.ends[node].on_delack())
+        acts = []
+        self.take(self.own_ports[node][number - FIRST_FREE], now, acts)
+        return acts
+
+    def step(self):
+        """Runs the event that is due; answers its line, or None where none is."""
+        event = self.due()
+        if event is None:
+            return None
+        heappop(self.pending)
+        now, node, source, number, packet = event
+        self.touched = set()
+        if source == 0:
+            del self.alarms[node][number]
+            acts = self.alarm(node, now, number)
+        else:
+            self.inside[packet[0]] -= 1
+            acts = self.arrive(node, now, packet)
+        self.position += 1
+        end = self.ends[node]
+        return Line(now, node, source, number, *self.naming(event), '' if end is None else end.after(), acts)
+
+    def naming(self, event):
+        """The kind of an event, the numbers that are written after it, and its flow."""
+        _, node, source, number, packet = event
+        if source != 0:
+            return 'ack' if packet[1] else 'data', f'{packet[0]} {packet[2]}', packet[0]
+        if number >= FIRST_FREE:
+            return 'free', str(self.own_ports[node][number - FIRST_FREE].number), None
+        flow = self.flow_at[node]
+        return ('start', 'rto', 'delack')[number], str(flow), flow
+
+    def is_stalled(self, flow):
+        """Whether a flow has begun, is not all acknowledged, and has no packet in the net: nothing but an alarm of its
+        own goes on with it."""
+        sender = self.flows[flow].sender
+        end = self.ends[sender]
+        return START not in self.alarms[sender] and end.una < end.total and self.inside[flow] == 0
+
+    # The dump of a state.
+
+    def dump_node(self, node):
+        kind = self.kinds[node]
+        if kind == ROUTER:
+            return f'node {node} router\n'
+        return f'node {node} {"sender" if kind == SENDER else "receiver"} {self.flow_at[node]} {self.ends[node].dump()}\n'
+
+    def dump_link(self, port):
+        entries = ','.join(f'{p[0]}:{"a" if p[1] else "d"}:{p[2]}@{entry}' for p, entry in port.queue.entries)
+        return (f'link {port.number} offered={port.offered} sent={port.sent} queue={entries or "-"}'
+                f'{port.queue.dump()}\n')
+
+    def dump_events(self):
+        """The pending events in the order of their keys: of each its flow (None for `free`) and its line."""
+        last = None
+        for event in sorted(self.pending, key=lambda event: event[:4]):
+            if not self.is_stale(event) and event[:4] != last:
+                kind, names, flow = self.naming(event)
+                yield flow, f'event {event[0]} {event[1]} {event[2]} {event[3]} {kind} {names}\n'
+                last = event[:4]
+
+    def dump(self):
+        out = [f'at {self.position}\n']
+        out += [self.dump_node(node) for node in range(len(self.kinds))]
+        out += [self.dump_link(port) for port in self.ports]
+        out += [line for _, line in self.dump_events()]
+        return ''.join(out)
+
+
+def trace(scenario):
+    """The trace of a whole run, line by line, its last line `end N`."""
+    net = Network(scenario)
+    while (line := net.step()) is not None:
+        yield line_text(net.position, line)
+    yield f'end {net.position}\n'

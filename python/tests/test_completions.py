@@ -1,0 +1,370 @@
+#!/usr/bin/env python3
+"""Tests of the shells' completions and of the man pages: python/tests/test_completions.py. bash is asked by
+`compgen` through the functions, and bash and zsh by a terminal of their own in which a line is typed; fish by
+`complete -C`. The words of each subcommand are those of its `--help`, in each shell and in the man page. A
+shell that is not there is left out, which is said. The last line is `N passed, M failed`.
+"""
+import io
+import os
+import pty
+import re
+import select
+import shutil
+import stat
+import subprocess
+import sys
+import tempfile
+import time
+import unittest
+
+from paths import BIN, TOP
+
+COMPLETIONS = os.path.join(TOP, 'completions')
+PROGRAM = os.path.join(TOP, 'crates', 'tcpsim', 'out', 'tcpsim')
+SUBCOMMANDS = ('asm', 'debug', 'dis', 'explain', 'figures', 'run')
+TOOLS = ('flows', 'plot', 'net', 'sweep', 'follow', 'stalls', 'replay')
+MARK = '@ready@'
+PATIENCE = 60           # seconds for one answer, on a machine that is busy
+# A line up to the cursor, and what it becomes, its last word completed. `scenario one.txt`, `scenario_two.txt`
+# and the folder `shelf` with `inner.txt` are there; the completed word is the only one that fits.
+# Of several that fit, as --access and --access-queue, what they have in common.
+LINES = (
+    ('tcpsim ru', 'tcpsim run '),
+    ('tcpsim --v', 'tcpsim --version '),
+    ('tcpsim debug --wor', 'tcpsim debug --workers'),
+    ('tcpsim run --gro', 'tcpsim run --groups'),
+    ('tcpsim run --workers 3', 'tcpsim run --workers 32 '),
+    ('tcpsim run --pro', 'tcpsim run --progress '),
+    ('tcpsim asm --ex', 'tcpsim asm --explain '),
+    ('tcpsim debug --ex', 'tcpsim debug --explain '),
+    ('tcpsim run --groups au', 'tcpsim run --groups auto '),
+    ('tcpsim run --groups=ea', 'tcpsim run --groups=each '),
+    ('tcpsim dis --h', 'tcpsim dis --help '),
+    ('tcpsim run < scenario_', 'tcpsim run < scenario_two.txt '),
+    ('tcpsim run <scenario_', 'tcpsim run <scenario_two.txt '),
+    ('tcpsim run --groups each < scenario_', 'tcpsim run --groups each < scenario_two.txt '),
+    ('tcpsim asm < shelf/in', 'tcpsim asm < shelf/inner.txt '),
+    ('tcpsim asm < scenario\\ ', 'tcpsim asm < scenario\\ one.txt '),
+    ('tcpsim dis > scenario_', 'tcpsim dis > scenario_two.txt '),
+    ('tcpsim run scenario_', 'tcpsim run scenario_two.txt '),
+    ('tcpsim asm sh', 'tcpsim asm shelf/'),
+    ('tcpsim exp', 'tcpsim explain '),
+    ('tcpsim fig', 'tcpsim figures '),
+    ('tcpsim figures --pro', 'tcpsim figures --progress '),
+    ('tcpsim figures scenario_', 'tcpsim figures scenario_two.txt '),
+    ('tcpsim explain gr', 'tcpsim explain groups '),
+    ('tcpsim-flows scenario_', 'tcpsim-flows scenario_two.txt '),
+    ('tcpsim-flows scenario_two.txt --ser', 'tcpsim-flows scenario_two.txt --series '),
+    ('tcpsim-flows --program shelf/in', 'tcpsim-flows --program shelf/inner.txt '),
+    ('tcpsim-follow scenario_', 'tcpsim-follow scenario_two.txt '),
+    ('tcpsim-follow scenario_two.txt --by', 'tcpsim-follow scenario_two.txt --byte '),
+    ('tcpsim-follow scenario_two.txt shelf/in', 'tcpsim-follow scenario_two.txt shelf/inner.txt '),
+    ('tcpsim-stalls scenario_', 'tcpsim-stalls scenario_two.txt '),
+    ('tcpsim-stalls scenario_two.txt --lon', 'tcpsim-stalls scenario_two.txt --longer '),
+    ('tcpsim-stalls --ca', 'tcpsim-stalls --causes '),
+    ('tcpsim-net dumb', 'tcpsim-net dumbbell '),
+    ('tcpsim-net dumbbell --acc', 'tcpsim-net dumbbell --access'),
+    ('tcpsim-net dumbbell --que', 'tcpsim-net dumbbell --queue '),
+)
+
+
+class Folder(unittest.TestCase):
+    """A folder with files to complete, and the tools on PATH."""
+
+    def setUp(self):
+        folder = tempfile.TemporaryDirectory()
+        self.addCleanup(folder.cleanup)
+        self.folder, self.bin = os.path.join(folder.name, 'here'), os.path.join(folder.name, 'bin')
+        os.makedirs(os.path.join(self.folder, 'shelf'))
+        os.makedirs(self.bin)
+        for name in ('scenario one.txt', 'scenario_two.txt', os.path.join('shelf', 'inner.txt')):
+            with open(os.path.join(self.folder, name), 'w', encoding='ascii'):
+                pass
+        for tool in TOOLS:
+            path = os.path.join(self.bin, f'tcpsim-{tool}')
+            with open(path, 'w', encoding='utf-8') as file:
+                file.write(f'#!/bin/sh\nexec {sys.executable} {BIN}/tcpsim-{tool} "$@"\n')
+            os.chmod(path, stat.S_IRWXU)
+        path = os.path.join(self.bin, 'tcpsim')
+        with open(path, 'w', encoding='utf-8') as file:
+            file.write('#!/bin/sh\n[ "$*" = explain ] && printf "E4: a word\\nE10: no sim\\ngroups: none\\n"\n')
+        os.chmod(path, stat.S_IRWXU)
+        self.environment = {'PATH': f'{self.bin}:{os.environ["PATH"]}', 'HOME': folder.name, 'TERM': 'dumb',
+                            'LANG': 'C', 'INPUTRC': os.devnull, 'XDG_CONFIG_HOME': folder.name}
+
+    def run_shell(self, *words):
+        done = subprocess.run(words, cwd=self.folder, env=self.environment, capture_output=True, text=True,
+                              stdin=subprocess.DEVNULL, check=False, timeout=60)
+        return done.stdout.splitlines()
+
+
+    def compgen(self, function, *words):
+        """bash's answers, all words that fit: those of the function, by `compgen`, or where it has none, files."""
+        script = ('source "$1"; shift; function=$1; shift; COMP_WORDS=("$@"); COMP_CWORD=$(($# - 1)); "$function"; '
+                  'if [ ${#COMPREPLY[@]} -gt 0 ]; then printf "%s\\n" "${COMPREPLY[@]}"; '
+                  'elif complete -p "$1" | grep -q -- "-o default"; then compgen -f -- "${COMP_WORDS[COMP_CWORD]}"; fi')
+        return sorted(self.run_shell('bash', '-c', script, 'bash', os.path.join(COMPLETIONS, 'tcpsim.bash'), function,
+                                     *words))
+
+    def fish(self, line):
+        told = self.run_shell('fish', '--no-config', '-c', f'source {COMPLETIONS}/tcpsim.fish; complete -C "{line}"')
+        return sorted(word.split('\t')[0] for word in told)
+
+
+def help_of(*words):
+    """What a command prints as its help."""
+    return subprocess.run([*words, '--help'], capture_output=True, text=True, stdin=subprocess.DEVNULL, check=True,
+                          timeout=60).stdout
+
+
+def long_options(text):
+    return set(re.findall(r'(?<![\w-])--[a-z][a-z-]*', text))
+
+
+def manual(name):
+    """A man page with plain signs, and where fonts are changed a space."""
+    with open(os.path.join(TOP, 'man', f'{name}.1'), encoding='utf-8') as file:
+        return re.sub(r'\\f[A-Z]', ' ', file.read().replace('\\-', '-'))
+
+
+def part_of(page, head):
+    return re.search(rf'^\.SH {head}\n((?:(?!\.SH ).*\n)*)', page, re.M)[1]
+
+
+@unittest.skipUnless(os.path.exists(PROGRAM), 'the program is not built')
+class Words(Folder):
+    """Each word that the program's help lists, and no other, in each shell and in the man page."""
+
+    def setUp(self):
+        super().setUp()
+        self.options = {name: long_options(help_of(PROGRAM, name)) for name in SUBCOMMANDS}
+        self.groups = re.search(r'--groups <G> .*: (one, each, auto), or numbers', help_of(PROGRAM, 'run'))[1].split(', ')
+
+    def test_subcommands_are_those_of_the_help(self):
+        told = re.findall(r'^  ([a-z]+)  ', help_of(PROGRAM).partition('Commands:')[2], re.M)
+        self.assertEqual(sorted(told), sorted(SUBCOMMANDS))
+        self.assertEqual({it for it in self.compgen('_tcpsim', 'tcpsim', '') if it[0] != '-'}, set(told))
+        self.assertEqual(set(re.findall(r'^\.B tcpsim ([a-z]+)$', part_of(manual('tcpsim'), 'SYNOPSIS'), re.M)), set(told))
+        for name in told:
+            self.assertIn(f'.TP\n.B {name}\n', part_of(manual('tcpsim'), 'SUBCOMMANDS'))
+
+    def test_bash(self):
+        for name in SUBCOMMANDS:
+            with self.subTest(name):
+                self.assertEqual(set(self.compgen('_tcpsim', 'tcpsim', name, '--')), self.options[name])
+        self.assertEqual(self.compgen('_tcpsim', 'tcpsim', 'run', '--groups', ''), sorted(self.groups))
+
+    def test_zsh(self):
+        with open(os.path.join(COMPLETIONS, '_tcpsim'), encoding='utf-8') as file:
+            text = file.read().partition('_tcpsim_tool()')[0]
+        self.assertEqual(long_options(text), set().union(*self.options.values()) | {'--version'})
+        self.assertEqual(set(re.findall(r"^    '([a-z]+):", text, re.M)), set(SUBCOMMANDS))
+        self.assertIn(f'({" ".join(self.groups)})', text)
+
+    def test_fish(self):
+        with open(os.path.join(COMPLETIONS, 'tcpsim.fish'), encoding='utf-8') as file:
+            lines = [line for line in file if line.startswith('complete -c tcpsim ')]
+        told = {name: set() for name in SUBCOMMANDS}
+        for line in lines:
+            option = re.search(r' -l ([a-z-]+)', line)
+            where = re.search(r"__fish_seen_subcommand_from ([a-z ]+)'", line)
+            for name in where[1].split() if where else SUBCOMMANDS:
+                if option and '__fish_use_subcommand' not in line:
+                    told[name].add(f'--{option[1]}')
+        self.assertEqual(told, self.options)
+        self.assertTrue(any(f"-a '{' '.join(self.groups)}'" in line for line in lines))
+
+    def test_the_manual(self):
+        page = manual('tcpsim')
+        for name in SUBCOMMANDS:
+            form = re.search(rf'^\.B tcpsim {name}\n((?:(?!\.br).*\n)*)', part_of(page, 'SYNOPSIS'), re.M)[1]
+            with self.subTest(name):
+                self.assertEqual(long_options(form), self.options[name] - {'--help'})
+                self.assertEqual('FILE' in form, '[FILE]' in help_of(PROGRAM, name))
+        heads = re.findall(r'^\.TP\n(.*)', part_of(page, 'OPTIONS'), re.M)
+        self.assertEqual(long_options('\n'.join(heads)), set().union(*self.options.values()) | {'--version'})
+        for value in self.groups:
+            self.assertIn(f'\n.B {value}\n', part_of(page, 'OPTIONS'))
+
+
+class Manuals(unittest.TestCase):
+    def test_a_tool_s_page_has_each_option_of_its_help(self):
+        for tool in TOOLS:
+            words = [sys.executable, f'{BIN}/tcpsim-{tool}']
+            try:
+                text = help_of(*words)
+                for shape in re.findall(r'^    ([a-z][a-z-]*)(?: .*)?$', text, re.M) if tool == 'net' else ():
+                    text += help_of(*words, shape)
+            except subprocess.CalledProcessError:   # its library is not there, as matplotlib
+                continue
+            with self.subTest(tool):
+                self.assertEqual(long_options(text) - long_options(manual(f'tcpsim-{tool}')) - {'--help'}, set())
+
+
+class Compgen(Folder):
+    """bash's answers, all words that fit: those of the function, by `compgen`, or where it has none, files."""
+
+    def compgen(self, function, *words):
+        script = ('source "$1"; shift; function=$1; shift; COMP_WORDS=("$@"); COMP_CWORD=$(($# - 1)); "$function"; '
+                  'if [ ${#COMPREPLY[@]} -gt 0 ]; then printf "%s\\n" "${COMPREPLY[@]}"; '
+                  'elif complete -p "$1" | grep -q -- "-o default"; then compgen -f -- "${COMP_WORDS[COMP_CWORD]}"; fi')
+        return sorted(self.run_shell('bash', '-c', script, 'bash', os.path.join(COMPLETIONS, 'tcpsim.bash'), function,
+                                     *words))
+
+    def test_words_of_the_program(self):
+        for words, answer in ((['tcpsim', ''], ['--help', '--version', '-V', '-h', 'asm', 'debug', 'dis', 'explain', 'figures', 'run']),
+                              (['tcpsim', 'd'], ['debug', 'dis']),
+                              (['tcpsim', 'run', '--'], ['--explain', '--groups', '--help', '--progress', '--workers']),
+                              (['tcpsim', 'dis', '--'], ['--explain', '--help']),
+                              (['tcpsim', 'debug', '--'], ['--explain', '--groups', '--help', '--workers']),
+                              (['tcpsim', 'figures', '--'], ['--explain', '--help', '--progress']),
+                              (['tcpsim', 'run', '--workers', ''], ['1', '16', '2', '32', '4', '64', '8']),
+                              (['tcpsim', 'run', '--groups', '=', 'o'], ['one']),
+                              (['tcpsim', 'run', '--groups', '='], ['auto', 'each', 'one']),
+                              (['tcpsim', 'run', '--wrong'], [])):
+            with self.subTest(words):
+                self.assertEqual(self.compgen('_tcpsim', *words), answer)
+
+    def test_files(self):
+        for words, answer in ((['tcpsim', 'run', '<', 's'], ['scenario one.txt', 'scenario_two.txt', 'shelf']),
+                              (['tcpsim', 'run', '<', 'scenario_'], ['scenario_two.txt']),
+                              (['tcpsim', 'run', '--workers', '2', '<', 'shelf/'], ['shelf/inner.txt']),
+                              (['tcpsim', '<', 'scenario_'], ['scenario_two.txt']),
+                              (['tcpsim', 'run', 'scenario_'], ['scenario_two.txt'])):
+            with self.subTest(words):
+                self.assertEqual(self.compgen('_tcpsim', *words), answer)
+        self.assertEqual(self.compgen('_tcpsim_tool', 'tcpsim-flows', 'scenario_'), ['scenario_two.txt'])
+        self.assertEqual(self.compgen('_tcpsim_tool', 'tcpsim-plot', 'a.txt', '-o', 'she'), ['shelf'])
+
+    def test_a_tool_has_the_options_of_its_help(self):
+        for tool in TOOLS:
+            if not os.path.exists(os.path.join(BIN, f'tcpsim-{tool}')):
+                continue
+            text = '\n'.join(self.run_shell(f'{self.bin}/tcpsim-{tool}', '--help'))
+            if not text:            # its library is not there, as matplotlib
+                continue
+            options = re.findall(r'^  (?:-\w(?: [^\s,]+)?, )?(--[a-z-]+)', text, re.MULTILINE)
+            with self.subTest(tool):
+                self.assertIn('--help', options)
+                self.assertEqual(set(options) - set(self.compgen('_tcpsim_tool', f'tcpsim-{tool}', '--')), set())
+        for tool, options in (('flows', {'--series', '--from', '--to', '--busy', '--csv', '--program'}),
+                              ('follow', {'--flow', '--byte', '--csv', '--program', '--help'}),
+                              ('stalls', {'--longer', '--flow', '--csv', '--program', '--causes', '--help'})):
+            self.assertTrue(options <= set(self.compgen('_tcpsim_tool', f'tcpsim-{tool}', 'a.txt', '--')), tool)
+
+    def test_shapes_of_net(self):
+        self.assertTrue({'dumbbell', 'parking-lot', 'chain', 'tree'} <= set(self.compgen('_tcpsim_tool', 'tcpsim-net', '')))
+        self.assertEqual(self.compgen('_tcpsim_tool', 'tcpsim-net', 'dumbbell', '--rtt'), ['--rtt'])
+
+    def test_all_commands_are_told(self):
+        script = 'source "$1"; complete -p'
+        told = self.run_shell('bash', '-c', script, 'bash', os.path.join(COMPLETIONS, 'tcpsim.bash'))
+        self.assertEqual(sorted(line.split()[-1] for line in told if '-o default' in line),
+                         sorted(['tcpsim'] + [f'tcpsim-{tool}' for tool in TOOLS]))
+
+
+class Terminal:
+    """A shell in a terminal of its own."""
+
+    def __init__(self, words, folder, environment):
+        self.process, self.file = pty.fork()
+        if self.process == 0:
+            os.chdir(folder)
+            os.execvpe(words[0], words, environment)
+        self.text = ''
+
+    def type(self, text):
+        os.write(self.file, text.encode())
+
+    def wait_for(self, wanted, quiet=None):
+        """Reads until the pattern has come; where there is none, until nothing more comes for `quiet` seconds."""
+        until = time.monotonic() + PATIENCE
+        while time.monotonic() < until:
+            if wanted and re.search(wanted, self.text):
+                return True
+            if not select.select([self.file], [], [], quiet or .2)[0]:
+                if wanted is None:
+                    return True
+                continue
+            try:
+                self.text += os.read(self.file, 65_536).decode('utf-8', 'replace')
+            except OSError:
+                return False
+        return False
+
+    def completed(self, line):
+        """What a line becomes by the key for completion: it is put into a variable in the place of being run."""
+        self.text = ''
+        self.type('\x15' + line + '\t')
+        self.wait_for(None, quiet=.3)
+        self.type('\x07')       # the shell prints the line as it is, behind the mark
+        found = self.wait_for(re.escape(MARK) + r'<[^\r\n]*>')
+        return re.search(re.escape(MARK) + r'<([^\r\n]*)>', self.text)[1] if found else f'nothing: {self.text!r}'
+
+    def close(self):
+        os.close(self.file)
+        os.waitpid(self.process, 0)
+
+
+class InATerminal(Folder):
+    """Lines that are typed, in bash and in zsh."""
+
+    def lines(self, terminal):
+        self.addCleanup(terminal.close)
+        terminal.type(f'echo {MARK[:3]}""{MARK[3:]}\n')
+        self.assertTrue(terminal.wait_for(re.escape(MARK)), terminal.text)
+        for line, completed in LINES:
+            with self.subTest(line):
+                # What may follow an option, a space or `=`, is the shell's own affair.
+                self.assertEqual(terminal.completed(line).rstrip(' ='), completed.rstrip(' ='))
+
+    def test_bash(self):
+        start = os.path.join(self.folder, '..', 'start')
+        with open(start, 'w', encoding='utf-8') as file:
+            file.write(f'source {COMPLETIONS}/tcpsim.bash\nPS1="$ "\n'
+                       f'show() {{ printf "\\n{MARK}<%s>\\n" "$READLINE_LINE"; }}\nbind -x \'"\\C-g": show\'\n'
+                       'bind "set bell-style none"\nbind "set enable-bracketed-paste off"\n')
+        self.lines(Terminal(['bash', '--noprofile', '--rcfile', start, '-i'], self.folder, self.environment))
+
+    @unittest.skipUnless(shutil.which('zsh'), 'no zsh')
+    def test_zsh(self):
+        with open(os.path.join(self.environment['HOME'], '.zshrc'), 'w', encoding='utf-8') as file:
+            file.write(f'fpath=({COMPLETIONS} $fpath)\nautoload -Uz compinit\ncompinit -u -D\nPS1="$ "\n'
+                       'unsetopt beep prompt_sp\n'
+                       f'show() {{ print -r -- "\n{MARK}<$BUFFER>" }}\nzle -N show\nbindkey -e\nbindkey "^G" show\n')
+        self.lines(Terminal(['zsh', '-i'], self.folder, {**self.environment, 'ZDOTDIR': self.environment['HOME']}))
+
+
+class Fish(Folder):
+    @unittest.skipUnless(shutil.which('fish'), 'no fish')
+    def test_fish(self):
+        for line, answer in (('tcpsim d', ['debug', 'dis']), ('tcpsim run --', ['--explain', '--groups', '--help', '--progress', '--workers']),
+                             ('tcpsim asm --', ['--explain', '--help']), ('tcpsim run --groups a', ['auto']),
+                             ('tcpsim explain E', ['E10', 'E4']),
+                             ('tcpsim run --workers 3', ['32']), ('tcpsim run < scenario_', ['scenario_two.txt']),
+                             ('tcpsim-flows scenario_', ['scenario_two.txt']), ('tcpsim-flows --ser', ['--series']),
+                             ('tcpsim-follow scenario_', ['scenario_two.txt']), ('tcpsim-follow --by', ['--byte']),
+                             ('tcpsim-stalls scenario_', ['scenario_two.txt']), ('tcpsim-stalls --lon', ['--longer']),
+                             ('tcpsim-stalls --ca', ['--causes']), ('tcpsim-net dumb', ['dumbbell'])):
+            with self.subTest(line):
+                self.assertEqual(self.fish(line), answer)
+
+
+def main():
+    for shell in ('zsh', 'fish'):
+        if not shutil.which(shell):
+            print(f'LEFT OUT, not passed: the completions of {shell} (it is not there)')
+    if not os.path.exists(PROGRAM):
+        print('LEFT OUT, not passed: the words of the program (it is not built)')
+    stream = io.StringIO()
+    result = unittest.TextTestRunner(stream=stream).run(unittest.defaultTestLoader.loadTestsFromModule(
+        sys.modules['__main__']))
+    failed = len({str(test).split(') [')[0] for test, _ in result.failures + result.errors})
+    if failed:
+        print(stream.getvalue())
+    print(f'{result.testsRun - failed - len(result.skipped)} passed, {failed} failed')
+    return 1 if failed else 0
+
+
+if __name__ == '__main__':
+    sys.exit(main())

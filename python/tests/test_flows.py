@@ -1,0 +1,391 @@
+#!/usr/bin/env python3
+"""Tests of tcpsim-flows, tcpsim/trace.py and tcpsim/program.py: python/tests/test_flows.py [--program FILE]. What is
+expected was worked out by hand from the lines of TRACE, or is said by another way to the same number.
+Nothing but Python's standard library is wanted; without the built program the model takes its place.
+The last line is `N passed, M failed`.
+
+TRACE is the run of one flow over a queue of two packets at 8 Mbit/s, 1 ms each way: a segment takes
+1.04 ms, and is lost twice, 3000 at 0 and 7000 at 4.12 ms; test_trace.py has its account line by line.
+"""
+import csv
+import io
+import os
+import random
+import subprocess
+import sys
+import tempfile
+import unittest
+
+from paths import BIN, MODEL, TOP
+from tcpsim import figures
+from tcpsim.program import BUILT, NoProgram, find_program, found, is_program
+from tcpsim.trace import Run, Scenario, Unreadable
+
+PROGRAM = MODEL
+MS = 10**6
+SCENARIO = '''sim 12000000
+node s sender
+node r receiver
+link a s r 8000000 1000000 droptail 2
+link b r s 8000000 1000000 droptail 10
+flow f s r 1000 8 0 64000 0
+'''
+TRACE = '''1 0 0 0 0 start 0 una=0 nxt=4000 cwnd=4000 ssthresh=64000 phase=ss tx=0:0:0 drop=full:0:3000
+2 1040000 0 0 3 free 0 una=0 nxt=4000 cwnd=4000 ssthresh=64000 phase=ss tx=0:0:1000
+3 2040000 1 1 1 data 0 0 next=1000 tx=1:0:1000
+4 2080000 0 0 3 free 0 una=0 nxt=4000 cwnd=4000 ssthresh=64000 phase=ss tx=0:0:2000
+5 2080000 1 0 3 free 1 next=1000
+6 3080000 0 2 1 ack 0 1000 una=1000 nxt=6000 cwnd=5000 ssthresh=64000 phase=ss
+7 3080000 1 1 2 data 0 1000 next=2000 tx=1:0:2000
+8 3120000 0 0 3 free 0 una=1000 nxt=6000 cwnd=5000 ssthresh=64000 phase=ss tx=0:0:4000
+9 3120000 1 0 3 free 1 next=2000
+10 4120000 0 2 2 ack 0 2000 una=2000 nxt=8000 cwnd=6000 ssthresh=64000 phase=ss drop=full:0:7000
+11 4120000 1 1 3 data 0 2000 next=3000 tx=1:0:3000
+12 4160000 0 0 3 free 0 una=2000 nxt=8000 cwnd=6000 ssthresh=64000 phase=ss tx=0:0:5000
+13 4160000 1 0 3 free 1 next=3000
+14 5160000 0 2 3 ack 0 3000 una=3000 nxt=8000 cwnd=7000 ssthresh=64000 phase=ss
+15 5160000 1 1 4 data 0 4000 next=3000 tx=1:0:3000
+16 5200000 0 0 3 free 0 una=3000 nxt=8000 cwnd=7000 ssthresh=64000 phase=ss tx=0:0:6000
+17 5200000 1 0 3 free 1 next=3000
+18 6200000 0 2 4 ack 0 3000 una=3000 nxt=8000 cwnd=7000 ssthresh=64000 phase=ss
+19 6200000 1 1 5 data 0 5000 next=3000 tx=1:0:3000
+20 6240000 0 0 3 free 0 una=3000 nxt=8000 cwnd=7000 ssthresh=64000 phase=ss
+21 6240000 1 0 3 free 1 next=3000
+22 7240000 0 2 5 ack 0 3000 una=3000 nxt=8000 cwnd=7000 ssthresh=64000 phase=ss
+23 7240000 1 1 6 data 0 6000 next=3000 tx=1:0:3000
+24 7280000 1 0 3 free 1 next=3000
+25 8280000 0 2 6 ack 0 3000 una=3000 nxt=8000 cwnd=5500 ssthresh=2500 phase=fr tx=0:0:3000
+26 9320000 0 0 3 free 0 una=3000 nxt=8000 cwnd=5500 ssthresh=2500 phase=fr
+27 10320000 1 1 7 data 0 3000 next=7000 tx=1:0:7000
+28 10360000 1 0 3 free 1 next=7000
+29 11360000 0 2 7 ack 0 7000 una=7000 nxt=8000 cwnd=2500 ssthresh=2500 phase=ca
+end 29
+'''
+
+
+def rows(text=SCENARIO, trace=TRACE, **span):
+    run = figures.Figures(Scenario(text), trace.splitlines(), **span)
+    return {(name, figure): value for _, name, figure, _, value in figures.figures(run)}
+
+
+class Files(unittest.TestCase):
+    """The command, over files of a folder."""
+
+    def setUp(self):
+        folder = tempfile.TemporaryDirectory()
+        self.addCleanup(folder.cleanup)
+        self.folder = folder.name
+        self.scenario, self.trace = self.put('run.txt', SCENARIO), self.put('run.trace', TRACE)
+
+    def put(self, name, data):
+        path = os.path.join(self.folder, name)
+        with open(path, 'wb') as file:
+            file.write(data.encode() if isinstance(data, str) else data)
+        return path
+
+    def run_flows(self, *words, **more):
+        return subprocess.run([sys.executable, os.path.join(BIN, 'tcpsim-flows'), *words], capture_output=True, check=False,
+                              timeout=120, **more)
+
+    def lines(self, *words):
+        done = self.run_flows(*words)
+        self.assertEqual((done.returncode, done.stderr), (0, b''))
+        return done.stdout.decode().splitlines()
+
+
+class Spans(unittest.TestCase):
+    def check(self, expected, **span):
+        got = rows(**span)
+        for key, value in expected.items():
+            with self.subTest(key, **span):
+                self.assertAlmostEqual(got[key], value, 9) if isinstance(value, float) else \
+                    self.assertEqual(got[key], value)
+
+    def test_from(self):
+        """From 4.14 ms: of a, 2000 is on its way until 4.16, 5000 and 6000 wait from 3.08 and 4.12; sent are
+        5000, 6000 and 3000. Nothing is dropped; the acknowledgement 3000 matches a segment of the beginning."""
+        self.check({('f', 'delivered'): 4000, ('f', 'goodput'): 4000 * 8 / .00786, ('f', 'sent'): 1,
+                    ('f', 'sent again by fast retransmit'): 1, ('f', 'loss'): 0.0,
+                    ('f', 'least round trip'): 5.16 * MS, ('f', 'median round trip'): 5.16 * MS,
+                    ('a', 'utilization'): (.02 + 3 * 1.04) / 7.86, ('a', 'sent'): 3, ('a', 'dropped'): 0,
+                    ('a', 'greatest queue'): 2, ('a', 'mean queue'): (2 * .02 + 1.04) / 7.86,
+                    ('a', 'median delay in the queue'): 1080000, ('', 'span'): 7860000,
+                    ('', 'begin'): 4140000}, begin=4140000)
+
+    def test_to(self):
+        """To 4.12 ms, whose own lines are left out: 0, 1000, 2000 and 4000 are begun, the last until 4.16."""
+        self.check({('f', 'delivered'): 2000, ('f', 'goodput'): 2000 * 8 / .00412, ('f', 'sent'): 6,
+                    ('f', 'loss'): 1 / 6, ('f', 'timeouts'): 0, ('f', 'completed'): None,
+                    ('a', 'utilization'): 4.12 / 4.12, ('a', 'dropped'): 1, ('a', 'loss'): .2, ('a', 'sent'): 4,
+                    ('a', 'mean queue'): (2 * 1.04 + 1.04 + .04 * 2 + 1.0) / 4.12,
+                    ('b', 'utilization'): .08 / 4.12, ('', 'span'): 4120000}, end=4120000)
+
+    def test_a_part_in_which_nothing_happens(self):
+        """From 9.4 to 10 ms there is no line."""
+        self.check({('f', 'delivered'): 0, ('f', 'goodput'): 0.0, ('f', 'loss'): None, ('a', 'utilization'): 0.0,
+                    ('a', 'mean queue'): 0.0, ('a', 'median delay in the queue'): None, ('', 'span'): 600000},
+                   begin=9400000, end=10000000)
+
+    def test_parts_add_up(self):
+        """Each count of a whole run is the sum of those of its parts, each mean their weighted mean."""
+        for name in ('four_flows_share_codel', 'two_flows_share_fairly'):
+            with open(os.path.join(TOP, 'examples', name + '.txt'), encoding='ascii') as file:
+                text = file.read()
+            with open(os.path.join(TOP, 'examples', name + '.trace'), encoding='ascii') as file:
+                trace = file.read()
+            whole = rows(text, trace)
+            cuts = [0, 1_234_567_891, 4 * 10**9, whole['', 'span']]
+            parts = [(rows(text, trace, begin=begin, end=end), end - begin) for begin, end in zip(cuts, cuts[1:])]
+            for key, value in whole.items():
+                if key[1] in ('delivered', 'sent', 'timeouts', 'sent again by timeout', 'dropped') or ' dropped as ' in key[1]:
+                    self.assertEqual(sum(part.get(key, 0) for part, _ in parts), value, key)
+                elif key[1] in ('utilization', 'mean queue'):
+                    self.assertAlmostEqual(sum(part[key] * span for part, span in parts) / whole['', 'span'], value, 9, key)
+                elif key[1] == 'greatest queue':
+                    self.assertEqual(max(part[key] for part, _ in parts), value, key)
+
+    def test_spans_that_are_refused(self):
+        for span in ({'begin': 12000000}, {'begin': 10**12}):
+            with self.assertRaises(Unreadable):
+                rows(**span)
+
+
+class Whole(unittest.TestCase):
+    def test_figures_are_those_of_the_curves(self):
+        """On every example: what is counted on the way is what the kept columns of `Run` say."""
+        for name in sorted(os.listdir(os.path.join(TOP, 'examples'))):
+            if not name.endswith('.trace'):
+                continue
+            with open(os.path.join(TOP, 'examples', name[:-5] + 'txt'), encoding='ascii') as file:
+                scenario = Scenario(file.read())
+            with open(os.path.join(TOP, 'examples', name), encoding='ascii') as file:
+                lines = file.read().splitlines()
+            run, got = Run(scenario, lines), figures.Figures(scenario, lines)
+            begin, end = run.begin(), max(run.end(), run.begin() + 1)
+            got = {(name, figure): value for _, name, figure, _, value in figures.figures(got)}
+            for flow in run.flows:
+                for figure, value in (
+                        ('delivered', flow.delivered()), ('sent', len(flow.sent) + len(flow.again)),
+                        ('timeouts', len(flow.timeouts)), ('sent again by timeout', flow.by_timeout),
+                        ('sent again by fast retransmit', flow.by_fast_retransmit), ('completed', flow.completed),
+                        ('median round trip', figures.percentile(flow.round_trips, 50)),
+                        ('99th percentile of round trips', figures.percentile(flow.round_trips, 99))):
+                    self.assertEqual(got[flow.flow.name, figure], value, (name, figure))
+            for link in run.links:
+                sending = sum(min(b, end) - max(a, begin) for a, b in zip(link.busy_from, link.busy_to) if a < end)
+                queue, times = [0, *link.queue], [begin, *link.queue_times, end]
+                waited = sum(length * (b - a) for length, a, b in zip(queue, times, times[1:]))
+                for figure, value in (
+                        ('utilization', sending / (end - begin)), ('mean queue', waited / (end - begin)),
+                        ('greatest queue', max(queue)), ('dropped', len(link.drops)), ('sent', len(link.waits)),
+                        ('median delay in the queue', figures.percentile(link.waits, 50))):
+                    self.assertEqual(got[link.link.name, figure], value, (name, figure))
+
+    def test_percentiles_of_what_stands_in_a_file(self):
+        chance = random.Random(7)
+        for greatest in (3, 1000, 10**6, 10**13):
+            with tempfile.TemporaryFile() as file:
+                samples, kept = [figures.Sample(file), figures.Sample(file)], [[], []]
+                for n in range(20_000):
+                    number = chance.randrange(greatest)
+                    samples[n % 2].recent.append(number)
+                    kept[n % 2].append(number)
+                    if n % 3000 == 2999:
+                        samples[0].spill()
+                        samples[1].spill()
+                for sample, numbers in zip(samples, kept):
+                    self.assertEqual(sample.least(), min(numbers))
+                    for percent in (0, 1, 50, 99, 100):
+                        self.assertEqual(sample.percentile(percent), figures.percentile(numbers, percent))
+
+    def test_a_run_that_is_spilled_has_the_same_figures(self):
+        before = figures.HELD, figures.PORTION
+        try:
+            figures.HELD, figures.PORTION = 1, 2
+            spilled = rows()
+        finally:
+            figures.HELD, figures.PORTION = before
+        self.assertEqual(spilled, rows())
+
+
+class Series(Files):
+    def series(self, *words):
+        return list(csv.DictReader(io.StringIO('\n'.join(self.lines(self.scenario, self.trace, *words)))))
+
+    def test_rows(self):
+        """In steps of 4 ms. cwnd is 4000 to 3.08, 5000 to 4.12, 6000 to 5.16, 7000 to 8.28, 5500 to 11.36; a's
+        queue is 2 to 1.04, 1 to 2.08, 0 to 3.08, 2 to 3.12, 1 to 4.12, 2 to 4.16, 1 to 5.2."""
+        got = self.series('--series', '4ms')
+        self.assertEqual([(row['from s'], row['to s']) for row in got], [('0', '0.004'), ('0.004', '0.008'), ('0.008', '0.012')])
+        for column, values in (
+                ('f mean cwnd bytes', ((4 * 3.08 + 5 * .92) / .004, (5 * .12 + 6 * 1.04 + 7 * 2.84) / .004,
+                                       (7 * .28 + 5.5 * 3.08 + 2.5 * .64) / .004)),
+                ('f goodput bit/s', (2000 * 8 / .004, 1000 * 8 / .004, 4000 * 8 / .004)),
+                ('a mean queue packets', ((2.08 + 1.04 + .08 + .88) / 4, (.12 + .08 + 1.04) / 4, 0)),
+                ('a greatest queue packets', (2, 2, 0)), ('b greatest queue packets', (0, 0, 0))):
+            for row, value in zip(got, values):
+                self.assertAlmostEqual(float(row[column]), value, 5 if value < 1000 else 0, (column, row['from s']))
+
+    def test_goodput_of_the_rows_is_what_was_delivered(self):
+        text, trace = (os.path.join(TOP, 'examples', 'two_flows_share_fairly' + end) for end in ('.txt', '.trace'))
+        got = list(csv.DictReader(io.StringIO('\n'.join(self.lines(text, trace, '--series', '1s')))))
+        self.assertEqual(len(got), 14)
+        self.assertEqual(round(sum(float(row['fa goodput bit/s']) for row in got) / 8), 225_000)
+
+    def test_a_last_row_that_is_shorter_and_one_that_is_chosen(self):
+        self.assertEqual([row['to s'] for row in self.series('--series', '5ms')], ['0.005', '0.01', '0.012'])
+        self.assertEqual([(row['from s'], row['to s']) for row in self.series('--series', '5ms', '--from', '1ms', '--to', '7ms')],
+                         [('0.001', '0.006'), ('0.006', '0.007')])
+
+    def test_idle_links_are_left_out(self):
+        text = SCENARIO.replace('flow f', 'node p router\nlink c p s 8000000 1000000 droptail 2\nflow f')
+        path = self.put('idle.txt', text)
+        for words in ((), ('--series', '4ms'), ('--csv',)):
+            every = '\n'.join(self.lines(path, self.trace, *words))
+            busy = '\n'.join(self.lines(path, self.trace, '--busy', *words))
+            name = 'c mean' if '--series' in words else 'link,c,' if words else '\nc  '
+            self.assertIn(name, every)
+            self.assertNotIn(name, busy)
+            self.assertIn(name.replace('c', 'b', 1) if words != ('--csv',) else 'link,b,', busy)
+
+    def test_too_many_rows(self):
+        done = self.run_flows(self.scenario, self.trace, '--series', '1ns')
+        self.assertEqual((done.returncode, done.stdout), (1, b''))
+        self.assertIn(b'longer step', done.stderr)
+
+
+class Commands(Files):
+    def test_the_table_has_timeouts_and_loss(self):
+        lines = self.lines(self.scenario, self.trace)
+        self.assertEqual(lines[0].split('  ')[0], 'flow')
+        for title in ('loss %', 'timeouts', 'sent again: fast', 'after timeouts'):
+            self.assertIn(title, lines[0])
+        self.assertEqual(lines[1].split(), 'f 7,000 4.667 100.0 a 9 22.22 0 1 0 3.080 4.120 5.160 -'.split())
+        self.assertEqual(lines[4].split()[-2:], ['2', '22.22'])     # two of nine offered
+
+    def test_csv_in_a_part(self):
+        lines = self.lines(self.scenario, self.trace, '--csv', '--from', '4140us', '--to', '0.012')
+        self.assertIn('flow,f,delivered,bytes,4000', lines)
+        self.assertIn('run,,begin,ns,4140000', lines)
+
+    def test_the_program_is_run_on_texts_and_images(self):
+        image = subprocess.run([PROGRAM, 'asm'], input=SCENARIO.encode(), capture_output=True, check=True).stdout
+        path = self.put('run.tcb', image)
+        given = self.lines(self.scenario, self.trace, '--csv')
+        self.assertEqual(self.lines(self.scenario, '--program', PROGRAM, '--csv'), given)
+        named = [line.replace('flow,f,', 'flow,f0,').replace('link,a,', 'link,l0,').replace('link,b,', 'link,l1,').replace(
+            'link,a', 'link,l0').replace('at a,', 'at l0,') for line in given]
+        self.assertEqual(self.lines(path, '--program', PROGRAM, '--csv'), named)
+        self.assertEqual(self.lines(path, self.trace, '--program', PROGRAM, '--csv'), named)
+        done = self.run_flows('-', '--program', PROGRAM, '--csv', input=image)
+        self.assertEqual(done.stdout.decode().splitlines(), named)
+
+    def test_a_run_that_is_left_early(self):
+        """With --to the rest of a long run is not waited for: the flow has 10^9 segments to send."""
+        path = self.put('long.txt', SCENARIO.replace('sim 12000000', 'sim 1000000000000000').replace(
+            '1000 8 0', '1000 1000000000 0').replace('droptail', 'droptail 1', 1).replace('droptail 1 2', 'droptail 2'))
+        self.assertIn('run,,span,ns,50000000', self.lines(path, '--program', PROGRAM, '--csv', '--to', '50ms'))
+
+    def test_what_is_refused_is_one_sentence(self):
+        lines = TRACE.splitlines()
+        image = self.put('i', b'TCB2\0\0')
+        for words, note in (
+                ((self.scenario, self.put('a', TRACE[:-300])), 'cut short'),
+                ((self.scenario, self.put('b', '\n'.join(lines[:5] + lines[6:]) + '\n')), 'line 6 '),
+                ((self.scenario, self.put('c', TRACE.replace('free 1 next=1000', 'free 7 next=1000'))), 'line 5 '),
+                ((self.scenario, self.put('d', TRACE.replace('end 29', 'end 28'))), 'line 30 '),
+                ((self.scenario, self.put('e', TRACE.replace('tx=0:0:2000', 'tx=0:0:5000'))), 'line 4 '),
+                ((self.scenario, self.put('f', TRACE.replace('start 0', 'start -1'))), 'line 1 '),
+                ((self.scenario, self.put('g', '\n\n')), 'line 1 '),
+                ((self.scenario, self.put('o', TRACE.replace('1 0 0', f'1 {2**63} 0', 1))), 'line 1 '),
+                ((self.scenario, self.put('p', TRACE.replace('nxt=4000', f'nxt={10**12}', 1))), 'line 1 '),
+                ((self.scenario, self.put('q', TRACE.replace('nxt=4000', f'nxt={10**40}', 1))), 'line 1 '),
+                ((self.scenario, image + 'x'), 'No such file'), ((self.scenario, self.folder), 'directory'),
+                ((self.scenario, self.put('h', TRACE.encode() + b'\xff\n')), 'not ASCII'),
+                ((image, '--program', PROGRAM), 'refused L1'), ((image, self.trace, '--program', PROGRAM), 'refused L1'),
+                ((self.put('j', b'\xff\xfe'), self.trace), 'not ASCII'),
+                ((self.put('k', SCENARIO.replace('sim', 'simm')), self.trace), 'line 1'),
+                ((self.put('l', SCENARIO.replace('sim', 'way')), self.trace), 'line 1'),
+                ((self.put('m', SCENARIO.replace('link b r s', 'link b s r')), self.trace), 'way'),
+                ((self.put('n', SCENARIO.replace('12000000', '012')), '--program', PROGRAM), 'refused E4 line 1'),
+                ((self.scenario, '--program', self.folder), 'no program'),
+                ((self.scenario, self.trace, '--from', '100'), 'ends at 0.012 s')):
+            with self.subTest(words[-1] if len(words) < 3 else note):
+                done = self.run_flows(*words)
+                text = done.stderr.decode()
+                self.assertEqual((done.returncode, done.stdout), (1, b''), text)
+                self.assertIn(note, text)
+                self.assertEqual((text.count('\n'), text.startswith('tcpsim-flows: ')), (1, True), text)
+
+    def test_words_that_are_refused(self):
+        for words in (('--from', '5', '--to', '4'), ('--series', '0s'), ('--from', '5x'), ('--to', '1e9'), ('--from', '-1'),
+                      ('--to', '0.0000000001'), ('--to', '2000000'), ('--seri', '1s'), ('--csv', 'x'), ('--from',)):
+            done = self.run_flows(self.scenario, self.trace, *words)
+            self.assertEqual((done.returncode, done.stdout), (2, b''), words)
+            self.assertEqual((done.stderr.count(b'\n'), done.stderr.startswith(b'tcpsim-flows: ')), (1, True), done.stderr)
+
+    def test_it_names_itself_as_it_was_called(self):
+        link = os.path.join(self.folder, 'tcpsim-flows')
+        os.symlink(os.path.join(BIN, 'tcpsim-flows'), link)
+        for words in ((), ('nothing',), (self.scenario, '--program', '/nowhere')):
+            done = subprocess.run([sys.executable, link, *words], capture_output=True, text=True, check=False)
+            self.assertEqual((done.stdout, done.stderr.count('\n')), ('', 1), done.stderr)
+            self.assertTrue(done.stderr.startswith('tcpsim-flows: '), done.stderr)
+
+    def test_a_full_disk(self):
+        for words in ((), ('--csv',), ('--series', '1us'), ('--help',)):
+            with open('/dev/full', 'w', encoding='ascii') as full:
+                done = subprocess.run([sys.executable, os.path.join(BIN, 'tcpsim-flows'), self.scenario, self.trace, *words],
+                                      stdout=full, stderr=subprocess.PIPE, text=True, check=False)
+            self.assertEqual((done.returncode, done.stderr), (1, 'tcpsim-flows: standard output: No space left on device\n'))
+
+    def test_a_pipe_that_ends(self):
+        for words in ((), ('--csv',), ('--series', '1us')):
+            script = '"$@" | head -n 1; exit "${PIPESTATUS[0]}"'
+            done = subprocess.run(['bash', '-c', script, 'bash', sys.executable, os.path.join(BIN, 'tcpsim-flows'), self.scenario,
+                                   self.trace, *words], capture_output=True, check=False)
+            self.assertEqual((done.returncode, done.stderr), (0, b''), words)
+
+
+class Finding(Files):
+    def test_order(self):
+        """Named, else beside the script, else on PATH, else the clone's."""
+        beside, path = os.path.join(self.folder, 'beside'), os.path.join(self.folder, 'path')
+        for folder in beside, path:
+            os.mkdir(folder)
+            os.symlink(MODEL, os.path.join(folder, 'tcpsim'))
+        argv, before = sys.argv, os.environ['PATH']
+        try:
+            os.environ['PATH'] = path
+            sys.argv = [os.path.join(beside, 'tcpsim-flows')]
+            self.assertEqual(find_program(MODEL), MODEL)
+            self.assertEqual(find_program(), os.path.join(beside, 'tcpsim'))
+            sys.argv = [os.path.join(self.folder, 'tcpsim-flows')]
+            self.assertEqual(find_program(), os.path.join(path, 'tcpsim'))
+            os.environ['PATH'] = self.folder
+            self.assertEqual(found(), BUILT)
+            for named in (self.folder, self.trace, 'nothing'):
+                with self.assertRaises(NoProgram):
+                    find_program(named)
+        finally:
+            sys.argv, os.environ['PATH'] = argv, before
+
+
+def main():
+    global PROGRAM
+    if sys.argv[1:2] == ['--program'] and len(sys.argv) == 3:
+        PROGRAM = os.path.abspath(sys.argv[2])
+    elif is_program(found()):
+        PROGRAM = found()
+    stream = io.StringIO()
+    result = unittest.TextTestRunner(stream=stream).run(unittest.defaultTestLoader.loadTestsFromModule(
+        sys.modules['__main__']))
+    failed = len({str(test).split(') [')[0] for test, _ in result.failures + result.errors})
+    if failed:
+        print(stream.getvalue())
+    print(f'{result.testsRun - failed} passed, {failed} failed')
+    return 1 if failed else 0
+
+
+if __name__ == '__main__':
+    sys.exit(main())

@@ -1,0 +1,1024 @@
+#!/usr/bin/env python3
+"""Worked examples for the model: python/tests/test_model.py."""
+import io
+import os
+import random
+import unittest
+from collections import namedtuple
+
+from paths import TOP
+from tcpsim_model import command_line, figures, image, prompt, simulate
+from tcpsim_model.queues import COUNT_STOPS, Codel, gap
+from tcpsim_model.receiver import Receiver
+from tcpsim_model.scenario import Refused
+from tcpsim_model.sender import Sender, after_sample, initial_window
+from tcpsim_model.text import assemble, disassemble
+
+ONE_SEGMENT = '''sim 1000000000
+node s sender
+node r receiver
+link a s r 8000000 1000000 droptail 10
+link b r s 8000000 1000000 droptail 10
+flow f s r 1000 1 0 64000 0
+'''
+ONE_SEGMENT_TRACE = '''1 0 0 0 0 start 0 una=0 nxt=1000 cwnd=4000 ssthresh=64000 phase=ss tx=0:0:0
+2 1040000 0 0 3 free 0 una=0 nxt=1000 cwnd=4000 ssthresh=64000 phase=ss
+3 2040000 1 1 1 data 0 0 next=1000 tx=1:0:1000
+4 2080000 1 0 3 free 1 next=1000
+5 3080000 0 2 1 ack 0 1000 una=1000 nxt=1000 cwnd=5000 ssthresh=64000 phase=ss
+end 5
+'''
+# Of version 1, which has no variant at a flow's end.
+OLD_IMAGE = bytes.fromhex(
+    '54434231 000000003b9aca00 0002 0002 0001 00000000 00 01'
+    '0000 0001 00000000007a1200 00000000000f4240 00 000a 0000000000000000 0000000000000000 0000 00'
+    '0001 0000 00000000007a1200 00000000000f4240 00 000a 0000000000000000 0000000000000000 0000 00'
+    '0000 0001 03e8 00000001 0000000000000000 0000fa00 00000000')
+ONE_SEGMENT_IMAGE = OLD_IMAGE[:3] + b'2' + OLD_IMAGE[4:] + b'\0'
+SLOW_TRACE = '''1 0 0 0 0 start 0 una=0 nxt=1000 cwnd=4000 ssthresh=64000 phase=ss tx=0:0:0
+2 1040000 0 0 3 free 0 una=0 nxt=1000 cwnd=4000 ssthresh=64000 phase=ss
+3 501040000 1 1 1 data 0 0 next=1000 tx=1:0:1000
+4 501080000 1 0 3 free 1 next=1000
+5 1000000000 0 0 1 rto 0 una=0 nxt=1000 cwnd=1000 ssthresh=2000 phase=ss tx=0:0:0
+6 1001040000 0 0 3 free 0 una=0 nxt=1000 cwnd=1000 ssthresh=2000 phase=ss
+7 1001080000 0 2 1 ack 0 1000 una=1000 nxt=1000 cwnd=2000 ssthresh=2000 phase=ca
+8 1501040000 1 1 2 data 0 0 next=1000 tx=1:0:1000
+9 1501080000 1 0 3 free 1 next=1000
+10 2001080000 0 2 2 ack 0 1000 una=1000 nxt=1000 cwnd=2000 ssthresh=2000 phase=ca
+end 10
+'''
+DELAYED_TRACE = '''1 0 0 0 0 start 0 una=0 nxt=2000 cwnd=4000 ssthresh=64000 phase=ss tx=0:0:0
+2 1040000 0 0 3 free 0 una=0 nxt=2000 cwnd=4000 ssthresh=64000 phase=ss tx=0:0:1000
+3 2040000 1 1 1 data 0 0 next=1000
+4 2080000 0 0 3 free 0 una=0 nxt=2000 cwnd=4000 ssthresh=64000 phase=ss
+5 3080000 1 1 2 data 0 1000 next=2000 tx=1:0:2000
+6 3120000 1 0 3 free 1 next=2000
+7 4120000 0 2 1 ack 0 2000 una=2000 nxt=2000 cwnd=5000 ssthresh=64000 phase=ss
+end 7
+'''
+CODEL = (ONE_SEGMENT.replace('sim 1000000000', 'sim 2080001').replace('1000 1 0', '1000 4 0')
+         .replace('link a s r 8000000 1000000 droptail 10', 'link a s r 8000000 1000000 codel 10 1 1 1'))
+CODEL_TRACE = '''1 0 0 0 0 start 0 una=0 nxt=4000 cwnd=4000 ssthresh=64000 phase=ss tx=0:0:0
+2 1040000 0 0 3 free 0 una=0 nxt=4000 cwnd=4000 ssthresh=64000 phase=ss tx=0:0:1000
+3 2040000 1 1 1 data 0 0 next=1000 tx=1:0:1000
+4 2080000 0 0 3 free 0 una=0 nxt=4000 cwnd=4000 ssthresh=64000 phase=ss drop=codel:0:2000 tx=0:0:3000
+5 2080000 1 0 3 free 1 next=1000
+end 5
+'''
+CODEL_DUMP = '''at 1
+node 0 sender 0 una=0 nxt=4000 high=4000 cwnd=4000 ssthresh=64000 dups=0 lt=0 fr=0 timing=1000@0 srtt=- rttvar=0 rto=1000000000 resent=0
+node 1 receiver 0 next=0 held=-
+link 0 offered=4 sent=1 queue=0:d:1000@0,0:d:2000@0,0:d:3000@0 first=- next=0 count=0 last=0 drop=0
+link 1 offered=0 sent=0 queue=-
+event 1040000 0 0 3 free 0
+event 2040000 1 1 1 data 0 0
+event 1000000000 0 0 1 rto 0
+'''
+LOOP = '''sim 1000
+node s sender
+node p router
+node q router
+node r receiver
+link a s p 1000000 10 droptail 5
+link b p q 1000000 10 droptail 5
+link c q p 1000000 10 droptail 5
+link d p s 1000000 10 droptail 5
+link e r p 1000000 10 droptail 5
+flow f s r 100 1 0 1000 0
+route p r b
+route q r c
+route p s d
+'''
+EQUAL_TIMES = '''sim 2040001
+node s sender
+node t sender
+node q router
+node u receiver
+node v receiver
+link a s q 8000000 1000000 droptail 10
+link b t q 8000000 1000000 droptail 10
+link c q u 8000000 1000000 droptail 10
+link d u q 8000000 1000000 droptail 10
+link e q v 8000000 1000000 droptail 10
+link g v q 8000000 1000000 droptail 10
+link h q s 8000000 1000000 droptail 10
+link i q t 8000000 1000000 droptail 10
+flow x s u 1000 1 0 64000 0
+flow y t v 1000 1 0 64000 0
+route q u c
+route q v e
+route q s h
+route q t i
+'''
+EQUAL_TIMES_TRACE = '''1 0 0 0 0 start 0 una=0 nxt=1000 cwnd=4000 ssthresh=64000 phase=ss tx=0:0:0
+2 0 1 0 0 start 1 una=0 nxt=1000 cwnd=4000 ssthresh=64000 phase=ss tx=1:1:0
+3 1040000 0 0 3 free 0 una=0 nxt=1000 cwnd=4000 ssthresh=64000 phase=ss
+4 1040000 1 0 3 free 1 una=0 nxt=1000 cwnd=4000 ssthresh=64000 phase=ss
+5 2040000 2 1 1 data 0 0 tx=2:0:0
+6 2040000 2 2 1 data 1 0 tx=4:1:0
+end 6
+'''
+
+
+def program(data, *words):
+    """Status, output and note."""
+    written = []
+    data = data.encode() if isinstance(data, str) else data
+    status, note = command_line.main(words, data, written.append)
+    return status, b''.join(written), note
+
+
+def with_variant(words):
+    """The first scenario with these words at its flow's end."""
+    return ONE_SEGMENT.replace(' 64000 0\n', f' 64000 0 {words}\n')
+
+
+VARIANTS = 'reno iw3', 'newreno iw3', 'reno iw10', 'newreno iw10'
+
+
+def positions(output):
+    return [int(line[3:]) for line in output.decode().splitlines() if line.startswith('at ')]
+
+
+class Case(unittest.TestCase):
+    def runs(self, text, trace, *options):
+        self.assertEqual(program(text, 'run', *options), (0, trace.encode(), ''))
+
+    def refuses(self, text, note, command='run'):
+        self.assertEqual(program(text, command), (1, b'', note))
+
+
+class Numbers(unittest.TestCase):
+    def test_gap(self):
+        self.assertEqual([gap(10**8, c) for c in range(1, 7)],
+                         [100000000, 70710678, 57735026, 50000000, 44721359, 40824829])
+        self.assertEqual([gap(1, 2), gap(10**10, 2)], [0, 7071067811])
+
+    def test_gap_is_the_greatest(self):
+        pick = random.Random(1)
+        for _ in range(5000):
+            interval, count = pick.randint(1, 10**pick.randint(1, 10)), pick.randint(1, 10**pick.randint(1, 9))
+            d = gap(interval, count)
+            self.assertTrue(d * d * count <= interval * interval < (d + 1) ** 2 * count)
+
+    def test_initial_window(self):
+        self.assertEqual([initial_window(m) for m in (1095, 1096, 2190, 2191)], [4380, 3288, 6570, 4382])
+        self.assertEqual([initial_window(m, True) for m in (1, 1000, 1460, 1461, 7300, 7301, 9000)],
+                         [10, 10000, 14600, 14600, 14600, 14602, 18000])
+
+    def test_round_trip_samples(self):
+        first = after_sample(None, 0, 400000000)
+        self.assertEqual(first[2], 1200000000)
+        self.assertEqual(after_sample(*first[:2], 400000000)[1:], (150000000, 1000000000))
+        self.assertEqual(after_sample(None, 0, 200000000)[2], 1000000000)
+
+
+class SenderAlone(unittest.TestCase):
+    def setUp(self):
+        self.sender = s = Sender(1000, 10**9, 64000)
+        s.nxt = s.high = s.cwnd = 10000
+        s.deadline = 10**9
+
+    def test_fast_retransmit_and_recovery(self):
+        s = self.sender
+        self.assertEqual([s.on_ack(0, 5) for _ in range(2)], [[10000], [11000]])
+        self.assertEqual((s.on_ack(0, 5), s.ssthresh, s.cwnd, s.recovery), ([0], 5000, 8000, True))
+        self.assertEqual((s.on_ack(0, 5), s.cwnd), ([], 9000))
+        self.assertEqual((s.on_ack(0, 5), s.cwnd), ([], 10000))
+        self.assertEqual((s.on_ack(12000, 5), s.cwnd, s.recovery),
+                         ([12000, 13000, 14000, 15000, 16000], 5000, False))
+
+    def test_two_timeouts(self):
+        s = self.sender
+        for rto in (2, 4):
+            self.assertEqual(s.on_rto(10**9), [0])
+            self.assertEqual((s.ssthresh, s.cwnd, s.rto, s.nxt, s.deadline),
+                             (5000, 1000, rto * 10**9, 1000, (rto + 1) * 10**9))
+
+    def test_congestion_avoidance(self):
+        for cwnd, wider in ((10000, 10100), (1000001, 1000002)):
+            s = Sender(1000, 10**9, 2**30)
+            s.ssthresh, s.nxt, s.high, s.cwnd = 2000, 10000, 10000, cwnd
+            s.on_ack(1000, 5)
+            self.assertEqual(s.cwnd, wider)
+
+
+class NewRenoAlone(unittest.TestCase):
+    """Ten segments out; byte 0 is lost, and byte 6000."""
+
+    def setUp(self):
+        self.sender = s = Sender(1000, 10**9, 64000, newreno=True)
+        s.nxt = s.high = s.cwnd = 10000
+        s.deadline = 10**9
+
+    def recovering(self):
+        """After five duplicates of 0 and the partial acknowledgement 6000 at 7."""
+        for _ in range(5):
+            self.sender.on_ack(0, 5)
+        return self.sender.on_ack(6000, 7)
+
+    def test_a_partial_acknowledgement_sends_the_next_hole(self):
+        s = self.sender
+        self.assertEqual([s.on_ack(0, 5) for _ in range(5)], [[10000], [11000], [0], [], []])
+        self.assertEqual((s.ssthresh, s.cwnd, s.recover, s.dups), (5000, 10000, 12000, 5))
+        self.assertEqual(s.on_ack(6000, 7), [6000])
+        self.assertEqual((s.una, s.nxt, s.cwnd, s.deadline, s.partial, s.recovery, s.dups),
+                         (6000, 12000, 5000, 7 + 10**9, True, True, 5))
+        self.assertEqual((s.on_ack(6000, 8), s.cwnd), ([], 6000))
+        self.assertEqual((s.on_ack(6000, 9), s.cwnd), ([12000], 7000))
+        self.assertEqual((s.on_ack(12000, 10), s.cwnd, s.recovery), ([13000, 14000, 15000, 16000], 5000, False))
+
+    def test_a_later_partial_acknowledgement_leaves_the_timer(self):
+        s = self.sender
+        self.recovering()
+        self.assertEqual(s.on_ack(8000, 9), [8000])
+        self.assertEqual((s.una, s.cwnd, s.deadline, s.recovery), (8000, 4000, 7 + 10**9, True))
+
+    def test_the_window_is_a_segment_at_least(self):
+        s = self.sender
+        s.ssthresh = 2000
+        self.recovering()
+        s.cwnd = 2000
+        self.assertEqual(s.on_ack(11000, 9), [11000])
+        self.assertEqual((s.cwnd, s.recovery), (1000, True))
+
+    def test_a_partial_acknowledgement_sends_a_new_segment_where_there_is_room(self):
+        s = self.sender
+        for _ in range(9):
+            s.on_ack(0, 5)
+        self.assertEqual((s.cwnd, s.nxt), (14000, 14000))
+        self.assertEqual((s.on_ack(1000, 7), s.cwnd, s.recovery), ([1000, 14000], 14000, True))
+
+    def test_duplicates_behind_recover_start_nothing(self):
+        s = self.sender
+        self.recovering()
+        for _ in range(2):
+            s.on_ack(6000, 9)
+        s.on_ack(12000, 10)
+        self.assertEqual([(s.on_ack(12000, 11), s.dups) for _ in range(4)],
+                         [([17000], 1), ([18000], 2), ([], 3), ([], 4)])
+        self.assertEqual((s.cwnd, s.recovery, s.recover), (5000, False, 12000))
+        s.on_ack(13000, 12)
+        for _ in range(3):
+            s.on_ack(13000, 13)
+        self.assertTrue(s.recovery)
+
+    def test_a_timeout_sets_recover(self):
+        s = self.sender
+        s.on_rto(10**9)
+        self.assertEqual((s.recover, s.recovery, s.nxt), (10000, False, 1000))
+        s.on_ack(3000, 2 * 10**9)
+        self.assertEqual([s.on_ack(3000, 2 * 10**9) for _ in range(3)], [[], [], []])
+        self.assertEqual((s.dups, s.recovery, s.cwnd), (3, False, 2000))
+
+    def test_a_partial_acknowledgement_measures(self):
+        s = self.sender
+        for _ in range(3):
+            s.on_ack(0, 5)
+        s.timing, s.rto = (5000, 0), 4 * 10**9
+        self.assertEqual(s.on_ack(6000, 10**8), [6000])
+        self.assertEqual((s.srtt, s.rto, s.deadline, s.timing), (10**8, 10**9, 10**8 + 10**9, None))
+
+    def test_no_loss_shows_no_difference(self):
+        pick = random.Random(4)
+        both = [Sender(1000, 200, 30000, newreno) for newreno in (False, True)]
+        for s in both:
+            s.on_start(0)
+        for now in range(1, 400):
+            ack = min(both[0].una + 1000 * pick.choice((0, 1, 1, 2)), both[0].nxt)
+            if both[0].dups == 2 and ack == both[0].una:
+                continue
+            self.assertEqual(*(s.on_ack(ack, now) for s in both))
+            self.assertEqual(*(s.dump() for s in both))
+        self.assertEqual(both[0].una, 200000)
+
+    def test_facts_in_every_state_of_random_runs(self):
+        """What a sender's fields keep, whatever comes."""
+        pick, partial, behind = random.Random(5), 0, 0
+        for _ in range(300):
+            mss = pick.choice((1, 700, 1000, 9000))
+            s = Sender(mss, pick.choice((5, 60, 10**9)), mss * pick.choice((1, 4, 20, 10**4)), pick.random() < 0.8,
+                       pick.random() < 0.5)
+            s.on_start(0)
+            for now in range(1, 250):
+                was = s.una, s.recovery, s.recover
+                if s.una == s.nxt or (s.deadline is not None and pick.random() < 0.03):
+                    s.on_rto(now) if s.deadline is not None else s.on_ack(s.una, now)
+                else:
+                    ack = s.una + mss * pick.choice((0, 0, 0, 0, 1, 1, 2, 5, 30))
+                    s.on_ack(min(ack, s.high), now)
+                    partial += was[1] and s.recovery and s.una > was[0]
+                    behind += s.dups >= 3 and not s.recovery
+                self.facts(s)
+        self.assertGreater(partial, 500)
+        self.assertGreater(behind, 200)
+
+    def facts(self, s):
+        self.assertTrue(s.una <= s.nxt <= s.high <= s.total and s.nxt - s.una <= s.rwnd and s.lt <= s.nxt - s.una)
+        self.assertTrue(s.mss <= s.cwnd and s.mss <= s.ssthresh)
+        self.assertEqual(s.deadline is not None, s.una < s.nxt)
+        if not s.newreno:
+            self.assertEqual((s.recovery, s.recover, s.partial), (s.dups >= 3, None, False))
+            return
+        self.assertTrue(not s.recovery or s.dups >= 3)
+        self.assertTrue(s.recover is None or s.recover <= s.high)
+        self.assertTrue(s.nxt == s.high or s.recover == s.high)
+        self.assertTrue(not s.recovery or (s.una < s.recover and s.nxt == s.high))
+
+
+class ReceiverAlone(unittest.TestCase):
+    def test_delayed_acknowledgements(self):
+        r = Receiver(1000, 500000000)
+        self.assertEqual((r.on_data(0, 7), r.alarm), (None, 500000007))
+        self.assertEqual((r.on_data(2000, 8), r.alarm), (1000, None))
+        self.assertEqual((r.on_data(1000, 9), r.on_data(0, 10)), (3000, 3000))
+
+    def test_against_the_set_of_numbers_received(self):
+        """The rule said over the whole set of numbers received."""
+        pick = random.Random(2)
+        for _ in range(300):
+            delack = pick.choice((0, 50))
+            r, seen, waits = Receiver(10, delack), set(), False
+            for now in range(40):
+                seq = 10 * pick.randint(0, 15)
+                old = least_missing(seen)
+                wait = seq == old and not any(x > seq for x in seen) and delack > 0 and not waits
+                seen.add(seq)
+                self.assertEqual(r.on_data(seq, now), None if wait else least_missing(seen))
+                self.assertEqual(r.alarm, now + delack if wait else None)
+                self.assertEqual(r.held, {x for x in seen if x > least_missing(seen)})
+                waits = wait
+                if waits and pick.random() < 0.3:
+                    self.assertEqual(r.on_delack(), least_missing(seen))
+                    waits = False
+
+
+def least_missing(seen):
+    return next(x for x in range(0, 10**6, 10) if x not in seen)
+
+
+def packets(first, count):
+    return [(0, False, n, 1040) for n in range(first, first + count)]
+
+
+def numbers(taken):
+    dropped, given = taken
+    return [packet[2] for packet in dropped], None if given is None else given[2]
+
+
+class CodelAlone(unittest.TestCase):
+    def test_first_drop_state(self):
+        q = Codel(100, 5000000, 100000000, 1000)
+        for packet in packets(0, 3):
+            q.offer(packet, 0)
+        self.assertEqual(numbers(q.take(10000000)), ([], 0))
+        self.assertEqual(numbers(q.take(110000000)), ([1], 2))
+        self.assertEqual((q.dropping, q.count, q.drop_next), (True, 1, 210000000))
+        self.assertEqual((numbers(q.take(120000000)), q.dropping), (([], None), False))
+        q.offer(*packets(3, 1), 120000000)
+        self.assertEqual(numbers(q.take(900000000)), ([], 3))
+
+    def test_drop_states_one_after_another(self):
+        q = Codel(100, 5000000, 100000000, 1500)
+        for packet in packets(0, 12):
+            q.offer(packet, 0)
+        for now, dropped, given, count, drop_next, dropping in (
+                (10000000, [], 0, 0, 0, False),
+                (110000000, [1], 2, 1, 210000000, True),
+                (210000000, [3], 4, 2, 280710678, True),
+                (400000000, [5, 6, 7], 8, 5, 433167063, True),
+                (420000000, [], 9, 5, 433167063, True),
+                (425000000, [], 10, 5, 433167063, False),
+                (430000000, [], 11, 5, 433167063, False),
+                (530000000, [12], 13, 4, 580000000, True)):
+            self.assertEqual(numbers(q.take(now)), (dropped, given))
+            self.assertEqual((q.count, q.drop_next, q.dropping), (count, drop_next, dropping))
+            if now == 425000000:
+                for packet in packets(12, 6):
+                    q.offer(packet, now)
+
+    def test_against_the_take_said_over_the_whole_list(self):
+        pick, drops = random.Random(3), 0
+        for _ in range(400):
+            q = Codel(pick.choice((5, 30)), pick.choice((1, 40)), pick.choice((1, 10, 100)), pick.choice((1, 50)))
+            q.count = pick.choice((0, COUNT_STOPS - 2)) if pick.random() < 0.1 else 0
+            now = 0
+            for n in range(150):
+                now += pick.choice((0, 1, 3, 20, 300)) if pick.random() < 0.3 else 1
+                if pick.random() < 0.6:
+                    q.offer((0, pick.random() < 0.1, n, pick.choice((40, 41))), now)
+                else:
+                    wanted = taken_whole(q, now)
+                    dropped, given = q.take(now)
+                    drops += len(dropped)
+                    self.assertEqual(wanted, (list(dropped), given, list(q.entries), state(q)))
+                    self.assertEqual(q.bytes, sum(packet[3] for packet, _ in q.entries))
+        self.assertGreater(drops, 2000)
+
+
+State = namedtuple('State', 'first_above drop_next count lastcount dropping')
+
+
+def state(q):
+    return State(q.first_above, q.drop_next, q.count, q.lastcount, q.dropping)
+
+
+def judgements(q, now):
+    """Of each waiting packet in turn, and once past the list: first_above after it, and whether it
+    may be dropped."""
+    first, waiting = q.first_above, list(q.entries)
+    for j, (_, entry) in enumerate(waiting):
+        left = sum(packet[3] for packet, _ in waiting[j + 1:])
+        if now - entry < q.target or left <= q.maxpacket:
+            first = None
+            yield first, False
+        elif first is None:
+            first = now + q.interval
+            yield first, False
+        else:
+            yield first, now >= first
+    while True:
+        yield None, False
+
+
+def taken_whole(q, now):
+    """A take said at once: k is how many are dropped."""
+    s, judged, waiting = state(q), judgements(q, now), list(q.entries)
+    if s.dropping:
+        k, due, before = 0, s.drop_next, s.drop_next
+        first, ok = next(judged)
+        while ok and now >= due:
+            k += 1
+            before, due = due, due + gap(q.interval, min(s.count + k, COUNT_STOPS))
+            first, ok = next(judged)
+        after = State(first, due if ok else before, min(s.count + k, COUNT_STOPS), s.lastcount, ok)
+    else:
+        first, ok = next(judged)
+        k = int(ok)
+        after = s._replace(first_above=first)
+        if ok:
+            delta = s.count - s.lastcount
+            count = delta if delta > 1 and now - s.drop_next < 16 * q.interval else 1
+            after = State(next(judged)[0], now + gap(q.interval, count), count, count, True)
+    given = waiting[k][0] if k < len(waiting) else None
+    return [packet for packet, _ in waiting[:k]], given, waiting[k + 1:], after
+
+
+class Runs(Case):
+    def test_one_segment(self):
+        self.runs(ONE_SEGMENT, ONE_SEGMENT_TRACE)
+        self.runs(ONE_SEGMENT_IMAGE, ONE_SEGMENT_TRACE)
+
+    def test_a_larger_initial_window(self):
+        wider = ONE_SEGMENT_TRACE.replace('cwnd=4000', 'cwnd=10000').replace('cwnd=5000', 'cwnd=11000')
+        self.assertEqual(wider.count('cwnd=10000'), 2)
+        self.runs(with_variant('reno iw10'), wider)
+        self.runs(with_variant('newreno iw10'), wider)
+        self.runs(with_variant('newreno iw3'), ONE_SEGMENT_TRACE)
+
+    def test_groups_and_workers_change_nothing(self):
+        for groups in ('one', 'each', '1,0', '63,63'):
+            for workers in ('1', '2', '64'):
+                self.runs(ONE_SEGMENT, ONE_SEGMENT_TRACE, '--groups', groups, '--workers', workers)
+        for groups in ('0', '0,64', '0,01', '0,', '0,1,2', ''):
+            self.assertEqual(program(ONE_SEGMENT, 'run', '--groups=' + groups)[:2], (2, b''))
+
+    def test_the_end_is_not_in_the_run(self):
+        lines = ONE_SEGMENT_TRACE.splitlines(keepends=True)
+        self.runs(ONE_SEGMENT.replace('sim 1000000000', 'sim 2040000'), ''.join(lines[:2]) + 'end 2\n')
+
+    def test_a_timeout_before_the_acknowledgement(self):
+        self.runs(ONE_SEGMENT.replace('sim 1', 'sim 3').replace(' 1000000 ', ' 500000000 '), SLOW_TRACE)
+
+    def test_a_delayed_acknowledgement(self):
+        self.runs(ONE_SEGMENT.replace('1000 1 0 64000 0', '1000 2 0 64000 500000000'), DELAYED_TRACE)
+
+    def test_codel(self):
+        self.runs(CODEL, CODEL_TRACE)
+
+    def test_equal_times(self):
+        self.runs(EQUAL_TIMES, EQUAL_TIMES_TRACE)
+        self.runs(EQUAL_TIMES, EQUAL_TIMES_TRACE, '--groups=0,1,0,0,0')
+
+    def test_a_loss(self):
+        self.runs(ONE_SEGMENT.replace('sim 1000000000', 'sim 1000000001') + 'lose a 1\n',
+                  '1 0 0 0 0 start 0 una=0 nxt=1000 cwnd=4000 ssthresh=64000 phase=ss drop=lost:0:0\n'
+                  '2 1000000000 0 0 1 rto 0 una=0 nxt=1000 cwnd=1000 ssthresh=2000 phase=ss tx=0:0:0\nend 2\n')
+
+    def test_a_full_queue(self):
+        self.runs(ONE_SEGMENT.replace('sim 1000000000', 'sim 1').replace('1000 1 0', '1000 4 0')
+                  .replace('link a s r 8000000 1000000 droptail 10', 'link a s r 8000000 1000000 droptail 1'),
+                  '1 0 0 0 0 start 0 una=0 nxt=4000 cwnd=4000 ssthresh=64000 phase=ss'
+                  ' tx=0:0:0 drop=full:0:2000 drop=full:0:3000\nend 1\n')
+
+    def test_stored_traces(self):
+        """The networks in data/, and those in examples/ that have a trace beside them."""
+        for folder in ('python/tests/data', 'examples'):
+            for name in sorted(os.listdir(os.path.join(TOP, folder))):
+                stem = os.path.join(TOP, folder, name.removesuffix('.txt'))
+                if name.endswith('.txt') and os.path.exists(stem + '.trace'):
+                    with open(stem + '.txt') as text, open(stem + '.trace') as wanted:
+                        self.runs(text.read(), wanted.read())
+
+
+FLOW_FIGURES = ('start,ns', 'delivered,bytes', 'completed,ns', 'sent,segments', 'sent again by fast retransmit,segments',
+                'sent again by timeout,segments', 'timeouts,times', 'round trips,times', 'least round trip,ns',
+                'median round trip,ns', '99th percentile of round trips,ns', 'greatest round trip,ns')
+LINK_FIGURES = ('offered,packets', 'dropped as lost,packets', 'dropped as full,packets', 'dropped by CoDel,packets',
+                'sent,packets', 'sent,bytes', 'busy,ns', 'greatest queue,packets', 'waited,packet-ns',
+                'median delay in the queue,ns', '99th percentile of delay in the queue,ns',
+                'greatest delay in the queue,ns')
+
+
+def table(flow, links, events, end):
+    """The figures of a run with one flow, from their values."""
+    lines = ['what,number,figure,unit,value']
+    lines += [f'flow,0,{figure},{value}' for figure, value in zip(FLOW_FIGURES, flow.split(), strict=True)]
+    for number, link in enumerate(links):
+        lines += [f'link,{number},{figure},{value}' for figure, value in zip(LINK_FIGURES, link.split(), strict=True)]
+    return ''.join(line + '\n' for line in lines + [f'run,,events,events,{events}', f'run,,end,ns,{end}'])
+
+
+class Figures(Case):
+    def has(self, text, *figures_of):
+        self.assertEqual(program(text, 'figures'), (0, table(*figures_of).encode(), ''))
+
+    def test_one_segment(self):
+        """Its acknowledgement comes at 3.08 ms; 1,040 and 40 bytes are sent, each at once."""
+        for given in (ONE_SEGMENT, ONE_SEGMENT_IMAGE, with_variant('newreno iw10')):
+            self.has(given, '0 1000 3080000 1 0 0 0 1 3080000 3080000 3080000 3080000',
+                     ('1 0 0 0 1 1040 1040000 0 0 0 0 0', '1 0 0 0 1 40 40000 0 0 0 0 0'), 5, 3080000)
+
+    def test_a_flow_that_starts_at_the_last_moment(self):
+        """The packet's sending is cut after 1 ns."""
+        self.has(ONE_SEGMENT.replace(' 0 64000 0', ' 999999999 64000 0'), '999999999 0 - 1 0 0 0 0 - - - -',
+                 ('1 0 0 0 1 1040 1 0 0 0 0 0', '0 0 0 0 0 0 0 0 0 - - -'), 1, 999999999)
+
+    def test_two_segments_lost_with_a_timeout(self):
+        """Both are lost at 0. At 1 s the timer sends 0 again, which ends the timing. It arrives at 1.00204 s, its
+        acknowledgement at 1.00308; then 1000 is sent again, and acknowledged at 1.00616. Events: the start, the
+        timer, and twice a free, data, b free, ack."""
+        self.has(ONE_SEGMENT.replace('sim 1', 'sim 2').replace('1000 1 0', '1000 2 0') + 'lose a 1\nlose a 2\n',
+                 '0 2000 1006160000 4 0 2 1 0 - - - -',
+                 ('4 2 0 0 2 2080 2080000 0 0 0 0 0', '2 0 0 0 2 80 80000 0 0 0 0 0'), 10, 1006160000)
+
+    def test_codel_that_drops(self):
+        """CODEL_TRACE: three segments wait until 1.04 ms and two until 2.08 ms, when 2000 is dropped and 3000 begins,
+        1 ns before the end. The delays are 0, 1,040,000 and 2,080,000: the class of the second ends with
+        64 * 2^14 - 1, that of the third is past the greatest."""
+        self.has(CODEL, '0 1000 - 4 0 0 0 0 - - - -',
+                 ('4 0 0 1 3 3120 2080001 3 5200000 1048575 2080000 2080000', '1 0 0 0 1 40 40000 0 0 0 0 0'), 5, 2080000)
+
+    def test_a_fast_retransmit_behind_a_full_queue(self):
+        """python/tests/test_flows.py has its trace. 3000 and 7000 find two waiting, and 3000 is sent again at the third
+        duplicate, 8.28 ms, while 4000, sent at 3.08 ms, is timed. Until then one round trip was measured.
+        The queue is 2 to 1.04 ms, 1 to 2.08, 2 from 3.08 to 3.12, 1 to 4.12, 2 to 4.16, 1 to 5.2. The delays are
+        0, 1.04, 2.08, .04, 1.08, 1.08 and 0 ms; the 4th of 7 is 1,040,000."""
+        self.has(ONE_SEGMENT.replace('sim 1000000000', 'sim 12000000').replace('1000 1 0', '1000 8 0')
+                 .replace('droptail 10', 'droptail 2', 1),
+                 '0 7000 - 9 1 0 0 1 3080000 3080000 3080000 3080000',
+                 ('9 0 2 0 7 7280 7280000 2 5320000 1048575 2080000 2080000', '7 0 0 0 7 280 280000 0 0 0 0 0'),
+                 29, 11360000)
+
+    def test_refusals(self):
+        self.refuses(LOOP, 'refused L8 line 0', 'figures')
+        self.refuses('sim 01', 'refused E4 line 1', 'figures')
+        self.refuses(ONE_SEGMENT_IMAGE + b'\0', 'refused L4', 'figures')
+        self.refuses(b'\n' * 16777217, 'refused I1', 'figures')
+        for word in ('--groups', '--workers', '--progress', 'x'):
+            self.assertEqual(program(ONE_SEGMENT, 'figures', word, '1')[:2], (2, b''))
+
+    def test_classes(self):
+        """Each number lies in one class, at most 1/32 below its top; the classes follow one another."""
+        before = -1
+        for number in range(3000):
+            top = figures.top(number)
+            self.assertEqual((figures.class_of(before + 1), figures.class_of(top)), (number, number))
+            self.assertTrue(32 * top <= 33 * (before + 1) or top == before + 1)
+            before = top
+
+    def test_percentiles_are_at_most_a_part_of_32_above(self):
+        pick = random.Random(6)
+        for _ in range(500):
+            values = [pick.randrange(10**pick.randint(0, 15)) for _ in range(pick.randint(1, 60))]
+            for percent in (1, 50, 99, 100):
+                exact, answer = figures.nearest_rank(values, percent), figures.percentile(values, percent)
+                self.assertTrue(exact <= answer <= max(values) and 32 * answer <= 33 * exact)
+                self.assertGreaterEqual(100 * sum(value <= exact for value in values), percent * len(values))
+                self.assertLess(100 * sum(value < exact for value in values), percent * len(values))
+        self.assertEqual((figures.nearest_rank([], 50), figures.percentile([], 50)), (None, None))
+
+
+class Texts(Case):
+    def test_ways(self):
+        self.refuses(LOOP, 'refused L8 line 0')
+        self.refuses(LOOP[:LOOP.rindex('route')], 'refused L7 line 0')
+
+    def test_refused(self):
+        for text, note in (
+                ('', 'E10 line 0'), ('sim 01', 'E4 line 1'), ('sim 0', 'E5 line 1'), ('sim 5', 'L3 line 0'),
+                ('node s sender\nnode s router\n', 'E6 line 2'),
+                ('sim 5\nnode a sender\nlink x a a 1000 1 droptail 1\n', 'E8 line 3'),
+                (ONE_SEGMENT.replace('1 0 64000', '1 1000000000 64000'), 'L3 line 0'),
+                (ONE_SEGMENT + 'node x router\n', 'L5 line 0'),
+                (EQUAL_TIMES + 'route q s h\n', 'E6 line 21'),
+                (EQUAL_TIMES + 'route q q h\n', 'E8 line 21'),
+                (EQUAL_TIMES + 'route q s a\n', 'E6 line 21'),
+                (EQUAL_TIMES.replace('route q s h', 'route q s a'), 'E8 line 19'),
+                ('link a b c d e codel 1 2 3', 'E3 line 1'), ('link a b c d e fast 1', 'E7 line 1'),
+                ('link a b c d e fast 1 2', 'E3 line 1'), ('simm\t', 'E1 line 1'), ('simm 5', 'E2 line 1'),
+                (ONE_SEGMENT + ''.join(f'lose a {n}\n' for n in range(1, 66)), 'E9 line 71'),
+                (with_variant('reno'), 'E3 line 6'), (with_variant('iw3'), 'E3 line 6'),
+                (with_variant('reno iw3 1'), 'E3 line 6'), (with_variant('reno iw5'), 'E4 line 6'),
+                (with_variant('iw3 reno'), 'E4 line 6'), (with_variant('Reno iw3'), 'E4 line 6'),
+                (with_variant('reno iw5').replace(' 64000 0 ', ' 64000 500000001 '), 'E5 line 6'),
+                ('node s sender\n' * 2 + 'sim\n', 'E6 line 2')):
+            self.refuses(text, 'refused ' + note)
+
+    def test_input_of_the_most_bytes(self):
+        self.refuses(b'\n' * 16777216, 'refused E10 line 0')
+        self.refuses(b'\n' * 16777217, 'refused I1')
+
+    def test_disassembled(self):
+        text = ONE_SEGMENT.replace('node s', 'node n0').replace('node r', 'node n1')
+        text = text.replace('link a s r', 'link l0 n0 n1').replace('link b r s', 'link l1 n1 n0')
+        text = text.replace('flow f s r', 'flow f0 n0 n1').replace(' 64000 0\n', ' 64000 0 reno iw3\n')
+        for given in (ONE_SEGMENT, ONE_SEGMENT_IMAGE, OLD_IMAGE, with_variant('reno iw3')):
+            self.assertEqual(program(given, 'dis'), (0, text.encode(), ''))
+        for variant in VARIANTS:
+            self.assertEqual(program(with_variant(variant), 'dis')[1], text.replace('reno iw3', variant).encode())
+        for text in (ONE_SEGMENT, EQUAL_TIMES, CODEL + 'lose b 3\nlose a 1\nlose b 7\n', *map(with_variant, VARIANTS)):
+            scenario = assemble(text.encode())
+            self.assertEqual(assemble(disassemble(scenario)), scenario)
+
+
+class Images(Case):
+    def with_bytes(self, at, new):
+        data = bytearray(ONE_SEGMENT_IMAGE)
+        new = bytes.fromhex(new)
+        data[at:at + len(new)] = new
+        return bytes(data)
+
+    def test_one_segment(self):
+        self.assertEqual(program(ONE_SEGMENT, 'asm'), (0, ONE_SEGMENT_IMAGE, ''))
+        self.assertEqual((len(OLD_IMAGE), len(ONE_SEGMENT_IMAGE)), (134, 135))
+
+    def test_there_and_back(self):
+        for text in (ONE_SEGMENT, EQUAL_TIMES, CODEL + 'lose b 3\nlose a 1\nlose b 7\n', *map(with_variant, VARIANTS)):
+            scenario = assemble(text.encode())
+            self.assertEqual(image.load(image.save(scenario)), scenario)
+            if 'newreno' not in text and 'iw10' not in text:
+                self.assertEqual(image.load(image.save(scenario, 1)), scenario)
+
+    def test_variants(self):
+        for bits, variant in enumerate(VARIANTS):
+            data = ONE_SEGMENT_IMAGE[:-1] + bytes((bits,))
+            self.assertEqual(program(with_variant(variant), 'asm'), (0, data, ''))
+            self.assertTrue(program(data, 'dis')[1].endswith(f' {variant}\n'.encode()))
+        for bits in (4, 5, 128, 255):
+            self.refuses(ONE_SEGMENT_IMAGE[:-1] + bytes((bits,)), 'refused L3')
+            self.refuses(ONE_SEGMENT_IMAGE[:-1] + bytes((bits, 0)), 'refused L3')
+
+    def test_versions(self):
+        """By which layout the bytes are judged."""
+        self.assertEqual(program(OLD_IMAGE, 'asm'), (0, ONE_SEGMENT_IMAGE, ''))
+        for fourth, rest, note in ((b'2', b'', 'L1'), (b'3', b'', 'L2'), (b'3', b'\0', 'L2'), (b'X', b'', 'L2'),
+                                   (b'1', b'\0', 'L4'), (b'2', b'\0\0', 'L4')):
+            self.refuses(OLD_IMAGE[:3] + fourth + OLD_IMAGE[4:] + rest, 'refused ' + note)
+
+    def test_cut_and_stretched(self):
+        for data in (OLD_IMAGE, ONE_SEGMENT_IMAGE):
+            for size in range(len(data)):
+                cut = data[:size]
+                self.refuses(cut, 'refused ' + ('E10 line 0' if size == 0 else 'E2 line 1' if size < 3 else 'L1'))
+                with self.assertRaisesRegex(Refused, 'L1'):
+                    image.load(cut)
+            self.refuses(data + b'\0', 'refused L4')
+
+    def test_changed_fields(self):
+        first, second, flow = 24, 66, 108
+        for at, new, note in (
+                (3, '58', 'L2'), (12, '0001', 'L3'), (18, '00000001', 'L1'), (22, '03', 'L3'),
+                (first + 20, '02', 'L3'), (first + 23, '0000000000000001', 'L3'), (first + 21, '0000', 'L3'),
+                (first + 12, '00000002540be401', 'L3'), (first + 12, '0000000000000000', 'L3'),
+                (flow + 18, '000003e7', 'L3'), (flow + 4, '2329', 'L3'), (flow + 6, '00000000', 'L3'),
+                (flow + 10, '000000003b9aca00', 'L3'), (4, '00038d7ea4c68001', 'L3'),
+                (flow, '0001 0000', 'L6'), (flow, '0001 0001', 'L5'), (first, '0000 0000', 'L6'),
+                (second, '0000 0001', 'L5'), (22, '02', 'L6')):
+            self.refuses(self.with_bytes(at, new), 'refused ' + note)
+        for at, new in ((first + 12, '00000002540be400'), (4, '00038d7ea4c68000')):
+            self.assertEqual(program(self.with_bytes(at, new), 'run')[0], 0)
+
+
+class Sessions(Case):
+    def session(self, text, *commands):
+        status, out, note = program(text + '---\n' + '\n'.join(commands), 'debug')
+        self.assertEqual((status, note), (0, ''))
+        return out
+
+    def test_steps_both_ways(self):
+        out = self.session(ONE_SEGMENT, 'step 3', 'back 2', 'back 9', 'run')
+        self.assertEqual(positions(out), [3, 1, 0, 5])
+        self.assertTrue(out.decode().startswith('''at 3
+node 0 sender 0 una=0 nxt=1000 high=1000 cwnd=4000 ssthresh=64000 dups=0 lt=0 fr=0 timing=1000@0 srtt=- rttvar=0 rto=1000000000 resent=0
+node 1 receiver 0 next=1000 held=-
+link 0 offered=1 sent=1 queue=-
+link 1 offered=1 sent=1 queue=-
+event 2080000 1 0 3 free 1
+event 3080000 0 2 1 ack 0 1000
+event 1000000000 0 0 1 rto 0
+at 1
+'''))
+        last = out.decode().split('at 5\n')[1]
+        self.assertTrue(last.startswith(
+            'node 0 sender 0 una=1000 nxt=1000 high=1000 cwnd=5000 ssthresh=64000 dups=0 lt=0 fr=0 timing=-'
+            ' srtt=3080000 rttvar=1540000 rto=1000000000 resent=0\n'))
+        self.assertNotIn('event', last)
+
+    def test_codel_dump(self):
+        self.assertEqual(self.session(CODEL, 'step 1').decode(), CODEL_DUMP)
+
+    def test_breakpoints(self):
+        out = self.session(ONE_SEGMENT, 'break kind data', 'run', 'run', 'back 1', 'until 2040000', 'bak 1')
+        self.assertTrue(out.startswith(b'break 1\nat 3\n') and out.endswith(b'refused B1\n'))
+        self.assertEqual(positions(out), [3, 5, 4, 4])
+        out = self.session(EQUAL_TIMES, 'break flow 1', 'run', 'run', 'run', 'back 1', 'until 2040000')
+        self.assertEqual(positions(out), [2, 6, 6, 5, 5])
+
+    def test_refused_commands(self):
+        for command, code in (
+                ('steps 1', 'B1'), ('break', 'B2'), ('break bus 1', 'B1'), ('break bus', 'B1'), ('break node', 'B2'),
+                ('break drop 1', 'B2'), ('step', 'B2'), ('step 1 2', 'B2'), ('state 1', 'B2'), ('step 01', 'B3'),
+                ('step 1000000000000001', 'B3'), ('break node 2', 'B3'), ('break flow 1', 'B3'),
+                ('break kind tx', 'B3'), ('back -1', 'B3'), ('step\t1', 'B1'), ('# step 1', 'B1')):
+            self.assertEqual(self.session(ONE_SEGMENT, command).decode(), f'refused {code}\n', command)
+        self.assertEqual(self.session(ONE_SEGMENT, '', '   ', 'break drop', ' break  node 1 ', 'break drop', 'clear',
+                                      'break drop').decode(), 'break 1\nbreak 2\nbreak 2\nclear\nbreak 1\n')
+
+    def test_too_many_breakpoints(self):
+        nodes = ''.join(f'node x{n} router\n' for n in range(64))
+        links = ''.join(f'link y{n} x{n} r 1000 1 droptail 1\n' for n in range(64))
+        out = self.session(ONE_SEGMENT + nodes + links, *(f'break node {n}' for n in range(65)), 'break node 63')
+        self.assertEqual(out.decode().splitlines()[-3:], ['break 64', 'refused B4', 'break 64'])
+
+    def test_no_commands(self):
+        self.assertEqual(program(ONE_SEGMENT, 'debug'), (0, b'', ''))
+        self.assertEqual(program(ONE_SEGMENT + '---', 'debug'), (0, b'', ''))
+        self.assertEqual(program('---\nstate\n', 'debug'), (1, b'', 'refused E10 line 0'))
+        self.assertEqual(program(ONE_SEGMENT_IMAGE, 'debug')[0], 1)
+
+
+# What `refused B1` means.
+NO_NAME = 'B1: no command has this name, or no sort of breakpoint'
+
+
+class Prompts(Case):
+    def typed(self, text, *lines, steps=prompt.STEPS):
+        """What is written and what is noted, without the prompts."""
+        out, notes, keys = [], [], io.BytesIO(''.join(line + '\n' for line in lines).encode())
+        status, note = command_line.main(('debug', 'FILE', '--steps', str(steps)), keys, out.append, notes.append,
+                                         lambda _: text.encode())
+        self.assertEqual((status, note), (0, ''))
+        return b''.join(out).decode(), b''.join(notes).decode().replace(prompt.PROMPT, '').split()
+
+    def refuses(self, code, *lines):
+        for line in lines:
+            out, notes = self.typed(ONE_SEGMENT, line)
+            self.assertEqual((out, notes[:2]), ('', ['refused', code]), line)
+
+    def where(self, *lines):
+        """The positions that the dumps are of."""
+        return positions(self.typed(ONE_SEGMENT, *lines, steps=1)[0].encode())
+
+    def test_names_cut_short(self):
+        self.assertEqual(self.where('s', 'st', 'ste', 'b', 'ba', 'sta', 'r', 'u 0', 'state', 'back 9'),
+                         [1, 2, 3, 2, 1, 1, 5, 5, 5, 0])
+        self.assertEqual(self.typed(ONE_SEGMENT, 'br drop', 'brea drop', 'c', 'break node 1', steps=1)[0],
+                         'break 1\nbreak 1\nclear\nbreak 1\n')
+        self.refuses('B1', 'x', 'steps', 'stepp 1', 'S', 'y', 'break no 1', 'br k rto', 'ste\tp', '#')
+
+    def test_the_nearest_name(self):
+        for line, word, name in (('stpe', 'stpe', 'step'), ('bak 1', 'bak', 'back'), ('sate', 'sate', 'state'), ('  exit', 'exit', 'quit'),
+                                 ('x', 'x', 'run'), ('bt', 'bt', 'step'), ('ste\tp', 'ste?p', 'step'), ('x' * 32, 'x' * 32, 'step')):
+            told = f'refused B1 {NO_NAME} tcpsim: no command {word}; the nearest is {name}'.split()
+            self.assertEqual(self.typed(ONE_SEGMENT, line), ('', told), line)
+        for line in ('x' * 33, 'break no 1', 'help stpe', 'state x'):
+            self.assertEqual(self.typed(ONE_SEGMENT, line), ('', f'refused B1 {NO_NAME}'.split()), line)
+        self.assertEqual(self.typed(ONE_SEGMENT, 'wy 0', steps=4)[1][-1], 'run')
+        self.assertEqual(self.typed(ONE_SEGMENT, 'stpe', steps=0), ('', ['refused', 'B1']))
+
+    def test_the_numbers_that_there_are(self):
+        told = 'tcpsim: there are nodes 0 to 1, links 0 to 1, flows 0 to 0: see help numbers'.split()
+        for line in ('why f', 'w 1', 'break flow 1', 'br kind acks', 'state link 2', 'sta node n'):
+            self.assertEqual(self.typed(ONE_SEGMENT, line)[1][-len(told):], told, line)
+        for line in ('step x', 'until 1.5', 'lines 1001', 'delete 01', 'why', 'break n 0'):
+            self.assertNotIn('tcpsim:', self.typed(ONE_SEGMENT, line)[1], line)
+
+    def test_words(self):
+        self.refuses('B2', 'step 1 2', 'back 1 1', 'run 1', 'until', 'until 1 s', 'clear 1', 'break', 'br drop link',
+                     'quit now', 'q 1', 'x' * 65_537, ' ' * 65_537)
+        self.refuses('B3', 'step 01', 'back -1', 'step 1000000000000001', 'break node 2', 'br kind tx')
+        self.assertEqual(self.where('step 1000000000000000'), [5])
+
+    def test_times(self):
+        for time, position in (('2040000', 2), ('2040001', 3), ('2040us', 2), ('2.04ms', 2), ('0.00204s', 2), ('2.040001ms', 3),
+                               ('2040.001us', 3), ('2040001ns', 3), ('0s', 0), ('0.000000001s', 1), ('1000000s', 5),
+                               ('1000000000000us', 5), ('1000000000000000', 5)):
+            self.assertEqual(self.where(f'until {time}'), [position], time)
+        self.refuses('B3', 'u 1.5', 'u 1.5ns', 'u 1.0ns', 'u 1.0000us', 'u 1.s', 'u .5s', 'u s', 'u 01s', 'u 00', 'u 1S', 'u 1e3',
+                     'u 1000000.000000001s', 'u 1000000000000001', 'u ' + '9' * 5000 + 's')
+
+    def test_an_empty_line(self):
+        self.assertEqual(self.where('', 's', '', 'step 2', ' ', 'b', 'state', 'x', 'run 1', 'clear', '', '', 'u 1', '', 'r', ''),
+                         [1, 2, 4, 5, 4, 4, 3, 2, 2, 2, 5, 5])
+        self.assertEqual(self.where('state', 'br drop', '', 'back 01', ''), [0])
+
+    def test_the_end(self):
+        for line in ('quit', 'q', ' qu ', 'qui'):
+            self.assertEqual(self.where('s', line, 's'), [1])
+        self.assertEqual(self.typed(ONE_SEGMENT), ('', []))
+
+    def test_breakpoints_by_number(self):
+        self.assertEqual(self.typed(ONE_SEGMENT, 'breaks', 'br node 1', 'break flow 0', 'break kind ack', 'break drop', 'br flow 0',
+                                    'd 2', 'breaks', 'd 3', 'del 1', 'breaks', 'br node 1', 'clear', 'breaks')[0],
+                         'no breakpoint\nbreak 1: node 1\nbreak 2: flow 0\nbreak 3: kind ack\nbreak 4: drop\nbreak 2: flow 0\n'
+                         'deleted 2: flow 0\nbreak 1: node 1\nbreak 2: kind ack\nbreak 3: drop\ndeleted 3: drop\n'
+                         'deleted 1: node 1\nbreak 1: kind ack\nbreak 2: node 1\nclear\nno breakpoint\n')
+        self.refuses('B2', 'breaks 1', 'd', 'd 1 1', 'help s t')
+        self.refuses('B3', 'd 01', 'd -1', 'd node')
+        self.refuses('B5', 'd 0', 'd 1', 'd 18446744073709551616', 'd ' + '9' * 5000)
+        self.refuses('B1', 'help x', 'help stepp', 'help x y')
+
+    def test_moves_answer_the_lines_that_they_passed(self):
+        lines = ONE_SEGMENT_TRACE.splitlines(keepends=True)
+        given = ()
+        for line, answer in (
+                ('s', lines[0] + 'at 1 of the run, time 0 ns\n'),
+                ('s 2', ''.join(lines[1:3]) + 'at 3 of the run, time 2040000 ns\n'),
+                ('s 0', 'at 3 of the run, time 2040000 ns\n'),
+                ('b 2', lines[2] + lines[1] + 'at 1 of the run, time 0 ns\n'),
+                ('b', lines[0] + 'at 0 of the run, time 0 ns, the beginning\n'), ('', 'at 0 of the run, time 0 ns, the beginning\n'), ('l', ''),
+                ('u 2.04ms', ''.join(lines[:2]) + 'at 2 of the run, time 1040000 ns\n'),
+                ('br node 1', 'break 1: node 1\n'), ('br kind free', 'break 2: kind free\n'),
+                ('r', lines[2] + 'at 3 of the run, time 2040000 ns\nbreak 1: node 1\n'),
+                ('s', lines[3] + 'at 4 of the run, time 2080000 ns\nbreak 1: node 1\n'),
+                ('s 0', 'at 4 of the run, time 2080000 ns\n'), ('d 1', 'deleted 1: node 1\n'),
+                ('b', lines[3] + 'at 3 of the run, time 2040000 ns\n'),
+                ('u 1s', ''.join(lines[3:5]) + 'at 5 of the run, time 3080000 ns, the end\n'),
+                ('r', 'at 5 of the run, time 3080000 ns, the end\n'), ('l 2', ''.join(lines[3:5])), ('l', ''.join(lines[:5])),
+                ('l 0', ''), ('b 2', lines[4] + lines[3] + 'at 3 of the run, time 2040000 ns\n'),
+                ('s', lines[3] + 'at 4 of the run, time 2080000 ns\nbreak 1: kind free\n')):
+            before, given = self.typed(ONE_SEGMENT, *given)[0], (*given, line)
+            self.assertEqual(self.typed(ONE_SEGMENT, *given)[0], before + answer, line)
+        self.refuses('B2', 'lines 1 1')
+        self.refuses('B3', 'l 1001', 'lines -1')
+
+    def test_at_most_ten_lines_are_shown(self):
+        with open(os.path.join(TOP, 'examples', 'two_timeouts_in_a_row.txt'), encoding='ascii') as file:
+            text = file.read()
+        lines = list(simulate.trace(assemble(text.encode())))
+        for count, more in ((10, ''), (11, '.. 1 more\n'), (25, '.. 15 more\n')):
+            forwards, back = self.typed(text, f's {count}')[0], self.typed(text, f's {count}', f'b {count}')[0]
+            self.assertTrue(forwards.startswith(''.join(lines[:10]) + more + f'at {count} of the run'))
+            self.assertEqual(back, forwards + ''.join(lines[:count][::-1][:10]) + more + 'at 0 of the run, time 0 ns, the beginning\n')
+        self.assertEqual(self.typed(text, 's 20', 'l 4')[0].splitlines(True)[-4:], lines[16:20])
+        self.assertEqual(self.typed(text, 's 20', 'l')[0].splitlines(True)[-10:], lines[10:20])
+
+    def test_parts_of_a_state(self):
+        dump = self.typed(CODEL, 's', 'state')[0].splitlines(True)[2:]
+        self.assertEqual(''.join(dump), CODEL_DUMP)
+        for line, part in (('state node 0', dump[1:2]), ('sta node 1', dump[2:3]), ('state link 0', dump[3:4]), ('state link 1', dump[4:5]),
+                           ('state flow 0', [line for line in dump[1:] if 'free' not in line and 'link 1' not in line])):
+            self.assertEqual(self.typed(CODEL, 's', line)[0].splitlines(True)[2:], part)
+        for flow in ('0', '1'):
+            dump, part = (self.typed(EQUAL_TIMES, 's 3', line)[0].splitlines()[4:] for line in ('state', f'state flow {flow}'))
+            self.assertEqual([line for line in part if line.startswith('event')],
+                             [line for line in dump if line.startswith('event') and ' free ' not in line and line.split()[6] == flow])
+            self.assertEqual([line for line in part if line.startswith('node')],
+                             [line for line in dump if line.startswith('node') and line.split()[3:4] == [flow]])
+        self.refuses('B1', 'state 1', 'state kind rto', 'state no 0', 'state x y z')
+        self.refuses('B2', 'state node', 'state link 0 0')
+        self.refuses('B3', 'state node 2', 'state link 2', 'state flow 1', 'state flow 00', 'state node s')
+
+    def test_reverse(self):
+        lines = ONE_SEGMENT_TRACE.splitlines(keepends=True)
+        start, given = 'at 0 of the run, time 0 ns, the beginning\n', ()
+        for line, answer in (
+                ('re', start), ('u 1s', ''.join(lines[:5]) + 'at 5 of the run, time 3080000 ns, the end\n'),
+                ('reverse', ''.join(lines[4::-1]) + start), ('br kind free', 'break 1: kind free\n'), ('br node 1', 'break 2: node 1\n'),
+                ('u 1s', ''.join(lines[:5]) + 'at 5 of the run, time 3080000 ns, the end\n'),
+                ('rev', lines[4] + 'at 4 of the run, time 2080000 ns\nbreak 1: kind free\n'),
+                ('', lines[3] + 'at 3 of the run, time 2040000 ns\nbreak 2: node 1\n'),
+                ('', lines[2] + 'at 2 of the run, time 1040000 ns\nbreak 1: kind free\n'),
+                ('', lines[1] + lines[0] + start), ('', start), ('c', 'clear\n')):
+            before, given = self.typed(ONE_SEGMENT, *given)[0], (*given, line)
+            self.assertEqual(self.typed(ONE_SEGMENT, *given)[0], before + answer, line)
+        self.refuses('B2', 'reverse 1', 're drop')
+
+    def example(self, name, *lines):
+        with open(os.path.join(TOP, 'examples', name), encoding='ascii') as file:
+            return self.typed(file.read(), *lines)[0].splitlines()
+
+    def test_breakpoints_of_several_conditions(self):
+        answers = self.typed(ONE_SEGMENT, 'br kind free node 1', 'break node 1 kind free', 'br drop link 1 byte 7 flow 0', 'r')[0]
+        self.assertEqual(answers.splitlines()[:3], ['break 1: node 1 kind free', 'break 1: node 1 kind free',
+                                                    'break 2: flow 0 drop link 1 byte 7'])
+        # One condition alone is met before: node 0 by events 1 and 2, a free link by event 2.
+        self.assertEqual(answers.splitlines()[-2:], ['at 4 of the run, time 2080000 ns', 'break 1: node 1 kind free'])
+        # A link is met where a packet is sent over it or is dropped there; a byte is the first of a segment or of what is awaited.
+        for words, positions in (('link 0', (1, 5)), ('link 1', (3, 5)), ('byte 0', (3, 5)), ('byte 1000', (5, 5)), ('byte 1', (5, 5))):
+            found = self.typed(ONE_SEGMENT, f'break {words}', 'r', 'r')[0].splitlines()
+            self.assertEqual([int(line.split()[1]) for line in found if line.startswith('at ')], [*positions], words)
+        found = self.example('two_timeouts_in_a_row.txt', 'break link 0 drop kind rto', 'r')
+        self.assertEqual(found[-2:], ['at 26 of the run, time 1006200000 ns', 'break 1: kind rto drop link 0'])
+        self.refuses('B1', 'break drop 1', 'break node 0 no 1', 'break node 0 stall')
+        self.refuses('B2', 'break', 'break node', 'break node 0 flow', 'break drop drop', 'break node 0 node 1')
+        self.refuses('B3', 'break link 2', 'break drop node 2', 'break byte 9000000000001')
+
+    def test_stalls(self):
+        # All segments from 4000 on were lost but those that brought two duplicates, and the next is lost again: it is one stall.
+        for words in ('stall', 'stall 0'):
+            found = self.example('two_timeouts_in_a_row.txt', f'break {words}', 'r', 'r', 're')
+            places = [line for line in found if line.startswith(('at ', 'break '))]
+            self.assertEqual(places, [f'break 1: {words}', 'at 25 of the run, time 9280000 ns', f'break 1: {words}',
+                                      'at 51 of the run, time 3017520000 ns, the end', 'at 25 of the run, time 9280000 ns',
+                                      f'break 1: {words}'])
+        self.refuses('B2', 'break stall 0 0')
+        self.refuses('B3', 'break stall 1', 'break stall drop')
+
+    def test_why(self):
+        for count, lines in (
+                (0, ['flow 0 is not started: it starts at 0 ns', 'alarms: start at 0 ns']),
+                (1, ['flow 0 has sent all 1000 bytes: 0 are acknowledged', 'under way: data 0 to node 1 at 2040000 ns',
+                     'alarms: rto at 1000000000 ns']),
+                (3, ['flow 0 has sent all 1000 bytes: 0 are acknowledged', 'under way: ack 1000 to node 0 at 3080000 ns',
+                     'alarms: rto at 1000000000 ns']),
+                (5, ['flow 0 is complete: all 1000 bytes are acknowledged'])):
+            self.assertEqual(self.typed(ONE_SEGMENT, f's {count}', 'why 0')[0].splitlines()[-len(lines):], lines, count)
+        for count, lines in (
+                (25, ['flow 0 is stalled: 2 duplicate acknowledgements, and its retransmission timer is due at 1006200000 ns',
+                      'alarms: rto at 1006200000 ns']),
+                (31, ['flow 0 sends no more: 2000 bytes in flight, a segment of 1000, cwnd 2000',
+                      'waits: data 6000 at place 1 of link 0', 'under way: data 5000 to node 1 at 3011320000 ns',
+                      'alarms: rto at 7009280000 ns'])):
+            self.assertEqual(self.example('two_timeouts_in_a_row.txt', f's {count}', 'w 0')[-len(lines):], lines, count)
+        small = ONE_SEGMENT.replace(' 1000 1 0 64000 0', ' 1000 3 0 1999 0')
+        self.assertNotEqual(small, ONE_SEGMENT)
+        self.assertEqual(self.typed(small, 's', 'why 0')[0].splitlines()[2],
+                         'flow 0 sends no more: 1000 bytes in flight, a segment of 1000, rwnd 1999')
+        # Both alarms are due at one moment: the receiver's, whose node has the lower number, comes first.
+        tied = (ONE_SEGMENT.replace('sim 1000000000', 'sim 2000000000').replace('node s sender\nnode r receiver', 'node r receiver\nnode s sender')
+                .replace('8000000 1000000 droptail 10\nlink b', '8000000 798960000 droptail 10\nlink b').replace(' 64000 0', ' 64000 200000000'))
+        self.assertEqual(self.typed(tied, 's 3', 'why 0')[0].splitlines()[-2:], [
+            'flow 0 is stalled: 0 duplicate acknowledgements, and its delayed acknowledgement is due at 1000000000 ns',
+            'alarms: delack at 1000000000 ns, rto at 1000000000 ns'])
+        self.refuses('B2', 'why', 'why 0 0')
+        self.refuses('B3', 'why 1', 'why f')
+
+    def test_help(self):
+        out, notes = self.typed(ONE_SEGMENT, 'help', steps=2)
+        self.assertEqual((out.splitlines(), notes), ([
+            'step [K]     run the next K events (1)',
+            'back [K]     take the last K events back (1)',
+            'run          run until a breakpoint matches, or to the end',
+            'until T      run all events before the moment T, as 1.5s, 20ms or 10000ns',
+            'state [PART] show all of the state, or of it: node N, link L or flow F',
+            'break COND.. stop where all match: node N, flow F, kind K, drop, link L, byte B; or stall [F]',
+            'breaks       list the breakpoints',
+            'delete I     take breakpoint I away',
+            'clear        take all breakpoints away',
+            'help [NAME]  show this, or more of NAME: a command, numbers, trace, kinds or stall',
+            'quit         end the session',
+            '(nodes N, links L and flows F are numbers from 0, in the order of the text: help numbers)',
+            '(an empty line does the last move again)'], []))
+        for word in ('u', 'unt', 'until'):
+            self.assertEqual(self.typed(ONE_SEGMENT, f'help {word}')[0].splitlines(),
+                             ['until T      run all events before the moment T, as 1.5s, 20ms or 10000ns',
+                              'T is a number of nanoseconds, or has a unit: ns, us, ms or s. It only goes forwards.', 'until 20ms'])
+        self.assertTrue(self.typed(ONE_SEGMENT, 'h breaks')[0].startswith('breaks '))
+        # Each example is a line that is not refused, but for what is not there.
+        for name, (_, _, _, example) in prompt.HELP.items():
+            self.assertTrue(example.encode().startswith(name))
+            self.assertIn(self.typed(ONE_SEGMENT, example)[1][:2], ([], ['refused', 'B5']))
+
+    def test_help_on_topics(self):
+        for words, topic in (('n num numbers', b'numbers'), ('t tra trace', b'trace'), ('k ki kinds', b'kinds'), ('stal stall', b'stall')):
+            for word in words.split():
+                self.assertEqual(self.typed(ONE_SEGMENT, f'help {word}'), (prompt.TOPICS[topic], []))
+        # A command comes first.
+        for word, name in (('s', 'step'), ('st', 'step'), ('sta', 'state'), ('l', 'lines')):
+            self.assertTrue(self.typed(ONE_SEGMENT, f'help {word}')[0].startswith(f'{name} '))
+        self.refuses('B1', 'help stalls', 'help numbers1', 'help traces 1')
+        self.refuses('B2', 'help kinds rto', 'h k k')
+        # The last line of each can be typed; a terminal holds it.
+        for text in prompt.TOPICS.values():
+            lines = text.splitlines()
+            self.assertEqual(self.typed(ONE_SEGMENT, lines[-1])[1], [])
+            self.assertLessEqual(max(map(len, lines)), 110)
+        # The kinds are those that a breakpoint takes.
+        for line in prompt.TOPICS[b'kinds'].splitlines()[1:-1]:
+            self.assertEqual(self.typed(ONE_SEGMENT, f'break kind {line.split()[0]}')[1], [])
+
+
+if __name__ == '__main__':
+    unittest.main()

@@ -1,0 +1,319 @@
+#!/usr/bin/env python3
+"""Tests of tcpsim/scenario and tcpsim-net: every text of its grid is accepted and run to its end, by the program or, where
+that is not built, by the model.
+
+Usage: python/tests/test_net.py [--program PATH]. The last line is 'N passed, N failed'.
+"""
+import argparse
+import itertools
+import os
+import subprocess
+import sys
+import unittest
+
+import paths
+from paths import BIN, TOP
+from tcpsim.scenario import shapes, units
+from tcpsim.trace import Run, Scenario
+
+BUILT = os.path.join(TOP, 'crates', 'tcpsim', 'out', 'tcpsim')
+MODEL = [sys.executable, paths.MODEL]
+RUNS = MODEL
+MS, US, S = 10**6, 10**3, 10**9
+
+# Two flows, round trips 40 ms and 80 ms. The bottleneck has a quarter of the least one each way, 10 ms, the
+# receivers' cables an eighth, 5 ms, and the senders' what is left: 20 - 15 = 5 and 40 - 15 = 25 ms. The product
+# of 8 Mbit/s and the mean round trip, 60 ms, is 60,000 bytes: 57 packets of 1,040 bytes, and 720 bytes.
+DUMBBELL = '''# A dumbbell: 2 flows over the bottleneck pq of 8Mbit/s with the queue droptail:BDP.
+# A round trip is that of the delays alone: waiting and sending come on top.
+# Written by: tcpsim-net dumbbell --rate 8M --rtt 40ms,80ms --queue droptail:BDP --mss 1000 --segments 5,6 --start 0,0.5s \
+--rwnd 64k --delack 0 --access 100M --access-queue codel:1ms:10ms:77 --end 3s
+sim 3000000000
+# Nodes.
+node p router
+node q router
+node s1 sender
+node r1 receiver
+node s2 sender
+node r2 receiver
+# Links: name, from, to, rate in bit/s, delay in ns, queue.
+link pq p q 8000000 10000000 droptail 57  # the bottleneck: 8Mbit/s, 10ms, droptail:BDP
+link qp q p 8000000 10000000 droptail 1000  # the way back of acknowledgements
+link s1p s1 p 100000000 5000000 codel 77 1000000 10000000 1040
+link ps1 p s1 100000000 5000000 codel 77 1000000 10000000 1040
+link qr1 q r1 100000000 5000000 codel 77 1000000 10000000 1040
+link r1q r1 q 100000000 5000000 codel 77 1000000 10000000 1040
+link s2p s2 p 100000000 25000000 codel 77 1000000 10000000 1040
+link ps2 p s2 100000000 25000000 codel 77 1000000 10000000 1040
+link qr2 q r2 100000000 5000000 codel 77 1000000 10000000 1040
+link r2q r2 q 100000000 5000000 codel 77 1000000 10000000 1040
+# Flows: name, sender, receiver, bytes of a segment, segments, start in ns, receiver's window in bytes, delay of \
+acknowledgements in ns.
+flow f1 s1 r1 1000 5 0 64000 0  # a round trip of 40ms, from 0 on
+flow f2 s2 r2 1000 6 500000000 64000 0  # a round trip of 80ms, from 500ms on
+# Routes: at this router, what is for this end goes over this link.
+route p s1 ps1
+route p r1 pq
+route p s2 ps2
+route p r2 pq
+route q s1 qp
+route q r1 qr1
+route q s2 qp
+route q r2 qr2
+'''
+
+QUEUES = 'droptail:1', 'droptail:50', 'droptail:BDP', 'codel:5ms:100ms', 'codel:100us:1ms:20', 'codel:5ms:50ms:30:3000'
+GRID = {
+    'dumbbell': [('--flows', '1', '2', '4', '15'), ('--rtt', '20ms', '8ns', '7ms,33ms'), ('--rate', '1M', '2.5M')],
+    'parking-lot': [('--hops', '1', '3', '7'), ('--cross', '1', '2', '7'), ('--delay', '10ms', '1ms,2ms')],
+    'chain': [('--hops', '1', '2', '16', '249'), ('--flows', '1', '3'), ('--rate', '10M', '10M,5M')],
+    'asymmetric': [('--down', '10M', '100M'), ('--up', '1M', '100k'), ('--uploads', '0', '2'), ('--flows', '1', '3'),
+                   ('--up-queue', 'droptail:5', 'codel:5ms:100ms')],
+    'tree': [('--leaves', '1', '4', '15'), ('--flows', '1', '15', '100'), ('--rtt', '20ms', '10ms,50ms')],
+    'islands': [('--islands', '3', '4', '8'), ('--flows', '2', '5'), ('--crossing', '0', '2')],
+}
+ALWAYS = '--segments', '12', '--end', '600s'
+
+
+def run(text):
+    return subprocess.run([*RUNS, 'run'], input=text.encode('ascii'), capture_output=True, check=False)
+
+
+def grid(shape):
+    """The words of each point of a shape's grid, the queue by turns."""
+    queues = itertools.cycle(QUEUES)
+    for values in itertools.product(*(options[1:] for options in GRID[shape])):
+        words = [shape]
+        for (option, *_), value in zip(GRID[shape], values):
+            words += [option, value]
+        if fits(shape, dict(zip(words[1::2], words[2::2]))):
+            yield [*words, '--queue', next(queues), *ALWAYS]
+
+
+def fits(shape, options):
+    """No list is longer than there are flows or hops, and no leaf has more than 15 ends."""
+    flows = int(options.get('--flows', 100))
+    if shape == 'tree' and flows > 15 * int(options['--leaves']):
+        return False
+    hops = int(options.get('--hops', 100))
+    return options.get('--rtt', '').count(',') < flows and (options.get('--rate', '') + options.get(
+        '--delay', '')).count(',') < hops
+
+
+def tool(*words, **more):
+    return subprocess.run([sys.executable, os.path.join(BIN, 'tcpsim-net'), *words], capture_output=True, check=False, **more)
+
+
+class Units(unittest.TestCase):
+    """Words of rates, times, sizes and queues."""
+
+    def test_numbers(self):
+        for read, word, value in (
+                (units.rate, '10M', 10**7), (units.rate, '1.5M', 1_500_000), (units.rate, '800k', 800_000),
+                (units.rate, '1G', 10**9), (units.rate, '8000', 8_000), (units.time, '20ms', 20 * MS),
+                (units.time, '0.5s', S // 2), (units.time, '100us', 100 * US), (units.time, '7ns', 7),
+                (units.time, '0', 0), (units.size, '64k', 64_000), (units.count, '12', 12)):
+            with self.subTest(word):
+                self.assertEqual(read(word), value)
+
+    def test_wrong_numbers(self):
+        for read, word in ((units.rate, '10Mbps'), (units.rate, '1T'), (units.rate, '10m'), (units.rate, '-1M'),
+                           (units.rate, '0.5'), (units.rate, ''), (units.rate, '1e6'), (units.rate, '1,000'),
+                           (units.time, '10'), (units.time, '1h'), (units.time, '0.1ns'), (units.time, 'ms'),
+                           (units.time, '1 ms'), (units.size, '1.0001k'), (units.count, '1.5'), (units.count, '٣')):
+            with self.subTest(word):
+                self.assertRaises(units.Wrong, read, word)
+
+    def test_spelled(self):
+        for value, word in ((10**7, '10M'), (1_500_000, '1.5M'), (800_000, '800k'), (1_234, '1.234k'), (999, '999')):
+            self.assertEqual(units.spelled_rate(value), word)
+            self.assertEqual(units.rate(word), value)
+        for value, word in ((20 * MS, '20ms'), (S // 2, '500ms'), (1_500 * MS, '1.5s'), (1, '1ns'), (0, '0')):
+            self.assertEqual(units.spelled_time(value), word)
+            self.assertEqual(units.time(word), value)
+
+    def test_queues(self):
+        words = 'droptail:10,50,BDP,codel:5ms:100ms,1s:2s:7,1s:2s:1000:3k'
+        self.assertEqual([queue.words(1040, 9) for queue in units.queues(words)],
+                         ['droptail 10', 'droptail 50', 'droptail 9', 'codel 1000 5000000 100000000 1040',
+                          'codel 7 1000000000 2000000000 1040', 'codel 1000 1000000000 2000000000 3000'])
+        self.assertEqual([str(queue) for queue in units.queues(words)],
+                         ['droptail:10', 'droptail:50', 'droptail:BDP', 'codel:5ms:100ms', 'codel:1s:2s:7',
+                          'codel:1s:2s:1000:3000'])
+        for word in ('50', 'droptail', 'droptail:', 'droptail:x', 'droptail:1:2', 'codel:5ms', 'codel:5:100ms',
+                     'codel:5ms:100ms:', 'codel:5ms:100ms:1:', 'codel:5ms:100ms:1:2:3', 'codel:5ms:100ms:1:2ms', 'red:5', ''):
+            with self.subTest(word):
+                self.assertRaises(units.Wrong, units.queues, word)
+
+    def test_product(self):
+        # 8 Mbit/s times 40 ms are 40,000 bytes: 38 packets of 1,040 and 480 bytes
+        self.assertEqual(units.product(8 * 10**6, 40 * MS, 1040), 38)
+        self.assertEqual(units.product(1000, 1, 1500), 1)
+
+
+class Texts(unittest.TestCase):
+    """What is written."""
+
+    def test_by_hand(self):
+        words = ('dumbbell --rate 8M --rtt 40ms,80ms --queue droptail:BDP --mss 1000 --segments 5,6 --start 0,0.5s --rwnd '
+                 '64k --delack 0 --access 100M --access-queue codel:1ms:10ms:77 --end 3s')
+        self.assertEqual(shapes.scenario(words.split()), DUMBBELL)
+        done = tool(*words.split())
+        self.assertEqual((done.stdout.decode(), done.stderr, done.returncode), (DUMBBELL, b'', 0))
+
+    def test_odd_round_trips(self):
+        for trip in (8, 9, 15, 81, 40 * MS + 1):
+            read = Scenario(shapes.scenario(['dumbbell', '--flows', '1', '--rtt', f'{trip}ns']))
+            self.assertEqual(sum(read.links[link].delay for way in read.ways[0] for link in way), trip)
+
+    def test_round_trips_and_ways(self):
+        """Each flow's delays add up to what was asked for, and it goes over the links that it should."""
+        for words, trips, hops in (
+                ('dumbbell --flows 3 --rtt 40ms,80ms', (40, 80, 40), 3),
+                ('asymmetric --flows 1 --uploads 1 --rtt 30ms,60ms', (30, 60), 3),
+                ('tree --leaves 2 --flows 3 --rtt 64ms,96ms', (64, 96, 64), 5),
+                # 3 hops of 10 ms and two cables of 1 ms, each way
+                ('chain --hops 3 --delay 10ms --access-delay 1ms', (64,), 5)):
+            read = Scenario(shapes.scenario(words.split()))
+            for (there, back), trip in zip(read.ways, trips):
+                with self.subTest(words):
+                    self.assertEqual(sum(read.links[link].delay for link in there + back), trip * MS)
+                    self.assertEqual((len(there), len(back)), (hops, hops))
+        read = Scenario(shapes.scenario('parking-lot --hops 3 --cross 2'.split()))
+        names = [[read.links[link].name for link in there[1:-1]] for there, _ in read.ways]
+        self.assertEqual(names, [['p0p1', 'p1p2', 'p2p3'], ['p0p1'], ['p0p1'], ['p1p2'], ['p1p2'], ['p2p3'], ['p2p3']])
+        read = Scenario(shapes.scenario('islands --islands 3 --flows 2 --crossing 1'.split()))
+        names = [[read.links[link].name for link in there[1:-1]] for there, _ in read.ways]
+        self.assertEqual(names, [['p1q1'], ['p2q2'], ['p3q3'], ['p1q1', 'q1p2', 'p2q2'],
+                                 ['p2q2', 'q2p3', 'p3q3'], ['p3q3', 'q3p1', 'p1q1']])
+        read = Scenario(shapes.scenario('asymmetric --uploads 1'.split()))
+        names = [[read.links[link].name for link in there[1:-1]] for there, _ in read.ways]
+        self.assertEqual(names, [['down'], ['up']])
+
+    def test_equal_the_model(self):
+        """Nets that are built by `Net` and by the model's own have the same text."""
+        from tcpsim_model import nets, text
+        from tcpsim_model.scenario import Flow
+        mine, other = shapes.Net(), nets.Net()
+        for kind in (shapes.ROUTER,) * 5 + (shapes.SENDER, shapes.RECEIVER) * 2:
+            mine.node(kind)
+            other.node(('sender', 'receiver', 'router').index(kind))
+        for a, b in ((0, 1), (1, 2), (0, 3), (3, 4), (4, 2), (2, 0), (5, 0), (2, 6), (7, 4), (8, 1)):
+            mine.cable(a, b, 10**7, MS * (a + 1), units.Queue('codel', 9, MS, 5 * MS))
+            other.cable(a, b, 10**7, MS * (a + 1), nets.codel(9, MS, 5 * MS, 1500))
+        for sender, receiver in ((5, 6), (7, 8)):
+            mine.flow(sender, receiver, 1460, 7, 3, 10**5, 4)
+            other.flows.append(Flow(sender, receiver, 1460, 7, 3, 10**5, 4))
+        for each in mine, other:
+            each.links[3].lose = [2, 5]
+        for every in False, True:
+            self.assertEqual(mine.text(S, notes=False, every_route=every).encode(),
+                             text.disassemble(other.scenario(S, every)).replace(b' reno iw3\n', b'\n'))
+
+    def test_groups_of_islands(self):
+        """The groups that the comment names are accepted and change nothing."""
+        text = shapes.scenario('islands --islands 3 --flows 2 --segments 20'.split())
+        options = next(line for line in text.splitlines() if '--groups' in line).partition('--')[2].split()
+        shared = subprocess.run([*RUNS, 'run', '--' + options[0], *options[1:]], input=text.encode(), capture_output=True,
+                                check=False)
+        self.assertEqual((shared.returncode, shared.stderr), (0, b''))
+        self.assertEqual(shared.stdout, run(text).stdout)
+
+    def test_whole_grid(self):
+        for shape in GRID:
+            for words in grid(shape):
+                with self.subTest(' '.join(words)):
+                    self._runs(words)
+
+    def _runs(self, words):
+        text = shapes.scenario(words)
+        self.assertIn(f'# Written by: tcpsim-net {" ".join(words)}\n', text)
+        done = run(text)
+        self.assertEqual((done.returncode, done.stderr), (0, b''))
+        runs = Run(Scenario(text), done.stdout.decode('ascii').splitlines())
+        self.assertTrue(runs.whole)
+        delivered = [flow.delivered() for flow in runs.flows]
+        if 'droptail:1' in words or len(runs.flows) > 16:       # then some may be locked out
+            self.assertEqual(max(delivered), 12 * 1460)
+        else:
+            self.assertEqual(delivered, [12 * 1460] * len(runs.flows))
+        # every route is one that some flow takes
+        read = runs.scenario
+        taken = {(read.links[link].source, read.links[way[-1]].to, link) for ways in read.ways for way in ways
+                 for link in way[1:]}
+        self.assertEqual({(*at, link) for at, link in read.routes.items()}, taken)
+
+
+class WrongWords(unittest.TestCase):
+    """Each gets one sentence."""
+
+    CASES = {
+        '': 'SHAPE', 'ring': 'ring', 'dumbbell --rate 10Mbps': '10Mbps', 'dumbbell --rtt 10': "'10'",
+        'dumbbell --queue codel:5ms': 'codel:5ms', 'dumbbell --queue droptail:0': '1 to 65,535',
+        'dumbbell --queue codel:5ms:20s': '20s', 'dumbbell --queue codel:5ms:9ms:7:70k': '65,535',
+        'dumbbell --queue red:5': 'red:5', 'dumbbell --flows 16': 'tree',
+        'dumbbell --flows 0': '0', 'dumbbell --flows 129': '128', 'dumbbell --flows x': 'x',
+        'dumbbell --flows 2 --rtt 1ms,2ms,3ms': '3 values', 'dumbbell --hops 3': '--hops', 'dumbbell --flow 3': '--flow',
+        'dumbbell --rtt 7ns': '7ns', 'dumbbell --rtt 40s': '10s', 'dumbbell --rate 1': '1k', 'dumbbell --rate': '--rate',
+        'dumbbell --start 20s': '20s', 'dumbbell --rwnd 1000': '1460', 'dumbbell --mss 9001': '9,000',
+        'dumbbell --segments 0': '0', 'dumbbell --end 0': '0', 'dumbbell --delack 1s': '500ms', 'dumbbell 4': '4',
+        'dumbbell --queue droptail:BDP --rate 1G --rtt 10s': 'bandwidth-delay', 'dumbbell --rtt': '--rtt',
+        'dumbbell --rtt 1ms,,2ms': "''", 'chain --rate 1M,2M,3M,4M': '4 values', 'chain --hops 0': '0',
+        'parking-lot --cross 8': '8', 'parking-lot --hops 30 --cross 5': 'nodes',
+        'asymmetric --flows 0': 'no flow', 'tree --leaves 16': '16', 'tree --leaves 1 --flows 16': '16',
+        'islands --islands 2': '2', 'islands --flows 2 --crossing 3': '--crossing',
+    }
+
+    def test_cases(self):
+        for words, named in self.CASES.items():
+            with self.subTest(words):
+                done = tool(*words.split())
+                self.assertEqual((done.returncode, done.stdout), (2, b''))
+                lines = done.stderr.decode().splitlines()
+                self.assertEqual(len(lines), 1, lines)
+                self.assertTrue(lines[0].startswith('tcpsim-net: '), lines[0])
+                self.assertIn(named, lines[0])
+
+    def test_pipes(self):
+        for reader in ('true', 'head -n 1 > /dev/null'):
+            script = f'"$0" "$1" chain --hops 200 | {reader}'
+            done = subprocess.run(['sh', '-c', script, sys.executable, os.path.join(BIN, 'tcpsim-net')], capture_output=True,
+                                  check=False)
+            self.assertEqual(done.stderr, b'')
+        with open('/dev/full', 'w', encoding='ascii') as full:
+            done = subprocess.run([sys.executable, os.path.join(BIN, 'tcpsim-net'), 'dumbbell'], stdout=full,
+                                  stderr=subprocess.PIPE, check=False)
+        self.assertEqual(done.returncode, 1)
+        self.assertEqual(len(done.stderr.decode().splitlines()), 1)
+
+    def test_help_to_a_reader_that_ends_and_to_a_full_disk(self):
+        script = '"$0" "$1" --help | true'
+        done = subprocess.run(['sh', '-c', script, sys.executable, os.path.join(BIN, 'tcpsim-net')], capture_output=True,
+                              check=False)
+        self.assertEqual((done.returncode, done.stderr), (0, b''))
+        with open('/dev/full', 'w', encoding='ascii') as full:
+            done = subprocess.run([sys.executable, os.path.join(BIN, 'tcpsim-net'), '--help'], stdout=full,
+                                  stderr=subprocess.PIPE, check=False)
+        self.assertEqual((done.returncode, done.stderr), (1, b'tcpsim-net: standard output: No space left on device\n'))
+
+    def test_help(self):
+        for words in (['--help'], *([shape, '--help'] for shape in shapes.SHAPES)):
+            done = tool(*words)
+            self.assertEqual((done.returncode, done.stderr), (0, b''))
+            self.assertTrue(done.stdout)
+
+
+def main():
+    words = argparse.ArgumentParser(description=__doc__.split('\n')[0])
+    words.add_argument('--program', help='else the built one, else the model')
+    given, rest = words.parse_known_args()
+    if given.program or os.path.exists(BUILT):
+        RUNS[:] = [given.program or BUILT]
+    done = unittest.main(argv=[sys.argv[0], *rest], exit=False).result
+    failed = len({getattr(test, 'test_case', test).id() for test, _ in done.failures + done.errors})
+    print(f'{done.testsRun - failed} passed, {failed} failed')
+    return 1 if failed else 0
+
+
+if __name__ == '__main__':
+    sys.exit(main())

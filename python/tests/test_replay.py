@@ -1,0 +1,879 @@
+#!/usr/bin/env python3
+"""Tests of tcpsim-replay and its page: python/tests/test_replay.py [--pictures]. The last line is
+'N passed, N failed'.
+
+The pages of four examples are opened in headless Chromium. At 50 positions of each, forwards, backwards
+and by jumps, what the drawn elements say of themselves is compared with the dump of `tcpsim debug` at
+that position. The dumps come from the built program, and where it is not built from the model in
+python/tcpsim_model. Where there is no Chromium the tests in it are left out, and it says so. --pictures writes
+docs/pictures/replay_*.png.
+"""
+import base64
+import csv
+import io
+import json
+import math
+import os
+import random
+import shutil
+import subprocess
+import sys
+import tempfile
+import time
+import unittest
+
+from paths import BIN, MODEL, TOP
+from tcpsim.replay import recording
+from tcpsim.trace import Unreadable, read_run
+
+EXAMPLES = os.path.join(TOP, 'examples')
+PICTURES = os.path.join(TOP, 'docs', 'pictures')
+CHROMIUM = next((path for path in map(shutil.which, ('chromium', 'chromium-browser', 'google-chrome')) if path), None)
+HAS_D3 = os.path.exists(recording.LIBRARY)
+WITH_D3 = unittest.skipUnless(HAS_D3, 'no d3: apt-get install libjs-d3')
+IN_BROWSER = unittest.skipUnless(CHROMIUM and HAS_D3, 'no Chromium or no d3: apt-get install chromium libjs-d3')
+# A queue that overflows, a timeout, CoDel, three routers; of each the events that its pictures show.
+COMPARED = {'slow_start_into_a_full_queue': 20, 'two_timeouts_in_a_row': 27, 'four_flows_share_codel': 2467,
+            'parking_lot_of_three_routers': 1657}
+POSITIONS = 50
+READ = '''(() => {
+  const all = (css, what) => [...document.querySelectorAll(css)].filter(e => e.getAttribute('display') !== 'none').map(what);
+  return JSON.stringify({
+    event: document.documentElement.dataset.event, hash: location.hash,
+    present: all('#lines li.present', e => e.textContent),
+    packets: all('.packet', e => ({...e.dataset, transform: e.getAttribute('transform'), squares: e.querySelectorAll('rect').length,
+      rings: e.querySelectorAll('.ring').length, word: e.querySelector('text').textContent})),
+    links: all('g.link', e => ({...e.dataset})),
+    queues: all('g.queue', e => ({...e.dataset, text: e.querySelector('.count').textContent,
+      boxes: [...e.querySelectorAll('.box[data-packet]')].filter(b => b.getAttribute('display') !== 'none').map(b => b.dataset.packet),
+      words: [...e.querySelectorAll('.box[data-packet] text')].map(b => b.textContent)})),
+    nodes: all('g.node', e => ({...e.dataset})),
+    drops: all('.drop', e => ({...e.dataset, text: e.querySelector('.reason')?.textContent})),
+    notice: document.getElementById('notice').textContent});
+})()'''
+# What lies over what: [what, left, top, right, bottom, the panel's edges] of every label and shape that is seen.
+SEEN = '''(() => {
+  const edges = e => { const b = e.getBoundingClientRect(); return [b.left, b.top, b.right, b.bottom]; };
+  const seen = e => {
+    const b = e.getBoundingClientRect();
+    return b.width > 0 && b.height > 0 && getComputedStyle(e).visibility !== 'hidden';
+  };
+  const of = (panel, css) => {
+    const around = edges(document.querySelector(panel));
+    return [...document.querySelectorAll(panel + ' ' + css)].filter(seen).map(e => {
+      const kind = e.getAttribute('class') || e.parentNode.getAttribute('class') || e.nodeName;
+      return {what: `${e.textContent.trim() || e.nodeName} (${kind})`, edges: edges(e), around,
+        node: e.closest('.node')?.dataset.node};
+    });
+  };
+  const words = e => ({what: e.id || e.nodeName, wide: [e.scrollWidth, e.clientWidth],
+    tall: [e.scrollHeight, e.clientHeight]});
+  return JSON.stringify({
+    labels: ['.rate', '.count', '.reason', '.node text'].flatMap(css => of('#net', css)),
+    shapes: ['.node rect', '.box', '.packet', '.drop > rect', '.drop > .disc'].flatMap(css => of('#net', css)),
+    charts: ['#windows', '#lengths'].map(panel => of(panel, 'text')),
+    ticks: ['#flows', '#links'].map(panel => of(panel, 'label')),
+    head: of('header', '> *'),
+    cut: [...document.querySelectorAll('#under, #key, #notice, h1, header, #lines, #lines li' +
+      (document.querySelector('#lines li.present')?.textContent.includes(' drop=') ? '' : ', #words'))].filter(seen).map(words)});
+})()'''
+# The events after which to look: see `test_no_label_lies_over_another`.
+MOMENTS = '''(() => {
+  const r = page.record, drops = d3.nest().key(d => d.event).entries(r.drops);
+  const most = d3.max(drops, d => d.values.length), {timeouts} = r;
+  const queues = r.facts.links.map((_, l) => r.queueCurve(l)), longest = d3.max(queues, q => d3.max(q.values));
+  const queue = queues.find(q => d3.max(q.values) === longest);
+  return JSON.stringify([most ? +drops.find(d => d.values.length === most).key : Math.ceil(r.count / 4),
+    r.eventsBefore(queue.times[queue.values.indexOf(longest)] + 1), timeouts.length ? timeouts[timeouts.length - 1] : r.last]);
+})()'''
+
+
+# ---- a browser
+
+class Browser:
+    """A headless Chromium that is told what to do over a pipe."""
+
+    def __init__(self, folder):
+        to_read, self._to = os.pipe()
+        self._from, from_write = os.pipe()
+        def ends():         # the browser reads its commands at 3 and answers at 4
+            high = os.dup(to_read), os.dup(from_write)
+            os.dup2(high[0], 3)
+            os.dup2(high[1], 4)
+        self.process = subprocess.Popen(
+            [CHROMIUM, '--headless=new', '--no-sandbox', '--disable-gpu', '--remote-debugging-pipe', '--hide-scrollbars',
+             '--no-first-run', '--disable-dev-shm-usage', f'--user-data-dir={folder}', 'about:blank'],
+            preexec_fn=ends, close_fds=False, stdin=subprocess.DEVNULL, stdout=subprocess.DEVNULL,
+            stderr=subprocess.DEVNULL)
+        os.close(to_read)
+        os.close(from_write)
+        self._count, self._rest, self._session = 0, b'', None
+        page = self.call('Target.createTarget', url='about:blank')['targetId']
+        self._session = self.call('Target.attachToTarget', targetId=page, flatten=True)['sessionId']
+        self.call('Page.enable')
+        self.call('Emulation.setDeviceMetricsOverride', width=1280, height=720, deviceScaleFactor=1, mobile=False)
+
+    def call(self, method, **given):
+        self._count += 1
+        message = {'id': self._count, 'method': method, 'params': given}
+        if self._session:
+            message['sessionId'] = self._session
+        os.write(self._to, json.dumps(message).encode() + b'\0')
+        while True:
+            while b'\0' not in self._rest:
+                more = os.read(self._from, 1 << 20)
+                if not more:
+                    raise RuntimeError('the browser has gone')
+                self._rest += more
+            one, _, self._rest = self._rest.partition(b'\0')
+            answer = json.loads(one)
+            if answer.get('id') == self._count:
+                if 'error' in answer:
+                    raise RuntimeError(answer['error'])
+                return answer['result']
+
+    def value(self, script):
+        answer = self.call('Runtime.evaluate', expression=script, awaitPromise=True, returnByValue=True)
+        if 'exceptionDetails' in answer:
+            raise RuntimeError(json.dumps(answer['exceptionDetails'])[:600])
+        return answer['result'].get('value')
+
+    def open(self, path, address=''):
+        """Opens a page; answers its milliseconds until all is drawn."""
+        self.call('Page.navigate', url='about:blank')
+        self.call('Page.navigate', url=f'file://{path}{address}')
+        for _ in range(600):
+            ready = self.value('[document.documentElement?.dataset.ready, document.documentElement?.dataset.failed].join("|")')
+            if ready and ready != '|':
+                if ready.startswith('|'):
+                    raise RuntimeError(ready[1:])
+                return int(ready[:-1])
+            time.sleep(.05)
+        raise RuntimeError('the page does not get ready')
+
+    def press(self, key):
+        text = {'text': key} if len(key) == 1 else {}
+        self.call('Input.dispatchKeyEvent', type='keyDown', key=key, **text)
+        self.call('Input.dispatchKeyEvent', type='keyUp', key=key)
+
+    def click(self, script):
+        """Clicks at the middle of the element that the script names."""
+        x, y = json.loads(self.value(f'(() => {{ const b = ({script}).getBoundingClientRect(); '
+                                     'return JSON.stringify([b.x + b.width / 2, b.y + b.height / 2]); })()'))
+        for what in ('mousePressed', 'mouseReleased'):
+            self.call('Input.dispatchMouseEvent', type=what, x=x, y=y, button='left', clickCount=1)
+
+    def go(self, event):
+        self.value(f'new Promise(done => {{ addEventListener("hashchange", () => done(0), {{once: true}}); '
+                   f'if (location.hash === "#event={event}") done(0); else location.hash = "#event={event}"; }})')
+
+    def shown(self):
+        return json.loads(self.value(READ))
+
+    def picture(self, path):
+        found = self.call('Page.captureScreenshot', format='png')
+        with open(path, 'wb') as file:
+            file.write(base64.b64decode(found['data']))
+
+    def close(self):
+        try:
+            self.call('Browser.close')
+        except (RuntimeError, OSError):
+            pass
+        try:
+            self.process.wait(timeout=10)
+        except subprocess.TimeoutExpired:
+            self.process.kill()
+            self.process.wait()
+        os.close(self._to)
+        os.close(self._from)
+
+
+# ---- what the debugger says
+
+def example(name):
+    return os.path.join(EXAMPLES, name + '.txt'), os.path.join(EXAMPLES, name + '.trace')
+
+
+def program():
+    """The program's words: that named by TCPSIM, else the one that tcpsim-replay finds, else the model."""
+    try:
+        return [recording.find_program(os.environ.get('TCPSIM'))]
+    except Unreadable:
+        return [sys.executable, MODEL]
+
+
+def dumps(name, positions):
+    """The dump at each position, as the lines' words, from one session of the debugger."""
+    with open(example(name)[0], encoding='ascii') as file:
+        session = file.read() + '---\n'
+    at = 0
+    for position in positions:
+        session += f'step {position - at}\n' if position >= at else f'back {at - position}\n'
+        at = position
+    done = subprocess.run([*program(), 'debug'], input=session.encode(), capture_output=True, check=True)
+    found = []
+    for line in done.stdout.decode('ascii').splitlines():
+        if line.startswith('at '):
+            found.append([])
+        found[-1].append(line.split(' '))
+    return found
+
+
+def signs(words):
+    return dict(word.split('=', 1) for word in words if '=' in word)
+
+
+# ---- the data, without a browser
+
+BY_HAND = """sim 12000000
+node s sender
+node r receiver
+link a s r 8000000 1000000 droptail 2
+link b r s 8000000 1000000 droptail 10
+flow f s r 1000 8 0 64000 0
+"""
+# Data packets take 1.04 ms on link a, acknowledgements 0.04 ms on link b; both delays are 1 ms.
+TRACE = """1 0 0 0 0 start 0 una=0 nxt=4000 cwnd=4000 ssthresh=64000 phase=ss tx=0:0:0 drop=full:0:3000
+2 1040000 0 0 3 free 0 una=0 nxt=4000 cwnd=4000 ssthresh=64000 phase=ss tx=0:0:1000
+3 2040000 1 1 1 data 0 0 next=1000 tx=1:0:1000
+4 2080000 0 0 3 free 0 una=0 nxt=4000 cwnd=4000 ssthresh=64000 phase=ss tx=0:0:2000
+5 2080000 1 0 3 free 1 next=1000
+6 3080000 0 2 1 ack 0 1000 una=1000 nxt=6000 cwnd=5000 ssthresh=64000 phase=ss
+end 6
+"""
+
+
+class Folder(unittest.TestCase):
+    """Tests that write into a folder of their own."""
+
+    def setUp(self):
+        self.folder = tempfile.mkdtemp(prefix='replay')
+        self.addCleanup(shutil.rmtree, self.folder, True)
+
+    def path(self, name, text=None):
+        whole = os.path.join(self.folder, name)
+        if text is not None:
+            with open(whole, 'w', encoding='utf-8') as file:
+                file.write(text)
+        return whole
+
+    def run_script(self, *words):
+        return subprocess.run([sys.executable, os.path.join(BIN, 'tcpsim-replay'), *words], cwd=self.folder,
+                              capture_output=True, text=True, check=False)
+
+
+def part_of(text, trace, begin=0, end=None):
+    return recording.Part(recording.Scenario(text), io.BytesIO(trace.encode('utf-8')), begin, end)
+
+
+class Parts(unittest.TestCase):
+    def test_state_before_a_moment_by_hand(self):
+        part = part_of(BY_HAND, TRACE, begin=2040000)
+        self.assertEqual(part.first, 2)
+        self.assertEqual([line.split()[0] for line in part.lines], ['3', '4', '5', '6'])
+        link = part.base['links'][0]
+        self.assertEqual((link['offered'], link['sent'], link['arrived'], link['busy']), (4, 2, 0, True))
+        self.assertEqual(link['waiting'], [[0, 0, 2000, 0, False]])
+        self.assertEqual(link['under_way'], [[0, 0, 0, 0, 2040000, False, 0], [0, 0, 1000, 1040000, 3080000, False, 0]])
+        flow = part.base['flows'][0]
+        self.assertEqual((flow['una'], flow['nxt'], flow['cwnd'], flow['ssthresh'], flow['next']), (0, 4000, 4000, 64000, 0))
+        self.assertEqual([part_of(BY_HAND, TRACE, begin=moment).base['flows'][0]['since'] for moment in (0, 2040000)],
+                         [None, 0])
+
+    def test_to_leaves_its_moment_out(self):
+        self.assertEqual(len(part_of(BY_HAND, TRACE, end=2080000).lines), 3)
+        self.assertEqual(len(part_of(BY_HAND, TRACE, end=2080001).lines), 5)
+
+    def test_states_are_the_debuggers(self):
+        for name in COMPARED:
+            scenario, text = recording.read_scenario(example(name)[0])
+            lost = recording.lost_packets(text)
+            with open(example(name)[1], 'rb') as file:
+                lines = file.read().splitlines(True)
+            moments = sorted({int(line.split()[1]) for line in lines[:-1]})
+            chosen = random.Random(name).sample(moments, min(20, len(moments)))
+            parts = [recording.Part(scenario, io.BytesIO(b''.join(lines)), moment, None, lost) for moment in chosen]
+            for part, dump in zip(parts, dumps(name, [part.first for part in parts])):
+                self.compare(part, dump)
+
+    def compare(self, part, dump):
+        under_way = {(int(w[3]) - 1, int(w[1]), int(w[6]), int(w[5] == 'ack'), int(w[7]))
+                     for w in dump if w[0] == 'event' and w[3] != '0'}
+        self.assertEqual(under_way, {(n, p[4], *p[:3]) for n, link in enumerate(part.base['links'])
+                                     for p in link['under_way']})
+        for words in dump:
+            told = signs(words)
+            if words[0] == 'link':
+                link = part.base['links'][int(words[1])]
+                queue = ','.join(f'{p[0]}:{"da"[p[1]]}:{p[2]}@{p[3]}' for p in link['waiting']) or '-'
+                self.assertEqual((told['offered'], told['sent'], told['queue']),
+                                 (str(link['offered']), str(link['sent']), queue))
+            elif words[0] == 'node' and words[2] == 'sender':
+                flow = part.base['flows'][int(words[3])]
+                self.assertEqual([told[key] for key in ('una', 'nxt', 'high', 'cwnd', 'ssthresh', 'dups', 'fr')],
+                                 [str(int(flow[key])) for key in
+                                  ('una', 'nxt', 'high', 'cwnd', 'ssthresh', 'dups', 'recovering')])
+            elif words[0] == 'node' and words[2] == 'receiver':
+                flow = part.base['flows'][int(words[3])]
+                self.assertEqual((told['next'], told['held']),
+                                 (str(flow['next']), ','.join(map(str, flow['above'])) or '-'))
+
+    def test_every_example_is_taken_whole(self):
+        for name in sorted(file[:-6] for file in os.listdir(EXAMPLES) if file.endswith('.trace')):
+            scenario, text = recording.read_scenario(example(name)[0])
+            with open(example(name)[1], 'rb') as lines:
+                part = recording.Part(scenario, lines, 0, None, recording.lost_packets(text))
+            self.assertTrue(part.whole, name)
+            with open(example(name)[1], encoding='ascii') as file:
+                self.assertEqual(file.read().splitlines()[:-1], part.lines, name)
+
+
+class Times(unittest.TestCase):
+    def test_times(self):
+        for word, time_ns in (('1', 10**9), ('1.5', 15 * 10**8), ('0.000000001', 1), ('20ms', 2 * 10**7), ('7us', 7000),
+                              ('9ns', 9), ('2.5s', 25 * 10**8)):
+            self.assertEqual(recording.read_time(word), time_ns)
+        for time_ns in (0, 1, 999999999, 12345678901):
+            self.assertEqual(recording.read_time(recording.seconds(time_ns)), time_ns)
+
+    def test_no_times(self):
+        for word in ('', '-1', '1h', 's', '1.', '1e3', 'x', '1,5'):
+            with self.assertRaises(Exception, msg=word):
+                recording.read_time(word)
+
+
+@WITH_D3
+class Refusals(Folder):
+    def refused(self, trace, *says, scenario=BY_HAND, words=()):
+        given, lines, out = self.path('a.txt', scenario), self.path('a.trace', trace), self.path('a.html')
+        if os.path.exists(out):
+            os.remove(out)
+        done = self.run_script(given, lines, '-o', out, *words)
+        self.assertEqual(done.returncode, 1, done)
+        self.assertEqual(done.stderr.count('\n'), 1, done.stderr)
+        for word in says:
+            self.assertIn(word, done.stderr)
+        self.assertEqual(sorted(os.listdir(self.folder)), ['a.trace', 'a.txt'])
+
+    def change(self, number, old, new):
+        lines = TRACE.splitlines(True)
+        self.assertIn(old, lines[number - 1])
+        lines[number - 1] = lines[number - 1].replace(old, new, 1)
+        return ''.join(lines)
+
+    def test_lines_that_are_not_this_scenarios(self):
+        for number, old, new in (
+                (1, 'tx=0:0:0', 'tx=7:0:0'), (1, 'start 0', 'start 3'), (1, ' 0 0 0 start', ' 9 0 0 start'),
+                (1, 'drop=full:0:3000', 'drop=full:0:4000'), (1, ' drop=full:0:3000', ''), (1, 'phase=ss', 'phase=xx'),
+                (2, '2 1040000', '3 1040000'), (2, '1040000', '1040001'), (2, 'free 0', 'free 1'), (2, 'free 0', 'free 12'),
+                (2, 'cwnd=4000', 'cwnd=4001'), (2, 'tx=0:0:1000', 'tx=0:0:2000'), (2, ' tx=0:0:1000', ''),
+                (3, 'data 0 0', 'data 0 1000'), (3, '1 1 1 data', '1 1 2 data'), (3, '1 1 1 data', '1 9 1 data'),
+                (3, 'next=1000', 'next=0'), (3, 'next=1000', 'next='), (3, 'data 0 0', 'data 0 x'), (3, 'data', 'date'),
+                (4, '2080000', '2000000'), (5, 'free 1', 'free -1'), (5, 'next=1000', 'next=2000'),
+                (6, 'una=1000', 'una=2000'), (6, 'nxt=6000', 'nxt=7000'), (6, 'ack 0 1000', 'ack 0'),
+                (6, '6 3080000', '7 3080000'), (7, 'end 6', 'end 7'), (7, 'end 6', 'end')):
+            with self.subTest(f'{number}: {old} to {new}'):
+                self.refused(self.change(number, old, new), f'line {number} ')
+
+    def test_cut_lines(self):
+        whole = TRACE[:TRACE.index('end')]
+        for cut in (1, 2, 9, 30, 70):
+            with self.subTest(cut):
+                self.refused(whole[:-cut], 'line 6 ')
+
+    def test_empty_and_not_a_trace(self):
+        self.refused('', 'line 1 ')
+        self.refused('\n', 'line 1 ')
+        self.refused('PNG\u00e9\n', 'line 1 ')
+
+    def test_other_scenario(self):
+        with open(example('four_flows_share_codel')[1], encoding='ascii') as file:
+            self.refused(file.read(), 'line 1 ')
+
+    def test_no_scenario(self):
+        self.refused(TRACE, 'line 2', scenario='sim 5\nnode\n')
+        self.refused(TRACE, 'tcpsim-replay: ', scenario=BY_HAND.replace('link b', '# link b'))
+
+    def test_no_event_in_the_span(self):
+        self.refused(TRACE, '--from', words=('--from', '1'))
+
+    def test_files_that_are_not_there(self):
+        done = self.run_script('nothing.txt', 'nothing.trace')
+        self.assertEqual((done.returncode, done.stderr.count('\n'), os.listdir(self.folder)), (1, 1, []))
+        given, lines = self.path('a.txt', BY_HAND), self.path('a.trace', TRACE)
+        done = self.run_script(given, lines, '-o', os.path.join(self.folder, 'no', 'a.html'))
+        self.assertEqual((done.returncode, done.stderr.count('\n')), (1, 1), done.stderr)
+        done = self.run_script(given, '--program', os.path.join(self.folder, 'no'))
+        self.assertEqual((done.returncode, done.stderr.count('\n')), (1, 1), done.stderr)
+
+    def test_times_that_are_none(self):
+        given, lines = self.path('a.txt', BY_HAND), self.path('a.trace', TRACE)
+        done = self.run_script(given, lines, '--from', 'noon')
+        self.assertEqual(done.returncode, 2)
+        self.assertNotIn('Traceback', done.stderr)
+
+    def test_too_many_events_name_what_fits(self):
+        most, recording.MOST_EVENTS = recording.MOST_EVENTS, 4
+        try:
+            with self.assertRaises(Unreadable) as refused:
+                part_of(BY_HAND, TRACE)
+            words = str(refused.exception).replace(',', '').split()
+            spans = [recording.read_time(words[n + 1]) for n, word in enumerate(words) if word in ('--from', '--to')]
+            self.assertEqual(spans, [0, 2080000, 2080000])
+            self.assertEqual(len(part_of(BY_HAND, TRACE, spans[0], spans[1]).lines), 3)
+            self.assertEqual(len(part_of(BY_HAND, TRACE, spans[2]).lines), 3)
+        finally:
+            recording.MOST_EVENTS = most
+
+
+@WITH_D3
+class Pages(Folder):
+    def test_size(self):
+        for name in COMPARED:
+            out = self.path('a.html')
+            done = self.run_script(*example(name), '-o', out)
+            self.assertEqual(done.returncode, 0, done.stderr)
+            with open(out, encoding='utf-8') as file:
+                text = file.read()
+            self.assertNotIn('@@', text.partition('id="facts"')[2])
+            self.assertNotRegex(text, r'(src|href)=["\']?(https?:)?//')
+            packed = text.partition('id="trace">')[2].partition('</script>')[0]
+            events = int(done.stdout.split(': ')[1].split()[0].replace(',', ''))
+            self.assertLessEqual(len(packed), 40 * events, name)
+
+    def test_program_is_run_without_a_trace(self):
+        named = program()
+        if len(named) > 1:
+            self.skipTest('the program is not built')
+        for words in ((), (example('two_timeouts_in_a_row')[1],)):
+            done = self.run_script(example('two_timeouts_in_a_row')[0], *words, '--program', named[0], '-o',
+                                   self.path(f'{len(words)}.html'))
+            self.assertEqual(done.returncode, 0, done.stderr)
+        with open(self.path('0.html'), 'rb') as one, open(self.path('1.html'), 'rb') as other:
+            self.assertEqual(one.read(), other.read())
+        self.refused_by_program(named[0])
+
+    def refused_by_program(self, named):
+        done = self.run_script(self.path('a.txt', BY_HAND.replace('droptail 2', 'droptail 0')), '--program', named)
+        self.assertEqual((done.returncode, done.stderr.count('\n')), (1, 1), done.stderr)
+        self.assertIn('refused E5 line 4', done.stderr)
+
+    def test_folder_of_pages(self):
+        given, out = self.path('given'), self.path('pages')
+        os.mkdir(given)
+        self.path('given/by_hand.txt', '# One line,\n# <and> another.\n' + BY_HAND)
+        self.path('given/by_hand.trace', TRACE)
+        script = os.path.join(TOP, 'dev', 'pages.py')
+        done = subprocess.run([sys.executable, script, '--examples', given, '-o', out], capture_output=True, text=True,
+                              check=False)
+        self.assertEqual(done.returncode, 0, done.stderr)
+        self.assertEqual(sorted(os.listdir(out)), ['by_hand.html', 'index.html'])
+        with open(os.path.join(out, 'index.html'), encoding='utf-8') as file:
+            text = file.read()
+        self.assertIn('href="by_hand.html"', text)
+        self.assertIn('One line, &lt;and&gt; another.', text)
+        self.path('given/by_hand.trace', TRACE.replace('una=1000', 'una=2000'))
+        done = subprocess.run([sys.executable, script, '--examples', given, '-o', self.path('none')],
+                              capture_output=True, text=True, check=False)
+        self.assertEqual((done.returncode, done.stderr.count('\n')), (1, 1), done.stderr)
+        self.assertIn('line 6', done.stderr)
+
+    def test_without_d3(self):
+        known, recording.LIBRARY = recording.LIBRARY, '/no/d3.js'
+        try:
+            with self.assertRaises(Unreadable) as refused:
+                recording.read_d3()
+            self.assertIn('apt-get install libjs-d3', str(refused.exception))
+        finally:
+            recording.LIBRARY = known
+
+
+# ---- the page in a browser
+
+def positions_of(name, count):
+    """50 positions: forwards in a row, backwards in a row, and jumps."""
+    chance = random.Random(name)
+    begin = chance.randrange(max(1, count - 20))
+    ahead = [min(count, begin + n) for n in range(17)]
+    back = [max(0, ahead[-1] - 1 - n) for n in range(17)]
+    jumps = [0, count] + [chance.randrange(count + 1) for _ in range(POSITIONS - 36)]
+    return ahead + back + jumps
+
+
+def point_at(way, part):
+    """The point at a part of a way that is given by its points."""
+    lengths = [math.dist(one, other) for one, other in zip(way, way[1:])]
+    rest = part * sum(lengths)
+    for one, other, length in zip(way, way[1:], lengths):
+        if rest <= length:
+            break
+        rest -= length
+    return tuple(a + (b - a) * min(1, rest / length) for a, b in zip(one, other))
+
+
+def overlap(one, other):
+    """How far two boxes lie over each other, in the direction in which it is less."""
+    return min(min(one[2], other[2]) - max(one[0], other[0]), min(one[3], other[3]) - max(one[1], other[1]))
+
+
+def collisions(seen, most=1):
+    """What a page shows that lies over something else, leaves its panel or is cut, by more than a pixel."""
+    found = []
+    labels = seen['labels']
+    groups = [labels, *seen['charts'], *seen['ticks'], seen['head']]
+    pairs = [(one, other) for group in groups for k, one in enumerate(group) for other in group[k + 1:]]
+    pairs += [(label, shape) for label in labels for shape in seen['shapes']
+              if 'node' not in label or label['node'] != shape.get('node')]
+    found += [f'{one["what"]} lies over {other["what"]}' for one, other in pairs
+              if overlap(one['edges'], other['edges']) > most]
+    for one in [*sum(groups, []), *seen['shapes']]:
+        box, panel = one['edges'], one['around']
+        if min(box[0] - panel[0], box[1] - panel[1], panel[2] - box[2], panel[3] - box[3]) < -most:
+            found.append(f'{one["what"]} leaves its panel')
+    found += [f'{one["what"]} is cut' for one in seen['cut'] for whole, room in (one['wide'], one['tall'])
+              if room and whole - room > most]
+    return found
+
+
+@IN_BROWSER
+class InBrowser(unittest.TestCase):
+    @classmethod
+    def setUpClass(cls):
+        cls.folder = tempfile.mkdtemp(prefix='replay')
+        cls.browser = Browser(os.path.join(cls.folder, 'profile'))
+
+    @classmethod
+    def tearDownClass(cls):
+        cls.browser.close()
+        shutil.rmtree(cls.folder, True)
+
+    def made(self, name, *words):
+        out = os.path.join(self.folder, name + '.html')
+        subprocess.run([sys.executable, os.path.join(BIN, 'tcpsim-replay'), *example(name), '-o', out, *words],
+                       check=True, capture_output=True)
+        return out
+
+    def compare(self, name, scenario, lines, position, shown, dump):
+        where = f'{name}, event {position}'
+        self.assertEqual((shown['event'], shown['hash']), (str(position), f'#event={position}'), where)
+        self.assertEqual(shown['present'], [lines[position - 1]] if position else [], where)
+        now = int(lines[position - 1].split(' ')[1]) if position else 0
+        self.compare_packets(scenario, shown, dump, now, where)
+        queues = {int(queue['link']): queue for queue in shown['queues']}
+        links = {int(link['link']): link for link in shown['links']}
+        nodes = {int(node['node']): node for node in shown['nodes']}
+        for words in dump:
+            told = signs(words)
+            if words[0] == 'link':
+                number = int(words[1])
+                waiting = [] if told['queue'] == '-' else told['queue'].split(',')
+                queue, limit = queues[number], scenario.links[number].capacity
+                self.assertEqual((queue['length'], queue['limit'], queue['boxes'], queue['text']),
+                                 (str(len(waiting)), str(limit), waiting[:int(queue['most'])], f'{len(waiting):,}/{limit:,}'), where)
+                self.assertGreaterEqual(int(queue['most']), 8, where)
+                self.assertEqual(queue['words'], [word.split(':')[0] for word in queue['boxes']], where)
+                self.assertEqual((links[number]['offered'], links[number]['sent']), (told['offered'], told['sent']), where)
+            elif words[0] == 'node' and words[2] == 'sender':
+                node = nodes[int(words[1])]
+                self.assertEqual([words[3]] + [told[key] for key in ('una', 'nxt', 'high', 'cwnd', 'ssthresh', 'dups', 'fr')],
+                                 [node[key] for key in ('flow', 'una', 'nxt', 'high', 'cwnd', 'ssthresh', 'dups', 'recovery')],
+                                 where)
+            elif words[0] == 'node' and words[2] == 'receiver':
+                node = nodes[int(words[1])]
+                self.assertEqual((words[3], told['next']), (node['flow'], node['next']), where)
+        drops = [word[5:] for word in (lines[position - 1].split(' ') if position else []) if word.startswith('drop=')]
+        self.assertEqual(sorted(drops), sorted(f'{d["reason"]}:{d["flow"]}:{d["number"]}' for d in shown['drops']), where)
+        self.compare_words_of_drops(shown['drops'], where)
+
+    def compare_words_of_drops(self, drops, where):
+        """The drops of one event at one link have their words once, at the last of them."""
+        groups = {}
+        for drop in drops:
+            groups.setdefault((drop['event'], drop['link']), []).append(drop)
+        for group in groups.values():
+            more = f' +{len(group) - 1}' if len(group) > 1 else ''
+            last = group[-1]
+            self.assertEqual([drop['text'] for drop in group if 'text' in drop],
+                             [f'\u2715 {last["reason"]} {last["flow"]}:{last["number"]}{more}'], where)
+
+    def compare_packets(self, scenario, shown, dump, now, where):
+        told = sorted((int(w[3]) - 1, int(w[4]), int(w[6]), w[5], int(w[7]), int(w[1]))
+                      for w in dump if w[0] == 'event' and w[3] != '0')
+        drawn = {(int(p['link']), int(p['count']), int(p['flow']), p['sort'], int(p['number']), int(p['arrives'])): p
+                 for p in shown['packets']}
+        self.assertEqual(told, sorted(drawn), where)
+        ways = {int(link['link']): [tuple(map(float, point.split(','))) for point in link['way'].split(' ')]
+                for link in shown['links']}
+        for (link, _, flow, sort, _, arrives), packet in drawn.items():
+            size = 40 + (scenario.flows[flow].mss if sort == 'data' else 0)
+            took = -(-size * 8 * 10**9 // scenario.links[link].rate) + scenario.links[link].delay
+            part = (now - (arrives - took)) / took
+            self.assertAlmostEqual(float(packet['place']), part, places=5, msg=where)
+            at = tuple(map(float, packet['transform'][len('translate('):-1].split(',')))
+            for found, told in zip(at, point_at(ways[link], part)):
+                self.assertAlmostEqual(found, told, delta=.02, msg=where)
+            self.assertEqual(packet['squares'], int(sort == 'data'), where)
+            self.assertEqual(packet['rings'], int(packet['again']), where)
+            self.assertEqual(packet['word'], str(flow), where)
+
+    def walk(self, name):
+        scenario, _ = recording.read_scenario(example(name)[0])
+        with open(example(name)[1], encoding='ascii') as file:
+            lines = file.read().splitlines()[:-1]
+        positions = positions_of(name, len(lines))
+        self.assertEqual(len(positions), POSITIONS)
+        self.browser.open(self.made(name), f'#event={positions[0]}')
+        at = positions[0]
+        for number, (position, dump) in enumerate(zip(positions, dumps(name, positions))):
+            if number and number < 34 and abs(position - at) == 1:
+                self.browser.press('ArrowRight' if position > at else 'ArrowLeft')
+            elif number:
+                self.browser.go(position)
+            at = position
+            self.compare(name, scenario, lines, position, self.browser.shown(), dump)
+
+    def test_forwards_backwards_and_jumps(self):
+        for name in COMPARED:
+            with self.subTest(name):
+                self.walk(name)
+
+    def test_every_example_at_three_moments(self):
+        """The other examples: one early, one in the middle, one late event."""
+        for name in sorted(file[:-6] for file in os.listdir(EXAMPLES) if file.endswith('.trace')):
+            scenario, _ = recording.read_scenario(example(name)[0])
+            with open(example(name)[1], encoding='ascii') as file:
+                lines = file.read().splitlines()[:-1]
+            chosen = [len(lines) // 10 + 1, len(lines) // 2, len(lines)]
+            self.browser.open(self.made(name))
+            for position, dump in zip(chosen, dumps(name, chosen)):
+                with self.subTest(f'{name}, {position}'):
+                    self.browser.go(position)
+                    self.compare(name, scenario, lines, position, self.browser.shown(), dump)
+
+    def test_no_label_lies_over_another(self):
+        """Every example's page at 1,280 by 720: where most was dropped at once, where most packets wait, at
+        the last timeout or at the end, and with the words of the first stall. (The words of a line with drops
+        may want scrolling.)"""
+        for name in sorted(file[:-6] for file in os.listdir(EXAMPLES) if file.endswith('.trace')):
+            self.browser.open(self.made(name))
+            for moment in json.loads(self.browser.value(MOMENTS)):
+                with self.subTest(f'{name}, event {moment}'):
+                    self.browser.go(moment)
+                    self.assertEqual(collisions(json.loads(self.browser.value(SEEN))), [])
+            self.browser.press('Home')
+            self.browser.press('s')
+            with self.subTest(f'{name}, stall'):
+                self.assertNotEqual(self.browser.shown()['notice'], '')
+                self.assertEqual(collisions(json.loads(self.browser.value(SEEN))), [])
+
+    def test_columns(self):
+        """By hand: senders first, then the routers p, q, u in a row; rb is behind q, ra and rc behind u."""
+        self.browser.open(self.made('parking_lot_of_three_routers'))
+        columns = json.loads(self.browser.value('JSON.stringify(page.net.places.map(place => place.column))'))
+        self.assertEqual(columns, [1, 2, 3, 0, 4, 0, 3, 0, 4])
+
+    def test_ticks_draw_curves(self):
+        self.browser.open(self.made('parking_lot_of_three_routers'))
+        paths = 'document.querySelectorAll("{} path[stroke]").length'.format
+        self.assertEqual((self.browser.value(paths('#windows')), self.browser.value(paths('#lengths'))), (6, 2))
+        self.browser.click('document.querySelector("#flows input")')
+        self.browser.click('document.querySelector("#links input")')
+        self.assertEqual((self.browser.value(paths('#windows')), self.browser.value(paths('#lengths'))), (4, 1))
+
+    def test_curves_are_the_traces(self):
+        """cwnd at each sender's line, and the greatest length of each queue."""
+        name = 'four_flows_share_codel'
+        run = read_run(*example(name))
+        self.browser.open(self.made(name))
+        for number, flow in enumerate(run.flows):
+            curve = json.loads(self.browser.value(
+                f'JSON.stringify(page.record.curve(page.record.ofFlow({number}, CWND)))'))
+            changes = [(time, now) for time, now, before in zip(flow.times, flow.cwnd, [4000, *flow.cwnd])
+                       if now != before]
+            self.assertEqual(list(zip(curve['times'], curve['values']))[1:], changes)
+        longest = json.loads(self.browser.value('JSON.stringify(page.record.longest)'))
+        self.assertEqual([max(link.queue, default=0) for link in run.links],
+                         json.loads(self.browser.value('JSON.stringify(page.facts.links.map((_, l) => '
+                                                       'd3.max(page.record.queueCurve(l).values)))')))
+        self.assertTrue(all(a >= max(link.queue, default=0) for a, link in zip(longest, run.links)))
+
+    def test_from_a_moment_on(self):
+        name, scenario = 'four_flows_share_codel', recording.read_scenario(example('four_flows_share_codel')[0])[0]
+        with open(example(name)[1], encoding='ascii') as file:
+            lines = file.read().splitlines()[:-1]
+        self.browser.open(self.made(name, '--from', '2s', '--to', '3s'))
+        first = sum(int(line.split()[1]) < 2 * 10**9 for line in lines)
+        last = sum(int(line.split()[1]) < 3 * 10**9 for line in lines)
+        self.assertEqual(int(self.browser.shown()['event']), first)
+        chosen = sorted(random.Random(3).sample(range(first + 1, last + 1), 12), key=lambda n: n % 7)
+        for position, dump in zip(chosen, dumps(name, chosen)):
+            self.browser.go(position)
+            self.compare(name, scenario, lines, position, self.browser.shown(), dump)
+        for asked, found in ((0, first), (10**6, last)):
+            self.browser.go(asked)
+            self.assertEqual(int(self.browser.shown()['event']), found)
+
+    def test_address_past_the_end_and_no_number(self):
+        path = self.made('two_timeouts_in_a_row')
+        self.browser.open(path, '#event=99999999')
+        self.assertEqual((self.browser.shown()['event'], self.browser.shown()['hash']), ('51', '#event=51'))
+        self.browser.open(path, '#event=x')
+        self.assertEqual(self.browser.shown()['event'], '0')
+
+    def test_keys_find_drops_timeouts_and_stalls(self):
+        """The example's hunt (docs/DEBUGGING.md): drops at 6, 10 and 26, timeouts at 26 and 27, and
+        between lines 18 and 31 no new acknowledgement."""
+        self.browser.open(self.made('two_timeouts_in_a_row'))
+        found = []
+        for key in 'ddddrrRDs':
+            if key == 'r' and found and len(found) == 4:
+                self.browser.press('Home')
+            self.browser.press(key)
+            found.append(int(self.browser.shown()['event']))
+        self.assertEqual(found[:3], [6, 10, 26])
+        self.assertEqual(found[3], 26)
+        self.assertEqual(found[4:8], [26, 27, 26, 10])
+        self.assertEqual(found[8], 18)         # una rose in line 18 and not again before line 31
+        self.assertIn('no new acknowledgement for 3.003080 s', self.browser.shown()['notice'])
+
+    def visited(self, key):
+        """The moments, in nanoseconds, to which a key leads from the page's first event on."""
+        self.browser.press('Home')
+        found, last = [], None
+        while True:
+            self.browser.press(key)
+            event, time_ns = json.loads(self.browser.value(
+                'JSON.stringify([page.record.at, page.record.timeOf(page.record.at)])'))
+            if event == last:
+                return found
+            found.append(time_ns)
+            last = event
+
+    def test_stalls_are_those_of_stalls_py(self):
+        """`s` visits the moments from which tcpsim-stalls says that a flow stood still, in every example."""
+        for name in sorted(file[:-6] for file in os.listdir(EXAMPLES) if file.endswith('.trace')):
+            with self.subTest(name):
+                rows = self.rows_of_stalls(name)
+                self.browser.open(self.made(name))
+                told = json.loads(self.browser.value('JSON.stringify(page.record.stalls.map(s => '
+                                                     '[page.facts.flows[s.flow].name, s.from, s.to]))'))
+                self.assertEqual(sorted(told), sorted(rows))
+                # Where there is no stall `s` stays before the first event, at 0.
+                self.assertEqual(self.visited('s'), sorted(row[1] for row in rows) or [0])
+                self.assertIn('no stall after this event', self.browser.shown()['notice'])
+
+    def rows_of_stalls(self, name, *words):
+        done = subprocess.run([sys.executable, os.path.join(BIN, 'tcpsim-stalls'), *example(name), '--csv', *words],
+                              capture_output=True, text=True, check=True)
+        return [[row['flow'], int(row['from']), int(row['to'])] for row in csv.DictReader(io.StringIO(done.stdout))]
+
+    def test_stalls_of_a_part(self):
+        """Those that begin within the part, with the moments that they have in the whole run."""
+        name, begin, end = 'four_flows_share_codel', 2 * 10**9, 7 * 10**9
+        self.browser.open(self.made(name, '--from', '2s', '--to', '7s'))
+        told = json.loads(self.browser.value('JSON.stringify(page.record.stalls.map(s => '
+                                             '[page.facts.flows[s.flow].name, s.from, s.to]))'))
+        last = self.browser.value('page.record.times[page.record.count]')
+        rows = [[flow, since, min(to, last)] for flow, since, to in self.rows_of_stalls(name)
+                if begin <= since < end and min(to, last) - since > 2 * 10**8]
+        self.assertGreater(len(rows), 10)
+        self.assertEqual(sorted(told), sorted(rows))
+
+    def test_clicks_say_words_and_commands(self):
+        self.browser.open(self.made('two_timeouts_in_a_row'), '#event=27')
+        words = 'document.getElementById("words").textContent'
+        for script, says in (
+                ('document.querySelector("#lines li.present")', ('retransmission timer', 'RFC 6298 section 5', 'step 27')),
+                ('document.querySelector(".packet")', ('segment 4,000', 'was sent before', 'step 27')),
+                ('document.querySelector(".node.sender")', ('congestion window', 'step 27', 'until 3006200000')),
+                ('document.querySelector(".queue .count")', ('0 of at most 10', 'of link a, drop-tail', 'step 27'))):
+            self.browser.click(script)
+            for word in says:
+                self.assertIn(word, self.browser.value(words))
+        shown = self.browser.shown()['packets']
+        self.assertEqual([(p['number'], p['rings']) for p in shown], [('4000', 1)])
+
+    def test_chart_goes_to_its_moment(self):
+        self.browser.open(self.made('two_timeouts_in_a_row'))
+        self.browser.click('document.querySelector("#windows .catch")')
+        # The middle of 3.0..s lies between the last event before the first timeout and that timeout's second.
+        self.assertIn(int(self.browser.shown()['event']), (26,))
+
+    def test_both_charts_go_to_their_moment(self):
+        self.browser.open(self.made('two_flows_share_fairly'))
+        for chart in ('windows', 'lengths'):
+            self.browser.click(f'document.querySelector("#{chart} .catch")')
+            times = json.loads(self.browser.value('JSON.stringify([page.time, page.record.timeOf(page.record.at), '
+                                                  'page.record.timeOf(page.record.at + 1), ...page.windows.x.domain()])'))
+            middle = (times[3] + times[4]) / 2
+            self.assertAlmostEqual(times[0], middle, delta=(times[4] - times[3]) / 400)
+            self.assertLess(times[1], times[0])
+            self.assertLessEqual(times[0], times[2])
+            self.browser.press('Home')
+
+    def test_speed(self):
+        """A thousandth to ten times real time, or events a second; what is shown keeps the pace."""
+        self.browser.open(self.made('two_flows_share_fairly'))
+        self.browser.value('''window.set = (unit, value) => {
+            page.unit.value = unit; page.unit.dispatchEvent(new Event('change'));
+            page.speed.value = value; page.speed.dispatchEvent(new Event('input')); }''')
+        said = 'document.getElementById("pace").textContent'
+        for unit, value, says in (('time', 0, '0.001 \u00d7'), ('time', 300, '1 \u00d7'), ('time', 400, '10 \u00d7'),
+                                  ('events', 0, '1 a second'), ('events', 400, '10000 a second')):
+            self.browser.value(f'set("{unit}", {value})')
+            self.assertEqual(self.browser.value(said), says)
+        for unit, value, measure, pace in (('time', 100, 'page.time', 10**7), ('events', 150, 'page.record.at', 31.6)):
+            self.browser.value(f'set("{unit}", {value})')
+            at, asked = self.browser.value(measure), time.monotonic()
+            self.browser.press(' ')
+            time.sleep(1.5)
+            self.browser.press(' ')
+            passed, moved = time.monotonic() - asked, self.browser.value(measure) - at
+            self.assertLess(moved, 1.1 * pace * passed)
+            self.assertGreater(moved, 0.3 * pace * passed)
+
+    def test_space_plays_and_pauses(self):
+        self.browser.open(self.made('slow_start_into_a_full_queue'))
+        self.browser.press(' ')
+        time.sleep(.6)
+        self.browser.press(' ')
+        shown = int(self.browser.shown()['event'])
+        self.assertGreater(shown, 0)
+        time.sleep(.2)
+        self.assertEqual(int(self.browser.shown()['event']), shown)
+
+
+def draw_pictures():
+    """A picture of each compared example, and of its page at 1,280 by 720."""
+    folder = tempfile.mkdtemp(prefix='replay')
+    browser = Browser(os.path.join(folder, 'profile'))
+    try:
+        for name, event in COMPARED.items():
+            out = os.path.join(folder, 'a.html')
+            subprocess.run([sys.executable, os.path.join(BIN, 'tcpsim-replay'), *example(name), '-o', out],
+                           check=True, capture_output=True)
+            browser.open(out, f'#event={event}')
+            browser.picture(os.path.join(PICTURES, f'replay_{name}.png'))
+    finally:
+        browser.close()
+        shutil.rmtree(folder, True)
+
+
+def main():
+    if '--pictures' in sys.argv:
+        if not (CHROMIUM and HAS_D3):
+            print('test_replay.py: no Chromium or no d3: apt-get install chromium libjs-d3', file=sys.stderr)
+            return 1
+        draw_pictures()
+        return 0
+    if not (CHROMIUM and HAS_D3):
+        print('LEFT OUT, not passed: the tests of the replay page in a browser (apt-get install chromium libjs-d3)')
+    result = unittest.main(argv=sys.argv, exit=False, verbosity=0).result
+    failed = len({getattr(test, 'test_case', test).id() for test, _ in result.failures + result.errors})
+    print(f'{result.testsRun - failed - len(result.skipped)} passed, {failed} failed')
+    return 1 if failed else 0
+
+
+if __name__ == '__main__':
+    sys.exit(main())
