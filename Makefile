@@ -63,8 +63,8 @@ install:
 	install -D -m 644 "$$it" '$(DESTDIR)$(PREFIX)/lib/tcpsim/'"$${it#python/}" || exit 1; done
 	install -m 755 $(TOOLS:%=bin/tcpsim-%) '$(DESTDIR)$(PREFIX)/bin'
 	install -m 644 man/*.1 '$(DESTDIR)$(PREFIX)/share/man/man1'
-	@for it in README.md docs/*.md docs/pictures/* bench/*.md examples/* python/tcpsim_model/README.md \
-	$$(find editors -type f); do \
+	@for it in README.md docs/*.md docs/pictures/* bench/*.md examples/* dev/README.md python/README.md \
+	python/tcpsim_model/README.md $$(find editors -type f); do \
 	install -D -m 644 "$$it" '$(DESTDIR)$(PREFIX)/$(DOCUMENTS)/'"$$it" || exit 1; done
 	install -m 644 completions/tcpsim.bash '$(DESTDIR)$(PREFIX)/$(BASH_COMPLETIONS)/tcpsim'
 	install -D -m 644 completions/_tcpsim '$(DESTDIR)$(PREFIX)/$(ZSH_COMPLETION)'
