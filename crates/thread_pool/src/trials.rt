@@ -1,0 +1,163 @@
+//! Tests of the pool. Who waits looks once before it sleeps, so that it sleeps nearly each time, and a wake-up that were
+//! lost would end no test.
+
+use crate::{ThreadPool, Worker, run_workers};
+use std::process::Abort;
+use std::sync::Wait;
+use std::sync::atomic::AtomicU64;
+use std::sync::atomic::Ordering::SeqCst;
+use std::thread::{Threads, join, join_mut};
+
+/// Adds up the numbers that it is given.
+#[derive(Drop)]
+struct Sum {
+    /// How many there were.
+    jobs: AtomicU64,
+    /// What they are together.
+    sum: AtomicU64,
+}
+
+impl Sum {
+    /// There were none.
+    fn new() -> Sum {
+        Sum {
+            jobs: AtomicU64::new(0),
+            sum: AtomicU64::new(0),
+        }
+    }
+
+    /// How many there were, and what they are together.
+    fn found(&self) -> (u64, u64) {
+        (self.jobs.load(SeqCst), self.sum.load(SeqCst))
+    }
+}
+
+impl Worker<u64> for Sum {
+    fn carry_out(&self, job: u64) {
+        self.sum.fetch_add(job, SeqCst);
+        self.jobs.fetch_add(1, SeqCst);
+    }
+}
+
+// A pool for so many workers.
+fn pool_of(rt: &(impl Abort + AllocGlobal), workers: usize) -> ThreadPool<u64> {
+    ThreadPool::new(rt.alloc(), workers, 1).expect(rt, "a pool")
+}
+
+// Gives each worker so many jobs, and waits for each of them; none is taken back. Each has been carried out then.
+fn give_all<R: Wait + Abort>(rt: &R, pool: &ThreadPool<u64>, sum: &Sum, rounds: u64) {
+    let mut given = 0u64;
+    for round in 0..rounds {
+        for worker in 0..pool.workers() {
+            assert!(rt; pool.give(rt, worker, round).is_none());
+            given = given.saturating_add(1);
+        }
+        pool.rest(rt);
+        assert_eq!(rt; sum.found().0, given);
+    }
+    pool.end(rt);
+}
+
+// The same while so many workers wait for jobs. All go then.
+fn expect_carried_out<R: Threads + Wait + Abort + AllocGlobal + Sync>(
+    rt: &R,
+    workers: usize,
+    rounds: u64,
+) {
+    let pool = pool_of(rt, workers);
+    let sum = Sum::new();
+    join(
+        rt,
+        || run_workers(rt, &sum, &pool),
+        || give_all(rt, &pool, &sum, rounds),
+    );
+    drop(pool);
+}
+
+#[test]
+fn each_job_is_waited_for(rt: HostRuntime) {
+    expect_carried_out(&rt, 1, 500_000);
+}
+
+#[test]
+fn each_job_is_waited_for_again(rt: HostRuntime) {
+    expect_carried_out(&rt, 1, 500_000);
+}
+
+#[test]
+fn jobs_of_several_workers_are_waited_for(rt: HostRuntime) {
+    expect_carried_out(&rt, 2, 100_000);
+    expect_carried_out(&rt, 3, 50_000);
+}
+
+// So many ends of a pool of so many workers that have nothing to do.
+fn expect_gone<R: Threads + Wait + Abort + AllocGlobal + Sync>(rt: &R, workers: usize, ends: u64) {
+    for _ in 0..ends {
+        expect_carried_out(rt, workers, 0);
+    }
+}
+
+#[test]
+fn a_worker_goes(rt: HostRuntime) {
+    expect_gone(&rt, 1, 10_000);
+}
+
+#[test]
+fn two_workers_go(rt: HostRuntime) {
+    expect_gone(&rt, 2, 10_000);
+}
+
+// Each job is carried out or taken back, and not both.
+#[test]
+fn what_is_taken_back_is_not_carried_out(rt: HostRuntime) {
+    let (pool, sum) = (&pool_of(&rt, 2), &Sum::new());
+    let mut back = (0u64, 0u64);
+    join_mut(
+        &rt,
+        &mut || run_workers(&rt, sum, pool),
+        &mut || {
+            for job in 0..100_000 {
+                for worker in 0..2 {
+                    assert!(rt; pool.give(&rt, worker, job).is_none());
+                }
+                for worker in 0..2 {
+                    if let Some(job) = pool.take_back(&rt, worker) {
+                        back = (back.0.saturating_add(1), back.1.saturating_add(job));
+                    }
+                }
+                pool.rest(&rt);
+            }
+            pool.end(&rt);
+        },
+    );
+    let (jobs, numbers) = sum.found();
+    assert_eq!(rt; jobs.saturating_add(back.0), 200_000);
+    assert_eq!(rt; numbers.saturating_add(back.1), 9_999_900_000);
+}
+
+#[test]
+fn a_job_that_cannot_be_given_is_the_answer(rt: HostRuntime) {
+    let pool = pool_of(&rt, 2);
+    assert!(rt; pool.give(&rt, 2, 5) == Some(5));
+    assert!(rt; pool.give(&rt, 1, 6).is_none());
+    assert!(rt; pool.give(&rt, 1, 7) == Some(7));
+    assert!(rt; pool.take_back(&rt, 0).is_none());
+    assert!(rt; pool.take_back(&rt, 1) == Some(6));
+    assert!(rt; pool.take_back(&rt, 1).is_none());
+    // None of them is left to be carried out.
+    pool.rest(&rt);
+    pool.end(&rt);
+    assert!(rt; pool.give(&rt, 0, 8) == Some(8));
+    drop(pool);
+}
+
+#[test]
+fn what_lies_in_a_mailbox_is_carried_out_before_its_worker_goes(rt: HostRuntime) {
+    let (pool, sum) = (pool_of(&rt, 1), Sum::new());
+    assert!(rt; pool.give(&rt, 0, 9).is_none());
+    pool.end(&rt);
+    run_workers(&rt, &sum, &pool);
+    assert!(rt; sum.found() == (1, 9));
+    pool.rest(&rt);
+    drop(pool);
+}
