@@ -19,4 +19,4 @@ pub mod OneByOne
 pub mod Meant
 pub mod Desks
 pub mod DeskSent
-pub mod HallSent
+pub mod PoolSent

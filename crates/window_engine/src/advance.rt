@@ -17,7 +17,6 @@ ghost use Rattle.window_engine.specs.Laid.{laid_for, HasRun, HasRunOr, HasFullGr
 
 use crate::fault::{EngineFault, group_fault};
 use crate::gate::Gate;
-use crate::hall::Hall;
 use crate::lines::Lines;
 use crate::order::Order;
 use crate::owed::Owed;
@@ -28,6 +27,7 @@ use sim_time::Time;
 use std::alloc::{AllocError, Global};
 use std::snapshot::Snapshot;
 use std::sync::Wait;
+use thread_pool::ThreadPool;
 use window_core::{Group, GroupFault, Sheaf, Window};
 use work_board::Piece;
 
@@ -78,12 +78,12 @@ fn run_in_turn<G: Gate>(gate: &G, window: &mut Window) -> Result<(), EngineFault
     Ok(())
 }
 
-/// Takes the groups out, has workers, the calling thread and threads of a hall, run them up to the window's
+/// Takes the groups out, has workers, the calling thread and threads of a pool, run them up to the window's
 /// end and then make the text of a sheaf's lines, and puts them back; the text of the window before is
 /// written meanwhile. After a fault they are out.
 pub(crate) fn run_apart<G: Gate, R: Wait, S: Sink>(
     rt: &R,
-    hall: &Hall<Order>,
+    pool: &ThreadPool<Order>,
     alloc: Global,
     workers: usize,
     gate: &G,
@@ -113,7 +113,7 @@ pub(crate) fn run_apart<G: Gate, R: Wait, S: Sink>(
     let end = window.end();
     let pieces = pieces_of(alloc, window.take_groups(), end)?;
     let groups = run_pieces(
-        rt, hall, alloc, workers, gate, pieces, sheaf, scribes, owed, before, sink,
+        rt, pool, alloc, workers, gate, pieces, sheaf, scribes, owed, before, sink,
     )?;
     window.put_groups(groups);
     Ok(())

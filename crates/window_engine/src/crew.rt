@@ -12,25 +12,29 @@ ghost use Rattle.window_engine.specs.Parts.{AreRight};
 use crate::advance::run_apart;
 use crate::fault::EngineFault;
 use crate::gate::Gate;
-use crate::hall::Hall;
 use crate::hands::{hands, most_hands};
 use crate::order::Order;
 use crate::owed::Owed;
 use crate::scribe::Scribe;
 use crate::sink::{Nowhere, Sink};
-use crate::sweep::keep_hall;
+use crate::sweep::keep_workers;
 use sim_time::Time;
 use std::alloc::{AllocError, Global};
 use std::snapshot::Snapshot;
 use std::sync::Wait;
 use std::thread::{Threads, available_parallelism, join_mut};
+use thread_pool::ThreadPool;
 use window_core::{Sheaf, Window};
 
+/// How often a thread looks whether it was told of something before it sleeps: for some hundred microseconds, since
+/// between two windows some tens pass.
+const LOOKS: u32 = 32_768;
+
 /// Whether threads are to share a window which so many workers are to run, and none wait for orders.
-pub(crate) fn lacks_threads(hall: Option<&Hall<Order>>, hands: usize) -> bool
-    ensures { result ≡ true → hall.entry ≡ None }
+pub(crate) fn lacks_threads(pool: Option<&ThreadPool<Order>>, hands: usize) -> bool
+    ensures { result ≡ true → pool.entry ≡ None }
 {
-    match hall {
+    match pool {
         Some(_) => false,
         None => hands > 1,
     }
@@ -72,8 +76,8 @@ impl<'a, R: Threads + Wait + Sync, G: Gate> Crew<'a, R, G> {
         hands(window, self.workers, worth, shared, processors, until)
     }
 
-    /// A hall for all threads that may share windows of as many groups with the calling one. None is started.
-    pub(crate) fn hall_for(&self, window: &Window) -> Result<Hall<Order>, AllocError>
+    /// A pool for all threads that may share windows of as many groups with the calling one. None is started.
+    pub(crate) fn pool_for(&self, window: &Window) -> Result<ThreadPool<Order>, AllocError>
         requires { window.now.out ≡ false }
     {
         let most = if self.gate.worth() == 0 {
@@ -82,15 +86,15 @@ impl<'a, R: Threads + Wait + Sync, G: Gate> Crew<'a, R, G> {
             self.workers
                 .min(most_hands(window.groups(), self.processors))
         };
-        Hall::new(self.alloc, most.saturating_sub(1))
+        ThreadPool::new(self.alloc, most.saturating_sub(1), LOOKS)
     }
 
-    /// Has so many workers, the calling thread and threads of a hall, run the groups up to the window's end
+    /// Has so many workers, the calling thread and threads of a pool, run the groups up to the window's end
     /// or a moment that is sooner, and then make the text of a sheaf's lines; the text of the window before is
     /// written meanwhile. After a fault the groups may be out.
     pub(crate) fn run_shared<S: Sink>(
         &self,
-        hall: &Hall<Order>,
+        pool: &ThreadPool<Order>,
         hands: usize,
         until: Time,
         window: &mut Window,
@@ -118,7 +122,7 @@ impl<'a, R: Threads + Wait + Sync, G: Gate> Crew<'a, R, G> {
         window.limit(until);
         let _limited = window.position();
         run_apart(
-            self.rt, hall, self.alloc, hands, self.gate, window, sheaf, scribes, owed, before, sink,
+            self.rt, pool, self.alloc, hands, self.gate, window, sheaf, scribes, owed, before, sink,
         )?;
         Ok(true)
     }
@@ -126,7 +130,7 @@ impl<'a, R: Threads + Wait + Sync, G: Gate> Crew<'a, R, G> {
     /// The same, where threads wait for orders and several workers are to run the window: else that is left as it was.
     pub(crate) fn run_or_leave<S: Sink>(
         &self,
-        hall: Option<&Hall<Order>>,
+        pool: Option<&ThreadPool<Order>>,
         hands: usize,
         until: Time,
         window: &mut Window,
@@ -150,9 +154,9 @@ impl<'a, R: Threads + Wait + Sync, G: Gate> Crew<'a, R, G> {
         ensures owes { Owes owed.new (S.contents before.now.value) (S.contents sink.new) (S.failures before.now.value) (S.failures sink.new) }
         ensures same { owed.new ≡ record owed.old { put = owed.new.put } }
     {
-        match hall {
-            Some(hall) if hands > 1 => self.run_shared(
-                hall, hands, until, window, sheaf, scribes, owed, before, sink,
+        match pool {
+            Some(pool) if hands > 1 => self.run_shared(
+                pool, hands, until, window, sheaf, scribes, owed, before, sink,
             ),
             _ => Ok(false),
         }
@@ -178,13 +182,13 @@ impl<'a, R: Threads + Wait + Sync, G: Gate> Crew<'a, R, G> {
         ensures sheaf { sheaf.new ≡ sheaf.old }
         ensures right { AreRight sheaf.new scribes.new.items }
     {
-        let Ok(hall) = Hall::new(self.alloc, hands.saturating_sub(1)) else {
+        let Ok(pool) = ThreadPool::new(self.alloc, hands.saturating_sub(1), LOOKS) else {
             return Err(EngineFault::NoMemory);
         };
-        let (rt, gate, hall, alloc) = (self.rt, self.gate, &hall, self.alloc);
+        let (rt, gate, pool, alloc) = (self.rt, self.gate, &pool, self.alloc);
         let (_, ran) = join_mut(
             rt,
-            &mut || keep_hall(rt, gate, hall),
+            &mut || keep_workers(rt, gate, pool),
             &mut || -> Result<bool, EngineFault>
                 requires hands { (1 < hands) × (hands ≤ self.now.workers) }
                 requires edge { IsAtEdge window.now }
@@ -201,11 +205,11 @@ impl<'a, R: Threads + Wait + Sync, G: Gate> Crew<'a, R, G> {
                 let before = Snapshot::of(&sink);
                 let ran = match Owed::new(alloc) {
                     Ok(mut owed) => self.run_shared(
-                        hall, hands, until, window, sheaf, scribes, &mut owed, &before, &mut sink,
+                        pool, hands, until, window, sheaf, scribes, &mut owed, &before, &mut sink,
                     ),
                     Err(_) => Err(EngineFault::NoMemory),
                 };
-                hall.end(rt);
+                pool.end(rt);
                 ran
             },
         );

@@ -9,7 +9,6 @@ mod engine;
 mod fault;
 mod gate;
 mod gather;
-mod hall;
 mod hands;
 mod lines;
 mod meeting;

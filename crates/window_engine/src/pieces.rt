@@ -8,7 +8,6 @@ ghost use Rattle.window_engine.specs.Parts.{AreRight};
 use crate::fault::EngineFault;
 use crate::gate::Gate;
 use crate::gather::gather;
-use crate::hall::Hall;
 use crate::order::Order;
 use crate::owed::Owed;
 use crate::scribe::Scribe;
@@ -17,15 +16,16 @@ use crate::sweep::sweep;
 use std::alloc::Global;
 use std::snapshot::Snapshot;
 use std::sync::Wait;
+use thread_pool::ThreadPool;
 use window_core::{Group, Sheaf};
 use work_board::{Board, Piece};
 
-/// Runs the pieces by so many workers, the calling thread and threads of a hall, which then make the text
+/// Runs the pieces by so many workers, the calling thread and threads of a pool, which then make the text
 /// of a sheaf's lines; that of the window before is written meanwhile. Then each piece is done, and its group comes back in its place. A refusal gives them
 /// up.
 pub(crate) fn run_pieces<G: Gate, R: Wait, S: Sink>(
     rt: &R,
-    hall: &Hall<Order>,
+    pool: &ThreadPool<Order>,
     alloc: Global,
     workers: usize,
     gate: &G,
@@ -54,7 +54,7 @@ pub(crate) fn run_pieces<G: Gate, R: Wait, S: Sink>(
         return Err(EngineFault::NoMemory);
     };
     let Ok((board, seat)) = sweep(
-        rt, hall, workers, gate, board, seat, sheaf, scribes, owed, before, sink,
+        rt, pool, workers, gate, board, seat, sheaf, scribes, owed, before, sink,
     ) else {
         return Err(EngineFault::NoMemory);
     };

@@ -22,12 +22,11 @@ use crate::course::{Course, Plan, WriteFault, told};
 use crate::crew::{Crew, lacks_threads};
 use crate::fault::{EngineFault, Stop};
 use crate::gate::Gate;
-use crate::hall::Hall;
 use crate::order::Order;
 use crate::owed::Owed;
 use crate::sink::Sink;
 use crate::slice::FIRST_SLICE;
-use crate::sweep::keep_hall;
+use crate::sweep::keep_workers;
 use crate::text::Text;
 use sim_time::Time;
 use std::alloc::AllocError;
@@ -35,6 +34,7 @@ use std::mem::swap;
 use std::snapshot::Snapshot;
 use std::sync::Wait;
 use std::thread::{Threads, join_mut};
+use thread_pool::ThreadPool;
 use window_core::{Sheaf, Window};
 
 /// How far a call's windows are.
@@ -454,7 +454,7 @@ impl Course {
     fn write_on<G: Gate, S: Sink, R: Threads + Wait + Sync>(
         &mut self,
         crew: &Crew<R, G>,
-        hall: Option<&Hall<Order>>,
+        pool: Option<&ThreadPool<Order>>,
         until: Time,
         began: &Snapshot<Course>,
         known: &Snapshot<S>,
@@ -463,7 +463,7 @@ impl Course {
     ) -> Stage
         requires owing { AwaitsSink until began.now.value self.old writing.old.owed writing.old.written (S.contents known.now.value) (S.contents sink.old) (S.failures known.now.value) (S.failures sink.old) }
         ensures stands { StandsAt crew.now.workers until began.now.value self.new writing.new.owed writing.new.written (S.contents known.now.value) (S.contents sink.new) (S.failures known.now.value) (S.failures sink.new) result }
-        ensures shared { result ≡ Stage.ToShare → hall.entry ≡ None }
+        ensures shared { result ≡ Stage.ToShare → pool.entry ≡ None }
     {
         loop {
             match self.write_singly_owing(crew.workers, until, began, known, writing, sink) {
@@ -490,13 +490,13 @@ impl Course {
             };
             let shared = self.sheaf.beside_most();
             let hands = crew.hands(&self.window, shared, self.sheaf.len(), plan.bound);
-            if lacks_threads(hall, hands) {
+            if lacks_threads(pool, hands) {
                 return Stage::ToShare;
             }
             let _reached = self.window.position();
             writing.text.clear(&self.sheaf);
             let ran = crew.run_or_leave(
-                hall,
+                pool,
                 hands,
                 plan.bound,
                 &mut self.window,
@@ -544,7 +544,7 @@ impl Course {
     fn write_shared<G: Gate, S: Sink, R: Threads + Wait + Sync>(
         &mut self,
         crew: &Crew<R, G>,
-        hall: &Hall<Order>,
+        pool: &ThreadPool<Order>,
         until: Time,
         began: &Snapshot<Course>,
         known: &Snapshot<S>,
@@ -554,8 +554,8 @@ impl Course {
         requires owing { AwaitsSink until began.now.value self.old writing.old.owed writing.old.written (S.contents known.now.value) (S.contents sink.old) (S.failures known.now.value) (S.failures sink.old) }
         ensures { HasEnded crew.now.workers until began.now.value self.new result (S.contents known.now.value) (S.contents sink.new) (S.failures known.now.value) (S.failures sink.new) }
     {
-        let stage = self.write_on(crew, Some(hall), until, began, known, writing, sink);
-        hall.end(crew.rt);
+        let stage = self.write_on(crew, Some(pool), until, began, known, writing, sink);
+        pool.end(crew.rt);
         match stage {
             Stage::Ended(outcome) => outcome,
             Stage::ToShare => unreachable!(),
@@ -575,7 +575,7 @@ impl Course {
         requires owing { AwaitsSink until began.now.value self.old writing.old.owed writing.old.written (S.contents known.now.value) (S.contents sink.old) (S.failures known.now.value) (S.failures sink.old) }
         ensures { HasEnded crew.now.workers until began.now.value self.new result (S.contents known.now.value) (S.contents sink.new) (S.failures known.now.value) (S.failures sink.new) }
     {
-        let Ok(hall) = crew.hall_for(&self.window) else {
+        let Ok(pool) = crew.pool_for(&self.window) else {
             let (before, now) = (Snapshot::of(sink), Snapshot::of(&self.window));
             let (owed, written) = (&mut writing.owed, &mut writing.written);
             self.settle(
@@ -591,14 +591,14 @@ impl Course {
             )?;
             return Err(EngineFault::NoMemory);
         };
-        let (rt, gate, hall) = (crew.rt, crew.gate, &hall);
+        let (rt, gate, pool) = (crew.rt, crew.gate, &pool);
         let (_, outcome) = join_mut(
             rt,
-            &mut || keep_hall(rt, gate, hall),
+            &mut || keep_workers(rt, gate, pool),
             &mut || -> Result<Stop, EngineFault>
                 requires owing { AwaitsSink until began.now.value self.now writing.now.owed writing.now.written (S.contents known.now.value) (S.contents sink.now) (S.failures known.now.value) (S.failures sink.now) }
                 ensures { HasEnded crew.entry.now.workers until began.entry.now.value self.exit.now result (S.contents known.entry.now.value) (S.contents sink.exit.now) (S.failures known.entry.now.value) (S.failures sink.exit.now) }
-            { self.write_shared(crew, hall, until, began, known, writing, sink) },
+            { self.write_shared(crew, pool, until, began, known, writing, sink) },
         );
         outcome
     }

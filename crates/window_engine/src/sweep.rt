@@ -10,8 +10,7 @@ ghost use Rattle.window_engine.specs.Sweeps.{IsSwept};
 
 use crate::desk::{Desk, Pass};
 use crate::gate::Gate;
-use crate::hall::Hall;
-use crate::order::{Begin, Order, Tasks, serve};
+use crate::order::{Begin, GateWorker, Order, Tasks, serve};
 use crate::owed::Owed;
 use crate::parts::Parts;
 use crate::scribe::Scribe;
@@ -22,6 +21,7 @@ use std::snapshot::Snapshot;
 use std::sync::{Arc, Wait};
 use std::thread;
 use std::thread::Threads;
+use thread_pool::{ThreadPool, run_workers};
 use window_core::Sheaf;
 use work_board::{Board, Seat};
 
@@ -35,38 +35,19 @@ fn sole<T: Drop, R: Wait>(rt: &R, shared: Arc<T, Global>) -> T
             Ok(value) => return value,
             Err(still) => shared = still,
         }
+        // The others let go of it without waiting for anybody, so it needs no wake-up.
         thread::yield_now();
     }
     unreachable!()
 }
 
-/// Carries out what comes to a thread, until it may go.
-fn attend<G: Gate, R: Wait>(rt: &R, gate: &G, hall: &Hall<Order>, thread: usize) {
-    for _ in rt.forever() {
-        let Some(order) = hall.receive(rt, thread) else {
-            return;
-        };
-        order.carry_out(gate);
-        hall.carried_out(rt);
-    }
-}
-
-/// Starts the threads of a hall but the first, is that one itself, and ends once all have gone. Where one can't be
-/// started its orders are taken back.
-pub(crate) fn keep_hall<G: Gate, R: Threads + Wait + Sync>(rt: &R, gate: &G, hall: &Hall<Order>) {
-    thread::scope(thread::scope_env(), rt, |scope| {
-        let mut started = Vec::new(hall.allocator());
-        for thread in 1..hall.threads() {
-            if let Ok(handle) = scope.spawn(move || attend(rt, gate, hall, thread)) {
-                // Where there is no memory for it the scope waits for the thread.
-                let _ = started.push(handle);
-            }
-        }
-        attend(rt, gate, hall, 0);
-        for handle in started {
-            handle.join(rt);
-        }
-    });
+/// Is the first of a pool's workers, starts the others, and ends once all have gone.
+pub(crate) fn keep_workers<G: Gate, R: Threads + Wait + Sync>(
+    rt: &R,
+    gate: &G,
+    pool: &ThreadPool<Order>,
+) {
+    run_workers(rt, &GateWorker { gate }, pool);
 }
 
 /// Memory for a worker's text, that of the window before where there is some.
@@ -85,7 +66,7 @@ fn take_scribe(sheaf: &Sheaf, scribes: &mut Vec<Scribe>) -> Scribe
 /// pass.
 fn give_orders<R: Wait>(
     rt: &R,
-    hall: &Hall<Order>,
+    pool: &ThreadPool<Order>,
     tasks: &Arc<Tasks, Global>,
     workers: usize,
     seat: Seat,
@@ -116,28 +97,28 @@ fn give_orders<R: Wait>(
             scribe: take_scribe(&tasks.sheaf, scribes),
         };
         if let Ok(shared) = Arc::try_clone(tasks) {
-            let _ = hall.give(rt, thread, Order::new(shared, begin));
+            let _ = pool.give(rt, thread, Order::new(shared, begin));
         }
     }
     (seat, pass)
 }
 
 /// Takes back what threads have not begun, and waits for what they have.
-fn end_orders<G: Gate, R: Wait>(rt: &R, gate: &G, hall: &Hall<Order>, workers: usize) {
+fn end_orders<G: Gate, R: Wait>(rt: &R, gate: &G, pool: &ThreadPool<Order>, workers: usize) {
     for thread in 0..workers.saturating_sub(1) {
-        if let Some(order) = hall.take_back(rt, thread) {
+        if let Some(order) = pool.take_back(rt, thread) {
             order.carry_out(gate);
         }
     }
-    hall.rest(rt);
+    pool.rest(rt);
 }
 
 /// Has so many workers go over the board and then make the text of a sheaf's lines: the calling thread is one of
-/// them, and the others are threads of a hall. While they begin it writes the text of the window before. It waits for
+/// them, and the others are threads of a pool. While they begin it writes the text of the window before. It waits for
 /// all of them, and gives the board and its own seat back. The scribes are then what each made of the text.
 pub(crate) fn sweep<G: Gate, R: Wait, S: Sink>(
     rt: &R,
-    hall: &Hall<Order>,
+    pool: &ThreadPool<Order>,
     workers: usize,
     gate: &G,
     board: Board,
@@ -182,7 +163,7 @@ pub(crate) fn sweep<G: Gate, R: Wait, S: Sink>(
         }
     };
     let mut made = replace(scribes, Vec::new(alloc));
-    let (seat, pass) = give_orders(rt, hall, &tasks, workers, seat, pass, &mut made);
+    let (seat, pass) = give_orders(rt, pool, &tasks, workers, seat, pass, &mut made);
     tasks.parts.cut(&tasks.sheaf);
     let _ = owed.put(before, sink);
     let begin = Begin {
@@ -193,7 +174,7 @@ pub(crate) fn sweep<G: Gate, R: Wait, S: Sink>(
         scribe: take_scribe(&tasks.sheaf, &mut made),
     };
     let seat = serve(&tasks, gate, begin);
-    end_orders(rt, gate, hall, workers);
+    end_orders(rt, gate, pool, workers);
     let Tasks {
         board,
         parts: _,

@@ -4,11 +4,11 @@ use Rattle.window_core.specs.Window.{WindowValue}
 use Rattle.window_engine.specs.declared.course.Course.{Course}
 use Rattle.window_engine.specs.Courses.{IsWriting}
 use Rattle.window_engine.proofs.Called.{out_of_memory}
-use Rattle.window_engine.proofs.HallSent.{hall_sync}
+use Rattle.window_engine.proofs.PoolSent.{pool_sync}
 use Rattle.window_engine.proofs.course.Course.write_by_threads.Goals as goal
 
 pub join_mut-outcome-requires-send-F : goal.join_mut-outcome-requires-send-F
-join_mut-outcome-requires-send-F g c κs within = search (sendable, hall_sync) depth 30
+join_mut-outcome-requires-send-F g c κs within = search (sendable, pool_sync) depth 30
 
 pub returns-in_default : goal.returns-in_default
 returns-in_default g c =

@@ -1,15 +1,14 @@
--- An order may go to another thread, and so may a hall of orders be shared.
+-- An order may go to another thread, and so may a pool of orders be shared.
 use denote.Param.Send.{IsSend, IsSync, sendable, view_send}
 use denote.Param.SendFields.{declared_send, declared_sync}
 use Rattle.std.proofs.Crossing as heap
 use Rattle.std.proofs.Crossing.{crosses}
 use Rattle.line_merge.proofs.Sent.{sheaf_sync}
+use Rattle.thread_pool.specs.contracts.pool.ThreadPool as ThreadPool
 use Rattle.work_board.proofs.Sent.{board_sync, seat_send}
 use Rattle.window_engine.proofs.DeskSent.{board_send, desk_send, desk_sync, pass_send, sheaf_send}
 use Rattle.window_engine.proofs.parts.Parts.TheSendSync as parts
 use Rattle.window_engine.proofs.scribe.Scribe.TheSendSync as scribe
-use Rattle.window_engine.specs.contracts.hall.Hall as Hall
-use Rattle.window_engine.specs.contracts.hall.Post as Post
 use Rattle.window_engine.specs.contracts.order.Begin as Begin
 use Rattle.window_engine.specs.contracts.order.Order as Order
 use Rattle.window_engine.specs.contracts.order.Order.TheInside as InsideOrder
@@ -27,8 +26,5 @@ begin_send = declared_send Begin.the_type (seat_send, (pass_send, (search sendab
 pub order_send : IsSend Order.the_row
 order_send = view_send _ _ _ _ _ (declared_send InsideOrder.the_type (heap.Arc-send _ tasks_send tasks_sync, (begin_send, tt)))
 
-post_send : IsSend (Post.the_row Order.the_row)
-post_send = search (sendable, order_send) depth 30
-
-pub hall_sync : IsSync (Hall.the_row Order.the_row)
-hall_sync = search (sendable, crosses, post_send) depth 30
+pub pool_sync : IsSync (ThreadPool.the_row Order.the_row)
+pool_sync = search (sendable, crosses, order_send) depth 30
