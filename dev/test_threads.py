@@ -3,6 +3,8 @@
 is loaded before the program counts them. It wants a C compiler, `cc`; where there is none the tests are
 left out, which is said. The last line is `N passed, M failed`.
 """
+import contextlib
+import glob
 import os
 import shutil
 import subprocess
@@ -17,13 +19,33 @@ PROGRAM = os.path.join(TOP, 'crates', 'tcpsim', 'out', 'tcpsim')
 NET = os.path.join(TOP, 'bin', 'tcpsim-net')
 # Four parts with a bottleneck each, joined by cables of 40 ms: each part has thousands of events in a window.
 WIDE = ('islands', '--islands', '4', '--flows', '10', '--rate', '200M', '--between', '40ms', '--end', '2s')
+# Twice as many, for as many threads as share them.
+WIDER = ('islands', '--islands', '8', *WIDE[3:])
 # One flow over links of 1 ms: a window holds a few events.
 SMALL = ('chain', '--hops', '3', '--flows', '1', '--rate', '10M', '--segments', '2000', '--end', '20s')
 # Two pairs of ends that hear nothing of each other.
 PAIRS = ''.join(['sim 10000000000\n', *(f'node {a} sender\nnode {b} receiver\n' for a, b in ('ab', 'cd')),
                  *(f'link {a}{b} {a} {b} 800000000 100000 droptail 100\n' for a, b in ('ab', 'ba', 'cd', 'dc')),
                  *(f'flow {f} {a} {b} 1000 20000 0 64000 0\n' for f, a, b in ('eab', 'fcd'))])
+# How often a run is tried whose threads may come late beside other work.
+TRIES = 10
 PROCESSORS = len(os.sched_getaffinity(0)) if hasattr(os, 'sched_getaffinity') else os.cpu_count()
+
+
+def times_of(process):
+    """The nanoseconds of processors that each thread of a process used until now, by its number."""
+    times = {}
+    for name in glob.glob(f'/proc/{process}/task/*/schedstat'):
+        # A thread that has gone meanwhile has no file.
+        with contextlib.suppress(OSError), open(name, encoding='ascii') as file:
+            times[name] = int(file.read().split()[0])
+    return times
+
+
+def go_first():
+    """Has what this process runs go before other work, where that is allowed: beside it threads would come late."""
+    with contextlib.suppress(OSError):
+        os.nice(-20)
 
 
 def most_hands(groups):
@@ -77,16 +99,16 @@ class Threads(unittest.TestCase):
         """Where windows hold thousands of events, threads are started; without this no other row says anything."""
         self.assertGreater(self.run_of(self.text_of(WIDE), '--groups', self.parts(), '--workers', '4'), 0)
 
-    def parts(self):
-        """The group of each node of the wide scenario: those that links of less than 40 ms join are in one."""
-        words = [line.split() for line in self.text_of(WIDE).splitlines()]
+    def parts(self, shape=WIDE, count=4):
+        """The group of each node of a wide scenario: those that links of less than 40 ms join are in one."""
+        words = [line.split() for line in self.text_of(shape).splitlines()]
         group = {it[1]: it[1] for it in words if it[:1] == ['node']}
         for it in words:
             if it[:1] == ['link'] and int(it[5]) < 40_000_000:
                 old, new = group[it[3]], group[it[2]]
                 group = {name: new if has == old else has for name, has in group.items()}
         numbers = sorted(set(group.values()))
-        self.assertEqual(len(numbers), 4)
+        self.assertEqual(len(numbers), count)
         return ','.join(str(numbers.index(it)) for it in group.values())
 
     def halves(self):
@@ -139,6 +161,32 @@ class Threads(unittest.TestCase):
             for workers in (2, 3, 4, 64):
                 expected = min(workers, most_hands(count)) - 1
                 self.assertEqual(self.run_of(text, '--groups', groups, '--workers', str(workers)), expected)
+
+    def shares_of(self, name, groups, workers):
+        """Which share of a run's processor time each of its threads used, the largest first."""
+        words = [PROGRAM, 'run', '--groups', groups, '--workers', str(workers), name]
+        times = {}
+        with subprocess.Popen(words, stdout=subprocess.DEVNULL, preexec_fn=go_first) as running:
+            while running.poll() is None:
+                times |= times_of(running.pid)
+                time.sleep(0.005)
+        self.assertEqual(running.returncode, 0)
+        return sorted((it / sum(times.values()) for it in times.values()), reverse=True)
+
+    @unittest.skipUnless(os.path.exists('/proc/self/schedstat'), 'no times of threads')
+    def test_each_thread_has_its_share_of_the_time(self):
+        """As many threads as workers, and processors for them, have each a tenth of the time of a wide run at least. Beside
+        other work threads come late, and the first one does more; so one run of a few has to show it."""
+        name = os.path.join(self.folder.name, 'wider.txt')
+        with open(name, 'w', encoding='utf-8') as file:
+            file.write(self.text_of(WIDER))
+        groups = self.parts(WIDER, 8)
+        for workers in (2, 4, 8):
+            wanted, found = min(workers, PROCESSORS), []
+            while len(found) < TRIES and max(found, default=0) < wanted:
+                found.append(sum(it >= 0.1 for it in self.shares_of(name, groups, workers)))
+            with self.subTest(workers=workers, found=found):
+                self.assertGreaterEqual(max(found), wanted)
 
     @unittest.skipUnless(hasattr(os, 'sched_setaffinity'), 'no way to take processors away')
     def test_on_one_processor_no_thread_is_started_for_text(self):
