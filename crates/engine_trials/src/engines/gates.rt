@@ -1,13 +1,16 @@
 //! A gate is told of each piece of each window, once before it runs and once behind, and the workers are at
 //! their pieces at once, also while the text of a window before is written.
 
-use super::nets::two_flows;
+use super::nets::{four_flows, two_flows};
 use super::{engine_of, run_to, whole_text, window};
 use crate::crowd::Crowd;
 use std::process::Abort;
 use std::sync::Wait;
+use std::sync::atomic::AtomicU64;
+use std::sync::atomic::Ordering::SeqCst;
+use std::thread;
 use std::thread::Threads;
-use window_engine::{Engine, Sink, SinkFail, Stop};
+use window_engine::{Engine, Gate, Sink, SinkFail, Stop, WORTH};
 
 // Four groups, so that each window has four pieces, of the numbers 0 to 3.
 const GROUPS: [u8; 4] = [0, 1, 2, 3];
@@ -100,4 +103,117 @@ fn a_text_is_written_while_threads_run_a_window(rt: HostRuntime) {
         assert!(rt; stop == Ok(Stop::End));
         assert!(rt; sink.came, "{workers}");
     }
+}
+
+// The most turns that workers give away for others, all of them together.
+const TURNS: u64 = 10_000_000;
+
+// Holds whoever enters until so many are at their pieces at once. Once they were, or after many turns given away in
+// vain, it holds nobody. A thread is worth it for as many events as to users.
+#[derive(Drop)]
+struct Many {
+    // How many have to be at their pieces at once.
+    size: u64,
+    // How many are.
+    inside: AtomicU64,
+    // Whether so many were, once: 1.
+    met: AtomicU64,
+    // How many turns were given away.
+    turns: AtomicU64,
+}
+
+impl Many {
+    fn of(size: u64) -> Many {
+        Many {
+            size,
+            inside: AtomicU64::new(0),
+            met: AtomicU64::new(0),
+            turns: AtomicU64::new(0),
+        }
+    }
+
+    // Whether so many were at their pieces at once.
+    fn has_met(&self) -> bool {
+        self.met.load(SeqCst) == 1
+    }
+}
+
+impl Gate for Many {
+    fn enter(&self, _piece: u64) {
+        if self.inside.fetch_add(1, SeqCst).saturating_add(1) >= self.size {
+            self.met.store(1, SeqCst);
+        }
+        for _turn in 0..TURNS {
+            if self.has_met() || self.turns.fetch_add(1, SeqCst) > TURNS {
+                return;
+            }
+            thread::yield_now();
+        }
+    }
+
+    fn leave(&self, _piece: u64) {
+        self.inside.fetch_sub(1, SeqCst);
+    }
+
+    fn worth(&self) -> usize {
+        WORTH
+    }
+}
+
+// Where windows hold thousands of events of each of four groups, as many workers run them as there are, up to four.
+#[test]
+fn as_many_workers_as_pay_are_at_their_pieces_at_once(rt: HostRuntime) {
+    let scenario = four_flows(&rt);
+    for (workers, size) in [(2, 2), (3, 3), (4, 4), (8, 4)] {
+        let gate = Many::of(size);
+        let mut engine = engine_of(&rt, &scenario, &[0, 0, 1, 1, 2, 2, 3, 3]);
+        let _text = whole_text(&rt, &mut engine, workers, &gate);
+        drop(engine);
+        assert!(rt; gate.has_met(), "{workers}");
+    }
+}
+
+// Lets two go together, and adds up the numbers of the two pieces of each window that are entered first.
+#[derive(Drop)]
+struct Pairs {
+    // Who is held.
+    crowd: Crowd,
+    // How many pieces were entered.
+    entered: AtomicU64,
+    // The numbers of those of each window that were entered first.
+    first: AtomicU64,
+}
+
+impl Gate for Pairs {
+    fn enter(&self, piece: u64) {
+        if self.entered.fetch_add(1, SeqCst) % 4 < 2 {
+            self.first.fetch_add(piece, SeqCst);
+        }
+        self.crowd.enter(piece);
+    }
+
+    fn leave(&self, piece: u64) {
+        self.crowd.leave(piece);
+    }
+
+    fn worth(&self) -> usize {
+        0
+    }
+}
+
+// Of four pieces two workers begin with the first and with the third.
+#[test]
+fn workers_begin_at_different_pieces(rt: HostRuntime) {
+    let gate = Pairs {
+        crowd: Crowd::of(2),
+        entered: AtomicU64::new(0),
+        first: AtomicU64::new(0),
+    };
+    let mut engine = engine_of(&rt, &two_flows(&rt, 4), &GROUPS);
+    let _text = whole_text(&rt, &mut engine, 2, &gate);
+    drop(engine);
+    let windows = gate.entered.load(SeqCst) / 4;
+    assert!(rt; windows >= 3);
+    assert_eq!(rt; gate.crowd.missed(), 0);
+    assert_eq!(rt; gate.first.load(SeqCst), windows.saturating_mul(2));
 }
