@@ -26,9 +26,11 @@ TOP = os.path.dirname(os.path.dirname(os.path.abspath(__file__)))
 PARTS = ('src', 'specs', 'proofs')
 KEPT = ('out/rlib', 'out/incremental')
 NAMED = re.compile(r'[A-Za-z0-9_-][A-Za-z0-9_.-]*\.edit')
-VERDICT = re.compile(r'rt: must-fail [^/ ]+/(\S+\.edit): (.*)')
+VERDICT = re.compile(r'rt: must-fail ([^/ ]+)/(\S+\.edit): (.*)')
 SAID = re.compile(r'(note: )?\S+:\d+:\d+: ')
 REFUSED = 'refused, as it must be'
+# Of how many crates the wrong bodies are tried side by side; what became of them is said then.
+AT_ONCE = 6
 ENDS = (signal.SIGINT, signal.SIGTERM, signal.SIGHUP)
 
 
@@ -163,20 +165,21 @@ def run_rt(words, folder, place):
 
 
 def verdicts_of(lines):
-    """What `rt must-fail` says of each edit, by its file's name. What it says in several lines is one."""
+    """What `rt must-fail` says of each edit, by its crate and its file's name. What it says in several lines is one."""
     found, last = {}, None
     for line in lines:
         told = VERDICT.fullmatch(line)
         if told:
-            last = told[1]
-            found[last] = told[2]
+            last = (told[1], told[2])
+            found[last] = told[3]
         elif last:
             found[last] += f' {line.strip()}'
     return found
 
 
-def try_crate(name, place):
-    """What became of each wrong body of a crate, by its file's name."""
+def begin(name, place):
+    """Why each wrong body of a crate is not to be tried, by its file's name; None where it is, and then it is among the
+    crate's edits."""
     folder = f'{place}/tree/crates/{name}'
     told = {os.path.basename(it): fault_of(it, folder) for it in edits_in(f'{folder}/wrong')}
     fit = [it for it in told if not told[it]]
@@ -190,9 +193,19 @@ def try_crate(name, place):
     os.mkdir(f'{folder}/must-fail')
     for it in fit:
         shutil.copy(f'{folder}/wrong/{it}', f'{folder}/must-fail/{it}')
-    _, lines = run_rt(['must-fail', name], f'{place}/tree', place)
-    verdicts = verdicts_of(lines)
-    return told | {it: verdicts.get(it, f'rt has no verdict: {lines[-1]}') for it in fit}
+    return told
+
+
+def try_crates(names, place):
+    """What became of each wrong body of some crates, by its crate and its file's name. They are tried in one run of rt,
+    which has so many at once as there are processors and memory: those of one crate alone leave processors idle."""
+    told = {(name, file): why for name in names for file, why in begin(name, place).items()}
+    tried = sorted({name for (name, _), why in told.items() if why is None})
+    if tried:
+        _, lines = run_rt(['must-fail', *tried], f'{place}/tree', place)
+        verdicts = verdicts_of(lines)
+        told = {it: why or verdicts.get(it, f'rt has no verdict: {lines[-1]}') for it, why in told.items()}
+    return told
 
 
 def try_all(names, crates):
@@ -201,8 +214,8 @@ def try_all(names, crates):
     refused, failed = 0, 0
     with room() as place:
         copy_tree(crates, needed(names, crates), f'{place}/tree')
-        for name in names:
-            for file, told in try_crate(name, place).items():
+        for first in range(0, len(names), AT_ONCE):
+            for (name, file), told in try_crates(names[first:first + AT_ONCE], place).items():
                 is_refused = told.startswith(REFUSED)
                 print(f'crates/{name}/wrong/{file}: {"" if is_refused else "FAILED: "}{told}', flush=True)
                 refused, failed = refused + is_refused, failed + (not is_refused)
