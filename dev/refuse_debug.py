@@ -3,10 +3,10 @@
 
 Each run has to end with status 4, the note 'no memory' and nothing written, or with status 0 and the
 output of the session in which the commands that were answered 'refused M' are not done: that output is
-the model's of python/tcpsim_model. A run that takes longer than 10 seconds, ends by a signal or writes another
-byte is a failure. With one worker
-each request is refused once. With more the order of requests is not fixed, so each number up to twice
-the count of a whole run is tried once.
+the model's of python/tcpsim_model. A run that takes longer than 10 seconds, ends by a signal, still holds a
+block of memory as it ends or writes another byte is a failure. With one worker each request is refused
+once. With more the order of requests is not fixed, so each number up to twice the count of a whole run
+is tried once.
 
 Without a session it tries three of them and one that is typed at a prompt, without options, by one worker
 and by two. What is typed and refused is noted behind the line's prompt. It says how often each answer came, and runs as many at once as there are processors, or as JOBS says. It wants a C
@@ -20,16 +20,6 @@ COMMANDS = b'break kind data\nrun\nrun\nback 1\nuntil 2040000\nbak 1\n'
 TYPED = b'break stall\nrun\nwhy 0\nrun\nbreak drop\nreverse\nreverse\nuntil 2s\nlines 3\nstate flow 0\nreverse\n'
 PROMPT = b'(tcpsim) '
 OPTIONS = ([], ['--groups', 'each', '--workers', '1'], ['--groups', 'each', '--workers', '2'])
-# The program ends by `_exit`, which runs no destructor: so requests are counted there.
-COUNT = '''#include "refuse.c"
-#include <sys/syscall.h>
-#include <unistd.h>
-void _exit(int status) {
-  tell();
-  syscall(SYS_exit_group, status);
-  __builtin_unreachable();
-}
-'''
 # A command that changes nothing and is answered with one line.
 NO_COMMAND, ITS_ANSWER, REFUSED = b'refuse\n', b'refused B1\n', b'refused M\n'
 # What is noted of a line that is typed and refused memory.
@@ -102,17 +92,27 @@ class Session:
             return None
         return tuple(at for at, answer in enumerate(answers) if answer == REFUSED)
 
-    def requests(self, library, work):
+    def run_by(self, library, request, **more):
+        """A run in which the request of a number is refused, or none where that is 0. It holds no block at its end."""
+        path = f'{library}.held.{request}'
+        ended = self.run(REFUSE=str(request), LD_PRELOAD=library, HELD=path, **more)
+        held = int(read(path)) if os.path.exists(path) else 'not counted'
+        if held != 0:
+            raise Failed(f'request {request}: blocks of memory still held at the end: {held}')
+        os.remove(path)
+        return ended
+
+    def requests(self, library):
         """How many requests a run makes in which none is refused."""
-        path = os.path.join(work, 'requests')
-        status, out, note = self.run(REQUESTS=path, LD_PRELOAD=library)
+        path = f'{library}.requests'
+        status, out, note = self.run_by(library, 0, REQUESTS=path)
         if (status, out, self.refused(out, note)) != (0, self.whole, ()):
             raise Failed(f'with no request refused: status {status}, {note!r}, or another output')
         return int(read(path))
 
     def answer(self, request, library):
         """What comes where a request is refused."""
-        status, out, note = self.run(REFUSE=str(request), LD_PRELOAD=library)
+        status, out, note = self.run_by(library, request)
         said = f'request {request}: status {status}, {note!r}\n{out.decode(errors="replace")}'
         if (status, out, note) == (4, b'', b'no memory\n'):
             return 'no memory'
@@ -144,11 +144,11 @@ class Typed(Session):
         return tuple(at for at, it in enumerate(notes) if it == NOTED)
 
 
-def tried(name, session, refuse, count, work, pool):
+def tried(name, session, library, pool):
     """Refuses the requests of a session, and says how often each answer came."""
-    requests = session.requests(count, work)
+    requests = session.requests(library)
     last = 2 * requests if session.by_workers else requests
-    counts = collections.Counter(pool.map(lambda request: session.answer(request, refuse), range(1, last + 1)))
+    counts = collections.Counter(pool.map(lambda request: session.answer(request, library), range(1, last + 1)))
     how = f'numbers tried: {last}' if session.by_workers else 'each refused'
     print(f'{" ".join(["debug"] + session.options)} of {name}: {requests} requests, {how}')
     for what in sorted(counts):
@@ -174,16 +174,12 @@ def sessions():
 def main():
     jobs = int(os.environ.get('JOBS') or os.cpu_count())
     with tempfile.TemporaryDirectory() as work, concurrent.futures.ThreadPoolExecutor(jobs) as pool:
-        source = os.path.join(work, 'count.c')
-        with open(source, 'w') as file:
-            file.write(COUNT)
-        refuse, count = os.path.join(work, 'refuse.so'), os.path.join(work, 'count.so')
-        for it, library in ((os.path.join(top, 'dev/refuse.c'), refuse), (source, count)):
-            subprocess.run(['cc', '-O1', '-shared', '-fPIC', '-I', os.path.join(top, 'dev'), it, '-o', library,
-                            '-ldl'], check=True)
+        library = os.path.join(work, 'refuse.so')
+        source = os.path.join(top, 'dev/refuse.c')
+        subprocess.run(['cc', '-O1', '-shared', '-fPIC', source, '-o', library, '-ldl'], check=True)
         for name, session in sessions():
             try:
-                tried(name, session, refuse, count, work, pool)
+                tried(name, session, library, pool)
             except Failed as why:
                 pool.shutdown(cancel_futures=True)
                 print(f'FAILED: {" ".join(["debug"] + session.options)} of {name}: {why}')

@@ -3,9 +3,9 @@
 # has to end as always, or with status 4 and the note 'no memory'; then `run` wrote a beginning of its
 # trace in whole lines, and every other word nothing. By several workers in several groups these are the
 # lines of all events before some moment: the line behind the last one is of a later moment. A thread that
-# finds no memory to start with is done without. A run that takes longer than 10
-# seconds, ends by a signal or writes another byte is a failure. The whole trace is the one beside the
-# scenario, where there is one.
+# finds no memory to start with is done without. A run that takes longer than 10 seconds, ends by a signal,
+# still holds a block of memory as it ends or writes another byte is a failure. The whole trace is the one
+# beside the scenario, where there is one.
 # With one worker each request is refused once. With more the order of requests is not fixed, so each
 # number up to twice the count of a whole run is tried once.
 # With words behind the scenario it tries these, or `run` where there is none, and says how often each
@@ -21,19 +21,7 @@ first=$top/examples/one_segment.txt
 work=$(mktemp -d) || exit 2
 trap 'rm -rf "$work"' EXIT
 
-# One library refuses and one counts the requests: the program ends by `_exit`, which runs no destructor.
-cat > "$work/count.c" <<'C'
-#include "refuse.c"
-#include <sys/syscall.h>
-#include <unistd.h>
-void _exit(int status) {
-  tell();
-  syscall(SYS_exit_group, status);
-  __builtin_unreachable();
-}
-C
 cc -O1 -shared -fPIC "$top/dev/refuse.c" -o "$work/refuse.so" -ldl || exit 2
-cc -O1 -shared -fPIC -I "$top/dev" "$work/count.c" -o "$work/count.so" -ldl || exit 2
 
 # ends_inside_a_moment TRACE N: whether the event behind the first N of a trace has the moment of the last of these
 ends_inside_a_moment() {
@@ -43,7 +31,7 @@ ends_inside_a_moment() {
 # tried INPUT WORD..: refuses the requests of one run, in a folder of its own, and says what came.
 tried() {
   local input=$1 here said many=0 parted=0 lines=0 before=''
-  local status note whole_status whole_note requests last n answer wrote count refusals=0
+  local status note whole_status whole_note requests held last n answer wrote count refusals=0
   shift
   here=$(mktemp -d -p "$work") || return 2
   said=$*
@@ -57,7 +45,8 @@ tried() {
     before=''
     case $word in --workers | --groups) before=$word ;; esac
   done
-  REQUESTS=$here/requests LD_PRELOAD="$work/count.so" "$program" "$@" < "$input" > "$here/whole" 2> "$here/note"
+  REQUESTS=$here/requests HELD=$here/held.0 LD_PRELOAD="$work/refuse.so" "$program" "$@" \
+    < "$input" > "$here/whole" 2> "$here/note"
   whole_status=$?
   IFS= read -r -d '' whole_note < "$here/note"
   requests=$(cat "$here/requests") || return 2
@@ -70,18 +59,29 @@ tried() {
   [ "$many" = 0 ] || last=$((2 * requests))
   lines=$(wc -l < "$here/whole")
 
-  # failed WHY: says at which request
+  # failed WHY: says at which request; 0 is the run in which none is refused
   failed() {
     echo "$said: request $n: $1"
     echo "status $status, $(wc -l < "$here/out") lines, note: $note"
     return 1
   }
+  # let_go: whether the last run held no block of memory as it ended
+  let_go() {
+    held='not counted'
+    [ ! -e "$here/held.$n" ] || read -r held < "$here/held.$n"
+    [ "$held" = 0 ] || failed "blocks of memory still held at the end: $held"
+  }
   declare -A answers=()
+  n=0
+  status=$whole_status note=$whole_note
+  : > "$here/out"
+  let_go || return 1
   for ((n = 1; n <= last; n++)); do
-    timeout -k 1 10 env REFUSE="$n" LD_PRELOAD="$work/refuse.so" "$program" "$@" \
+    timeout -k 1 10 env REFUSE="$n" HELD="$here/held.$n" LD_PRELOAD="$work/refuse.so" "$program" "$@" \
       < "$input" > "$here/out" 2> "$here/err"
     status=$?
     IFS= read -r -d '' note < "$here/err"
+    let_go || return 1
     if [ "$status" = "$whole_status" ] && [ "$note" = "$whole_note" ] && cmp -s "$here/out" "$here/whole"; then
       answers[as always]=$((${answers[as always]:-0} + 1))
       continue
