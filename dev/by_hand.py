@@ -1,12 +1,21 @@
-"""Runs the tests of a file as `python3 dev/test_X.py`, without pytest: what is left out, and why, stands in a line of its
-own, and the last line is `N passed, M failed`."""
+"""Runs the tests of a file as `python3 dev/test_X.py`, without pytest: a line of its own says what is left out and why, and
+the last line is `N passed, M failed`."""
 import os
 import shutil
+import subprocess
 import sys
 import unittest
 
 TOP = os.path.dirname(os.path.dirname(os.path.abspath(__file__)))
 PROGRAM = os.path.join(TOP, 'crates', 'tcpsim', 'out', 'tcpsim')
+# Four parts with a bottleneck each, joined by cables of 40 ms: each has thousands of events in a window.
+WIDE = ('islands', '--islands', '4', '--flows', '10', '--rate', '200M', '--between', '40ms', '--end')
+
+
+def wide(end):
+    """A scenario in whose windows several threads are at work, up to its end, as 1200ms."""
+    net = os.path.join(TOP, 'bin', 'tcpsim-net')
+    return subprocess.run([sys.executable, net, *WIDE, end], capture_output=True, check=True).stdout
 
 
 def wants(**packages):
@@ -20,7 +29,8 @@ def wants(**packages):
 def main(what):
     """The status to end with. `what` is what the tests try."""
     if not os.path.exists(PROGRAM):
-        print(f'{os.path.basename(sys.argv[0])}: {os.path.relpath(PROGRAM)} is not there: build it with `make run`', file=sys.stderr)
+        print(f'{os.path.basename(sys.argv[0])}: {os.path.relpath(PROGRAM)} is not there: build it with `make run`',
+              file=sys.stderr)
         return 1
     result = unittest.main(module='__main__', argv=sys.argv, exit=False, verbosity=0).result
     for why in sorted({why for _, why in result.skipped}):

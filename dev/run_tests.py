@@ -28,7 +28,7 @@ TOP = os.path.dirname(os.path.dirname(os.path.abspath(__file__)))
 DRAWING = ('python/tests/test_trace.py', 'python/tests/test_plot.py')
 # Those that take longest, which are begun first.
 LONG = ('dev/try_shell.sh', 'dev/test_systematic.py', 'python/tests/test_sweep.py', 'python/tests/test_trace.py',
-        'python/tests/test_plot.py', 'dev/test_bounds.py', 'dev/refuse_tests.sh')
+        'python/tests/test_plot.py', 'dev/test_bounds.py', 'dev/refuse_tests.sh', 'dev/test_helgrind.py')
 # How long what was ended may take to end, in seconds.
 GRACE = 5
 

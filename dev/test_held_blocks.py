@@ -14,13 +14,10 @@ import sys
 import tempfile
 import unittest
 
-from by_hand import PROGRAM, TOP, main, wants
+from by_hand import PROGRAM, TOP, main, wants, wide
 
-NET = os.path.join(TOP, 'bin', 'tcpsim-net')
 SCENARIO = os.path.join(TOP, 'examples', 'two_timeouts_in_a_row.txt')
 COMMANDS = b'---\nbreak drop\nrun\nback 3\nuntil 2000000000\nstate\n'
-# Four parts with a bottleneck each, joined by cables of 40 ms: each has thousands of events in a window.
-WIDE = ('islands', '--islands', '4', '--flows', '10', '--rate', '200M', '--between', '40ms', '--end', '200ms')
 EACH, FOUND = ('--groups', 'each', '--workers', '2'), ('--groups', 'auto', '--workers', '4')
 RUNS = (('asm',), ('dis',), ('figures',), ('run',), ('run', *EACH), ('debug',), ('debug', *EACH))
 # Of a run by threads so many requests are refused, one in each run.
@@ -42,7 +39,7 @@ class HeldBlocks(unittest.TestCase):
         source = os.path.join(TOP, 'dev', 'refuse.c')
         subprocess.run(['cc', '-O1', '-shared', '-fPIC', source, '-o', cls.library, '-ldl'], check=True)
         cls.scenario = read(SCENARIO)
-        cls.wide = subprocess.run([sys.executable, NET, *WIDE], capture_output=True, check=True).stdout
+        cls.wide = wide('200ms')
 
     def counted(self, words, given, **more):
         """How a run ended, how many blocks it still held then, and how many requests it made."""
