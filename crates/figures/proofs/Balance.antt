@@ -48,7 +48,7 @@ told_once [] = refl
 told_once (Tx link packet ∷ acts) = more_told (Tx link packet) acts refl (told_once acts)
 told_once (Dropped link Lost packet ∷ acts) = more_told (Dropped link Lost packet) acts refl (told_once acts)
 told_once (Dropped link Full packet ∷ acts) = more_told (Dropped link Full packet) acts refl (told_once acts)
-told_once (Dropped link (Take reason) packet ∷ acts) = more_told (Dropped link (Take reason) packet) acts refl (told_once acts)
+told_once (Dropped link (Take ByCodel) packet ∷ acts) = more_told (Dropped link (Take ByCodel) packet) acts refl (told_once acts)
 
 -- what was offered and waited is what was offered before, what the acts tell of, and what waits
 abbrev pub Balanced : PortState → PortState → List Act → Type 0

@@ -46,11 +46,11 @@ acts_between offered after line = if frees after.link line.event || not (after.o
 abbrev pub acts_at : ℕ → ℕ → Moment → List Act
 acts_at node index m = if m.line.key.node == node then acts_between (port_at m.before node index).offered (port_at m.after node index) m.line else []
 
--- a packet is dropped for this reason; those that queues drop at takes are counted together
+-- a packet is dropped for this reason; of one that a queue drops at a take the queue says why
 abbrev pub is_for : DropReason → Act → Bool
 is_for Lost (Dropped link Lost packet) = true
 is_for Full (Dropped link Full packet) = true
-is_for (Take any) (Dropped link (Take reason) packet) = true
+is_for (Take Codel) (Dropped link (Take Codel) packet) = true
 is_for reason act = false
 
 abbrev pub is_tx : Act → Bool

@@ -5,7 +5,7 @@ ghost use Rattle.aqm.specs.declared.drop_reason.TakeDrop.TheVariants.{Codel};
 ghost use Rattle.node_core.specs.TraceLine.{shown};
 ghost use Rattle.figures.specs.Links.{frees as frees_is, acts_between, dropped_in, tx_in, bytes_in, wait_in as wait_is, IsSentAlone};
 
-use node_core::{Act, DropReason, Event, Line};
+use node_core::{Act, DropReason, Event, Line, TakeDrop};
 use port::Port;
 use sim_time::Time;
 
@@ -16,7 +16,7 @@ pub struct Told {
     pub lost: u64,
     /// How many packets were dropped as the queue was full.
     pub full: u64,
-    /// How many packets a queue dropped at a take.
+    /// How many packets CoDel dropped, where a queue gave it as its reason at a take.
     pub codel: u64,
     /// How many packets began to be sent.
     pub sent: u64,
@@ -48,7 +48,7 @@ pub fn told_by(acts: &[Act]) -> Told
             }
             Act::Dropped(_, DropReason::Lost, _) => told.lost += 1,
             Act::Dropped(_, DropReason::Full, _) => told.full += 1,
-            Act::Dropped(_, DropReason::Take(_), _) => told.codel += 1,
+            Act::Dropped(_, DropReason::Take(TakeDrop::Codel), _) => told.codel += 1,
         }
     }
     told
