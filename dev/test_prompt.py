@@ -54,7 +54,8 @@ LINES = {
         b'', b'r', b'', b're', b's 3', b'b', b're', b'', b'c'],
     7: [b'break kind data flow 0', b'br flow 0  kind data', b'br link 0 drop', b'br link 1', b'br byte 4000 kind ack', b'breaks', b'r', b'', b'd 1',
         b'r', b'', b'', b'd 2', b'r', b'', b'', b'', b're', b'', b'c', b'br byte 5000 link 1 drop kind delack flow 0 node 1', b'br byte 9000000000000',
-        b'br byte 3000', b'br node 0 link 0', b'breaks', b're', b'', b'r', b'', b'd 1', b'd 4', b'breaks', b'c', b'help', b'h br'],
+        b'br byte 3000', b'br node 0 link 0', b'breaks', b're', b'', b'r', b'', b'd 1', b'd 4', b'breaks', b'c', b'br byte 4000 drop',
+        b'u 9s', b're', b'', b'', b'r', b'c', b'help', b'h br'],
     8: [b'back 999', b'br stall', b'break stall 0', b'br  stall', b'r', b'w 0', b'', b'w 0', b'', b're', b'', b'', b'd 1', b'r', b'br kind rto', b'r', b're',
         b'breaks', b'c'],
 }

@@ -57,7 +57,7 @@ HELP = {
         'kind K       start, rto, delack, free, data or ack: help kinds\n'
         'drop         a packet is dropped\n'
         'link L       link L begins to send a packet, or drops one\n'
-        'byte B       a segment that begins with byte B arrives, or an acknowledgement of B\n'
+        'byte B       a segment that begins with byte B arrives, or an acknowledgement of B; with drop, it is dropped\n'
         'stall [F]    a flow, or flow F, is stalled from there on: help stall; it stands alone\n', 'break flow 0 kind rto'),
     b'breaks': ('breaks', 'list the breakpoints',
         'They are counted from 1; where one is taken away, those behind it move up by one.\n', 'breaks'),
@@ -307,14 +307,17 @@ class Marked(Debugger):
     def is_matched(self, breakpoint, position):
         if not isinstance(breakpoint[0], tuple):
             return super().is_matched(breakpoint, position)
-        return all(self.is_met(*condition, position) for condition in breakpoint)
+        drops = any(sort == b'drop' for sort, _ in breakpoint)
+        return all(self.is_met(*condition, position, drops) for condition in breakpoint)
 
-    def is_met(self, sort, value, position):
+    def is_met(self, sort, value, position, drops):
         line, (links, stalled) = self.lines[position - 1], self.marks[position - 1]
         if sort == b'stall':
             return bool(stalled) if value is None else value in stalled
         if sort == b'link':
             return value in links
+        if sort == b'byte' and drops:
+            return value in (int(act.split(':')[2]) for act in line.acts if act.startswith(' drop='))
         if sort == b'byte':
             return line.kind in ('data', 'ack') and int(line.names.split()[1]) == value
         return matches((sort, value), line)

@@ -931,6 +931,12 @@ class Prompts(Case):
             self.assertEqual([int(line.split()[1]) for line in found if line.startswith('at ')], [*positions], words)
         found = self.example('two_timeouts_in_a_row.txt', 'break link 0 drop kind rto', 'r')
         self.assertEqual(found[-2:], ['at 26 of the run, time 1006200000 ns', 'break 1: kind rto drop link 0'])
+        # A byte that is dropped: at the sender's own link, where no packet of it arrives, and by CoDel as the link becomes free.
+        for name, words, positions in (('two_timeouts_in_a_row.txt', 'byte 4000 drop', (6, 26, 51)),
+                                       ('two_timeouts_in_a_row.txt', 'drop byte 2000', (51,)),
+                                       ('codel_enters_drop_state.txt', 'byte 14000 drop', (54,))):
+            found = self.example(name, f'break {words}', *['r'] * len(positions))
+            self.assertEqual([int(line.split()[1]) for line in found if line.startswith('at ')], [*positions], words)
         self.refuses('B1', 'break drop 1', 'break node 0 no 1', 'break node 0 stall')
         self.refuses('B2', 'break', 'break node', 'break node 0 flow', 'break drop drop', 'break node 0 node 1')
         self.refuses('B3', 'break link 2', 'break drop node 2', 'break byte 9000000000001')

@@ -39,7 +39,7 @@ more Break =
     ++ codes "kind K       start, rto, delack, free, data or ack: help kinds\n"
     ++ codes "drop         a packet is dropped\n"
     ++ codes "link L       link L begins to send a packet, or drops one\n"
-    ++ codes "byte B       a segment that begins with byte B arrives, or an acknowledgement of B\n"
+    ++ codes "byte B       a segment that begins with byte B arrives, or an acknowledgement of B; with drop, it is dropped\n"
     ++ codes "stall [F]    a flow, or flow F, is stalled from there on: help stall; it stands alone\n"
 more Breaks = codes "They are counted from 1; where one is taken away, those behind it move up by one.\n"
 more Delete = codes "I is its number, as breaks lists it.\n"

@@ -74,7 +74,7 @@ flow F       the event is of flow F; a free is of none
 kind K       start, rto, delack, free, data or ack: help kinds
 drop         a packet is dropped
 link L       link L begins to send a packet, or drops one
-byte B       a segment that begins with byte B arrives, or an acknowledgement of B
+byte B       a segment that begins with byte B arrives, or an acknowledgement of B; with drop, it is dropped
 stall [F]    a flow, or flow F, is stalled from there on: help stall; it stands alone
 ",
         Name::Breaks =>

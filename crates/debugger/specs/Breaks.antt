@@ -64,13 +64,23 @@ sends_own (DelAck flow) acts = false
 sends_own (Free link) acts = false
 sends_own (Arrive packet) acts = list_any (is_sent_of packet.flow) acts
 
--- what an arriving packet carries: the first byte of a segment, or the number of an acknowledgement
+-- a packet that carries this is dropped: the first byte of a segment, or the number of an acknowledgement
+abbrev pub is_drop_of : ℕ → Act → Bool
+is_drop_of number (Tx link packet) = false
+is_drop_of number (Dropped link reason packet) = packet.number == number
+
+-- what an arriving packet carries, in the same way
 abbrev pub byte_of : Event → Option ℕ
 byte_of (Start flow) = None
 byte_of (Rto flow) = None
 byte_of (DelAck flow) = None
 byte_of (Free link) = None
 byte_of (Arrive packet) = Some packet.number
+
+-- a line is of a byte: a packet that carries it is dropped, at whatever link, where drops are asked for, and else such a packet arrives
+abbrev pub IsOfByte : Bool → ℕ → TraceLine → Type 0
+IsOfByte true byte line = IsTrue (list_any (is_drop_of byte) line.acts)
+IsOfByte false byte line = byte_of line.event ≡ Some byte
 
 -- the breakpoint that every line matches
 abbrev pub asks_nothing : Break
@@ -93,7 +103,7 @@ pub record MeetsLine (b : Break) (line : TraceLine) : Type 0 where
   pub kind : IfSome b.kind (λ kind. kind_of line.event ≡ kind)
   pub drops : IsTrue b.drops → IsTrue (list_any is_drop line.acts)
   pub link : IfSome b.link (λ link. IsTrue (list_any (is_at_link link) line.acts))
-  pub byte : IfSome b.byte (λ byte. byte_of line.event ≡ Some byte)
+  pub byte : IfSome b.byte (λ byte. IsOfByte b.drops byte line)
 
 -- the flow that is asked for, or some flow, is stalled in a state, and was not in the one before
 abbrev pub Stalls : StallOf → State → State → Type 0

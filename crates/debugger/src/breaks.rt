@@ -4,7 +4,7 @@ ghost use Rattle.std.specs.List.{list_any};
 ghost use Rattle.node_core.specs.TraceLine.{shown};
 ghost use Rattle.net_machine.specs.Run.{Reached, IsRun, Stepped};
 ghost use Rattle.flow_waits.specs.Stalled.{becomes_stalled as becomes_stalled_by};
-ghost use Rattle.debugger.specs.Breaks.{flow_of, kind_of, byte_of, is_drop, link_of, is_at_link, is_sent_of, sends_own, asking, asks_nothing, MeetsLine, Stalls, Matches, MayMatch, IsHit, IsFirstHit, AsksStall, IsLineHit, IsMayHit, IsTakenOut};
+ghost use Rattle.debugger.specs.Breaks.{flow_of, kind_of, byte_of, is_drop, is_drop_of, link_of, is_at_link, is_sent_of, sends_own, asking, asks_nothing, IsOfByte, MeetsLine, Stalls, Matches, MayMatch, IsHit, IsFirstHit, AsksStall, IsLineHit, IsMayHit, IsTakenOut};
 
 use flow_waits::{becomes_stalled, some_becomes_stalled};
 use net_machine::Net;
@@ -56,7 +56,8 @@ pub enum Condition {
     Drop,
     /// The link of this number begins to send a packet, or drops one.
     Link(u16),
-    /// A segment arrives that begins with this byte, or an acknowledgement of this number.
+    /// A segment arrives that begins with this byte, or an acknowledgement of this number; where a
+    /// drop is asked for too, such a packet is dropped.
     Byte(u64),
     /// A flow is stalled after the event, and was not before it.
     Stall(StallOf),
@@ -75,7 +76,8 @@ pub struct Break {
     pub drops: bool,
     /// The link that begins to send a packet, or drops one.
     pub link: Option<u16>,
-    /// The first byte of the segment that arrives, or the number of the acknowledgement.
+    /// The first byte of the segment that arrives, or the number of the acknowledgement; of the packet
+    /// that is dropped, where one has to be.
     pub byte: Option<u64>,
     /// The flow that is stalled after the event, and was not before it.
     pub stall: Option<StallOf>,
@@ -144,6 +146,23 @@ pub(crate) fn has_drop(acts: &[Act]) -> bool
     ensures { result ≡ list_any is_drop acts.now }
 {
     acts.iter().any(|act| matches!(act, Act::Dropped(_, _, _)))
+}
+
+/// Whether an act drops a packet of a number.
+fn is_drop_of(number: u64, act: &Act) -> bool
+    ensures { result ≡ is_drop_of number act.now }
+{
+    match act {
+        Act::Tx(_, _) => false,
+        Act::Dropped(_, _, packet) => packet.number == number,
+    }
+}
+
+/// Whether a packet of a number was dropped.
+fn has_drop_of(number: u64, acts: &[Act]) -> bool
+    ensures { result ≡ list_any (is_drop_of number) acts.now }
+{
+    acts.iter().any(|act| is_drop_of(number, act))
 }
 
 /// The link of an act: that which sends the packet, or drops it.
@@ -226,12 +245,23 @@ fn is_of_kind(asked: Option<EventKind>, event: &Event) -> bool
     }
 }
 
-/// Whether the packet that arrives has the byte that is asked for.
-fn has_byte(asked: Option<u64>, event: &Event) -> bool
-    ensures { IsTrue result ↔ IfSome asked (λ byte. byte_of event.now ≡ Some byte) }
+/// Whether a packet of a byte is dropped, where drops are asked for, or else arrives.
+fn is_of_byte(byte: u64, drops: bool, line: &Line) -> bool
+    ensures { IsTrue result ↔ IsOfByte drops byte (shown line.now) }
+{
+    if drops {
+        has_drop_of(byte, line.acts.as_slice())
+    } else {
+        byte_of(&line.event) == Some(byte)
+    }
+}
+
+/// Whether a line is of the byte that is asked for.
+fn has_byte(asked: Option<u64>, drops: bool, line: &Line) -> bool
+    ensures { IsTrue result ↔ IfSome asked (λ byte. IsOfByte drops byte (shown line.now)) }
 {
     match asked {
-        Some(byte) => byte_of(event) == Some(byte),
+        Some(byte) => is_of_byte(byte, drops, line),
         None => true,
     }
 }
@@ -296,7 +326,7 @@ impl Break {
             && is_of_kind(self.kind, &line.event)
             && drops_as_asked(self.drops, line.acts.as_slice())
             && goes_by_link(self.link, line.acts.as_slice())
-            && has_byte(self.byte, &line.event)
+            && has_byte(self.byte, self.drops, line)
     }
 
     /// Whether this breakpoint may match a line, by which no flow becomes stalled where that is quiet.
