@@ -218,6 +218,8 @@ for words in run asm dis figures 'run --groups each --workers 2'; do
     run $words "$file" < "$first"; ended "tcpsim $words '$file'" 3 "$work/refusal" "$work/nothing"
   done
 done
+# A control character of a name, an escape among them, is shown as a question mark, and any other character as it is.
+run run "$work/$(printf 'no\033[31mne\177\302\205\t\303\251')"; told 'a name with escapes' 3 "cannot read $work/no?[31mne???$(printf '\303\251')"
 cd "$work" || exit 1
 run run -- --workers; ended 'tcpsim run -- --workers' 0 "$work/nothing" "$first_trace"
 run run ./-; told 'tcpsim run ./-' 3 'cannot read ./-'

@@ -3,6 +3,7 @@ use Rattle.std.specs.Prelude.{ℕ, ◌≡◌, ◌<◌, List, length, string_byte
 use Rattle.table_run.specs.State.{State}
 use Rattle.sessions.specs.declared.fault.SessionFault.{SessionFault}
 use Rattle.sessions.specs.declared.fault.SessionFault.TheVariants.{TooLong, ReadFailed, CannotRead, WriteFailed, NoMemory, CountFull, NoWorker}
+use Rattle.sessions.specs.FileName.{shown_name}
 use Rattle.sessions.specs.Trace.{IsTrace, IsTraceStart, IsTooLong, IsTraceOrStart}
 use Rattle.sessions.specs.Written.{IsBeginningOf}
 use Rattle.window_engine.specs.Failures.{counted}
@@ -39,9 +40,9 @@ abbrev pub reads_after : {T : Type 0} → Result T SessionFault → ℕ → ℕ
 reads_after (Err ReadFailed) n = counted n
 reads_after _ n = n
 
--- how the end of a session over a file is told: where reading failed, it was this file that could not be read; any other end as it is
+-- how the end of a session over a file is told: where reading failed, it was this file that could not be read, its name as it is shown; any other end as it is
 abbrev pub IsToldOf : List ℕ → Ended → Ended → Type 0
-IsToldOf file (Err ReadFailed) (Err (CannotRead name)) = string_bytes name ≡ file
+IsToldOf file (Err ReadFailed) (Err (CannotRead name)) = string_bytes name ≡ shown_name file
 IsToldOf file (Err ReadFailed) _ = ⊥
 IsToldOf file ended told = told ≡ ended
 

@@ -3,6 +3,7 @@ pub mod Streams
 pub mod Over
 pub mod Typed
 pub mod Faults
+pub mod FileName
 pub mod Trace
 pub mod Ended
 pub mod Outcome

@@ -9,6 +9,7 @@ use Rattle.debug_session.specs.Sessions.{limits_of}
 use Rattle.debug_session.specs.Prompt.{Ask, AtPrompt, Typed, TypedOutput, AreInTime, IsSoFar, IsToEnd, lines_in, none_quits, unmoved}
 use Rattle.sessions.specs.declared.fault.SessionFault.{SessionFault}
 use Rattle.sessions.specs.declared.fault.SessionFault.TheVariants.{TooLong, Refused, RefusedImage, Groups, ReadFailed, CannotRead, WriteFailed, NoMemory}
+use Rattle.sessions.specs.FileName.{shown_name}
 use Rattle.sessions.specs.Ended.{Ended, writes_after}
 use Rattle.sessions.specs.Input.{HasScenario, HasFault}
 use Rattle.sessions.specs.Nodes.{HasGroups}
@@ -61,13 +62,13 @@ IsPromptOver groups input ended before after = IsAtPrompt groups input ended bef
 -- and over the file of this name, which has this input
 abbrev pub IsPromptEnding : List ℕ → List ℕ → List ℕ → Ended → Streams → Streams → Type 0
 IsPromptEnding groups file input (Err TooLong) before after = (16777216 < length input) × IsUnbegun before after
-IsPromptEnding groups file input (Err (CannotRead name)) before after = (string_bytes name ≡ file) × IsUnbegun before after
+IsPromptEnding groups file input (Err (CannotRead name)) before after = (string_bytes name ≡ shown_name file) × IsUnbegun before after
 IsPromptEnding groups file input ended before after = IsPromptOver groups input ended before after
 
 -- reading a file ended so: it has more bytes than an input may have, or could not be read, or memory was refused
 abbrev pub IsFileFault : List ℕ → List ℕ → SessionFault → Type 0
 IsFileFault file input TooLong = 16777216 < length input
-IsFileFault file input (CannotRead name) = string_bytes name ≡ file
+IsFileFault file input (CannotRead name) = string_bytes name ≡ shown_name file
 IsFileFault file input NoMemory = Unit {0}
 IsFileFault file input _ = ⊥
 

@@ -35,7 +35,7 @@ pub enum SessionFault {
     Groups,
     /// The input could not be read.
     ReadFailed,
-    /// The file of this name could not be opened or read.
+    /// The file of this name, as it is shown, could not be opened or read.
     CannotRead(String),
     /// The output could not be written.
     WriteFailed,

@@ -8,6 +8,7 @@ ghost use Rattle.sessions.specs.Session.{IsWithin};
 ghost use Rattle.sessions.specs.Streams.{IsInputOf};
 
 use crate::fault::SessionFault;
+use crate::file_name::shown_name;
 use crate::source::Source;
 use crate::subcommand::OptionalWord;
 use std::alloc::{AllocError, Global};
@@ -69,7 +70,7 @@ fn read_file<R: Source>(alloc: Global, file: &str, reader: &mut R) -> Result<Vec
     ensures typed { R.typed reader.new ≡ R.typed reader.old }
     ensures failures { R.failures reader.new ≡ line_reads_after result (R.failures reader.old) }
 {
-    let name = String::from_str(alloc, file)?;
+    let name = shown_name(alloc, file)?;
     if reader.open(file).is_err() {
         return Err(SessionFault::CannotRead(name));
     }

@@ -9,6 +9,7 @@ pub mod debug;
 mod explain;
 pub mod fault;
 pub mod figures_table;
+mod file_name;
 pub mod groups;
 mod input;
 mod means;
