@@ -552,6 +552,11 @@ for options in '' '--groups each --workers 2'; do
   ended "the hunt $hunt at the prompt, debug $options" 0 "$work/expected" "$work/at_prompt"
 done
 if [ -s "$work/at_prompt" ]; then pass 'answers at the prompt'; else fail 'answers at the prompt' 'none came'; fi
+# The file of the scenario does not take the place of a standard input that is closed: no line of it is a command.
+printf '(tcpsim) read failed\n' > "$work/expected"
+for options in '' '--groups each --workers 2'; do
+  run debug "$first" $options <&-; ended "debug FILE $options with standard input closed" 3 "$work/expected" "$work/nothing"
+done
 run debug "$work/none" < "$first"; told 'debug of a file that is not there' 3 "cannot read $work/none"
 "$program" debug < "$work/session" > "$work/out" 2> "$work/note"; status=$?
 told 'debug of an image' 1 'refused E2 line 1'
@@ -648,6 +653,25 @@ left "$work/long" "$work/begin" run
 left "$work/long" "$work/begin" run --groups each --workers 2
 left "$work/session" "$work/begin.debug" debug
 left "$work/session" "$work/begin.debug" debug --groups each --workers 2
+
+# Nor does a file take the place of a standard output that is closed, whatever else is, or a note go to it.
+: > "$work/out"
+for words in run asm dis figures 'run --groups each --workers 2'; do
+  "$program" $words "$first" <&- >&- 2> "$work/note"; status=$?
+  told "tcpsim $words FILE with standard input and output closed" 3 'write failed'
+  "$program" $words "$first" <&- >&- 2>&-; status=$?
+  : > "$work/note"; told "tcpsim $words FILE with all three closed" 3 ''
+done
+"$program" run "$first" <&- > "$work/out" 2>&-; status=$?
+ended 'tcpsim run FILE with standard input and error closed' 0 "$work/nothing" "$first_trace"
+
+# A limit on the size of files ends it by a signal, and where that is ignored as any write that fails.
+(ulimit -f 8; "$program" run < "$work/long" > "$work/limited"; echo $? > "$work/status") 2> "$work/nowhere"
+if [ "$(cat "$work/status")" = 153 ]; then pass 'a limit on the size of files'; else fail 'a limit on the size of files' "status $(cat "$work/status")"; fi
+(trap '' XFSZ; ulimit -f 8; "$program" run < "$work/long" > "$work/limited" 2> "$work/note"; echo $? > "$work/status")
+if [ "$(cat "$work/status") $(cat "$work/note")" = '3 write failed' ]; then pass 'the same where its signal is ignored'
+else fail 'the same where its signal is ignored' "status $(cat "$work/status"), note: $(cat "$work/note")"; fi
+rm -f "$work/limited"
 
 # A note that cannot be written changes no status.
 "$program" run < /dev/null > "$work/out" 2>&-; status=$?

@@ -1,9 +1,11 @@
 //! The program: a session with the process's own words, input and output.
 #![tactic(auto)]
 
+mod closed;
 mod input;
 mod notes;
 
+use crate::closed::Held;
 use crate::input::Input;
 use crate::notes::ErrorNotes;
 use sessions::fault::SessionFault;
@@ -25,6 +27,7 @@ fn process_words(rt: &HostRuntime) -> Result<Vec<String>, SessionFault> {
 
 /// A session with the process's own words, input and output.
 fn main(rt: HostRuntime) -> ExitCode {
+    let _held = Held::new(&rt);
     let mut notes = ErrorNotes::new(&rt);
     let outcome = match process_words(&rt) {
         Ok(words) => {
