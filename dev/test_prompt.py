@@ -1,6 +1,7 @@
 #!/usr/bin/env python3
 """Tests of `tcpsim debug FILE` with the built program: commands are typed one by one, into a pseudo-terminal and
-into pipes, and each answer has to be out before the next command goes in.
+into pipes, and each answer has to be out before the next command goes in. And tests of what the program says at a
+terminal alone.
 
 What a line answers is what the model of python/tcpsim_model says of it. It goes after `make run`.
 Usage: dev/test_prompt.py [--program PATH] [--steps N] [TEST..]. --steps N is for a program whose prompt has the
@@ -363,6 +364,53 @@ class AtThePrompt(unittest.TestCase):
         self.addCleanup(os.close, keys)
         done = subprocess.run([PROGRAM, 'debug', ONE], stdin=keys, capture_output=True, timeout=LONGEST, check=False)
         self.assertEqual((done.returncode, done.stdout, done.stderr), (3, b'', PROMPT + b'read failed\n'))
+
+
+# What is awaited where standard input is a terminal.
+WANTS_SCENARIO = b'tcpsim: waiting for a scenario on standard input, up to Ctrl-D; to read a file, name it behind the command\n'
+WANTS_FILE = b'tcpsim: debug wants a file, as tcpsim debug FILE; without one it waits for a scenario, a line --- and commands, up to Ctrl-D\n'
+
+
+def beside_terminal(stream, *words):
+    """The status and standard error of a run in which `stdin` or `stderr` is a terminal, where Ctrl-D was typed."""
+    ours, theirs = pty.openpty()
+    try:
+        os.write(ours, b'\x04')
+        streams = {'stdin': subprocess.DEVNULL, 'stdout': subprocess.DEVNULL, 'stderr': subprocess.PIPE, stream: theirs}
+        done = subprocess.run([PROGRAM, *words], **streams, timeout=LONGEST, check=False)
+        shown = done.stderr or b''
+        while stream == 'stderr' and select.select([ours], [], [], 0)[0]:
+            shown += os.read(ours, 65_536)
+        return done.returncode, shown.replace(b'\r\n', b'\n')
+    finally:
+        os.close(ours)
+        os.close(theirs)
+
+
+class AtATerminal(unittest.TestCase):
+    def test_what_is_awaited(self):
+        nothing = b'refused E10 line 0\n'
+        for words, awaited in ((('run',), WANTS_SCENARIO), (('run', '--groups', 'each', '--workers', '2'), WANTS_SCENARIO), (('asm',), WANTS_SCENARIO),
+                               (('dis',), WANTS_SCENARIO), (('figures',), WANTS_SCENARIO), (('debug',), WANTS_FILE), (('run', '-'), b''), (('debug', '-'), b'')):
+            self.assertEqual(beside_terminal('stdin', *words), (1, awaited + nothing), words)
+            done = subprocess.run([PROGRAM, *words], input=b'', capture_output=True, timeout=LONGEST, check=False)
+            self.assertEqual((done.returncode, done.stderr), (1, nothing), words)
+        self.assertEqual(beside_terminal('stdin', 'run', ONE), (0, b''))
+        self.assertEqual(beside_terminal('stdin', 'debug', ONE), (0, PROMPT))
+
+    def test_a_refusal_explains_itself(self):
+        with tempfile.TemporaryDirectory() as folder:
+            path = os.path.join(folder, 'wrong.txt')
+            with open(path, 'wb') as file:
+                file.write(b'sim 5\nnode s sendr\n')
+            for words in (*((word, path) for word in ('run', 'asm', 'dis', 'figures', 'debug')), ('run', '--groups', '0', ONE)):
+                done = subprocess.run([PROGRAM, *words, '--explain'], stdin=subprocess.DEVNULL, capture_output=True, timeout=LONGEST, check=False)
+                plain = subprocess.run([PROGRAM, *words], stdin=subprocess.DEVNULL, capture_output=True, timeout=LONGEST, check=False)
+                with self.subTest(words=words):
+                    self.assertTrue(done.stderr.startswith(plain.stderr) and len(done.stderr.splitlines()) > len(plain.stderr.splitlines()) == 1)
+                    self.assertEqual(beside_terminal('stderr', *words), (done.returncode, done.stderr))
+                    self.assertEqual(beside_terminal('stdin', *words), (done.returncode, plain.stderr))
+        self.assertEqual(beside_terminal('stderr', 'run', '/none'), (3, b'cannot read /none\n'))
 
 
 def main():

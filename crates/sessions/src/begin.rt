@@ -24,7 +24,7 @@ use crate::run::begin_run;
 use crate::scenario_input::told_scenario;
 use crate::sharing::Sharing;
 use crate::source::Source;
-use crate::subcommand::{Asked, OptionalWord, Subcommand, Task};
+use crate::subcommand::{Asked, OptionalWord, Subcommand, Task, Wishes};
 use crate::why::tell_why;
 use crate::workers::WindowRun;
 use scenario_image::Scenario;
@@ -140,6 +140,21 @@ fn begin_named<R: Source, W: Sink, G: Gate, N: Notes>(
     begin_task(means, task, file, input, writer, notes)
 }
 
+/// Tells that standard input is awaited for a task, where the words name no file.
+fn tell_awaited<N: Notes>(task: &Task, word: &OptionalWord, notes: &mut N) {
+    if word.get().is_none() {
+        notes.input_is_awaited(task);
+    }
+}
+
+/// What the words wish, with what the notes ask for beside it.
+fn wishes_with<N: Notes>(wishes: Wishes, notes: &N) -> Wishes {
+    Wishes {
+        progress: wishes.progress,
+        explain: wishes.explain || notes.explains(),
+    }
+}
+
 /// Begins what the words ask for: does all of it that waits for nobody.
 pub(crate) fn begin<R: Source, W: Sink, G: Gate, N: Notes>(
     alloc: Global,
@@ -153,10 +168,11 @@ pub(crate) fn begin<R: Source, W: Sink, G: Gate, N: Notes>(
 {
     match asked {
         Asked::Session(task, word, wishes) => {
+            tell_awaited(&task, &word, notes);
             let means = Means {
                 alloc,
                 gate,
-                wishes,
+                wishes: wishes_with(wishes, notes),
             };
             begin_named(&means, task, &named_file(&word), reader, writer, notes)
         }

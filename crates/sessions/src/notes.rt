@@ -1,5 +1,6 @@
 //! Who is told how far a run is, and why an input is refused.
 
+use crate::subcommand::Task;
 use debug_session::Limits;
 use sim_time::Time;
 use std::fmt;
@@ -70,11 +71,17 @@ impl fmt::Display for Numbers {
     }
 }
 
-/// Is told how far a run is, while it goes on, why an input is refused, and at a prompt, when a line
-/// is asked for, that it is refused, what that means, the nearest command where it names none, and
+/// Is told that standard input is awaited, how far a run is, while it goes on, why an input is
+/// refused, and at a prompt, when a line is asked for, that it is refused, what that means, the nearest command where it names none, and
 /// which numbers there are where it may have one that is none. What it does with that changes nothing
 /// of a session.
 pub trait Notes {
+    /// The words name no file for a task, so that standard input is read for it from here on.
+    fn input_is_awaited(&mut self, task: &Task);
+
+    /// Whether a refusal is explained though the words do not wish it.
+    fn explains(&self) -> bool;
+
     /// The run is so far.
     fn progress(&mut self, far: &HowFar);
 
@@ -106,6 +113,12 @@ pub trait Notes {
 pub struct NoNotes;
 
 impl Notes for NoNotes {
+    fn input_is_awaited(&mut self, _task: &Task) {}
+
+    fn explains(&self) -> bool {
+        false
+    }
+
     fn progress(&mut self, _far: &HowFar) {}
 
     fn progress_ends(&mut self) {}

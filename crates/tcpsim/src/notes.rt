@@ -1,11 +1,21 @@
 //! What is told on standard error, beside the note.
 
 use sessions::notes::{HowFar, Notes, Numbers};
-use std::io::Write;
+use sessions::subcommand::Task;
+use std::io::{IsTerminal, Write};
 
-/// Tells on standard error how far a run is, on one line, and at a prompt, that a line is asked for,
-/// that one is refused, what that means, the nearest command where it names none, and which numbers
-/// there are; keeps why an input is refused. That it fails there is ignored.
+/// What is said where standard input is a terminal, and commands are asked for without a file.
+const WANTS_FILE: &str =
+    "tcpsim: debug wants a file, as tcpsim debug FILE; without one it waits for a scenario, a line --- and commands, up to Ctrl-D\n";
+
+/// What is said where it is, and anything else is asked for without a file.
+const WANTS_SCENARIO: &str =
+    "tcpsim: waiting for a scenario on standard input, up to Ctrl-D; to read a file, name it behind the command\n";
+
+/// Tells on standard error what is awaited of a terminal, how far a run is, on one line, and at a
+/// prompt, that a line is asked for, that one is refused, what that means, the nearest command where it
+/// names none, and which numbers there are; keeps why an input is refused, which it asks for where
+/// standard error is a terminal. That it fails there is ignored.
 #[derive(Drop)]
 pub struct ErrorNotes<'r> {
     /// The process.
@@ -22,6 +32,20 @@ impl<'r> ErrorNotes<'r> {
 }
 
 impl<'r> Notes for ErrorNotes<'r> {
+    fn input_is_awaited(&mut self, task: &Task) {
+        if self.rt.stdin().is_terminal() {
+            let wanted = match task {
+                Task::Debug(_) => WANTS_FILE,
+                Task::Scenario(_) => WANTS_SCENARIO,
+            };
+            let _ = eprint!(self.rt; "{wanted}");
+        }
+    }
+
+    fn explains(&self) -> bool {
+        self.rt.stderr().is_terminal()
+    }
+
     fn progress(&mut self, far: &HowFar) {
         let _ = eprint!(self.rt; "\r{far}");
     }
