@@ -14,7 +14,7 @@ use Rattle.window_engine.specs.Sweeps.{IsSwept}
 use Rattle.window_engine.specs.Outcomes.{AllDone, AllRan, any_out, first_refusal, finished_of, NoneWaits, fault_of, as_fault, CameOf, StoppedBy}
 use Rattle.window_engine.specs.declared.fault.EngineFault.{EngineFault}
 use Rattle.window_engine.proofs.Laying.{All-more}
-use Rattle.window_engine.specs.declared.fault.EngineFault.TheVariants.{Failed, NoMemory, NoWorker}
+use Rattle.window_engine.specs.declared.fault.EngineFault.TheVariants.{Failed, NoMemory}
 
 -- a piece's group, and that it stands after firings of its own
 abbrev pub group_in : PieceState → GroupValue
@@ -118,11 +118,11 @@ came_at v i Out t waits = tt
 
 pub stops : {T : Type 0} (r : Result T EngineFault) (laid : List PieceState) (v : View) (slots : List Slot) → v.laid ≡ laid → length slots ≡ length v.laid → NoneWaits slots
     → ((i : ℕ) (x : Slot) → slice_get slots i ≡ Some x → Tells v i x) → IfErr r (λ e. (e ≡ NoMemory) ⊎ (fault_of slots ≡ Some e))
-    → IfErr r (λ e. (e ≡ NoMemory) ⊎ ((e ≡ NoWorker) ⊎ StoppedBy laid e))
+    → IfErr r (λ e. (e ≡ NoMemory) ⊎ StoppedBy laid e)
 stops (Ok x) laid v slots told count waits tells f = f
-stops (Err e) laid v slots told count waits tells f = ⊎_elim (λ m. inl m) (λ g. inr (inr record {
+stops (Err e) laid v slots told count waits tells f = ⊎_elim (λ m. inl m) (λ g. inr record {
   slots = slots;
   count = count ∙ ap (λ (l : List PieceState). length l) told;
   each = λ i x at. let P : List PieceState → Type 0 = λ l. CameOf l i x in subst P told (came_at v i x (tells i x at) (λ q is. waits i q (at ∙ ap (λ (y : Slot). Some y) is)));
   fault = g;
-})) f
+}) f

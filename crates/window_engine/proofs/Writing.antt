@@ -96,7 +96,7 @@ committed until from to new n a b answer w at same = record { lines = w.lines; s
 takes_all : (T : Type 0) (workers : ℕ) (fault : EngineFault) (text : List ℕ) (a b : Option (List ℕ)) → IsOfWorkers workers fault → Appends a b text → Takes {T = T} (Err fault) text a b
 takes_all T workers NoMemory text a b is took = took
 takes_all T workers CountFull text a b is took = took
-takes_all T workers NoWorker text a b is took = took
+takes_all T workers NoWorker text a b is took = absurd is
 takes_all T workers Failed text a b is took = took
 takes_all T workers (Sink written) text a b is took = absurd is
 
@@ -156,7 +156,7 @@ wrote_later a b old new n x y upto w =
 pub of_more : (v w : ℕ) (fault : EngineFault) → v ≤ w → IsOfWorkers v fault → IsOfWorkers w fault
 of_more v w NoMemory few is = tt
 of_more v w CountFull few is = tt
-of_more v w NoWorker few is = omega (arith, few, is)
+of_more v w NoWorker few is = is
 of_more v w Failed few is = omega (arith, few, is)
 of_more v w (Sink written) few is = is
 
@@ -185,7 +185,7 @@ pub fails_told : (T U : Type 0) (workers until written n : ℕ) (fault : WriteFa
     → fails_after {T = U} (Err fault) n ≡ sink_failures {T = T} (Err (told_as written fault)) n
 fails_told T U workers until written n (Workers NoMemory) old new from at broke = refl
 fails_told T U workers until written n (Workers CountFull) old new from at broke = refl
-fails_told T U workers until written n (Workers NoWorker) old new from at broke = refl
+fails_told T U workers until written n (Workers NoWorker) old new from at broke = absurd broke.1
 fails_told T U workers until written n (Workers Failed) old new from at broke = refl
 fails_told T U workers until written n (Workers (Sink count)) old new from at broke = absurd broke.1
 fails_told T U workers until written n (Failing count) old new from at broke = refl

@@ -70,9 +70,9 @@ pub record StoppedBy (laid : List PieceState) (e : EngineFault) : Type 0 where
   pub each : (i : ℕ) (x : Slot) → slice_get slots i ≡ Some x → CameOf laid i x
   pub fault : fault_of slots ≡ Some e
 
--- memory was refused, a thread could not be started, or the pieces say it
+-- memory was refused, or the pieces say it
 abbrev pub IsPiecesFault : List PieceState → EngineFault → Type 0
-IsPiecesFault laid e = (e ≡ NoMemory) ⊎ ((e ≡ NoWorker) ⊎ StoppedBy laid e)
+IsPiecesFault laid e = (e ≡ NoMemory) ⊎ StoppedBy laid e
 
 -- a piece was refused since the count is full: its group stands after firings of its own below the piece's end, with one more event due
 pub record IsFull (q : PieceState) : Type 0 where
@@ -93,11 +93,11 @@ pub record SomeLaidFull (laid : List PieceState) : Type 0 where
   pub began : Began laid place piece
   pub full : IsFull piece
 
--- so many workers have it, and not the sink: where one runs, no thread is to be started and no piece can stay out
+-- so many workers have it, and not the sink: a thread that does not start is no fault, and where one worker runs no piece can stay out
 abbrev pub IsOfWorkers : ℕ → EngineFault → Type 0
 IsOfWorkers workers NoMemory = Unit {0}
 IsOfWorkers workers CountFull = Unit {0}
-IsOfWorkers workers NoWorker = 1 < workers
+IsOfWorkers workers NoWorker = ⊥
 IsOfWorkers workers Failed = 1 < workers
 IsOfWorkers workers (Sink written) = ⊥
 

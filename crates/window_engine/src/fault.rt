@@ -12,7 +12,7 @@ pub enum EngineFault {
     NoMemory,
     /// As many events were run as there may be, and one more is due.
     CountFull,
-    /// A thread could not be started. Windows are run by the threads that there are, so no call answers it.
+    /// A thread could not be started. No call answers it (`IsOfWorkers`): windows are run by the threads that do start.
     NoWorker,
     /// The sink failed.
     Sink {
