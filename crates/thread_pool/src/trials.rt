@@ -2,13 +2,32 @@
 //! lost would end no test.
 
 use crate::{ThreadPool, Worker, run_workers};
+use std::hint::spin_loop;
 use std::process::Abort;
 use std::sync::Wait;
 use std::sync::atomic::AtomicU64;
 use std::sync::atomic::Ordering::SeqCst;
 use std::thread::{Threads, join, join_mut};
 
-/// Adds up the numbers that it is given.
+/// A job with a number. As in the program it is longer than a line of the cache, so that a mailbox's lock and its count of
+/// notifications lie in different ones.
+#[derive(Clone, Copy, Debug, PartialEq, Eq, Drop)]
+struct Job {
+    /// Its number.
+    number: u64,
+    /// What makes it long.
+    rest: [u64; 31],
+}
+
+/// A job of this number.
+fn numbered(number: u64) -> Job {
+    Job {
+        number,
+        rest: [0; 31],
+    }
+}
+
+/// Adds up the numbers of the jobs that it is given.
 #[derive(Drop)]
 struct Sum {
     /// How many there were.
@@ -26,34 +45,49 @@ impl Sum {
         }
     }
 
+    /// Looks for a while, until there were so many.
+    fn look(&self, jobs: u64) {
+        for _ in 0..2_000 {
+            if self.jobs.load(SeqCst) == jobs {
+                return;
+            }
+            spin_loop();
+        }
+    }
+
     /// How many there were, and what they are together.
     fn found(&self) -> (u64, u64) {
         (self.jobs.load(SeqCst), self.sum.load(SeqCst))
     }
 }
 
-impl Worker<u64> for Sum {
-    fn carry_out(&self, job: u64) {
-        self.sum.fetch_add(job, SeqCst);
+impl Worker<Job> for Sum {
+    fn carry_out(&self, job: Job) {
+        self.sum.fetch_add(job.number, SeqCst);
         self.jobs.fetch_add(1, SeqCst);
     }
 }
 
 // A pool for so many workers.
-fn pool_of(rt: &(impl Abort + AllocGlobal), workers: usize) -> ThreadPool<u64> {
+fn pool_of(rt: &(impl Abort + AllocGlobal), workers: usize) -> ThreadPool<Job> {
     ThreadPool::new(rt.alloc(), workers, 1).expect(rt, "a pool")
 }
 
-// Gives each worker so many jobs, and waits for each of them; none is taken back. Each has been carried out then.
-fn give_all<R: Wait + Abort>(rt: &R, pool: &ThreadPool<u64>, sum: &Sum, rounds: u64) {
+// Gives each worker so many jobs, and waits for each of them; none is taken back. Each has been carried out then. The next
+// one is given a little later each time, so that it meets the worker at each of its steps to sleep.
+fn give_all<R: Wait + Abort>(rt: &R, pool: &ThreadPool<Job>, sum: &Sum, rounds: u64) {
     let mut given = 0u64;
     for round in 0..rounds {
         for worker in 0..pool.workers() {
-            assert!(rt; pool.give(rt, worker, round).is_none());
+            assert!(rt; pool.give(rt, worker, numbered(round)).is_none());
             given = given.saturating_add(1);
         }
+        sum.look(given);
         pool.rest(rt);
         assert_eq!(rt; sum.found().0, given);
+        for _ in 0..round % 64 {
+            spin_loop();
+        }
     }
     pool.end(rt);
 }
@@ -116,13 +150,13 @@ fn what_is_taken_back_is_not_carried_out(rt: HostRuntime) {
         &rt,
         &mut || run_workers(&rt, sum, pool),
         &mut || {
-            for job in 0..100_000 {
+            for number in 0..100_000 {
                 for worker in 0..2 {
-                    assert!(rt; pool.give(&rt, worker, job).is_none());
+                    assert!(rt; pool.give(&rt, worker, numbered(number)).is_none());
                 }
                 for worker in 0..2 {
                     if let Some(job) = pool.take_back(&rt, worker) {
-                        back = (back.0.saturating_add(1), back.1.saturating_add(job));
+                        back = (back.0.saturating_add(1), back.1.saturating_add(job.number));
                     }
                 }
                 pool.rest(&rt);
@@ -138,23 +172,23 @@ fn what_is_taken_back_is_not_carried_out(rt: HostRuntime) {
 #[test]
 fn a_job_that_cannot_be_given_is_the_answer(rt: HostRuntime) {
     let pool = pool_of(&rt, 2);
-    assert!(rt; pool.give(&rt, 2, 5) == Some(5));
-    assert!(rt; pool.give(&rt, 1, 6).is_none());
-    assert!(rt; pool.give(&rt, 1, 7) == Some(7));
+    assert!(rt; pool.give(&rt, 2, numbered(5)) == Some(numbered(5)));
+    assert!(rt; pool.give(&rt, 1, numbered(6)).is_none());
+    assert!(rt; pool.give(&rt, 1, numbered(7)) == Some(numbered(7)));
     assert!(rt; pool.take_back(&rt, 0).is_none());
-    assert!(rt; pool.take_back(&rt, 1) == Some(6));
+    assert!(rt; pool.take_back(&rt, 1) == Some(numbered(6)));
     assert!(rt; pool.take_back(&rt, 1).is_none());
     // None of them is left to be carried out.
     pool.rest(&rt);
     pool.end(&rt);
-    assert!(rt; pool.give(&rt, 0, 8) == Some(8));
+    assert!(rt; pool.give(&rt, 0, numbered(8)) == Some(numbered(8)));
     drop(pool);
 }
 
 #[test]
 fn what_lies_in_a_mailbox_is_carried_out_before_its_worker_goes(rt: HostRuntime) {
     let (pool, sum) = (pool_of(&rt, 1), Sum::new());
-    assert!(rt; pool.give(&rt, 0, 9).is_none());
+    assert!(rt; pool.give(&rt, 0, numbered(9)).is_none());
     pool.end(&rt);
     run_workers(&rt, &sum, &pool);
     assert!(rt; sum.found() == (1, 9));
