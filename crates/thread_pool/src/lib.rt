@@ -10,4 +10,4 @@ mod trials;
 mod workers;
 
 pub use pool::ThreadPool;
-pub use workers::{Worker, run_workers};
+pub use workers::run_workers;

@@ -1,7 +1,7 @@
 //! Tests of the pool. Who waits looks once before it sleeps, so that it sleeps nearly each time, and a wake-up that were
 //! lost would end no test.
 
-use crate::{ThreadPool, Worker, run_workers};
+use crate::{ThreadPool, run_workers};
 use std::hint::spin_loop;
 use std::process::Abort;
 use std::sync::Wait;
@@ -55,16 +55,15 @@ impl Sum {
         }
     }
 
-    /// How many there were, and what they are together.
-    fn found(&self) -> (u64, u64) {
-        (self.jobs.load(SeqCst), self.sum.load(SeqCst))
-    }
-}
-
-impl Worker<Job> for Sum {
+    /// Counts a job.
     fn carry_out(&self, job: Job) {
         self.sum.fetch_add(job.number, SeqCst);
         self.jobs.fetch_add(1, SeqCst);
+    }
+
+    /// How many there were, and what they are together.
+    fn found(&self) -> (u64, u64) {
+        (self.jobs.load(SeqCst), self.sum.load(SeqCst))
     }
 }
 
@@ -102,7 +101,7 @@ fn expect_carried_out<R: Threads + Wait + Abort + AllocGlobal + Sync>(
     let sum = Sum::new();
     join(
         rt,
-        || run_workers(rt, &sum, &pool),
+        || run_workers(rt, &|job| sum.carry_out(job), &pool),
         || give_all(rt, &pool, &sum, rounds),
     );
     drop(pool);
@@ -148,7 +147,7 @@ fn what_is_taken_back_is_not_carried_out(rt: HostRuntime) {
     let mut back = (0u64, 0u64);
     join_mut(
         &rt,
-        &mut || run_workers(&rt, sum, pool),
+        &mut || run_workers(&rt, &|job| sum.carry_out(job), pool),
         &mut || {
             for number in 0..100_000 {
                 for worker in 0..2 {
@@ -190,7 +189,7 @@ fn what_lies_in_a_mailbox_is_carried_out_before_its_worker_goes(rt: HostRuntime)
     let (pool, sum) = (pool_of(&rt, 1), Sum::new());
     assert!(rt; pool.give(&rt, 0, numbered(9)).is_none());
     pool.end(&rt);
-    run_workers(&rt, &sum, &pool);
+    run_workers(&rt, &|job| sum.carry_out(job), &pool);
     assert!(rt; sum.found() == (1, 9));
     pool.rest(&rt);
     drop(pool);

@@ -14,7 +14,6 @@ use crate::work::work;
 use std::alloc::Global;
 use std::marker::Model;
 use std::sync::Arc;
-use thread_pool::Worker;
 use window_core::Sheaf;
 use work_board::{Board, Seat};
 
@@ -125,18 +124,5 @@ impl Order {
     pub(crate) fn carry_out<G: Gate>(self, gate: &G) {
         let Order { tasks, begin } = self;
         let _seat = serve(&tasks, gate, begin);
-    }
-}
-
-/// Carries out orders, and tells a gate of their pieces.
-#[derive(Drop)]
-pub(crate) struct GateWorker<'a, G: Gate> {
-    /// Who is told.
-    pub gate: &'a G,
-}
-
-impl<'a, G: Gate> Worker<Order> for GateWorker<'a, G> {
-    fn carry_out(&self, job: Order) {
-        job.carry_out(self.gate);
     }
 }

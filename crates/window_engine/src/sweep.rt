@@ -10,7 +10,7 @@ ghost use Rattle.window_engine.specs.Sweeps.{IsSwept};
 
 use crate::desk::{Desk, Pass};
 use crate::gate::Gate;
-use crate::order::{Begin, GateWorker, Order, Tasks, serve};
+use crate::order::{Begin, Order, Tasks, serve};
 use crate::owed::Owed;
 use crate::parts::Parts;
 use crate::scribe::Scribe;
@@ -47,7 +47,7 @@ pub(crate) fn keep_workers<G: Gate, R: Threads + Wait + Sync>(
     gate: &G,
     pool: &ThreadPool<Order>,
 ) {
-    run_workers(rt, &GateWorker { gate }, pool);
+    run_workers(rt, &|order: Order| order.carry_out(gate), pool);
 }
 
 /// Memory for a worker's text, that of the window before where there is some.
