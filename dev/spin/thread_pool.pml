@@ -318,7 +318,7 @@ proctype worker(byte me) {
         :: else
         fi;
         d_step {
-            carried[mine]++;                    /* work.carry_out(job); */
+            carried[mine]++;                    /* carry_out(job); */
             mine = NONE
         };
         carried_out()                           /* pool.carried_out(rt); */
