@@ -105,11 +105,12 @@ fn a_text_is_written_while_threads_run_a_window(rt: HostRuntime) {
     }
 }
 
-// The most turns that workers give away for others, all of them together.
-const TURNS: u64 = 10_000_000;
+// The most turns that a worker gives away before it goes on: few, since the first windows are run by the calling thread
+// alone.
+const TURNS: u64 = 100_000;
 
-// Holds whoever enters until so many are at their pieces at once. Once they were, or after many turns given away in
-// vain, it holds nobody. A thread is worth it for as many events as to users.
+// Holds whoever enters for a while, until so many are at their pieces at once. Once they were it holds nobody. A thread is
+// worth it for as many events as to users.
 #[derive(Drop)]
 struct Many {
     // How many have to be at their pieces at once.
@@ -118,8 +119,6 @@ struct Many {
     inside: AtomicU64,
     // Whether so many were, once: 1.
     met: AtomicU64,
-    // How many turns were given away.
-    turns: AtomicU64,
 }
 
 impl Many {
@@ -128,7 +127,6 @@ impl Many {
             size,
             inside: AtomicU64::new(0),
             met: AtomicU64::new(0),
-            turns: AtomicU64::new(0),
         }
     }
 
@@ -144,7 +142,7 @@ impl Gate for Many {
             self.met.store(1, SeqCst);
         }
         for _turn in 0..TURNS {
-            if self.has_met() || self.turns.fetch_add(1, SeqCst) > TURNS {
+            if self.has_met() {
                 return;
             }
             thread::yield_now();
