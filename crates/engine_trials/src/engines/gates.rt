@@ -1,16 +1,15 @@
 //! A gate is told of each piece of each window, once before it runs and once behind, and the workers are at
 //! their pieces at once, also while the text of a window before is written.
 
-use super::nets::{four_flows, two_flows};
+use super::nets::two_flows;
 use super::{engine_of, run_to, whole_text, window};
 use crate::crowd::Crowd;
 use std::process::Abort;
 use std::sync::Wait;
 use std::sync::atomic::AtomicU64;
 use std::sync::atomic::Ordering::SeqCst;
-use std::thread;
 use std::thread::Threads;
-use window_engine::{Engine, Gate, Sink, SinkFail, Stop, WORTH};
+use window_engine::{Engine, Gate, Sink, SinkFail, Stop};
 
 // Four groups, so that each window has four pieces, of the numbers 0 to 3.
 const GROUPS: [u8; 4] = [0, 1, 2, 3];
@@ -102,72 +101,6 @@ fn a_text_is_written_while_threads_run_a_window(rt: HostRuntime) {
         drop(engine);
         assert!(rt; stop == Ok(Stop::End));
         assert!(rt; sink.came, "{workers}");
-    }
-}
-
-// The most turns that a worker gives away before it goes on: few, since the first windows are run by the calling thread
-// alone.
-const TURNS: u64 = 100_000;
-
-// Holds whoever enters for a while, until so many are at their pieces at once. Once they were it holds nobody. A thread is
-// worth it for as many events as to users.
-#[derive(Drop)]
-struct Many {
-    // How many have to be at their pieces at once.
-    size: u64,
-    // How many are.
-    inside: AtomicU64,
-    // Whether so many were, once: 1.
-    met: AtomicU64,
-}
-
-impl Many {
-    fn of(size: u64) -> Many {
-        Many {
-            size,
-            inside: AtomicU64::new(0),
-            met: AtomicU64::new(0),
-        }
-    }
-
-    // Whether so many were at their pieces at once.
-    fn has_met(&self) -> bool {
-        self.met.load(SeqCst) == 1
-    }
-}
-
-impl Gate for Many {
-    fn enter(&self, _piece: u64) {
-        if self.inside.fetch_add(1, SeqCst).saturating_add(1) >= self.size {
-            self.met.store(1, SeqCst);
-        }
-        for _turn in 0..TURNS {
-            if self.has_met() {
-                return;
-            }
-            thread::yield_now();
-        }
-    }
-
-    fn leave(&self, _piece: u64) {
-        self.inside.fetch_sub(1, SeqCst);
-    }
-
-    fn worth(&self) -> usize {
-        WORTH
-    }
-}
-
-// Where windows hold thousands of events of each of four groups, as many workers run them as there are, up to four.
-#[test]
-fn as_many_workers_as_pay_are_at_their_pieces_at_once(rt: HostRuntime) {
-    let scenario = four_flows(&rt);
-    for (workers, size) in [(2, 2), (3, 3), (4, 4), (8, 4)] {
-        let gate = Many::of(size);
-        let mut engine = engine_of(&rt, &scenario, &[0, 0, 1, 1, 2, 2, 3, 3]);
-        let _text = whole_text(&rt, &mut engine, workers, &gate);
-        drop(engine);
-        assert!(rt; gate.has_met(), "{workers}");
     }
 }
 
