@@ -10,6 +10,7 @@ docs/pictures/replay_*.png.
 """
 import base64
 import csv
+import functools
 import io
 import json
 import math
@@ -91,9 +92,9 @@ MOMENTS = '''(() => {
 # ---- a browser
 
 class Browser:
-    """A headless Chromium that is told what to do over a pipe."""
+    """A headless Chromium that gets its commands over a pipe; `environment` is added to its own."""
 
-    def __init__(self, folder):
+    def __init__(self, folder, environment=None):
         to_read, self._to = os.pipe()
         self._from, from_write = os.pipe()
         def ends():         # the browser reads its commands at 3 and answers at 4
@@ -104,7 +105,7 @@ class Browser:
             [CHROMIUM, '--headless=new', '--no-sandbox', '--disable-gpu', '--remote-debugging-pipe', '--hide-scrollbars',
              '--no-first-run', '--disable-dev-shm-usage', f'--user-data-dir={folder}', 'about:blank'],
             preexec_fn=ends, close_fds=False, stdin=subprocess.DEVNULL, stdout=subprocess.DEVNULL,
-            stderr=subprocess.DEVNULL)
+            stderr=subprocess.DEVNULL, env={**os.environ, **(environment or {})})
         os.close(to_read)
         os.close(from_write)
         self._count, self._rest, self._session = 0, b'', None
@@ -169,6 +170,14 @@ class Browser:
 
     def shown(self):
         return json.loads(self.value(READ))
+
+    def families(self, css):
+        """The fonts by which the words of an element are drawn."""
+        self.call('DOM.enable')
+        self.call('CSS.enable')
+        root = self.call('DOM.getDocument', depth=0)['root']['nodeId']
+        node = self.call('DOM.querySelector', nodeId=root, selector=css)['nodeId']
+        return {font['familyName'] for font in self.call('CSS.getPlatformFontsForNode', nodeId=node)['fonts']}
 
     def picture(self, path):
         found = self.call('Page.captureScreenshot', format='png')
@@ -536,24 +545,43 @@ def collisions(seen, most=1):
     return found
 
 
-@IN_BROWSER
-class InBrowser(unittest.TestCase):
+PAGES = tempfile.TemporaryDirectory(prefix='replay')
+
+
+@functools.cache
+def page_of(name, *words):
+    """The page of an example, made once; its path."""
+    out = os.path.join(PAGES.name, f'{name}{"".join(words)}.html')
+    subprocess.run([sys.executable, os.path.join(BIN, 'tcpsim-replay'), *example(name), '-o', out, *words],
+                   check=True, capture_output=True)
+    return out
+
+
+class WithBrowser(unittest.TestCase):
+    """Tests that share one browser."""
+
     @classmethod
     def setUpClass(cls):
         cls.folder = tempfile.mkdtemp(prefix='replay')
-        cls.browser = Browser(os.path.join(cls.folder, 'profile'))
+        cls.browser = Browser(os.path.join(cls.folder, 'profile'), cls.environment())
+
+    @classmethod
+    def environment(cls):
+        """What is added to the browser's environment."""
+        return {}
 
     @classmethod
     def tearDownClass(cls):
         cls.browser.close()
         shutil.rmtree(cls.folder, True)
 
-    def made(self, name, *words):
-        out = os.path.join(self.folder, name + '.html')
-        subprocess.run([sys.executable, os.path.join(BIN, 'tcpsim-replay'), *example(name), '-o', out, *words],
-                       check=True, capture_output=True)
-        return out
+    @staticmethod
+    def made(name, *words):
+        return page_of(name, *words)
 
+
+@IN_BROWSER
+class InBrowser(WithBrowser):
     def compare(self, name, scenario, lines, position, shown, dump):
         where = f'{name}, event {position}'
         self.assertEqual((shown['event'], shown['hash']), (str(position), f'#event={position}'), where)
@@ -650,22 +678,6 @@ class InBrowser(unittest.TestCase):
                 with self.subTest(f'{name}, {position}'):
                     self.browser.go(position)
                     self.compare(name, scenario, lines, position, self.browser.shown(), dump)
-
-    def test_no_label_lies_over_another(self):
-        """Every example's page at 1,280 by 720: where most was dropped at once, where most packets wait, at
-        the last timeout or at the end, and with the words of the first stall. (The words of a line with drops
-        may want scrolling.)"""
-        for name in sorted(file[:-6] for file in os.listdir(EXAMPLES) if file.endswith('.trace')):
-            self.browser.open(self.made(name))
-            for moment in json.loads(self.browser.value(MOMENTS)):
-                with self.subTest(f'{name}, event {moment}'):
-                    self.browser.go(moment)
-                    self.assertEqual(collisions(json.loads(self.browser.value(SEEN))), [])
-            self.browser.press('Home')
-            self.browser.press('s')
-            with self.subTest(f'{name}, stall'):
-                self.assertNotEqual(self.browser.shown()['notice'], '')
-                self.assertEqual(collisions(json.loads(self.browser.value(SEEN))), [])
 
     def test_columns(self):
         """By hand: senders first, then the routers p, q, u in a row; rb is behind q, ra and rc behind u."""
@@ -842,6 +854,61 @@ class InBrowser(unittest.TestCase):
         self.assertGreater(shown, 0)
         time.sleep(.2)
         self.assertEqual(int(self.browser.shown()['event']), shown)
+
+
+class OneFont:
+    """The page with the fonts of one package of Debian's and no others: each has other widths."""
+
+    fonts, sans, mono = None, None, None
+
+    @classmethod
+    def environment(cls):
+        """A configuration of fontconfig's that knows these fonts alone."""
+        path = os.path.join(cls.folder, 'fonts.conf')
+        aliases = ''.join(f'<alias binding="strong"><family>{name}</family><prefer><family>{family}</family></prefer></alias>'
+                          for name, family in (('sans-serif', cls.sans), ('monospace', cls.mono)))
+        with open(path, 'w', encoding='utf-8') as file:
+            file.write('<?xml version="1.0"?><!DOCTYPE fontconfig SYSTEM "urn:fontconfig:fonts.dtd"><fontconfig>'
+                       f'<dir>{cls.fonts}</dir><cachedir>{cls.folder}/fonts</cachedir>{aliases}</fontconfig>\n')
+        return {'FONTCONFIG_FILE': path}
+
+    def test_no_label_lies_over_another(self):
+        """Every example's page at 1,280 by 720: where most was dropped at once, where most packets wait, at
+        the last timeout or at the end, and with the words of the first stall. (The words of a line with drops
+        may want scrolling.)"""
+        for name in sorted(file[:-6] for file in os.listdir(EXAMPLES) if file.endswith('.trace')):
+            self.browser.open(self.made(name))
+            self.assertEqual([self.browser.families(css) for css in ('h1', '#windows .title', '#where')],
+                             [{self.sans}, {self.sans}, {self.mono}])
+            for moment in json.loads(self.browser.value(MOMENTS)):
+                with self.subTest(f'{name}, event {moment}'):
+                    self.browser.go(moment)
+                    self.assertEqual(collisions(json.loads(self.browser.value(SEEN))), [])
+            self.browser.press('Home')
+            self.browser.press('s')
+            with self.subTest(f'{name}, stall'):
+                self.assertNotEqual(self.browser.shown()['notice'], '')
+                self.assertEqual(collisions(json.loads(self.browser.value(SEEN))), [])
+
+    def test_axis_of_time_has_its_labels(self):
+        """However wide they are: at least three, and the curves reach from the axis to the last moment."""
+        for name in COMPARED:
+            self.browser.open(self.made(name))
+            labels = json.loads(self.browser.value('JSON.stringify(["#windows", "#lengths"].map(css => '
+                                                   '[...document.querySelectorAll(css + " .axis:nth-of-type(2) text")].length))'))
+            self.assertTrue(all(count >= 3 for count in labels), (name, labels))
+
+
+@IN_BROWSER
+@unittest.skipUnless(os.path.isdir('/usr/share/fonts/truetype/dejavu'), 'no DejaVu: apt-get install fonts-dejavu')
+class DejaVuAlone(OneFont, WithBrowser):
+    fonts, sans, mono = '/usr/share/fonts/truetype/dejavu', 'DejaVu Sans', 'DejaVu Sans Mono'
+
+
+@IN_BROWSER
+@unittest.skipUnless(os.path.isdir('/usr/share/fonts/truetype/liberation'), 'no Liberation: apt-get install fonts-liberation')
+class LiberationAlone(OneFont, WithBrowser):
+    fonts, sans, mono = '/usr/share/fonts/truetype/liberation', 'Liberation Sans', 'Liberation Mono'
 
 
 def draw_pictures():
