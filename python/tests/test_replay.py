@@ -25,7 +25,10 @@ import unittest
 
 from paths import BIN, MODEL, TOP
 from tcpsim.replay import recording
-from tcpsim.trace import Unreadable, read_run
+from tcpsim.program import NoProgram, find_program
+from tcpsim.scenario import units
+from tcpsim.trace import Scenario, Unreadable
+from tcpsim.whole_trace import read_run
 
 EXAMPLES = os.path.join(TOP, 'examples')
 PICTURES = os.path.join(TOP, 'docs', 'pictures')
@@ -207,8 +210,8 @@ def example(name):
 def program():
     """The program's words: that named by TCPSIM, else the one that tcpsim-replay finds, else the model."""
     try:
-        return [recording.find_program(os.environ.get('TCPSIM'))]
-    except Unreadable:
+        return [find_program(os.environ.get('TCPSIM'))]
+    except NoProgram:
         return [sys.executable, MODEL]
 
 
@@ -273,7 +276,12 @@ class Folder(unittest.TestCase):
 
 
 def part_of(text, trace, begin=0, end=None):
-    return recording.Part(recording.Scenario(text), io.BytesIO(trace.encode('utf-8')), begin, end)
+    return recording.Part(Scenario(text), trace.splitlines(), begin, end)
+
+
+def scenario_of(name):
+    with open(example(name)[0], encoding='ascii') as file:
+        return Scenario(file.read())
 
 
 class Parts(unittest.TestCase):
@@ -296,13 +304,12 @@ class Parts(unittest.TestCase):
 
     def test_states_are_the_debuggers(self):
         for name in COMPARED:
-            scenario, text = recording.read_scenario(example(name)[0])
-            lost = recording.lost_packets(text)
-            with open(example(name)[1], 'rb') as file:
-                lines = file.read().splitlines(True)
+            scenario = scenario_of(name)
+            with open(example(name)[1], encoding='ascii') as file:
+                lines = file.read().splitlines()
             moments = sorted({int(line.split()[1]) for line in lines[:-1]})
             chosen = random.Random(name).sample(moments, min(20, len(moments)))
-            parts = [recording.Part(scenario, io.BytesIO(b''.join(lines)), moment, None, lost) for moment in chosen]
+            parts = [recording.Part(scenario, lines, moment) for moment in chosen]
             for part, dump in zip(parts, dumps(name, [part.first for part in parts])):
                 self.compare(part, dump)
 
@@ -330,26 +337,11 @@ class Parts(unittest.TestCase):
 
     def test_every_example_is_taken_whole(self):
         for name in sorted(file[:-6] for file in os.listdir(EXAMPLES) if file.endswith('.trace')):
-            scenario, text = recording.read_scenario(example(name)[0])
-            with open(example(name)[1], 'rb') as lines:
-                part = recording.Part(scenario, lines, 0, None, recording.lost_packets(text))
-            self.assertTrue(part.whole, name)
             with open(example(name)[1], encoding='ascii') as file:
-                self.assertEqual(file.read().splitlines()[:-1], part.lines, name)
-
-
-class Times(unittest.TestCase):
-    def test_times(self):
-        for word, time_ns in (('1', 10**9), ('1.5', 15 * 10**8), ('0.000000001', 1), ('20ms', 2 * 10**7), ('7us', 7000),
-                              ('9ns', 9), ('2.5s', 25 * 10**8)):
-            self.assertEqual(recording.read_time(word), time_ns)
-        for time_ns in (0, 1, 999999999, 12345678901):
-            self.assertEqual(recording.read_time(recording.seconds(time_ns)), time_ns)
-
-    def test_no_times(self):
-        for word in ('', '-1', '1h', 's', '1.', '1e3', 'x', '1,5'):
-            with self.assertRaises(Exception, msg=word):
-                recording.read_time(word)
+                lines = file.read().splitlines()
+            part = recording.Part(scenario_of(name), lines)
+            self.assertTrue(part.whole, name)
+            self.assertEqual(lines[:-1], part.lines, name)
 
 
 @WITH_D3
@@ -405,7 +397,7 @@ class Refusals(Folder):
         self.refused(TRACE, 'tcpsim-replay: ', scenario=BY_HAND.replace('link b', '# link b'))
 
     def test_no_event_in_the_span(self):
-        self.refused(TRACE, '--from', words=('--from', '1'))
+        self.refused(TRACE, '--from', words=('--from', '1s'))
 
     def test_files_that_are_not_there(self):
         done = self.run_script('nothing.txt', 'nothing.trace')
@@ -428,7 +420,7 @@ class Refusals(Folder):
             with self.assertRaises(Unreadable) as refused:
                 part_of(BY_HAND, TRACE)
             words = str(refused.exception).replace(',', '').split()
-            spans = [recording.read_time(words[n + 1]) for n, word in enumerate(words) if word in ('--from', '--to')]
+            spans = [units.moment(words[n + 1]) for n, word in enumerate(words) if word in ('--from', '--to')]
             self.assertEqual(spans, [0, 2080000, 2080000])
             self.assertEqual(len(part_of(BY_HAND, TRACE, spans[0], spans[1]).lines), 3)
             self.assertEqual(len(part_of(BY_HAND, TRACE, spans[2]).lines), 3)
@@ -646,7 +638,7 @@ class InBrowser(WithBrowser):
             self.assertEqual(packet['word'], str(flow), where)
 
     def walk(self, name):
-        scenario, _ = recording.read_scenario(example(name)[0])
+        scenario = scenario_of(name)
         with open(example(name)[1], encoding='ascii') as file:
             lines = file.read().splitlines()[:-1]
         positions = positions_of(name, len(lines))
@@ -669,7 +661,7 @@ class InBrowser(WithBrowser):
     def test_every_example_at_three_moments(self):
         """The other examples: one early, one in the middle, one late event."""
         for name in sorted(file[:-6] for file in os.listdir(EXAMPLES) if file.endswith('.trace')):
-            scenario, _ = recording.read_scenario(example(name)[0])
+            scenario = scenario_of(name)
             with open(example(name)[1], encoding='ascii') as file:
                 lines = file.read().splitlines()[:-1]
             chosen = [len(lines) // 10 + 1, len(lines) // 2, len(lines)]
@@ -711,7 +703,7 @@ class InBrowser(WithBrowser):
         self.assertTrue(all(a >= max(link.queue, default=0) for a, link in zip(longest, run.links)))
 
     def test_from_a_moment_on(self):
-        name, scenario = 'four_flows_share_codel', recording.read_scenario(example('four_flows_share_codel')[0])[0]
+        name, scenario = 'four_flows_share_codel', scenario_of('four_flows_share_codel')
         with open(example(name)[1], encoding='ascii') as file:
             lines = file.read().splitlines()[:-1]
         self.browser.open(self.made(name, '--from', '2s', '--to', '3s'))
