@@ -9,7 +9,7 @@
 # `make install PREFIX=DIR` puts the program, the tools tcpsim-NAME, their man pages, the documents with
 # the examples, and completions for bash, zsh and fish below DIR, /usr/local if none is given, and
 # `make uninstall PREFIX=DIR` takes them away.
-.PHONY: run test test-tools wrong-bodies bench pictures pages install uninstall
+.PHONY: run test test-tools setup wrong-bodies bench pictures pages install uninstall
 
 # A python3 that has matplotlib: the one that is found first, or Debian's own.
 PYTHON = $(shell for python in python3 /usr/bin/python3; do \
@@ -26,13 +26,17 @@ FISH_COMPLETIONS = share/fish/vendor_completions.d
 TOOLS = plot flows net sweep replay follow stalls
 PACKAGES = tcpsim tcpsim_model
 
-test:
+# Where CI=true all that tests want is installed first, and a test that is left out has failed.
+test: setup
 	@python3 dev/build.py --ready
 	@python3 dev/wrong_bodies.py --check
 	rt ci
 	@python3 dev/run_tests.py --python '$(PYTHON)'
 
-test-tools:
+setup:
+	@[ "$$CI" != true ] || dev/setup
+
+test-tools: setup
 	@python3 dev/run_tests.py --python '$(PYTHON)' $(wildcard dev/test_*.py python/tests/test_*.py)
 
 wrong-bodies:
@@ -53,32 +57,34 @@ pictures:
 pages:
 	@python3 dev/pages.py -o pages
 
-# Below DIR: bin/tcpsim and bin/tcpsim-NAME, the packages in lib/tcpsim, and share/.
+# Below DIR: bin/tcpsim and bin/tcpsim-NAME, the packages in lib/tcpsim, and share/. Recipes have DIR as $$ROOT, so that
+# whatever it has in it, quotes too, is its name.
+install uninstall: export ROOT = $(DESTDIR)$(PREFIX)
 install:
 	@test -x $(PROGRAM) || { echo '$(PROGRAM) is not there: build it with `make run`'; exit 1; }
-	install -D -m 755 $(PROGRAM) '$(DESTDIR)$(PREFIX)/bin/tcpsim'
-	install -d '$(DESTDIR)$(PREFIX)/share/man/man1' \
-	'$(DESTDIR)$(PREFIX)/$(BASH_COMPLETIONS)' '$(DESTDIR)$(PREFIX)/$(FISH_COMPLETIONS)'
+	install -D -m 755 $(PROGRAM) "$$ROOT/bin/tcpsim"
+	install -d "$$ROOT/share/man/man1" \
+	"$$ROOT/$(BASH_COMPLETIONS)" "$$ROOT/$(FISH_COMPLETIONS)"
 	@for it in $$(find $(PACKAGES:%=python/%) -type f ! -path '*/__pycache__/*' ! -name '*.md'); do \
-	install -D -m 644 "$$it" '$(DESTDIR)$(PREFIX)/lib/tcpsim/'"$${it#python/}" || exit 1; done
-	install -m 755 $(TOOLS:%=bin/tcpsim-%) '$(DESTDIR)$(PREFIX)/bin'
-	install -m 644 man/*.1 '$(DESTDIR)$(PREFIX)/share/man/man1'
+	install -D -m 644 "$$it" "$$ROOT/lib/tcpsim/$${it#python/}" || exit 1; done
+	install -m 755 $(TOOLS:%=bin/tcpsim-%) "$$ROOT/bin"
+	install -m 644 man/*.1 "$$ROOT/share/man/man1"
 	@for it in README.md docs/*.md docs/pictures/* bench/*.md examples/* dev/README.md python/README.md \
 	python/tcpsim_model/README.md $$(find editors -type f); do \
-	install -D -m 644 "$$it" '$(DESTDIR)$(PREFIX)/$(DOCUMENTS)/'"$$it" || exit 1; done
-	install -m 644 completions/tcpsim.bash '$(DESTDIR)$(PREFIX)/$(BASH_COMPLETIONS)/tcpsim'
-	install -D -m 644 completions/_tcpsim '$(DESTDIR)$(PREFIX)/$(ZSH_COMPLETION)'
-	install -m 644 completions/tcpsim.fish '$(DESTDIR)$(PREFIX)/$(FISH_COMPLETIONS)/tcpsim.fish'
+	install -D -m 644 "$$it" "$$ROOT/$(DOCUMENTS)/$$it" || exit 1; done
+	install -m 644 completions/tcpsim.bash "$$ROOT/$(BASH_COMPLETIONS)/tcpsim"
+	install -D -m 644 completions/_tcpsim "$$ROOT/$(ZSH_COMPLETION)"
+	install -m 644 completions/tcpsim.fish "$$ROOT/$(FISH_COMPLETIONS)/tcpsim.fish"
 	@for it in $(TOOLS); do \
-	ln -sfn tcpsim '$(DESTDIR)$(PREFIX)/$(BASH_COMPLETIONS)/tcpsim-'"$$it" && \
-	ln -sfn tcpsim.fish '$(DESTDIR)$(PREFIX)/$(FISH_COMPLETIONS)/tcpsim-'"$$it".fish || exit 1; done
+	ln -sfn tcpsim "$$ROOT/$(BASH_COMPLETIONS)/tcpsim-$$it" && \
+	ln -sfn tcpsim.fish "$$ROOT/$(FISH_COMPLETIONS)/tcpsim-$$it.fish" || exit 1; done
 
 uninstall:
-	rm -rf '$(DESTDIR)$(PREFIX)/lib/tcpsim' '$(DESTDIR)$(PREFIX)/$(DOCUMENTS)'
-	rm -f '$(DESTDIR)$(PREFIX)/bin/tcpsim' '$(DESTDIR)$(PREFIX)/share/man/man1/tcpsim.1' \
-	'$(DESTDIR)$(PREFIX)/$(BASH_COMPLETIONS)/tcpsim' '$(DESTDIR)$(PREFIX)/$(ZSH_COMPLETION)' \
-	'$(DESTDIR)$(PREFIX)/$(FISH_COMPLETIONS)/tcpsim.fish'
-	@for it in $(TOOLS); do rm -f '$(DESTDIR)$(PREFIX)/bin/tcpsim-'"$$it" \
-	'$(DESTDIR)$(PREFIX)/share/man/man1/tcpsim-'"$$it".1 \
-	'$(DESTDIR)$(PREFIX)/$(BASH_COMPLETIONS)/tcpsim-'"$$it" \
-	'$(DESTDIR)$(PREFIX)/$(FISH_COMPLETIONS)/tcpsim-'"$$it".fish; done
+	rm -rf "$$ROOT/lib/tcpsim" "$$ROOT/$(DOCUMENTS)"
+	rm -f "$$ROOT/bin/tcpsim" "$$ROOT/share/man/man1/tcpsim.1" \
+	"$$ROOT/$(BASH_COMPLETIONS)/tcpsim" "$$ROOT/$(ZSH_COMPLETION)" \
+	"$$ROOT/$(FISH_COMPLETIONS)/tcpsim.fish"
+	@for it in $(TOOLS); do rm -f "$$ROOT/bin/tcpsim-$$it" \
+	"$$ROOT/share/man/man1/tcpsim-$$it.1" \
+	"$$ROOT/$(BASH_COMPLETIONS)/tcpsim-$$it" \
+	"$$ROOT/$(FISH_COMPLETIONS)/tcpsim-$$it.fish"; done

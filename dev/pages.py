@@ -6,14 +6,16 @@ Usage: dev/pages.py [-o FOLDER] [--examples FOLDER]
 An example is a scenario NAME.txt with its trace NAME.trace. The list gives the remark that each scenario
 begins with. The folder, `pages` where none is named, can be copied and shown without a network.
 """
-import argparse
 import html
 import os
 import sys
 
 from paths import TOP
-from tcpsim.replay.recording import Part, lost_packets, page, read_d3, read_scenario, write_page
+from tcpsim.command_line import Words, run
+from tcpsim.output import opened, written
+from tcpsim.replay.recording import Part, page, read_d3
 from tcpsim.trace import Unreadable
+from tcpsim.whole_trace import opened_run
 
 INDEX = '''<!DOCTYPE html>
 <html lang="en">
@@ -55,17 +57,16 @@ def remark(text):
 
 def write_one(folder, name, out):
     """Writes one example's page; answers its row of the list."""
-    given = os.path.join(folder, name)
-    scenario, text = read_scenario(given + '.txt')
+    given, title = os.path.join(folder, name), name.replace('_', ' ')
     try:
-        with open(given + '.trace', 'rb') as file:
-            part = Part(scenario, file, 0, None, lost_packets(text))
+        with opened_run(given + '.txt', given + '.trace') as (scenario, lines):
+            part = Part(scenario, lines)
     except Unreadable as wrong:
         raise Unreadable(f'{given}.trace: {wrong}') from wrong
-    title = name.replace('_', ' ')
-    write_page(os.path.join(out, name + '.html'), page(title, scenario, text, part))
+    with written(os.path.join(out, name + '.html')) as file:
+        file.write(page(title, scenario, part))
     return (f'<li><a href="{html.escape(name)}.html">{html.escape(title)}</a> ({len(part.lines):,} events)<br>'
-            f'{html.escape(remark(text))}</li>')
+            f'{html.escape(remark(scenario.text))}</li>')
 
 
 def write_all(folder, out):
@@ -76,30 +77,20 @@ def write_all(folder, out):
     read_d3()
     os.makedirs(out, exist_ok=True)
     rows = [write_one(folder, name, out) for name in names]
-    write_page(os.path.join(out, 'index.html'), INDEX.format(rows='\n'.join(rows)))
+    with written(os.path.join(out, 'index.html')) as file:
+        file.write(INDEX.format(rows='\n'.join(rows)))
     return len(names)
 
 
 def main():
-    words = argparse.ArgumentParser(description='The replay pages of all examples, and a list of them.')
+    words = Words(description='The replay pages of all examples, and a list of them.')
     words.add_argument('-o', dest='out', default='pages', metavar='FOLDER', help='else `pages`, here')
     words.add_argument('--examples', default=os.path.join(TOP, 'examples'), metavar='FOLDER')
     given = words.parse_args()
-    try:
-        print(f'{write_all(given.examples, given.out)} pages: {os.path.join(given.out, "index.html")}')
-        sys.stdout.flush()
-    except Unreadable as wrong:
-        print(f'pages.py: {wrong}', file=sys.stderr)
-        return 1
-    except BrokenPipeError:
-        os.dup2(os.open(os.devnull, os.O_WRONLY), sys.stdout.fileno())
-    except OSError as wrong:
-        print(f'pages.py: {wrong.filename}: {wrong.strerror}', file=sys.stderr)
-        return 1
-    except KeyboardInterrupt:
-        return 130
-    return 0
+    said = f'{write_all(given.examples, given.out)} pages: {os.path.join(given.out, "index.html")}\n'
+    with opened() as file:
+        file.write(said)
 
 
 if __name__ == '__main__':
-    sys.exit(main())
+    sys.exit(run('__main__'))

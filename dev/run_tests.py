@@ -7,14 +7,15 @@ Without names these are dev/refuse_tests.sh, each test_*.py of the two folders, 
 `rt ci`: without that dev/refuse_tests.sh has the crates of its tests proved first, which takes a quarter of an
 hour and more. After `make run` alone leave it out, by naming the others. Each
 test has a folder of its own for what it makes; all are ended, and the folders taken away, where this script is
-interrupted. What wants matplotlib is run by the python of --python, and left out where that is empty. What all
-of them cost is kept for the table of bench/gate.py. The last line is 'N tests passed, N failed', and the
-status is 1 where one failed.
+interrupted. What wants matplotlib or pytest is run by the python of --python, and left out where that is empty. What
+all of them cost is kept for the table of bench/gate.py. The last line is 'N tests passed, N failed', and the status is
+1 where one failed; where CI=true also where something was left out.
 """
 import argparse
 import contextlib
 import glob
 import os
+import re
 import shutil
 import signal
 import subprocess
@@ -27,8 +28,11 @@ import build
 TOP = os.path.dirname(os.path.dirname(os.path.abspath(__file__)))
 DRAWING = ('python/tests/test_trace.py', 'python/tests/test_plot.py')
 # Those that take longest, which are begun first.
-LONG = ('dev/try_shell.sh', 'dev/test_systematic.py', 'python/tests/test_sweep.py', 'python/tests/test_trace.py',
-        'python/tests/test_plot.py', 'dev/test_bounds.py', 'dev/refuse_tests.sh', 'dev/test_helgrind.py')
+LONG = ('python/tests/test_ends.py', 'python/tests/test_inputs.py', 'dev/try_shell.sh', 'dev/test_systematic.py',
+        'python/tests/test_sweep.py', 'python/tests/test_trace.py', 'python/tests/test_plot.py', 'dev/test_bounds.py',
+        'dev/refuse_tests.sh', 'dev/test_helgrind.py')
+PYTEST = '-m', 'pytest', '-q', '-rs', '--no-header', '-p', 'no:cacheprovider'
+LEFT_OUT = 'LEFT OUT', 'SKIPPED'            # how a line begins that says so: ours, and pytest's
 # How long what was ended may take to end, in seconds.
 GRACE = 5
 
@@ -39,12 +43,17 @@ def all_tests():
     return ['dev/refuse_tests.sh', *found, 'dev/try_shell.sh']
 
 
+def is_for_pytest(name):
+    with open(f'{TOP}/{name}', encoding='utf-8') as file:
+        return re.search('^import pytest$', file.read(), re.M) is not None
+
+
 class Test:
     """One test, its process while it runs, and what it said."""
 
     def __init__(self, name, python, folder):
         self.name, self.folder = name, f'{folder}/{os.path.basename(name)}'
-        self.words = [python, name] if name.endswith('.py') else [f'./{name}']
+        self.words = [f'./{name}'] if name.endswith('.sh') else [python, *PYTEST, name] if is_for_pytest(name) else [python, name]
         self.process, self.seconds, self.begun, self.usage = None, 0, 0, None
 
     def start(self):
@@ -121,7 +130,7 @@ def run(tests, jobs):
             while untold and untold[0].process and untold[0] not in running:
                 test = untold.pop(0)
                 failed += not test.tell()
-                out += [line for line in test.said().splitlines() if line.startswith('LEFT OUT')]
+                out += [line for line in test.said().splitlines() if line.startswith(LEFT_OUT)]
             time.sleep(0.05)
     finally:
         for test in running:
@@ -137,7 +146,7 @@ def main():
     words = reader.parse_args()
     python = sys.executable if words.python is None else words.python
     names = words.names or all_tests()
-    gone = [it for it in names if it in DRAWING and not python]
+    gone = [it for it in names if not python and (it in DRAWING or it.endswith('.py') and is_for_pytest(it))]
     with room() as folder:
         tests = [Test(it, python or sys.executable, folder) for it in names if it not in gone]
         failed, out = run(tests, max(1, words.jobs))
@@ -147,7 +156,7 @@ def main():
         out.append(f'LEFT OUT, not passed: {" ".join(gone)} (no python3 with matplotlib)')
     print(''.join(f'{it}\n' for it in out), end='')
     print(f'{len(tests) - failed} tests passed, {failed} failed')
-    sys.exit(1 if failed else 0)
+    sys.exit(1 if failed or (out and os.environ.get('CI') == 'true') else 0)
 
 
 if __name__ == '__main__':

@@ -3,40 +3,81 @@
 docs/FORMATS.md has the table. Used by figures.py and sweep.py; nothing but Python's standard library. All times are
 nanoseconds, all sizes bytes.
 """
-import subprocess
+from tcpsim.program import find_program
+from tcpsim.trace import BITS_NS, HEADER_BYTES, Scenario, Unreadable
+from tcpsim.whole_trace import BLOCK, ProgramFailed, running, scenario_bytes, scenario_text
 
-from tcpsim.program import NoProgram, find_program
-from tcpsim.trace import BITS_NS, HEADER_BYTES, Scenario, Unreadable, refusal, scenario_bytes, scenario_text
-
+LONGEST_TABLE = 1 << 26         # bytes
 HEADING = 'what,number,figure,unit,value'
 BUSY, WAITED = ('busy', 'ns'), ('waited', 'packet-ns')
+LAST_ROW = 'run,,end,ns,'
+# The figures that a table has (docs/FORMATS.md), and whether there may be none.
+OF_A_FLOW = {('start', 'ns'): False, ('delivered', 'bytes'): False, ('completed', 'ns'): True, ('sent', 'segments'): False,
+             ('sent again by fast retransmit', 'segments'): False, ('sent again by timeout', 'segments'): False,
+             ('timeouts', 'times'): False, ('round trips', 'times'): False,
+             **{(f'{which} round trip{"s" * (which[0] == "9")}', 'ns'): True
+                for which in ('least', 'median', '99th percentile of', 'greatest')}}
+OF_A_LINK = {**{(figure, 'packets'): False for figure in (
+                 'offered', 'dropped as lost', 'dropped as full', 'dropped by CoDel', 'sent', 'greatest queue')},
+             ('sent', 'bytes'): False, BUSY: False, WAITED: False,
+             **{(f'{which} delay in the queue', 'ns'): True for which in ('median', '99th percentile of', 'greatest')}}
+OF_THE_RUN = {('events', 'events'): False, ('end', 'ns'): False}
 REASONS = ('dropped as lost', 'dropped as full', 'dropped by CoDel')
 
 
 def table_of(source, program=None):
     """The table of a scenario's bytes, as the program writes it."""
     path = find_program(program)
-    done = subprocess.run([path, 'figures'], input=source, capture_output=True, check=False)
-    if done.returncode == 2:
-        raise Unreadable(f'{path} has no subcommand `figures`: it is older than this script')
-    if done.returncode:
-        raise refusal(done.returncode, done.stderr)
-    return done.stdout.decode('ascii', 'replace')
+    try:
+        with running([path, 'figures'], source) as process:
+            return written_table(process)
+    except ProgramFailed as wrong:
+        if wrong.ended == 2:
+            raise Unreadable(f'{path} has no subcommand `figures`: it is older than this script') from wrong
+        raise
+
+
+def written_table(process):
+    """The table that a program writes that runs."""
+    blocks, size = [], 0
+    while block := process.read(BLOCK):
+        blocks.append(block)
+        size += len(block)
+        if size > LONGEST_TABLE:
+            raise Unreadable(f'the program wrote no table of figures: more than {LONGEST_TABLE:,} bytes')
+    process.check()
+    if not blocks:
+        raise Unreadable('the program wrote nothing')
+    return b''.join(blocks).decode('ascii', 'replace')
 
 
 def read_table(table):
-    """The values of a table, by what and number, and then by figure and unit; None where there is none."""
+    """The values of a whole table, by what and number, and then by figure and unit; None where there is none."""
     heading, *lines = table.splitlines() or ['']
     values = {}
     try:
         for line in lines:
             what, number, figure, unit, value = line.split(',')
-            values.setdefault((what, number), {})[figure, unit] = None if value == '-' else int(value)
+            of = values.setdefault((what, number), {})
+            if (figure, unit) in of:
+                raise ValueError('a figure twice')
+            of[figure, unit] = None if value == '-' else int(value)
     except ValueError:
         heading = line
     if heading != HEADING or not lines:
         raise Unreadable(f'the program wrote no table of figures: {heading[:100]}')
+    if not lines[-1].startswith(LAST_ROW) or not table.endswith('\n'):
+        raise Unreadable(f'the table of figures is cut: it ends with {lines[-1][:100]}')
     return values
+
+
+def figures_of(values, of, wanted):
+    """The figures of a flow, a link or the run, which the table has to have."""
+    there = values.get(of, {})
+    for figure, may_lack in wanted.items():
+        if figure not in there or there[figure] is None and not may_lack:
+            raise Unreadable(f'the table of figures lacks {" ".join(filter(None, of))}: {" ".join(figure)}')
+    return there
 
 
 class EngineRun:
@@ -46,13 +87,13 @@ class EngineRun:
 
     def __init__(self, scenario, table):
         values = read_table(table)
-        try:
-            self.flows = [values['flow', str(n)] for n in range(len(scenario.flows))]
-            self.links = [values['link', str(n)] for n in range(len(scenario.links))]
-            self.last, self.events = values['run', '']['end', 'ns'], values['run', '']['events', 'events']
-            done = all(flow['completed', 'ns'] is not None for flow in self.flows)
-        except KeyError as wrong:
-            raise Unreadable(f'the table of figures lacks {" ".join(wrong.args[0])}') from wrong
+        self.flows = [figures_of(values, ('flow', str(n)), OF_A_FLOW) for n in range(len(scenario.flows))]
+        self.links = [figures_of(values, ('link', str(n)), OF_A_LINK) for n in range(len(scenario.links))]
+        if len(values) != len(self.flows) + len(self.links) + 1:
+            raise Unreadable('the table of figures is that of another scenario')
+        run = figures_of(values, ('run', ''), OF_THE_RUN)
+        self.last, self.events = run['end', 'ns'], run['events', 'events']
+        done = all(flow['completed', 'ns'] is not None for flow in self.flows)
         self.scenario = scenario
         self.begin = min(flow.start for flow in scenario.flows)
         self.end = max(self.last if done else scenario.end, self.begin + 1)
@@ -99,11 +140,6 @@ class EngineRun:
 
 def engine_run(path, program=None):
     """The figures of a scenario's file, a text or an image (`-`: standard input)."""
-    try:
-        source = scenario_bytes(path)
-        table = table_of(source, program)
-        return EngineRun(Scenario(scenario_text(source, path, program)), table)
-    except NoProgram as wrong:
-        raise Unreadable(str(wrong)) from wrong
-    except OSError as wrong:
-        raise Unreadable(': '.join(filter(None, (wrong.filename, wrong.strerror or str(wrong))))) from wrong
+    source = scenario_bytes(path)
+    table = table_of(source, program)
+    return EngineRun(Scenario(scenario_text(source, path, program)), table)

@@ -1,29 +1,31 @@
 """Figures of each flow and each link of a run, as a table or as CSV.
 
-Usage: bin/tcpsim-flows SCENARIO [TRACE] [--csv | --series STEP] [--from T] [--to T] [--busy] [--program PATH]
-       bin/tcpsim-flows SCENARIO --engine [--csv] [--busy] [--program PATH]
+Usage: bin/tcpsim-flows SCENARIO [TRACE] [--csv | --series STEP] [--from T] [--to T] [--busy] [--partial] [-o FILE]
+                        [--program PATH]
+       bin/tcpsim-flows SCENARIO --engine [--csv] [--busy] [-o FILE] [--program PATH]
 
 SCENARIO is a text or an image, `-` is standard input. Without TRACE the program is run. The trace is
 read as it comes and is not kept; with --engine there is none, and the figures are from `tcpsim figures`.
 The span is from the first flow's start to the last line where every flow is complete, else to the
-scenario's end; --from and --to (seconds, or with ns, us, ms, s) choose a part of it, to which what
-happens at --to itself does not belong. --series writes as CSV each flow's mean window and goodput and
+scenario's end; --from and --to (times, as 5s or 20ms) choose a part of it, to which what
+happens at --to itself does not belong. A trace that is cut is refused, or with --partial taken as far as it goes. --series writes as CSV each flow's mean window and goodput and
 each link's mean and greatest queue, a row for each STEP. --busy leaves out the links that carried and
 dropped nothing.
 """
-import argparse
 import csv
 import math
 import os
-import sys
 import tempfile
 from array import array
 from collections import Counter, defaultdict
 from itertools import islice
 
-from tcpsim.scenario import units
+from tcpsim import output
+from tcpsim.command_line import Words, as_type
 from tcpsim.engine import BUSY, REASONS, WAITED, engine_run
-from tcpsim.trace import (ACK, BITS_NS, DATA, NEVER, FlowState, LinkState, Reader, Unreadable, opened_run)
+from tcpsim.scenario import units
+from tcpsim.trace import ACK, BITS_NS, DATA, NEVER, FlowState, LinkState, Reader, Unreadable
+from tcpsim.whole_trace import inputs_of, opened_run
 
 S = 10**9
 HELD = 1 << 19          # numbers that all samples together hold in memory
@@ -55,8 +57,9 @@ class Sample:
 
     def spill(self):
         if self.recent:
-            self._parts.append((self._file.seek(0, os.SEEK_END), len(self.recent)))
-            self.recent.tofile(self._file)
+            with output.named(tempfile.gettempdir()):
+                self._parts.append((self._file.seek(0, os.SEEK_END), len(self.recent)))
+                self.recent.tofile(self._file)
             del self.recent[:]
 
     def clear(self):
@@ -301,7 +304,8 @@ class Figures(Reader):
             row.append((after - before) / (end - begin))
             row.append(link.greatest)
             link.most, link.greatest = max(link.most, link.greatest), len(link.waiting)
-        row.tofile(self.series)
+        with output.named(tempfile.gettempdir()):
+            row.tofile(self.series)
         self.rows, self._row_begin, self._before = self.rows + 1, end, now
 
 
@@ -495,40 +499,29 @@ def write_series(run, file, only_busy=False):
 
 # ---- the command
 
-def moment(word):
-    """Nanoseconds, of seconds as 1.5 or of a time with its unit as 20ms."""
-    try:
-        value = units.time(word + 's' if word[-1:].isdigit() else word)
-    except units.Wrong as wrong:
-        raise argparse.ArgumentTypeError(str(wrong)) from wrong
-    if value > 10**15:
-        raise argparse.ArgumentTypeError(f'{word} is more than 1,000,000 s')
-    return value
-
-
 def words_of(given=None):
-    words = units.Words(prog=units.tool(), description='Figures of each flow and each link of a run.')
+    words, moment = Words(description='Figures of each flow and each link of a run.'), as_type(units.moment)
     words.add_argument('scenario', metavar='SCENARIO', help='a text or an image; - is standard input')
-    words.add_argument('trace', metavar='TRACE', nargs='?', help='else the program is run')
+    words.add_trace()
     words.add_argument('--csv', action='store_true', help='one figure a row: what,name,figure,unit,value')
     words.add_argument('--series', metavar='STEP', type=moment,
                        help='CSV of windows, goodput and queues, a row for each STEP, as 1s')
     words.add_argument('--from', dest='begin', metavar='T', type=moment,
-                       help='count from here on, in seconds or as 20ms; else from the first flow\'s start')
+                       help='count from here on, as 5s or 20ms; else from the first flow\'s start')
     words.add_argument('--to', dest='end', metavar='T', type=moment, help='count up to here; else to the run\'s end')
     words.add_argument('--busy', action='store_true', help='leave out links that carried and dropped nothing')
     words.add_argument('--engine', action='store_true',
                        help='from `tcpsim figures`, with no trace: of the whole run, percentiles at most 1/32 above the '
                        'exact ones. It has no share of the bottleneck, no loss and no drops of a flow, and round trips '
                        'of timed segments alone')
-    words.add_argument('--program', metavar='FILE', help='the program that is run where no trace is given')
+    words.add_output('the table or the CSV')
     given = words.parse_args(given)
     if given.series == 0:
         words.error('--series: a step of 0 has no rows')
     if given.end is not None and given.end <= (given.begin or 0):
         words.error('--to is not behind --from')
-    if given.engine and given.trace is not None:
-        words.error('--engine takes no TRACE: the program runs the scenario')
+    if given.engine and (given.trace is not None or given.partial):
+        words.error('--engine takes no TRACE, nor --partial: the program runs the scenario')
     if given.engine and (given.begin, given.end, given.series) != (None, None, None):
         words.error('--engine has figures of the whole run: it goes without --from, --to and --series')
     return given
@@ -536,7 +529,7 @@ def words_of(given=None):
 
 def run_of(given):
     """The figures that the words ask for."""
-    with opened_run(given.scenario, given.trace, given.program) as (scenario, lines):
+    with opened_run(given.scenario, given.trace, given.program, given.partial) as (scenario, lines):
         return Figures(scenario, lines, given.begin, given.end, given.series)
 
 
@@ -552,24 +545,7 @@ def write(given, file):
         print('\n'.join(table(rows, ENGINE_COLUMNS if given.engine else TRACE_COLUMNS)), file=file)
 
 
-def write_no_more():
-    os.dup2(os.open(os.devnull, os.O_WRONLY), sys.stdout.fileno())
-
-
 def main():
     given = words_of()
-    try:
-        write(given, sys.stdout)
-        sys.stdout.flush()
-    except BrokenPipeError:     # a reader that has seen enough, as `head`
-        write_no_more()
-    except Unreadable as wrong:
-        units.refuse(wrong, 1)
-    except OSError as wrong:
-        write_no_more()
-        units.refuse(f'{wrong.filename or "standard output"}: {wrong.strerror}', 1)
-    except MemoryError:
-        units.refuse('there is not enough memory for this run', 1)
-    except KeyboardInterrupt:
-        return 130
-    return 0
+    with output.opened(given.output, inputs_of(given)) as file:
+        write(given, file)

@@ -1,6 +1,6 @@
 """The life of one segment and of the acknowledgements that carry its number, as a table or as CSV.
 
-Usage: bin/tcpsim-follow SCENARIO [TRACE] --flow F --byte B [--csv] [--program FILE]
+Usage: bin/tcpsim-follow SCENARIO [TRACE] --flow F --byte B [--csv] [--partial] [-o FILE] [--program FILE]
 
 The segment is the one that has byte B. The table says when it was offered, where it waited, for how long
 and behind how many, when each link began to send it, when it arrived or why it was dropped, why it was
@@ -12,13 +12,15 @@ counts, or else the copy of the segment that was sent first and is still in the 
 or a link is sending it (serialized), or it is under way. Where there is none the segment stands still.
 """
 import csv
-import io
 from collections import namedtuple
 
 from tcpsim.causes import counted, seconds
 from tcpsim.lives import ALARM, CAME, CODEL, DATA, FIRST, FULL, TIMEOUT, Walk, Watch, flow_named, opened
 from tcpsim.trace import Unreadable
-from tcpsim.scenario.units import Words, as_type, count, refuse, to_standard_output
+from tcpsim import output
+from tcpsim.command_line import Words, as_type
+from tcpsim.scenario.units import count
+from tcpsim.whole_trace import inputs_of
 
 WAITED, SERIALIZED, UNDER_WAY, STOOD = 'waited', 'serialized', 'under way', 'stood still'
 WHY_AGAIN = {'third duplicate': 'the third duplicate', 'timeout': 'the timeout',
@@ -313,28 +315,18 @@ def write_csv(walk, segment, file):
 def words_of():
     words = Words(description='The life of one segment and of its acknowledgements.')
     words.add_argument('scenario', metavar='SCENARIO', help='a text; - is standard input')
-    words.add_argument('trace', metavar='TRACE', nargs='?', help='else the program is run')
+    words.add_trace()
     words.add_argument('--flow', metavar='F', required=True, help='the flow, by its name or number')
     words.add_argument('--byte', metavar='B', type=as_type(count), required=True, help='a byte of the segment')
     words.add_argument('--csv', action='store_true',
                        help='line,time,packet,event,at,ns,behind,words; times in nanoseconds')
-    words.add_argument('--program', metavar='FILE', help='the program that is run where no trace is given')
+    words.add_output('the table or the CSV')
     return words.parse_args()
 
 
-def show():
-    given, text = words_of(), io.StringIO()
-    with opened(given.scenario, given.trace, given.program) as (scenario, lines):
-        walk, segment = follow(scenario, lines, flow_named(scenario, given.flow), given.byte)
-    (write_csv if given.csv else write_table)(walk, segment, text)
-    to_standard_output(text.getvalue())
-
-
 def main():
-    try:
-        show()
-    except Unreadable as wrong:
-        refuse(wrong, 1)
-    except KeyboardInterrupt:
-        return 130
-    return 0
+    given = words_of()
+    with output.opened(given.output, inputs_of(given)) as file:
+        with opened(given) as (scenario, lines):
+            walk, segment = follow(scenario, lines, flow_named(scenario, given.flow), given.byte)
+        (write_csv if given.csv else write_table)(walk, segment, file)

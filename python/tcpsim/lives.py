@@ -11,7 +11,8 @@ import os
 from collections import deque
 from contextlib import contextmanager
 
-from tcpsim.trace import ACK, BITS_NS, DATA, HEADER_BYTES, IMAGE_BEGINS, Unreadable, opened_run
+from tcpsim.trace import ACK, BITS_NS, DATA, HEADER_BYTES, Unreadable
+from tcpsim.whole_trace import IMAGE_BEGINS, opened_run
 
 SECOND = 10**9
 LEAST_RTO, MOST_RTO = SECOND, 60 * SECOND
@@ -258,7 +259,18 @@ class Walk:
             raise ValueError('its number is out of order')
         if words[1:] != [str(self.line - 1)]:
             raise ValueError(f'`end` names another number than the {self.line - 1} lines before it')
+        if self._next_due() < self.scenario.end:
+            raise ValueError('the run goes on')
         self.ended = True
+
+    def _next_due(self):
+        """When the next event is; the run's end where none is before it."""
+        due = [port.free_at for port in self.ports if port.sending is not None]
+        due += [port.flight[0].due for port in self.ports if port.flight]
+        due += [flow.due('delack') for flow in self.flows if flow.waits is not None]
+        due += [flow.flow.start for flow in self.flows if not flow.high]
+        due += [flow.deadline for flow in self.flows if flow.deadline is not None]
+        return min(due, default=self.scenario.end)
 
     def _free(self, words):
         port = self._port[words[6]]
@@ -453,21 +465,20 @@ def reason(wrong):
 # ---- files
 
 @contextmanager
-def opened(scenario_path, trace_path=None, program=None):
-    """A scenario's text and its trace's lines, of the file or of the program that runs it meanwhile. An image is
-    refused, as the debugger takes texts alone; a pipe, which can be read only once, is not looked at before."""
-    if os.path.isfile(scenario_path) and begins_as_image(scenario_path):
-        raise Unreadable(f'{scenario_path} is an image: `tcpsim dis` writes its text')
-    with opened_run(scenario_path, trace_path, program) as (scenario, lines):
+def opened(given):
+    """The scenario's text and its trace's lines that a command line names, of the file or of the program that runs it
+    meanwhile. An image is refused, as the debugger takes texts alone; a pipe, which can be read only once, is not looked
+    at before."""
+    path = given.scenario
+    if os.path.isfile(path) and begins_as_image(path):
+        raise Unreadable(f'{path} is an image: `tcpsim dis` writes its text')
+    with opened_run(path, given.trace, given.program, given.partial) as (scenario, lines):
         yield scenario, lines
 
 
 def begins_as_image(path):
-    try:
-        with open(path, 'rb') as file:
-            return file.read(len(IMAGE_BEGINS)) == IMAGE_BEGINS
-    except OSError as wrong:
-        raise Unreadable(f'{path}: {wrong.strerror}') from wrong
+    with open(path, 'rb') as file:
+        return file.read(len(IMAGE_BEGINS)) == IMAGE_BEGINS
 
 
 def flow_named(scenario, word):

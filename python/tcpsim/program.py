@@ -7,12 +7,14 @@ import shutil
 import subprocess
 import sys
 
+from tcpsim.command_line import Refused
+
 NAME = 'tcpsim'
 HERE = os.path.dirname(os.path.abspath(__file__))
 BUILT = os.path.join(os.path.dirname(os.path.dirname(HERE)), 'crates', NAME, 'out', NAME)
 
 
-class NoProgram(Exception):
+class NoProgram(Refused):
     """There is no program to run; the text says where one was looked for."""
 
 

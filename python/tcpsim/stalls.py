@@ -1,19 +1,20 @@
 """Why a flow stood still: each span without a new acknowledgement, its cause and how to see it.
 
-Usage: bin/tcpsim-stalls SCENARIO [TRACE] [--longer 200ms] [--flow F] [--csv] [--program FILE]
+Usage: bin/tcpsim-stalls SCENARIO [TRACE] [--partial] [--longer 200ms] [--flow F] [--csv] [-o FILE] [--program FILE]
        bin/tcpsim-stalls --causes
 
 A span begins at a flow's start or at a new acknowledgement and ends at the next one, or where the run
 ends. Without TRACE the built program is run. `--causes` prints the rule of each cause.
 """
 import csv
-import io
 from collections import namedtuple
 
 from tcpsim.causes import CAUSES, cause_of, name_of, rule_of, seconds
 from tcpsim.lives import ACK, CODEL, DATA, PARTIAL, Walk, Watch, flow_named, opened
-from tcpsim.trace import Unreadable
-from tcpsim.scenario.units import Words, as_type, refuse, time, to_standard_output
+from tcpsim import output
+from tcpsim.command_line import Words, as_type
+from tcpsim.scenario.units import moment
+from tcpsim.whole_trace import inputs_of
 
 LONGER = 200 * 10**6
 Timer = namedtuple('Timer', 'time line value doubled')
@@ -262,12 +263,12 @@ def write_causes(file):
 def words_of():
     words = Words(description='Each span of a flow without a new acknowledgement, and its cause.')
     words.add_argument('scenario', metavar='SCENARIO', nargs='?', help='a text; - is standard input')
-    words.add_argument('trace', metavar='TRACE', nargs='?', help='else the program is run')
-    words.add_argument('--longer', metavar='TIME', type=as_type(time), default=LONGER,
+    words.add_trace()
+    words.add_argument('--longer', metavar='TIME', type=as_type(moment), default=LONGER,
                        help='spans longer than this (default 200ms)')
     words.add_argument('--flow', metavar='F', help='only this flow, by its name or number')
     words.add_argument('--csv', action='store_true', help='flow,from,to,ns,cause,found,commands; times in nanoseconds')
-    words.add_argument('--program', metavar='FILE', help='the program that is run where no trace is given')
+    words.add_output('the table or the CSV')
     words.add_argument('--causes', action='store_true', help='print the rule of each cause')
     given = words.parse_args()
     if given.scenario is None and not given.causes:
@@ -275,26 +276,19 @@ def words_of():
     return given
 
 
-def show():
-    given, text = words_of(), io.StringIO()
-    if given.causes:
-        write_causes(text)
-    else:
-        with opened(given.scenario, given.trace, given.program) as (scenario, lines):
-            only = None if given.flow is None else scenario.flows[flow_named(scenario, given.flow)].name
-            rows = [row for row in stalls_of(scenario, lines, given.longer) if only in (None, row.flow)]
-        if given.csv:
-            write_csv(rows, text)
-        else:
-            write_table(rows, given.longer, text)
-    to_standard_output(text.getvalue())
+def rows_of(given):
+    """The rows that the words ask for."""
+    with opened(given) as (scenario, lines):
+        only = None if given.flow is None else scenario.flows[flow_named(scenario, given.flow)].name
+        return [row for row in stalls_of(scenario, lines, given.longer) if only in (None, row.flow)]
 
 
 def main():
-    try:
-        show()
-    except Unreadable as wrong:
-        refuse(wrong, 1)
-    except KeyboardInterrupt:
-        return 130
-    return 0
+    given = words_of()
+    with output.opened(given.output, inputs_of(given)) as file:
+        if given.causes:
+            write_causes(file)
+        elif given.csv:
+            write_csv(rows_of(given), file)
+        else:
+            write_table(rows_of(given), given.longer, file)

@@ -6,27 +6,29 @@ Usage: bin/tcpsim-sweep SCENARIO --set NAME.FIELD=VALUE,.. [--set ..] [-j N] [-o
 """
 import contextlib
 import csv
-import io
 import itertools
 import os
 import re
 import shlex
 import signal
-import subprocess
 import sys
-import tempfile
+import threading
 import time as clock
 from collections import namedtuple
 from concurrent.futures import ProcessPoolExecutor, as_completed
 from concurrent.futures.process import BrokenProcessPool
 from multiprocessing import active_children, get_context
 
-from tcpsim.scenario import units
-from tcpsim.engine import BUSY, EngineRun
-from tcpsim.program import NoProgram, find_program
+from tcpsim import output
+from tcpsim.command_line import ENDS, OutputClosed, Refused, Words, Wrong, as_type, note
+from tcpsim.engine import BUSY, EngineRun, written_table
 from tcpsim.figures import Figures, aligned, figures, jain
-from tcpsim.trace import Scenario, Unreadable, blocks
-from tcpsim.scenario.units import HEADER_BYTES, Wrong, refuse, spelled_rate, spelled_time
+from tcpsim.program import find_program
+from tcpsim.scenario import units
+from tcpsim.scenario.units import HEADER_BYTES, spelled_rate, spelled_time
+from tcpsim.trace import Scenario, Unreadable
+from tcpsim.whole_trace import (BLOCK, IMAGE_BEGINS, PROGRAMS, ProgramFailed, Rest, blocks, inputs_of, running,
+                                scenario_bytes, scenario_text)
 
 MS = 10**6
 MOST_RUNS, MOST_PANELS = 100_000, 12
@@ -241,48 +243,33 @@ def engine_figures_of(run, link):
 def row_of(text, program, link, skip, engine):
     """The row of one run: its figures, or in `status` why there are none."""
     try:
-        return run_row(text, program, link, skip, engine)
+        with running([program, 'figures' if engine else 'run'], text.encode('latin-1')) as process:
+            return table_row(text, process, link) if engine else trace_row(text, process, link, skip)
+    except ProgramFailed as wrong:
+        return {'status': wrong.note or str(wrong)}
+    except Refused as wrong:
+        return {'status': str(wrong)}
     except MemoryError:
         return {'status': 'no memory for its figures'}
     except OSError as wrong:
         return {'status': f'cannot be run: {wrong.strerror}'}
 
 
-def run_row(text, program, link, skip, engine):
-    """The row of one run. The trace is read as it is made; with `engine` there is none."""
-    with tempfile.TemporaryFile() as given, tempfile.TemporaryFile() as note:
-        given.write(text.encode('latin-1'))
-        given.seek(0)
-        row = {'status': ''}
-        words = [program, 'figures' if engine else 'run']
-        with subprocess.Popen(words, stdin=given, stdout=subprocess.PIPE, stderr=note, bufsize=0) as process:
-            try:
-                row = read_table_row(text, process.stdout, link) if engine else read_row(text, process.stdout, link, skip)
-            except Unreadable as wrong:
-                row = {'status': str(wrong)}
-            finally:
-                process.stdout.close()
-        note.seek(0)
-        said = ' '.join(note.read().decode('ascii', 'replace').split())
-    if said or (process.returncode and row['status'] != 'done'):
-        return {'status': said or row['status'] or f'the program ended with status {process.returncode}'}
-    return row
+def trace_row(text, process, link, skip):
+    """The figures of the trace that a program writes, read as it is made."""
+    first = process.read(BLOCK)
+    if not first:
+        process.check()
+        raise Unreadable('the program wrote nothing')
+    scenario = Scenario(text)
+    lines = blocks(Rest(first, process.read).read, 'the program\'s trace', scenario, ended=process.check)
+    return figures_of(Figures(scenario, itertools.chain.from_iterable(lines), skip or None), link)
 
 
-def read_row(text, output, link, skip):
-    """The figures of the trace that a program writes."""
-    lines = blocks(output.read, 'the program\'s trace')
-    first = next(lines, None)
-    if first is None:
-        return {'status': 'the program wrote nothing'}
-    run = Figures(Scenario(text), itertools.chain(first, itertools.chain.from_iterable(lines)), skip or None)
-    return figures_of(run, link) if run.whole else {'status': 'the trace has no end'}
-
-
-def read_table_row(text, output, link):
+def table_row(text, process, link):
     """The figures of the table that a program writes."""
-    table = output.read().decode('ascii', 'replace')
-    return engine_figures_of(EngineRun(Scenario(text), table), link) if table else {'status': 'the program wrote nothing'}
+    table = written_table(process)
+    return engine_figures_of(EngineRun(Scenario(text), table), link)
 
 
 # ---- all runs
@@ -309,9 +296,25 @@ class Grid:
         return [each.key for each in self.settings] + ['status', 'link', *FIGURES]
 
 
-def interruptible():
-    """An interruption from the keyboard ends a worker at once, and its program."""
-    signal.signal(signal.SIGINT, signal.SIG_DFL)
+def begin_worker(ends):
+    """A signal ends a worker at once, with its program; and so does the end of its parent. `ends` are those of a pipe
+    into which nobody writes: once the parent is gone, it is at its end."""
+    os.close(ends[1])
+    for number in ENDS:
+        signal.signal(number, end_worker)
+    signal.pthread_sigmask(signal.SIG_UNBLOCK, ENDS)
+    threading.Thread(target=end_with_parent, args=(ends[0],), daemon=True).start()
+
+
+def end_with_parent(pipe):
+    os.read(pipe, 1)
+    os.kill(os.getpid(), signal.SIGTERM)
+
+
+def end_worker(number, _frame):
+    for program in PROGRAMS:
+        program.kill()
+    os._exit(128 + number)
 
 
 def rows_of(grid, program, jobs):
@@ -321,22 +324,25 @@ def rows_of(grid, program, jobs):
         for number in range(count):
             yield number, row_of(grid.text(number), program, grid.link, grid.skip, grid.engine)
         return
-    pool = ProcessPoolExecutor(min(jobs, count), get_context('fork'), interruptible)
-    runs = {pool.submit(row_of, grid.text(number), program, grid.link, grid.skip, grid.engine): number
-            for number in range(count)}
-    for done in as_completed(runs):
-        yield runs[done], done.result()
-    pool.shutdown()
-
-
-def end_at_once(status, message=None):
-    """Ends with all workers, and waits for none."""
-    for worker in active_children():
-        worker.terminate()
-    if message:
-        print(f'{units.tool()}: {message}', file=sys.stderr)
-    sys.stderr.flush()
-    os._exit(status)
+    ends = os.pipe()
+    pool = ProcessPoolExecutor(min(jobs, count), get_context('fork'), begin_worker, (ends,))
+    try:
+        runs = {}
+        for number in range(count):
+            with output.held_back(ENDS if not runs else ()):        # the first makes the workers
+                runs[pool.submit(row_of, grid.text(number), program, grid.link, grid.skip, grid.engine)] = number
+        for done in as_completed(runs):
+            yield runs[done], done.result()
+    except BrokenProcessPool as wrong:
+        raise Refused('a run\'s process was ended from outside') from wrong
+    except BaseException:
+        for worker in active_children():
+            worker.terminate()
+        raise
+    finally:
+        pool.shutdown(cancel_futures=True)
+        for end in ends:
+            os.close(end)
 
 
 class Progress:
@@ -345,7 +351,7 @@ class Progress:
 
     def __init__(self, count):
         self.count, self.done, self.refused, self.began = count, 0, 0, clock.monotonic()
-        self.terminal = sys.stderr.isatty()
+        self.terminal = sys.stderr is not None and sys.stderr.isatty()
 
     def note(self, labels, row):
         self.done += 1
@@ -353,10 +359,10 @@ class Progress:
         failed = f', {self.refused} without figures' if self.refused else ''
         line = f'{self.done} of {self.count} runs{failed}, {clock.monotonic() - self.began:.0f} s'
         if self.terminal:
-            print(f'\r{line}\x1b[K', end='\n' if self.done == self.count else '', file=sys.stderr, flush=True)
+            note(f'\r{line}\x1b[K', '\n' if self.done == self.count else '')
         else:
             said = [' '.join(f'{key}={value}' for key, value in labels.items()), row['status'].replace('done', '')]
-            print(': '.join([line, *filter(None, said)]), file=sys.stderr, flush=True)
+            note(': '.join([line, *filter(None, said)]))
 
 
 def as_csv(value):
@@ -419,7 +425,7 @@ def drawing():
         matplotlib.use('Agg')
         import matplotlib.pyplot as plt
     except ImportError:
-        refuse('--plot wants matplotlib: apt-get install python3-matplotlib, or another python3 that has it', 1)
+        raise Refused('--plot wants matplotlib: apt-get install python3-matplotlib, or another python3 that has it') from None
     return plt
 
 
@@ -525,23 +531,28 @@ def legend_of(all_axes):
 
 # ---- jobs for other machines
 
-def print_jobs(grid, folder, program, given_program):
+def print_jobs(grid, given):
     """Writes the grid's scenarios, `jobs` with a command a line, and `grid.csv`, which names each point's values."""
-    os.makedirs(folder, exist_ok=True)
-    folder = os.path.abspath(folder)
+    folder = os.path.abspath(given.folder)
     names = [grid.name(number) for number in range(len(grid.points))]
+    paths = [os.path.join(folder, name) for name in names]
     options = [*(['--link', grid.link] if grid.link else []), *(['--skip', spelled_time(grid.skip)] if grid.skip else []),
                *(['--engine'] if grid.engine else []),
-               *(['--program', os.path.abspath(program)] if given_program else []), '-j', '1']
+               *(['--program', os.path.abspath(given.program)] if given.program else []), '-j', '1']
     script = os.path.abspath(sys.argv[0])
     call = [script] if os.access(script, os.X_OK) else [sys.executable, script]
-    with open(os.path.join(folder, 'jobs'), 'w', encoding='utf-8') as jobs:
-        for number, name in enumerate(names):
-            path = os.path.join(folder, name)
-            with open(path + '.txt', 'w', encoding='latin-1', newline='') as file:
-                file.write(grid.text(number))
-            jobs.write(shlex.join([*call, path + '.txt', *options, '-o', path + '.csv']) + ' > /dev/null\n')
-    with open(os.path.join(folder, 'grid.csv'), 'w', encoding='utf-8', newline='') as file:
+    lines = [shlex.join([*call, path + '.txt', *options, '-o', path + '.csv']) + ' > /dev/null\n' for path in paths]
+    for line in lines:
+        if '\n' in line[:-1] or output.printable(line) != line:
+            raise Wrong(f'--print {given.folder!r}: jobs are lines of text, and this name has a line feed or is no text')
+    os.makedirs(folder, exist_ok=True)
+    inputs = inputs_of(given)
+    for number, path in enumerate(paths):
+        with output.written(path + '.txt', inputs) as file:
+            file.write(grid.text(number).encode('latin-1'))
+    with output.written(os.path.join(folder, 'jobs'), inputs) as file:
+        file.write(''.join(lines))
+    with output.written(os.path.join(folder, 'grid.csv'), inputs) as file:
         out = csv.writer(file, lineterminator='\n')
         out.writerow(['scenario', *(each.key for each in grid.settings)])
         for number, name in enumerate(names):
@@ -549,19 +560,28 @@ def print_jobs(grid, folder, program, given_program):
     return os.path.join(folder, 'jobs')
 
 
+def read_csv(path):
+    """The rows of a file of CSV."""
+    try:
+        with open(path, encoding='utf-8', newline='') as file:
+            return list(csv.DictReader(file))
+    except (UnicodeDecodeError, csv.Error) as wrong:
+        raise Unreadable(f'{path} is no CSV: {wrong}') from wrong
+
+
 def gathered(folder):
     """The rows of jobs that are done, and the keys of their settings; a job without a row has one that says so."""
-    with open(os.path.join(folder, 'grid.csv'), encoding='utf-8', newline='') as file:
-        points = list(csv.DictReader(file))
-    if not points or 'scenario' not in points[0]:
+    points = read_csv(os.path.join(folder, 'grid.csv'))
+    if not points or any(None in point.values() or 'scenario' not in point for point in points):
         raise Wrong(f'{folder} has no grid.csv of --print')
-    rows, keys = [], [key for key in points[0] if key != 'scenario']
+    rows, keys = [], [key for key in points[0] if key not in ('scenario', None)]
     for point in points:
         name = point.pop('scenario')
         row = {'status': 'not run'}
-        with contextlib.suppress(FileNotFoundError), \
-                open(os.path.join(folder, name + '.csv'), encoding='utf-8', newline='') as file:
-            row = next(csv.DictReader(file), row)
+        with contextlib.suppress(FileNotFoundError):
+            row = next(iter(read_csv(os.path.join(folder, name + '.csv'))), row)
+            if not ({'status', 'link', *FIGURES} <= set(row) and None not in row.values()):
+                row = {'status': 'its row is cut'}
         rows.append({**point, **row})
     return rows, keys
 
@@ -569,18 +589,18 @@ def gathered(folder):
 # ---- the command line
 
 def command_line():
-    words = units.Words(prog=units.tool(), description='Runs one scenario over a grid of values, a row for each run.',
+    words = Words(description='Runs one scenario over a grid of values, a row for each run.',
                         epilog='FIELD is of a link queue, rate, delay, lose; of a flow mss, segments, start, rwnd, delack. '
                         'a+b.FIELD sets both, *.FIELD all links or all flows; end=TIME sets the end.')
     words.add_argument('scenario', metavar='SCENARIO', nargs='?', help='a text or an image')
     words.add_argument('--set', action='append', default=[], metavar='NAME.FIELD=VALUE,..', dest='sets',
                        help='as pq.queue=droptail:10,50,codel:5ms:100ms or pq.delay=20ms,100ms')
     words.add_argument('--link', metavar='LINK', help='whose figures are told: else the first that is set, else the busiest')
-    words.add_argument('--skip', metavar='TIME', type=units.as_type(units.time), default=0,
+    words.add_argument('--skip', metavar='TIME', type=as_type(units.moment), default=0,
                        help='figures from this moment on')
     words.add_argument('--engine', action='store_true', help='figures of `tcpsim figures`, of whole runs and with no trace; '
                        'waits are at most 1/32 above the exact ones')
-    words.add_argument('-j', '--jobs', metavar='N', type=units.as_type(units.count), default=None,
+    words.add_argument('-j', '--jobs', metavar='N', type=as_type(units.count), default=None,
                        help='runs side by side, else one for each processor')
     words.add_argument('-o', '--output', metavar='FILE', help='the rows as CSV')
     words.add_argument('--csv', action='store_true', help='CSV on standard output too, in the place of the table')
@@ -593,14 +613,13 @@ def command_line():
 
 def text_of(path, program):
     """A scenario's text; an image's is the one that the program writes."""
-    with open(path, 'rb') as file:
-        data = file.read()
-    if data.startswith(b'TCB'):
-        done = subprocess.run([find_program(program), 'dis'], input=data, capture_output=True, check=False)
-        if done.returncode:
-            raise Wrong(f'{path}: {" ".join(done.stderr.decode("ascii", "replace").split())}')
-        data = done.stdout
-    return data.decode('latin-1')
+    source = scenario_bytes(path)
+    if source.startswith(IMAGE_BEGINS):
+        try:
+            return scenario_text(source, path, program)
+        except ProgramFailed as wrong:
+            raise Wrong(f'{path}: {wrong.note or wrong}') from wrong
+    return source.decode('latin-1')
 
 
 def grid_of(given):
@@ -631,65 +650,83 @@ def check_words(given):
         raise Wrong(f'--plot {given.plot}: the name ends with .svg, .png or .pdf')
 
 
+def write_rows(rows, columns, file):
+    out = csv.DictWriter(file, columns, restval='', extrasaction='ignore', lineterminator='\n')
+    out.writeheader()
+    out.writerows(rows)
+
+
 def show(rows, keys, columns, given):
     """The rows on standard output."""
-    if given.csv:
-        file = io.StringIO()
-        out = csv.DictWriter(file, columns, restval='', extrasaction='ignore', lineterminator='\n')
-        out.writeheader()
-        out.writerows(rows)
-        units.to_standard_output(file.getvalue())
-    else:
-        units.to_standard_output('\n'.join(table(rows, keys)) + '\n')
+    with output.opened() as file:
+        if given.csv:
+            write_rows(rows, columns, file)
+        else:
+            file.write('\n'.join(table(rows, keys)) + '\n')
+
+
+def is_answered(row):
+    """Whether a run has figures, or was refused by the program."""
+    return row['status'] == 'done' or row['status'].startswith('refused ')
+
+
+def check_all(rows):
+    """Refuses rows some of which lack their figures for another reason than a refusal of the scenario."""
+    failed = [row['status'] for row in rows if not is_answered(row)]
+    if failed:
+        raise Refused(f'{len(failed)} of {len(rows)} runs have no figures: {failed[0]}')
 
 
 def sweep(given):
     grid = grid_of(given)
     if given.folder:
-        jobs = print_jobs(grid, given.folder, given.program or '', given.program)
-        units.to_standard_output(f'{len(grid.points)} scenarios and {jobs}\n')
+        jobs = print_jobs(grid, given)
+        with output.opened() as file:
+            file.write(f'{len(grid.points)} scenarios and {output.printable(jobs)}\n')
         return
-    program = find_program(given.program)
-    keys = [each.key for each in grid.settings]
-    plt = None
-    if given.plot:
-        at = along(grid.settings)
-        panels = len(grid.points) // len(grid.settings[at].values) if grid.settings else 1
-        if panels > MOST_PANELS:
-            raise Wrong(f'--plot would have {panels} panels, and {MOST_PANELS} is the most')
-        plt = drawing()
-    with open(given.output, 'w', encoding='utf-8', newline='') if given.output else contextlib.nullcontext() as file:
+    program, inputs = find_program(given.program), inputs_of(given)
+    plt = drawing_of(grid, given, inputs) if given.plot else None
+    with output.written(given.output, inputs) if given.output else contextlib.nullcontext() as file:
         rows = run_all(grid, program, given.jobs or os.cpu_count() or 1, file)
-    show(rows, keys, grid.columns(), given)
+    closed = None
+    try:
+        show(rows, [each.key for each in grid.settings], grid.columns(), given)
+    except OutputClosed as wrong:
+        closed = wrong
     if plt:
         from tcpsim.plot.files import save
         save(draw(plt, grid, rows), given.plot)
+    if closed:
+        raise closed
+    check_all(rows)
+
+
+def drawing_of(grid, given, inputs):
+    """matplotlib, where the picture can be drawn."""
+    at = along(grid.settings)
+    panels = len(grid.points) // len(grid.settings[at].values) if grid.settings else 1
+    if panels > MOST_PANELS:
+        raise Wrong(f'--plot would have {panels} panels, and {MOST_PANELS} is the most')
+    for each in inputs:
+        if output.is_same(given.plot, each):
+            raise Wrong(f'--plot {given.plot} would write over what is read, {each}')
+    if given.output and os.path.realpath(given.plot) == os.path.realpath(given.output):
+        raise Wrong(f'--plot {given.plot} and -o {given.output} are one file')
+    return drawing()
 
 
 def gather(given):
     rows, keys = gathered(given.gather)
     columns = [*keys, 'status', 'link', *FIGURES]
     if given.output:
-        with open(given.output, 'w', encoding='utf-8', newline='') as file:
-            out = csv.DictWriter(file, columns, restval='', extrasaction='ignore', lineterminator='\n')
-            out.writeheader()
-            out.writerows(rows)
+        inputs = [entry.path for entry in os.scandir(given.gather) if entry.name.endswith('.csv')]
+        with output.written(given.output, inputs) as file:
+            write_rows(rows, columns, file)
     show(rows, keys, columns, given)
+    check_all(rows)
 
 
 def main():
     given = command_line().parse_args()
-    try:
-        check_words(given)
-        (gather if given.gather else sweep)(given)
-    except Wrong as wrong:
-        refuse(wrong)
-    except NoProgram as wrong:
-        refuse(wrong, 1)
-    except OSError as wrong:
-        end_at_once(1, f'{wrong.filename or given.output or "a file"}: {wrong.strerror}')
-    except BrokenProcessPool:
-        end_at_once(1, 'a run\'s process was ended from outside; the rows before it are written')
-    except KeyboardInterrupt:
-        end_at_once(130)
-    return 0
+    check_words(given)
+    (gather if given.gather else sweep)(given)

@@ -6,21 +6,14 @@ to its reader" in docs/FORMATS.md), and a queue gives its packets in their order
 a trace line by line and keeps only the present state; `Run` keeps all curves. Used by the modules beside
 it; nothing but Python's standard library. All times are nanoseconds, all sizes bytes.
 """
-import codecs
-import subprocess
-import sys
 from array import array
 from collections import Counter, deque, namedtuple
-from contextlib import contextmanager
-from itertools import chain
 
-from tcpsim.program import NoProgram, find_program
+from tcpsim.command_line import Refused
 
 HEADER_BYTES = 40
 BITS_NS = 8 * 10**9
 DATA, ACK = 0, 1
-BLOCK = 1 << 18         # bytes of a trace that are read at once
-IMAGE_BEGINS = b'TCB'
 NEVER = 1 << 62         # past every moment of a run
 
 Node = namedtuple('Node', 'name kind')
@@ -29,7 +22,7 @@ Flow = namedtuple('Flow', 'name sender receiver mss segments start rwnd delack n
 VARIANTS = {'reno': False, 'newreno': True}, {'iw3': False, 'iw10': True}      # a flow's last two words: both or neither
 
 
-class Unreadable(Exception):
+class Unreadable(Refused):
     """A scenario or trace that cannot be read, or a trace of another scenario."""
 
 
@@ -39,7 +32,9 @@ class Scenario:
     """A scenario that the program has taken: names and numbers, and each flow's two ways."""
 
     def __init__(self, text):
+        self.text = text
         self.end, self.nodes, self.links, self.flows, self.routes = None, [], [], [], {}
+        self.lost = {}                  # of each link that loses packets, which of those that are offered to it
         self._numbers = {}
         statements = {'sim': self._sim, 'node': self._node, 'link': self._link, 'flow': self._flow,
                       'route': self._route, 'lose': self._lose}
@@ -87,7 +82,7 @@ class Scenario:
         self.routes[self._numbers[router], self._numbers[to]] = self._numbers[link]
 
     def _lose(self, link, number):
-        pass
+        self.lost.setdefault(self._numbers[link], set()).add(int(number))
 
     def hop(self, node, to):
         """The link over which a node sends what is for `to`."""
@@ -108,6 +103,13 @@ class Scenario:
 
 
 # ---- a trace, line by line
+
+def first_window(flow):
+    """The initial cwnd in bytes, of RFC 5681 section 3.1 or of RFC 6928 section 2."""
+    if flow.iw10:
+        return min(10 * flow.mss, max(2 * flow.mss, 14_600))
+    return (2 if flow.mss > 2190 else 3 if flow.mss > 1095 else 4) * flow.mss
+
 
 class Stream:
     """The packets of one sort that a flow sends."""
@@ -136,13 +138,13 @@ class FlowState:
         self.data = Stream(number, DATA, HEADER_BYTES + flow.mss)
         self.acks = Stream(number, ACK, HEADER_BYTES)
         self.high = self.nxt = self.last_una = 0
-        self.recovering = False
+        self.recovering, self.recover = False, 0    # `recover`: what was sent when the recovery began (RFC 6582)
         self.timed = deque()            # (the ACK that matches, when it was sent)
         self.round_trips = array('q')
         self.completed = None           # when all was acknowledged
         self.expected = 0
         self.highest = -1               # the greatest number received: from `expected` on, there is a gap
-        self.answer_waits = False
+        self.answer_waits, self.answer_due = False, 0
         self.hops = {}                  # of each router, as a word, its links for data and for acknowledgements
 
     def delivered(self):
@@ -157,6 +159,10 @@ class FlowState:
         if kind == 'ack':
             low, at = int(words[7]), 8
         una, nxt, recovering = int(words[at][4:]), int(words[at + 1][4:]), words[at + 4] == 'phase=fr'
+        if una != max(una_before, low):
+            raise ValueError('una does not follow from the line before')
+        if kind == 'start' and (time, words[at + 2]) != (self.flow.start, f'cwnd={first_window(self.flow)}'):
+            raise ValueError('another start, or another initial window')
         by_dups = False
         if kind == 'rto':
             numbers = (una,)
@@ -174,7 +180,9 @@ class FlowState:
             if len(numbers) > 100 and len(numbers) > self.first_link.link.capacity + len(words):
                 raise ValueError('more is sent than there is room for')
         if recovering is not self.recovering:
-            self.recovering = recovering
+            if not recovering and self.flow.newreno and kind == 'ack' and una < self.recover:
+                raise ValueError('a recovery ends before all is acknowledged that was sent when it began')
+            self.recovering, self.recover = recovering, self.high
             if self.on_turn:
                 self.on_turn(time, recovering)
         if una > una_before:
@@ -218,7 +226,7 @@ class FlowState:
             if self.on_received:
                 self.on_received(time)
         if seq == before and self.highest < before and self.flow.delack and not self.answer_waits:
-            self.answer_waits = True
+            self.answer_waits, self.answer_due = True, time + self.flow.delack
             return False
         if seq is not None and seq > self.highest:
             self.highest = seq
@@ -235,8 +243,11 @@ class LinkState:
     def __init__(self, link, number, kind):
         self.link, self.number, self.sends = link, number, f'tx={number}:'
         self.node, self.first = str(link.source), 7 + {'sender': 5, 'receiver': 1, 'router': 0}[kind]
+        self.to, self.lost = str(link.to), ()       # the node at its end; which of those offered to it are lost
         self.waiting = deque()          # (text, stream, when it entered)
-        self.busy = False
+        self.flight = deque()           # (text, stream, when it arrives), the one that it is sending among them
+        self.busy, self.free_at = False, 0
+        self.offered = 0
         self.greatest = 0               # the most packets that waited at once
         self.waited = 0                 # moments of leaving the queue less moments of entering it, summed
 
@@ -256,6 +267,9 @@ class Reader:
         self.last, self.lines, self.whole = 0, 0, False
         self._flows = {str(flow.number): flow for flow in self.flows}
         self._links = {str(link.number): link for link in self.links}
+        self._sources = {str(link.number + 1): link for link in self.links}
+        for number, lost in scenario.lost.items():
+            self.links[number].lost = lost
         for flow in self.flows:
             sender, receiver = flow.flow.sender, flow.flow.receiver
             flow.sender, flow.receiver = str(sender), str(receiver)
@@ -300,19 +314,30 @@ class Reader:
     def _end(self, words, count):
         if int(words[1]) != count or len(words) != 2:
             raise ValueError('another count of events')
+        if self._next_due() < self.scenario.end:
+            raise ValueError('the run goes on')
         self.whole = True
+
+    def _next_due(self):
+        """When the next event is that follows from what was read: all but a retransmission timer's, which is not known."""
+        due = [link.free_at for link in self.links if link.busy] + [link.flight[0][2] for link in self.links if link.flight]
+        due += [flow.answer_due for flow in self.flows if flow.answer_waits]
+        due += [flow.flow.start for flow in self.flows if not flow.high]
+        return min(due, default=NEVER)
 
     def _line(self, words, kind, time):
         if kind == 'free':
             link = self._links[words[6]]
-            if link.node != words[2] or not link.busy:
-                raise ValueError('the link is not busy')
+            if link.node != words[2] or not link.busy or link.free_at != time:
+                raise ValueError('the link does not become free now')
             link.busy = False
             at = link.first
             if link.waiting:
                 at = self._take(link, words, at, time)
         else:
             flow, node = self._flows[words[6]], words[2]
+            if kind == 'data' or kind == 'ack':
+                self._arrive(words, flow, kind, node, time)
             if kind == 'data' and node == flow.receiver:
                 link, at = flow.back_link, 9
                 if flow.answers(int(words[7]), int(words[8][5:]), time):
@@ -328,9 +353,16 @@ class Reader:
         if link.on_queue:
             link.on_queue(time)
 
+    def _arrive(self, words, flow, kind, node, time):
+        """Takes a packet from its way: the first that is under way on that link, at its moment."""
+        link = self._sources[words[3]]
+        text, stream, due = link.flight.popleft()
+        if due != time or link.to != node or text != flow.text + words[7] or stream.sort != (kind == 'ack'):
+            raise ValueError('another packet is the next to arrive')
+
     def _end_line(self, flow, node, kind, words, time):
         """A line of a flow's end that is no segment: at its sender, or of its receiver's alarm."""
-        if kind == 'delack' and node == flow.receiver:
+        if kind == 'delack' and node == flow.receiver and flow.answer_waits and time == flow.answer_due:
             flow.answers(None, int(words[7][5:]), time)
             return flow.back_link, self._offer(flow.back_link, f'{flow.text}{flow.expected}', flow.acks, words, 8, time)
         if node != flow.sender or kind not in ('ack', 'start', 'rto'):
@@ -344,8 +376,12 @@ class Reader:
 
     def _offer(self, link, text, stream, words, at, time):
         act = words[at] if at < len(words) else None
-        if act is not None and act[:10] in ('drop=full:', 'drop=lost:') and act[10:] == text:
-            self._drop(link, text, stream, act[5:9], time)
+        link.offered += 1
+        if link.offered in link.lost or len(link.waiting) >= link.link.capacity:
+            reason = 'lost' if link.offered in link.lost else 'full'
+            if act != f'drop={reason}:{text}':
+                raise ValueError('a packet is to be dropped here')
+            self._drop(link, text, stream, reason, time)
             return at + 1
         if link.busy:
             link.waiting.append((text, stream, time))
@@ -355,13 +391,20 @@ class Reader:
             return at
         if act != link.sends + text:
             raise ValueError('another packet is sent')
-        link.busy = True
-        link.on_taken(time, stream, time)
+        self._begin(link, text, stream, time, time)
         return at + 1
+
+    @staticmethod
+    def _begin(link, text, stream, time, entered):
+        """The link begins to send a packet."""
+        link.busy = True
+        link.free_at = free_at = time - -stream.size * BITS_NS // link.link.rate
+        link.flight.append((text, stream, free_at + link.link.delay))
+        link.on_taken(time, stream, entered)
 
     def _take(self, link, words, at, time):
         """A link that became free takes from its queue: first what CoDel drops, then what it sends."""
-        while at < len(words) and words[at].startswith('drop=codel:'):
+        while at < len(words) and link.link.queue == 'codel' and words[at].startswith('drop=codel:'):
             text, stream, _ = link.waiting.popleft()
             link.waited += time
             if words[at][11:] != text:
@@ -374,8 +417,7 @@ class Reader:
         link.waited += time
         if words[at] != link.sends + text:
             raise ValueError('another packet is at the head of the queue')
-        link.busy = True
-        link.on_taken(time, stream, entered)
+        self._begin(link, text, stream, time, entered)
         return at + 1
 
     def _drop(self, link, text, stream, reason, time):
@@ -486,100 +528,3 @@ class Run(Reader):
         cut short, else the scenario's end."""
         done = all(flow.completed is not None for flow in self.flows)
         return self.last if done or not self.whole else self.scenario.end
-
-
-# ---- files
-
-def read_run(scenario_path, trace_path=None, program=None):
-    """The run of a scenario's file: from its trace's file, or else by running the program."""
-    with opened_run(scenario_path, trace_path, program) as (scenario, lines):
-        return Run(scenario, lines)
-
-
-@contextmanager
-def opened_run(scenario_path, trace_path=None, program=None):
-    """A scenario's file, a text or an image (`-`: standard input), and its trace's lines, one by one: of the
-    trace's file, or else as the program prints them."""
-    try:
-        source = scenario_bytes(scenario_path)
-        if trace_path is not None:
-            scenario = Scenario(scenario_text(source, scenario_path, program))
-            with open(trace_path, 'rb') as file:
-                yield scenario, chain.from_iterable(blocks(file.read, trace_path))
-            return
-        with _running(source, program) as blocks_of_lines:
-            first = next(blocks_of_lines, [])
-            scenario = Scenario(scenario_text(source, scenario_path, program))
-            yield scenario, chain(first, chain.from_iterable(blocks_of_lines))
-    except NoProgram as wrong:
-        raise Unreadable(str(wrong)) from wrong
-    except OSError as wrong:
-        raise Unreadable(': '.join(filter(None, (wrong.filename, wrong.strerror or str(wrong))))) from wrong
-
-
-def scenario_bytes(path):
-    if path == '-':
-        return sys.stdin.buffer.read()
-    with open(path, 'rb') as file:
-        return file.read()
-
-
-def scenario_text(source, name, program=None):
-    """The text of a scenario: itself, or of an image what `tcpsim dis` writes."""
-    if source.startswith(IMAGE_BEGINS):
-        done = subprocess.run([find_program(program), 'dis'], input=source, capture_output=True, check=False)
-        if done.returncode:
-            raise refusal(done.returncode, done.stderr)
-        source = done.stdout
-    try:
-        return source.decode('ascii')
-    except UnicodeDecodeError as wrong:
-        raise Unreadable(f'{name} is no scenario: its byte {wrong.start} is not ASCII') from wrong
-
-
-def refusal(status, note):
-    return Unreadable(f'the program ended with status {status}: {note.decode("utf-8", "replace").strip()}')
-
-
-def blocks(read, name):
-    """The whole lines of each block that is read; a last line that is cut short is refused."""
-    decoder, rest, count = codecs.getincrementaldecoder('ascii')(), '', 0
-    while block := read(BLOCK):
-        try:
-            *lines, rest = (rest + decoder.decode(block)).split('\n')
-        except UnicodeDecodeError as wrong:
-            raise Unreadable(f'{name} is no trace: behind line {count} there is a byte that is not ASCII') from wrong
-        count += len(lines)
-        yield lines
-    if rest.startswith('end '):
-        yield [rest]
-    elif rest:
-        raise Unreadable(f'{name}: line {count + 1} is cut short')
-
-
-@contextmanager
-def _running(source, program):
-    """Runs the program; gives the blocks of its trace's lines, and ends it where they are not all wanted."""
-    with subprocess.Popen([find_program(program), 'run'], stdin=subprocess.PIPE, stdout=subprocess.PIPE,
-                          stderr=subprocess.PIPE, bufsize=0) as process:
-        def lines():
-            yield from blocks(process.stdout.read, 'the program\'s trace')
-            status = process.wait()
-            if status:
-                raise refusal(status, process.stderr.read())
-        try:
-            try:
-                with process.stdin:
-                    _write_all(process.stdin, source)
-            except BrokenPipeError:     # what is refused is not always read to its end
-                pass
-            yield lines()
-        finally:
-            process.stdout.close()
-            process.kill()
-
-
-def _write_all(file, data):
-    rest = memoryview(data)
-    while rest:
-        rest = rest[file.write(rest):]

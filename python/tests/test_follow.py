@@ -419,7 +419,7 @@ class Tables(Files):
                       'offering to the end of the run, never acknowledged\n', told)
         with open(trace, encoding='ascii') as file:
             cut = self.put('cut.trace', ''.join(file.readlines()[:4]))
-        told = self.told(text, cut, '--flow', 'f', '--byte', '0')
+        told = self.told(text, cut, '--partial', '--flow', 'f', '--byte', '0')
         self.assertIn('whole         0.002080000 s, from the first offering to the last line of the trace, which has no end; '
                       'not acknowledged so far\n', told)
 

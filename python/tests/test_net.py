@@ -32,34 +32,34 @@ sim 3000000000
 # Nodes.
 node p router
 node q router
+node s0 sender
+node r0 receiver
 node s1 sender
 node r1 receiver
-node s2 sender
-node r2 receiver
 # Links: name, from, to, rate in bit/s, delay in ns, queue.
 link pq p q 8000000 10000000 droptail 57  # the bottleneck: 8Mbit/s, 10ms, droptail:BDP
 link qp q p 8000000 10000000 droptail 1000  # the way back of acknowledgements
-link s1p s1 p 100000000 5000000 codel 77 1000000 10000000 1040
-link ps1 p s1 100000000 5000000 codel 77 1000000 10000000 1040
+link s0p s0 p 100000000 5000000 codel 77 1000000 10000000 1040
+link ps0 p s0 100000000 5000000 codel 77 1000000 10000000 1040
+link qr0 q r0 100000000 5000000 codel 77 1000000 10000000 1040
+link r0q r0 q 100000000 5000000 codel 77 1000000 10000000 1040
+link s1p s1 p 100000000 25000000 codel 77 1000000 10000000 1040
+link ps1 p s1 100000000 25000000 codel 77 1000000 10000000 1040
 link qr1 q r1 100000000 5000000 codel 77 1000000 10000000 1040
 link r1q r1 q 100000000 5000000 codel 77 1000000 10000000 1040
-link s2p s2 p 100000000 25000000 codel 77 1000000 10000000 1040
-link ps2 p s2 100000000 25000000 codel 77 1000000 10000000 1040
-link qr2 q r2 100000000 5000000 codel 77 1000000 10000000 1040
-link r2q r2 q 100000000 5000000 codel 77 1000000 10000000 1040
 # Flows: name, sender, receiver, bytes of a segment, segments, start in ns, receiver's window in bytes, delay of \
 acknowledgements in ns.
-flow f1 s1 r1 1000 5 0 64000 0  # a round trip of 40ms, from 0 on
-flow f2 s2 r2 1000 6 500000000 64000 0  # a round trip of 80ms, from 500ms on
+flow f0 s0 r0 1000 5 0 64000 0  # a round trip of 40ms, from 0 on
+flow f1 s1 r1 1000 6 500000000 64000 0  # a round trip of 80ms, from 500ms on
 # Routes: at this router, what is for this end goes over this link.
+route p s0 ps0
+route p r0 pq
 route p s1 ps1
 route p r1 pq
-route p s2 ps2
-route p r2 pq
+route q s0 qp
+route q r0 qr0
 route q s1 qp
 route q r1 qr1
-route q s2 qp
-route q r2 qr2
 '''
 
 QUEUES = 'droptail:1', 'droptail:50', 'droptail:BDP', 'codel:5ms:100ms', 'codel:100us:1ms:20', 'codel:5ms:50ms:30:3000'

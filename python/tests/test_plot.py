@@ -30,7 +30,7 @@ except ImportError as missing:
 import numpy as np
 from tcpsim.plot import choice, clock, points, style
 from test_trace import BY_HAND, TRACE
-from tcpsim.trace import read_run
+from tcpsim.whole_trace import read_run
 
 MS, S = 10**6, 10**9
 
@@ -160,7 +160,7 @@ class WhatIsShown(Folder):
         self.assertEqual(curves(queue)[style.BLUE], [(1000, 2), (1040, 1), (2080, 0), (3000, 0)])
 
     def test_nothing_is_drawn_where_nothing_was(self):
-        self.refused(1, 'the last event is at 11.4 ms', *self.hand, '--from', '100')
+        self.refused(1, 'the last event is at 11.4 ms', *self.hand, '--from', '100s')
         later = self.write('later', BY_HAND.replace('8 0 64000', '8 5000000 64000'),
                            '1 5000000 0 0 0 start 0 una=0 nxt=4000 cwnd=4000 ssthresh=64000 phase=ss tx=0:0:0 '
                            'drop=full:0:3000\nend 1\n')
@@ -332,7 +332,7 @@ class Stalls(Folder):
             bands = [patch.get_xy()[:, 0] for patch in panels[title].patches
                      if patch.get_facecolor()[:3] == (0, 0, 0)]
             self.assertEqual([(min(band), max(band)) for band in bands], [(0, 1.00308)])
-        panels = self.panels(*self.stall, '--whole', '--longer', '1.1')
+        panels = self.panels(*self.stall, '--whole', '--longer', '1.1s')
         self.assertFalse([patch for patch in panels['flow f: sequence numbers'].patches
                           if patch.get_facecolor()[:3] == (0, 0, 0)])
 

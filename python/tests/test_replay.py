@@ -10,6 +10,7 @@ docs/pictures/replay_*.png.
 """
 import base64
 import csv
+import functools
 import io
 import json
 import math
@@ -24,7 +25,10 @@ import unittest
 
 from paths import BIN, MODEL, TOP
 from tcpsim.replay import recording
-from tcpsim.trace import Unreadable, read_run
+from tcpsim.program import NoProgram, find_program
+from tcpsim.scenario import units
+from tcpsim.trace import Scenario, Unreadable
+from tcpsim.whole_trace import read_run
 
 EXAMPLES = os.path.join(TOP, 'examples')
 PICTURES = os.path.join(TOP, 'docs', 'pictures')
@@ -91,9 +95,9 @@ MOMENTS = '''(() => {
 # ---- a browser
 
 class Browser:
-    """A headless Chromium that is told what to do over a pipe."""
+    """A headless Chromium that gets its commands over a pipe; `environment` is added to its own."""
 
-    def __init__(self, folder):
+    def __init__(self, folder, environment=None):
         to_read, self._to = os.pipe()
         self._from, from_write = os.pipe()
         def ends():         # the browser reads its commands at 3 and answers at 4
@@ -104,7 +108,7 @@ class Browser:
             [CHROMIUM, '--headless=new', '--no-sandbox', '--disable-gpu', '--remote-debugging-pipe', '--hide-scrollbars',
              '--no-first-run', '--disable-dev-shm-usage', f'--user-data-dir={folder}', 'about:blank'],
             preexec_fn=ends, close_fds=False, stdin=subprocess.DEVNULL, stdout=subprocess.DEVNULL,
-            stderr=subprocess.DEVNULL)
+            stderr=subprocess.DEVNULL, env={**os.environ, **(environment or {})})
         os.close(to_read)
         os.close(from_write)
         self._count, self._rest, self._session = 0, b'', None
@@ -170,6 +174,14 @@ class Browser:
     def shown(self):
         return json.loads(self.value(READ))
 
+    def families(self, css):
+        """The fonts by which the words of an element are drawn."""
+        self.call('DOM.enable')
+        self.call('CSS.enable')
+        root = self.call('DOM.getDocument', depth=0)['root']['nodeId']
+        node = self.call('DOM.querySelector', nodeId=root, selector=css)['nodeId']
+        return {font['familyName'] for font in self.call('CSS.getPlatformFontsForNode', nodeId=node)['fonts']}
+
     def picture(self, path):
         found = self.call('Page.captureScreenshot', format='png')
         with open(path, 'wb') as file:
@@ -198,8 +210,8 @@ def example(name):
 def program():
     """The program's words: that named by TCPSIM, else the one that tcpsim-replay finds, else the model."""
     try:
-        return [recording.find_program(os.environ.get('TCPSIM'))]
-    except Unreadable:
+        return [find_program(os.environ.get('TCPSIM'))]
+    except NoProgram:
         return [sys.executable, MODEL]
 
 
@@ -264,7 +276,12 @@ class Folder(unittest.TestCase):
 
 
 def part_of(text, trace, begin=0, end=None):
-    return recording.Part(recording.Scenario(text), io.BytesIO(trace.encode('utf-8')), begin, end)
+    return recording.Part(Scenario(text), trace.splitlines(), begin, end)
+
+
+def scenario_of(name):
+    with open(example(name)[0], encoding='ascii') as file:
+        return Scenario(file.read())
 
 
 class Parts(unittest.TestCase):
@@ -287,13 +304,12 @@ class Parts(unittest.TestCase):
 
     def test_states_are_the_debuggers(self):
         for name in COMPARED:
-            scenario, text = recording.read_scenario(example(name)[0])
-            lost = recording.lost_packets(text)
-            with open(example(name)[1], 'rb') as file:
-                lines = file.read().splitlines(True)
+            scenario = scenario_of(name)
+            with open(example(name)[1], encoding='ascii') as file:
+                lines = file.read().splitlines()
             moments = sorted({int(line.split()[1]) for line in lines[:-1]})
             chosen = random.Random(name).sample(moments, min(20, len(moments)))
-            parts = [recording.Part(scenario, io.BytesIO(b''.join(lines)), moment, None, lost) for moment in chosen]
+            parts = [recording.Part(scenario, lines, moment) for moment in chosen]
             for part, dump in zip(parts, dumps(name, [part.first for part in parts])):
                 self.compare(part, dump)
 
@@ -321,26 +337,11 @@ class Parts(unittest.TestCase):
 
     def test_every_example_is_taken_whole(self):
         for name in sorted(file[:-6] for file in os.listdir(EXAMPLES) if file.endswith('.trace')):
-            scenario, text = recording.read_scenario(example(name)[0])
-            with open(example(name)[1], 'rb') as lines:
-                part = recording.Part(scenario, lines, 0, None, recording.lost_packets(text))
-            self.assertTrue(part.whole, name)
             with open(example(name)[1], encoding='ascii') as file:
-                self.assertEqual(file.read().splitlines()[:-1], part.lines, name)
-
-
-class Times(unittest.TestCase):
-    def test_times(self):
-        for word, time_ns in (('1', 10**9), ('1.5', 15 * 10**8), ('0.000000001', 1), ('20ms', 2 * 10**7), ('7us', 7000),
-                              ('9ns', 9), ('2.5s', 25 * 10**8)):
-            self.assertEqual(recording.read_time(word), time_ns)
-        for time_ns in (0, 1, 999999999, 12345678901):
-            self.assertEqual(recording.read_time(recording.seconds(time_ns)), time_ns)
-
-    def test_no_times(self):
-        for word in ('', '-1', '1h', 's', '1.', '1e3', 'x', '1,5'):
-            with self.assertRaises(Exception, msg=word):
-                recording.read_time(word)
+                lines = file.read().splitlines()
+            part = recording.Part(scenario_of(name), lines)
+            self.assertTrue(part.whole, name)
+            self.assertEqual(lines[:-1], part.lines, name)
 
 
 @WITH_D3
@@ -396,7 +397,7 @@ class Refusals(Folder):
         self.refused(TRACE, 'tcpsim-replay: ', scenario=BY_HAND.replace('link b', '# link b'))
 
     def test_no_event_in_the_span(self):
-        self.refused(TRACE, '--from', words=('--from', '1'))
+        self.refused(TRACE, '--from', words=('--from', '1s'))
 
     def test_files_that_are_not_there(self):
         done = self.run_script('nothing.txt', 'nothing.trace')
@@ -419,7 +420,7 @@ class Refusals(Folder):
             with self.assertRaises(Unreadable) as refused:
                 part_of(BY_HAND, TRACE)
             words = str(refused.exception).replace(',', '').split()
-            spans = [recording.read_time(words[n + 1]) for n, word in enumerate(words) if word in ('--from', '--to')]
+            spans = [units.moment(words[n + 1]) for n, word in enumerate(words) if word in ('--from', '--to')]
             self.assertEqual(spans, [0, 2080000, 2080000])
             self.assertEqual(len(part_of(BY_HAND, TRACE, spans[0], spans[1]).lines), 3)
             self.assertEqual(len(part_of(BY_HAND, TRACE, spans[2]).lines), 3)
@@ -536,24 +537,43 @@ def collisions(seen, most=1):
     return found
 
 
-@IN_BROWSER
-class InBrowser(unittest.TestCase):
+PAGES = tempfile.TemporaryDirectory(prefix='replay')
+
+
+@functools.cache
+def page_of(name, *words):
+    """The page of an example, made once; its path."""
+    out = os.path.join(PAGES.name, f'{name}{"".join(words)}.html')
+    subprocess.run([sys.executable, os.path.join(BIN, 'tcpsim-replay'), *example(name), '-o', out, *words],
+                   check=True, capture_output=True)
+    return out
+
+
+class WithBrowser(unittest.TestCase):
+    """Tests that share one browser."""
+
     @classmethod
     def setUpClass(cls):
         cls.folder = tempfile.mkdtemp(prefix='replay')
-        cls.browser = Browser(os.path.join(cls.folder, 'profile'))
+        cls.browser = Browser(os.path.join(cls.folder, 'profile'), cls.environment())
+
+    @classmethod
+    def environment(cls):
+        """What is added to the browser's environment."""
+        return {}
 
     @classmethod
     def tearDownClass(cls):
         cls.browser.close()
         shutil.rmtree(cls.folder, True)
 
-    def made(self, name, *words):
-        out = os.path.join(self.folder, name + '.html')
-        subprocess.run([sys.executable, os.path.join(BIN, 'tcpsim-replay'), *example(name), '-o', out, *words],
-                       check=True, capture_output=True)
-        return out
+    @staticmethod
+    def made(name, *words):
+        return page_of(name, *words)
 
+
+@IN_BROWSER
+class InBrowser(WithBrowser):
     def compare(self, name, scenario, lines, position, shown, dump):
         where = f'{name}, event {position}'
         self.assertEqual((shown['event'], shown['hash']), (str(position), f'#event={position}'), where)
@@ -618,7 +638,7 @@ class InBrowser(unittest.TestCase):
             self.assertEqual(packet['word'], str(flow), where)
 
     def walk(self, name):
-        scenario, _ = recording.read_scenario(example(name)[0])
+        scenario = scenario_of(name)
         with open(example(name)[1], encoding='ascii') as file:
             lines = file.read().splitlines()[:-1]
         positions = positions_of(name, len(lines))
@@ -641,7 +661,7 @@ class InBrowser(unittest.TestCase):
     def test_every_example_at_three_moments(self):
         """The other examples: one early, one in the middle, one late event."""
         for name in sorted(file[:-6] for file in os.listdir(EXAMPLES) if file.endswith('.trace')):
-            scenario, _ = recording.read_scenario(example(name)[0])
+            scenario = scenario_of(name)
             with open(example(name)[1], encoding='ascii') as file:
                 lines = file.read().splitlines()[:-1]
             chosen = [len(lines) // 10 + 1, len(lines) // 2, len(lines)]
@@ -650,22 +670,6 @@ class InBrowser(unittest.TestCase):
                 with self.subTest(f'{name}, {position}'):
                     self.browser.go(position)
                     self.compare(name, scenario, lines, position, self.browser.shown(), dump)
-
-    def test_no_label_lies_over_another(self):
-        """Every example's page at 1,280 by 720: where most was dropped at once, where most packets wait, at
-        the last timeout or at the end, and with the words of the first stall. (The words of a line with drops
-        may want scrolling.)"""
-        for name in sorted(file[:-6] for file in os.listdir(EXAMPLES) if file.endswith('.trace')):
-            self.browser.open(self.made(name))
-            for moment in json.loads(self.browser.value(MOMENTS)):
-                with self.subTest(f'{name}, event {moment}'):
-                    self.browser.go(moment)
-                    self.assertEqual(collisions(json.loads(self.browser.value(SEEN))), [])
-            self.browser.press('Home')
-            self.browser.press('s')
-            with self.subTest(f'{name}, stall'):
-                self.assertNotEqual(self.browser.shown()['notice'], '')
-                self.assertEqual(collisions(json.loads(self.browser.value(SEEN))), [])
 
     def test_columns(self):
         """By hand: senders first, then the routers p, q, u in a row; rb is behind q, ra and rc behind u."""
@@ -699,7 +703,7 @@ class InBrowser(unittest.TestCase):
         self.assertTrue(all(a >= max(link.queue, default=0) for a, link in zip(longest, run.links)))
 
     def test_from_a_moment_on(self):
-        name, scenario = 'four_flows_share_codel', recording.read_scenario(example('four_flows_share_codel')[0])[0]
+        name, scenario = 'four_flows_share_codel', scenario_of('four_flows_share_codel')
         with open(example(name)[1], encoding='ascii') as file:
             lines = file.read().splitlines()[:-1]
         self.browser.open(self.made(name, '--from', '2s', '--to', '3s'))
@@ -842,6 +846,61 @@ class InBrowser(unittest.TestCase):
         self.assertGreater(shown, 0)
         time.sleep(.2)
         self.assertEqual(int(self.browser.shown()['event']), shown)
+
+
+class OneFont:
+    """The page with the fonts of one package of Debian's and no others: each has other widths."""
+
+    fonts, sans, mono = None, None, None
+
+    @classmethod
+    def environment(cls):
+        """A configuration of fontconfig's that knows these fonts alone."""
+        path = os.path.join(cls.folder, 'fonts.conf')
+        aliases = ''.join(f'<alias binding="strong"><family>{name}</family><prefer><family>{family}</family></prefer></alias>'
+                          for name, family in (('sans-serif', cls.sans), ('monospace', cls.mono)))
+        with open(path, 'w', encoding='utf-8') as file:
+            file.write('<?xml version="1.0"?><!DOCTYPE fontconfig SYSTEM "urn:fontconfig:fonts.dtd"><fontconfig>'
+                       f'<dir>{cls.fonts}</dir><cachedir>{cls.folder}/fonts</cachedir>{aliases}</fontconfig>\n')
+        return {'FONTCONFIG_FILE': path}
+
+    def test_no_label_lies_over_another(self):
+        """Every example's page at 1,280 by 720: where most was dropped at once, where most packets wait, at
+        the last timeout or at the end, and with the words of the first stall. (The words of a line with drops
+        may want scrolling.)"""
+        for name in sorted(file[:-6] for file in os.listdir(EXAMPLES) if file.endswith('.trace')):
+            self.browser.open(self.made(name))
+            self.assertEqual([self.browser.families(css) for css in ('h1', '#windows .title', '#where')],
+                             [{self.sans}, {self.sans}, {self.mono}])
+            for moment in json.loads(self.browser.value(MOMENTS)):
+                with self.subTest(f'{name}, event {moment}'):
+                    self.browser.go(moment)
+                    self.assertEqual(collisions(json.loads(self.browser.value(SEEN))), [])
+            self.browser.press('Home')
+            self.browser.press('s')
+            with self.subTest(f'{name}, stall'):
+                self.assertNotEqual(self.browser.shown()['notice'], '')
+                self.assertEqual(collisions(json.loads(self.browser.value(SEEN))), [])
+
+    def test_axis_of_time_has_its_labels(self):
+        """However wide they are: at least three, and the curves reach from the axis to the last moment."""
+        for name in COMPARED:
+            self.browser.open(self.made(name))
+            labels = json.loads(self.browser.value('JSON.stringify(["#windows", "#lengths"].map(css => '
+                                                   '[...document.querySelectorAll(css + " .axis:nth-of-type(2) text")].length))'))
+            self.assertTrue(all(count >= 3 for count in labels), (name, labels))
+
+
+@IN_BROWSER
+@unittest.skipUnless(os.path.isdir('/usr/share/fonts/truetype/dejavu'), 'no DejaVu: apt-get install fonts-dejavu')
+class DejaVuAlone(OneFont, WithBrowser):
+    fonts, sans, mono = '/usr/share/fonts/truetype/dejavu', 'DejaVu Sans', 'DejaVu Sans Mono'
+
+
+@IN_BROWSER
+@unittest.skipUnless(os.path.isdir('/usr/share/fonts/truetype/liberation'), 'no Liberation: apt-get install fonts-liberation')
+class LiberationAlone(OneFont, WithBrowser):
+    fonts, sans, mono = '/usr/share/fonts/truetype/liberation', 'Liberation Sans', 'Liberation Mono'
 
 
 def draw_pictures():

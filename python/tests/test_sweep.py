@@ -378,12 +378,13 @@ class WrongWords(unittest.TestCase):
         """One that ends in the midst, one that writes what is no trace, and one that writes nothing."""
         for script, said in (('echo "1 0 0 0 0 start 0 una=0 nxt=4000 cwnd=4000 ssthresh=64000 phase=ss"; echo no memory >&2; '
                               'exit 4', 'no memory'), ('echo hello world', 'no line of this scenario'), ('exit 0', 'nothing'),
-                             ('kill -9 $$', 'nothing')):
+                             ('kill -9 $$', 'signal 9')):
             program = path('fails', f'#!/bin/sh\ncat > /dev/null\n{script}\n')
             os.chmod(program, stat.S_IRWXU)
             done = tool(path('hand.txt', BY_HAND), '--csv', '--program', program, program=False)
             self.assertIn(said, rows_of(done.stdout)[0]['status'])
-            self.assertEqual(done.returncode, 0)
+            self.assertEqual(done.returncode, 1)
+            self.assertIn('1 of 1 runs have no figures: ', done.stderr)
 
     def test_full_disk(self):
         for jobs in '12':
@@ -399,12 +400,12 @@ class WrongWords(unittest.TestCase):
         self.assertEqual(done.stderr, b'')
 
     def test_interruption(self):
-        """Ctrl-C ends all at once; the rows that were there stay in the file."""
+        """Ctrl-C ends all at once, and what stood in the file stays; a pipe has the rows that were there."""
         program = path('sleeps', f'#!/bin/sh\nif grep -q "droptail 2 " > /dev/null\nthen exec "{PROGRAM[0]}" run < "$0.txt"\n'
                        'else exec sleep 60\nfi\n')
         path('sleeps.txt', BY_HAND.replace('droptail 7', 'droptail 2'))
         os.chmod(program, stat.S_IRWXU)
-        rows = path('interrupted.csv')
+        rows = path('interrupted.csv', 'as it was')
         for jobs in '12':
             process = subprocess.Popen([sys.executable, SWEEP, path('hand.txt', BY_HAND), '--set', 'a.queue=droptail:2,3,4',
                                         '-j', jobs, '-o', rows, '--program', program], stdout=subprocess.PIPE,
@@ -416,7 +417,22 @@ class WrongWords(unittest.TestCase):
             output, note = process.communicate(timeout=20)
             self.assertEqual((process.returncode, output, note), (130, b'', b''))
             with open(rows, encoding='utf-8') as file:
-                self.assertEqual(list(csv.DictReader(file)), [ROW])
+                self.assertEqual(file.read(), 'as it was')
+        self.piped(program)
+
+    def piped(self, program):
+        read, write = os.pipe()
+        process = subprocess.Popen([sys.executable, SWEEP, path('hand.txt', BY_HAND), '--set', 'a.queue=droptail:2,3,4', '-j', '2',
+                                    '-o', '/dev/stdout', '--program', program], stdout=write, stderr=subprocess.PIPE,
+                                   start_new_session=True)
+        os.close(write)
+        process.stderr.readline()
+        time.sleep(.1)
+        process.terminate()
+        with open(read, encoding='utf-8') as file:
+            self.assertEqual(list(csv.DictReader(file)), [ROW])
+        process.communicate(timeout=20)
+        self.assertEqual(process.returncode, 143)
 
 
 class Pictures(unittest.TestCase):

@@ -47,7 +47,8 @@ except ImportError as missing:
     sys.exit(0)
 from tcpsim.figures import Figures, jain, percentile, table
 from tcpsim.figures import figures as trace_figures
-from tcpsim.trace import Run, Scenario, Unreadable, read_run
+from tcpsim.trace import Run, Scenario, Unreadable
+from tcpsim.whole_trace import read_run
 
 MS = 10**6
 BY_HAND = '''sim 12000000
@@ -337,7 +338,7 @@ class Pictures(unittest.TestCase):
     def test_words_that_are_refused(self):
         for ending, words, status, note in (('.gif', (), 2, '.png, .svg or .pdf'), ('.png', ('--flows', 'x'), 1, 'x'),
                                             ('.png', ('--links', 'f'), 1, 'f'), ('.png', ('--panels', 'cwnd'), 2, 'cwnd'),
-                                            ('.png', ('--from', '2', '--to', '1'), 1, 'time'),
+                                            ('.png', ('--from', '2s', '--to', '1s'), 1, 'time'),
                                             ('.png', ('--beside', 'a', 'b', 'c'), 2, '--beside'),
                                             ('.png', ('--beside', 'no such'), 1, 'no such')):
             done, path = self.draw(ending, *words)

@@ -1,4 +1,7 @@
 """The command tcpsim-flows."""
-from tcpsim.figures import main
+from tcpsim.command_line import run
 
-__all__ = ['main']
+
+def main():
+    """Answers the status."""
+    return run('tcpsim.figures')

@@ -1,4 +1,7 @@
 """The command tcpsim-follow."""
-from tcpsim.follow import main
+from tcpsim.command_line import run
 
-__all__ = ['main']
+
+def main():
+    """Answers the status."""
+    return run('tcpsim.follow')

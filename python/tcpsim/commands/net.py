@@ -1,4 +1,7 @@
 """The command tcpsim-net."""
-from tcpsim.scenario.shapes import main
+from tcpsim.command_line import run
 
-__all__ = ['main']
+
+def main():
+    """Answers the status."""
+    return run('tcpsim.scenario.shapes')

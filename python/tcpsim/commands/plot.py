@@ -1,15 +1,13 @@
 """The command tcpsim-plot."""
-import os
-import sys
+from tcpsim.command_line import refuse, run
 
 
 def main():
     """Draws what the words ask for; answers the status, 1 where matplotlib is not there."""
     try:
-        import matplotlib  # noqa: F401
-    except ImportError:
-        print(f'{os.path.basename(sys.argv[0])}: matplotlib is not there: apt-get install python3-matplotlib, and run this '
-              'with Debian\'s /usr/bin/python3', file=sys.stderr)
-        return 1
-    from tcpsim.plot import main as draw
-    return draw()
+        return run('tcpsim.plot')
+    except ImportError as wrong:
+        if (wrong.name or '').partition('.')[0] not in ('matplotlib', 'numpy'):
+            raise
+        return refuse('matplotlib is not there: apt-get install python3-matplotlib, and run this with Debian\'s '
+                      '/usr/bin/python3')

@@ -5,9 +5,11 @@ from collections import namedtuple
 
 import numpy as np
 
-from tcpsim.program import BUILT, found
-from tcpsim.trace import Unreadable, read_run
-from tcpsim.scenario.units import Words, Wrong, time, tool
+from tcpsim.command_line import Words, as_type
+from tcpsim.output import printable
+from tcpsim.scenario import units
+from tcpsim.trace import Unreadable
+from tcpsim.whole_trace import inputs_of, read_run
 
 from .clock import Clock, idle_spans, length_text
 from .layout import FIRST_CHOICE, PANELS
@@ -19,18 +21,6 @@ Named = namedtuple('Named', 'name run')
 
 
 # ---- words
-
-def moment(text):
-    """Nanoseconds of a time: 2.5 is seconds, 20ms and 2.5s have their unit."""
-    try:
-        value = time(text if text.endswith('s') else text + 's')
-    except Wrong as wrong:
-        raise argparse.ArgumentTypeError(f'{text!r} is no time: write seconds, or a number and a unit, as 20ms') \
-            from wrong
-    if not 0 <= value <= 10**6 * S:
-        raise argparse.ArgumentTypeError('from 0 to 1,000,000 seconds')
-    return value
-
 
 def panel_names(text):
     names = text.split(',')
@@ -55,10 +45,10 @@ def picture_file(text):
 
 
 def words_of(given=None):
-    words = Words(prog=tool(), description='Draws a run of a scenario.')
+    words, moment = Words(description='Draws a run of a scenario.'), as_type(units.moment)
     words.add_argument('scenario', metavar='SCENARIO')
-    words.add_argument('trace', metavar='TRACE', nargs='?', help='else the program is run')
-    words.add_argument('-o', dest='file', metavar='FILE', required=True, type=picture_file,
+    words.add_trace()
+    words.add_argument('-o', '--output', dest='file', metavar='FILE', required=True, type=picture_file,
                        help='what is written: .png, .svg or .pdf')
     words.add_argument('--panels', type=panel_names,
                        help=f'of {",".join(PANELS)}; else {",".join(FIRST_CHOICE)}')
@@ -67,7 +57,7 @@ def words_of(given=None):
     words.add_argument('--link', '--links', dest='links', type=list_of_names, metavar='NAMES',
                        help='names, else those where packets waited longest')
     words.add_argument('--from', dest='begin', type=moment, metavar='T',
-                       help='seconds, or a number and a unit, as 20ms; else the first flow\'s start')
+                       help='a time, as 5s or 20ms; else the first flow\'s start')
     words.add_argument('--to', dest='end', type=moment, metavar='T', help='else a little after the end of the run')
     words.add_argument('--longer', type=moment, metavar='T', default=None,
                        help='stalls are marked, spans without a new acknowledgement longer than this; else '
@@ -79,8 +69,6 @@ def words_of(given=None):
                        help='one more run, drawn in the same panels or beside them; any number of times')
     words.add_argument('--names', type=list_of_names, metavar='NAMES',
                        help='of the runs, in the place of their files\' names')
-    words.add_argument('--program', help='the program that is run where no trace is given; else the one beside '
-                                         'this script, on PATH or in the clone')
     given = words.parse_args(given)
     if any(len(other) > 2 for other in given.beside):
         words.error('--beside takes a scenario and at most a trace; for one more run write --beside again')
@@ -93,7 +81,13 @@ def words_of(given=None):
 # ---- names
 
 def name_of(path):
-    return os.path.splitext(os.path.basename(path))[0]
+    """A file's name as a picture has it."""
+    return drawable(os.path.splitext(os.path.basename(path))[0])
+
+
+def drawable(text):
+    """A text as it is drawn: nothing in it is mathematics."""
+    return printable(text).replace('$', r'\$')
 
 
 def title_of(name, run):
@@ -234,6 +228,10 @@ def beside(given, runs):
 def runs_of(given):
     """The runs that the words name: (name, run)."""
     wanted = [(given.scenario, given.trace)] + [(other[0], (other[1:] or [None])[0]) for other in given.beside]
-    program = given.program or found() or BUILT
-    return [(name, read_run(path, trace, program))
-            for name, (path, trace) in zip(given.names or distinct([path for path, _ in wanted]), wanted)]
+    names = [drawable(name) for name in given.names or ()] or distinct([path for path, _ in wanted])
+    return [(name, read_run(path, trace, given.program, given.partial)) for name, (path, trace) in zip(names, wanted)]
+
+
+def all_inputs(given):
+    """The files that the words have it read."""
+    return (*inputs_of(given), *(path for other in given.beside for path in other))

@@ -5,11 +5,19 @@ import re
 
 import matplotlib.pyplot as plt
 
+from tcpsim import output
+
 from .drawn import drawn
 
 
 def save(figure, path):
-    """Writes the picture whole or not at all; an SVG says in its description what it shows."""
+    """Writes the picture."""
+    with output.opened(path) as file:
+        file.write(content_of(figure, path))
+
+
+def content_of(figure, path):
+    """The picture's bytes, of the sort that the path's ending names; an SVG says in its description what it shows."""
     ending = os.path.splitext(path)[1]
     plain = {'.svg': {'Date': None, 'Creator': None}, '.pdf': {'CreationDate': None}, '.png': {}}[ending]
     plt.rcParams['svg.hashsalt'] = 'tcpsim'
@@ -20,8 +28,7 @@ def save(figure, path):
     content = content.getvalue()
     if ending == '.svg':
         content = re.sub(r' d="[^"]*"', shorter, content.decode('utf-8')).encode('utf-8')
-    with open(path, 'wb') as file:
-        file.write(content)
+    return content
 
 
 def shorter(found):

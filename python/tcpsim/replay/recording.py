@@ -1,50 +1,34 @@
 """Writes one page on which a run moves: packets on their links, queues, drops, windows.
 
-Usage: bin/tcpsim-replay SCENARIO [TRACE] [-o PAGE.html] [--from T] [--to T] [--program FILE]
+Usage: bin/tcpsim-replay SCENARIO [TRACE] [-o PAGE.html] [--from T] [--to T] [--partial]
+                         [--program FILE]
 
-Without TRACE the built program is run. T is seconds (`1.5`), or a number with its unit: `s`, `ms`, `us`
-or `ns`. The page shows the events from --from on (that moment's own too) and before --to. It needs no
-network and no server; d3 is put into it whole: apt-get install libjs-d3.
+Without TRACE the program is run. T is a time with its unit, as `1.5s`, `20ms`, `7us` or `9ns`. The page shows
+the events from --from on (that moment's own too) and before --to. It needs no network and no server; d3 is put
+into it whole: apt-get install libjs-d3.
 """
-import argparse
 import base64
 import html
 import json
 import os
 import re
-import subprocess
-import sys
 import zlib
 from collections import deque
 
-from tcpsim.program import found, is_program
-from tcpsim.trace import ACK, BITS_NS, DATA, HEADER_BYTES, Scenario, Unreadable
+from tcpsim import output
+from tcpsim.command_line import Words, as_type
+from tcpsim.output import printable
+from tcpsim.scenario import units
+from tcpsim.scenario.units import spelled_time
+from tcpsim.trace import ACK, BITS_NS, DATA, HEADER_BYTES, Unreadable, first_window
+from tcpsim.whole_trace import inputs_of, opened_run
 
 HERE = os.path.dirname(os.path.realpath(__file__))
 PARTS = os.path.join(HERE, 'web')
-OWN_NAME = os.path.basename(sys.argv[0]) or 'tcpsim-replay'
 SCRIPTS = ('record.js', 'words.js', 'layout.js', 'net.js', 'charts.js', 'page.js')
 LIBRARY = '/usr/share/javascript/d3/d3.min.js'       # version 3, as Debian has it
 MOST_EVENTS = 200_000
-UNITS = {'s': 10**9, 'ms': 10**6, 'us': 10**3, 'ns': 1, '': 10**9}
-IN_A_TRACE = b'abcdefghijklmnopqrstuvwxyz0123456789 =:\n'
-
-
-# ---- times
-
-def read_time(word):
-    """A moment in nanoseconds, of `1.5`, `1.5s`, `20ms`, `7us` or `9ns`."""
-    found = re.fullmatch(r'(\d{1,16})(?:\.(\d{1,9}))?(s|ms|us|ns|)', word, re.ASCII)
-    if not found:
-        raise argparse.ArgumentTypeError(f'{word} is no time: 1.5, 1.5s, 20ms, 7us and 9ns are')
-    whole, part, unit = found.groups()
-    part = part or ''
-    return int(whole + part) * UNITS[unit] // 10**len(part)
-
-
-def seconds(time):
-    """Seconds with all digits that count, as `read_time` reads them."""
-    return (f'{time // 10**9}.{time % 10**9:09}'.rstrip('0').rstrip('.'))
+IN_A_TRACE = b'abcdefghijklmnopqrstuvwxyz0123456789 =:'
 
 
 # ---- the run, line by line
@@ -74,19 +58,13 @@ class FlowNow:
     def __init__(self, flow):
         self.una = self.nxt = self.high = self.dups = self.expected = 0
         self.recovering = self.answer_waits = False
+        self.answer_due = 0             # when a waiting answer's alarm is
         self.above = set()
         self.words = self.next_word = None      # as they stood on the last line of each end
-        self.cwnd, self.ssthresh = self.first_window(flow.mss, flow.iw10), flow.rwnd
+        self.cwnd, self.ssthresh = first_window(flow), flow.rwnd
         self.mss, self.size = flow.mss, flow.mss + HEADER_BYTES
         self.delack, self.start, self.newreno = flow.delack, flow.start, flow.newreno
         self.since = None               # when it started, or when una last rose
-
-    @staticmethod
-    def first_window(mss, iw10):
-        """RFC 5681 section 3.1, or RFC 6928 section 2."""
-        if iw10:
-            return min(10 * mss, max(2 * mss, 14_600))
-        return (2 if mss > 2190 else 3 if mss > 1095 else 4) * mss
 
     def kept(self):
         return {'una': self.una, 'nxt': self.nxt, 'high': self.high, 'cwnd': self.cwnd,
@@ -98,11 +76,11 @@ class FlowNow:
 class Reader:
     """Follows a trace event by event and refuses a line that this scenario's run cannot have there."""
 
-    def __init__(self, scenario, lost=None):
+    def __init__(self, scenario):
         self.scenario = scenario
         self.flows = [FlowNow(flow) for flow in scenario.flows]
         self.links = [LinkNow(number, link, scenario.leaves[link.source].index(number),
-                              (lost or {}).get(link.name, ())) for number, link in enumerate(scenario.links)]
+                              scenario.lost.get(number, ())) for number, link in enumerate(scenario.links)]
         self.kinds = [node.kind for node in scenario.nodes]
         self.at_node = {}               # the flow that ends at a node
         for number, flow in enumerate(scenario.flows):
@@ -135,13 +113,22 @@ class Reader:
                 raise ValueError('no alarm of this flow')
             self._sender(words, name, kind, None, 7, time)
         elif kind == 'delack':
-            if source or node != self.ends[name][1] or number != 2 or not self.flows[name].answer_waits:
+            if source or node != self.ends[name][1] or number != 2 or not self.flows[name].answer_waits or \
+                    time != self.flows[name].answer_due:
                 raise ValueError('no alarm of this flow')
             self._receiver(words, name, None, 7, time)
         else:
             raise ValueError('no such kind of event')
         self.count += 1
         self.key = key
+
+    def next_due(self):
+        """When the next event is that follows from what was read, but for a retransmission timer's."""
+        due = [link.free_at for link in self.links if link.free_at is not None]
+        due += [link.under_way[0][4] for link in self.links if link.under_way]
+        due += [flow.answer_due for flow in self.flows if flow.answer_waits]
+        due += [flow.start for flow in self.flows if flow.words is None]
+        return min(due, default=self.scenario.end)
 
     def _free(self, words, link, key):
         time, node, source, number = key
@@ -238,7 +225,7 @@ class Reader:
         if expected < before or (seq != before and expected != before):
             raise ValueError('next does not follow from the line before')
         if seq == before and not above and flow.delack and not flow.answer_waits:
-            flow.answer_waits = True
+            flow.answer_waits, flow.answer_due = True, time + flow.delack
         else:
             if seq is not None and seq > before:
                 above.add(seq)
@@ -282,67 +269,48 @@ class Reader:
 
 # ---- the part of a trace that a page shows
 
-def blocks(file):
-    """The lines of a trace's file of bytes, some thousands at a time; the last must be whole."""
-    rest, count = '', 1
-    while True:
-        block = file.read(1 << 20)
-        if not block:
-            break
-        wrong = block.translate(None, IN_A_TRACE)
-        if wrong:
-            line = count + block[:block.index(wrong[:1])].count(b'\n')
-            raise Unreadable(f'line {line} is no line of a trace: it has the byte {wrong[0]}')
-        lines = (rest + block.decode('ascii')).split('\n')
-        rest = lines.pop()
-        count += len(lines)
-        yield lines
-    if rest:
-        raise Unreadable(f'line {count} of the trace is cut: it lacks its line feed')
-
-
 class Part:
     """The lines from one moment up to another, and the state before the first of them."""
 
-    def __init__(self, scenario, file, begin=0, end=None, lost=None):
+    def __init__(self, scenario, lines, begin=0, end=None):
         self.lines, self.first, self.base = [], 0, None
         self.begin, self.whole = begin, False
-        reader = Reader(scenario, lost)
-        words, number, going = [], 0, True
+        reader = Reader(scenario)
+        words, number = [], 0
         try:
-            for block in blocks(file):
-                for line in block:
-                    number += 1
-                    words = line.split(' ')
-                    if words[0] == 'end':
-                        self._end(line, number, reader.count)
-                        going = False
-                        break
-                    time = int(words[1])
-                    if end is not None and time >= end:
-                        going = False
-                        break
-                    if self.base is None and time >= begin:
-                        self._keep(reader)
-                    reader.line(words, time)
-                    if self.base is not None:
-                        self.lines.append(line)
-                if len(self.lines) > MOST_EVENTS:
-                    raise Unreadable(self._too_many())
-                if not going:
+            for number, line in enumerate(lines, 1):
+                words = line.split(' ')
+                if words[0] == 'end':
+                    self._end(line, number, reader)
                     break
+                time = int(words[1])
+                if end is not None and time >= end:
+                    break
+                if self.base is None and time >= begin:
+                    self._keep(reader)
+                reader.line(words, time)
+                if self.base is not None:
+                    self._add(line, number)
         except (IndexError, KeyError, ValueError) as wrong:
             raise Unreadable(self._says(wrong, words, number)) from wrong
-        if not number:
-            raise Unreadable('line 1 of the trace is not there: it is empty')
         if self.base is None:
             self._keep(reader)
         if not self.lines:
             raise Unreadable('there is no event between --from and --to')
 
-    def _end(self, line, number, count):
-        if line != f'end {count}':
-            raise Unreadable(f'line {number} does not end this trace: `{line[:40]}` after {count:,} events')
+    def _add(self, line, number):
+        wrong = line.encode('ascii').translate(None, IN_A_TRACE)
+        if wrong:
+            raise Unreadable(f'line {number} is no line of a trace: it has the byte {wrong[0]}')
+        self.lines.append(line)
+        if len(self.lines) > MOST_EVENTS:
+            raise Unreadable(self._too_many())
+
+    def _end(self, line, number, reader):
+        if line != f'end {reader.count}':
+            raise Unreadable(f'line {number} does not end this trace: `{line[:40]}` after {reader.count:,} events')
+        if reader.next_due() < reader.scenario.end:
+            raise Unreadable(f'line {number} does not end this trace: the run goes on')
         self.whole = True
 
     @staticmethod
@@ -359,25 +327,15 @@ class Part:
     def _too_many(self):
         until = int(self.lines[MOST_EVENTS].split(' ', 2)[1])
         return (f'there are more than {MOST_EVENTS:,} events; those that fit: '
-                f'--from {seconds(self.begin)} --to {seconds(until)}, and then --from {seconds(until)}')
-
-
-def lost_packets(text):
-    """The numbers of the packets that each link loses, by its name, as the scenario's `lose` say."""
-    lost = {}
-    for line in text.split('\n'):
-        words = line.partition('#')[0].split()
-        if len(words) == 3 and words[0] == 'lose' and words[2].isdigit():
-            lost.setdefault(words[1], set()).add(int(words[2]))
-    return lost
+                f'--from {spelled_time(self.begin)} --to {spelled_time(until)}, and then --from {spelled_time(until)}')
 
 
 # ---- the page
 
-def about(scenario, text):
+def about(scenario):
     """What the page has to know of the scenario."""
     return {
-        'end': scenario.end, 'remark': [line[1:].strip() for line in text.split('\n') if line.startswith('#')],
+        'end': scenario.end, 'remark': [line[1:].strip() for line in scenario.text.split('\n') if line.startswith('#')],
         'nodes': [{'name': node.name, 'kind': node.kind} for node in scenario.nodes],
         'links': [{'name': link.name, 'from': link.source, 'to': link.to, 'rate': link.rate, 'delay': link.delay,
                    'queue': link.queue, 'limit': link.capacity, 'port': scenario.leaves[link.source].index(number)}
@@ -407,10 +365,10 @@ def read_part(name):
         return file.read()
 
 
-def page(title, scenario, text, part):
+def page(title, scenario, part):
     """The whole page's text."""
     packed = base64.b64encode(zlib.compress('\n'.join(part.lines).encode('ascii'), 3)).decode('ascii')
-    facts = about(scenario, text)
+    facts = about(scenario)
     facts.update(title=title, first=part.first, events=len(part.lines), base=part.base, whole=part.whole)
     holes = {
         'TITLE': html.escape(title),
@@ -423,102 +381,33 @@ def page(title, scenario, text, part):
                   read_part(os.path.join(PARTS, 'page.html')))
 
 
-# ---- files
+# ---- the command
 
-def find_program(given):
-    """The program that was named, else the one beside this script, on the PATH, or in this clone."""
-    if given:
-        return given
-    if is_program(found()):
-        return found()
-    raise Unreadable('the program tcpsim is not there: build it with `make run`, or give a trace')
-
-
-def read_scenario(path):
-    """A scenario's file as a Scenario and its text."""
-    try:
-        with open(path, encoding='ascii') as file:
-            text = file.read()
-    except UnicodeDecodeError as wrong:
-        raise Unreadable(f'{path} is no scenario: it has bytes that are not printable') from wrong
-    try:
-        return Scenario(text), text
-    except (IndexError, KeyError, TypeError, ValueError, RecursionError) as wrong:
-        raise Unreadable(f'{path} is no scenario that the program takes') from wrong
-
-
-def run_program(text, program, scenario, begin, end):
-    """The part of the run that the program makes of the scenario now."""
-    with subprocess.Popen([program, 'run'], stdin=subprocess.PIPE, stdout=subprocess.PIPE,
-                          stderr=subprocess.PIPE) as child:
-        try:
-            try:
-                child.stdin.write(text.encode('ascii'))
-                child.stdin.close()
-            except BrokenPipeError:
-                pass
-            if not child.stdout.peek(1):
-                note = child.stderr.read().decode('utf-8', 'replace').strip()
-                raise Unreadable(f'the program ended with status {child.wait()}: {note}')
-            return Part(scenario, child.stdout, begin, end, lost_packets(text))
-        finally:
-            child.kill()
-
-
-def write_page(path, text):
-    """Writes the page beside its place and then moves it there, so that no half of one is left."""
-    beside = f'{path}.{os.getpid()}.part'
-    try:
-        with open(beside, 'w', encoding='utf-8') as file:
-            file.write(text)
-        os.replace(beside, path)
-    except OSError:
-        if os.path.exists(beside):
-            os.remove(beside)
-        raise
-
-
-def make(given):
-    """Reads, writes the page, and answers the line that says so."""
-    scenario, text = read_scenario(given.scenario)
+def make(given, file):
+    """Reads the run and writes its page; answers what is said of it."""
     read_d3()
-    begin, end = given.begin or 0, given.end
-    if given.trace is None:
-        program = find_program(given.program)
-        try:
-            part = run_program(text, program, scenario, begin, end)
-        except OSError as wrong:
-            raise Unreadable(f'{program} cannot be run: {wrong.strerror}') from wrong
-    else:
-        with open(given.trace, 'rb') as file:
-            part = Part(scenario, file, begin, end, lost_packets(text))
-    name = os.path.splitext(os.path.basename(given.scenario))[0]
-    path = given.out or name + '.html'
-    whole = page(name.replace('_', ' '), scenario, text, part)
-    write_page(path, whole)
-    return f'{path}: {len(part.lines):,} events from event {part.first + 1:,} on, {len(whole):,} bytes'
+    with opened_run(given.scenario, given.trace, given.program, given.partial) as (scenario, lines):
+        part = Part(scenario, lines, given.begin or 0, given.end)
+    whole = page(title_of(given.scenario), scenario, part)
+    file.write(whole)
+    return f'{len(part.lines):,} events from event {part.first + 1:,} on, {len(whole):,} bytes'
+
+
+def title_of(path):
+    """A page's title, of its scenario's name."""
+    return printable(os.path.splitext(os.path.basename(path))[0].replace('_', ' '))
 
 
 def main():
-    words = argparse.ArgumentParser(description='One page on which a run moves.')
-    words.add_argument('scenario', metavar='SCENARIO')
-    words.add_argument('trace', metavar='TRACE', nargs='?', help='else the built program is run')
-    words.add_argument('-o', dest='out', metavar='PAGE.html', help='else the scenario\'s name with .html, here')
-    words.add_argument('--from', dest='begin', type=read_time, metavar='T', help='seconds, or with s, ms, us, ns')
-    words.add_argument('--to', dest='end', type=read_time, metavar='T', help='events before this moment are shown')
-    words.add_argument('--program', metavar='FILE', help='the program that is run where no trace is given')
+    words, moment = Words(description='One page on which a run moves.'), as_type(units.moment)
+    words.add_argument('scenario', metavar='SCENARIO', help='a text or an image; - is standard input')
+    words.add_trace()
+    words.add_argument('-o', '--output', metavar='PAGE.html', help='else the scenario\'s name with .html, here')
+    words.add_argument('--from', dest='begin', type=moment, metavar='T', help='a time, as 5s or 20ms; else the run\'s begin')
+    words.add_argument('--to', dest='end', type=moment, metavar='T', help='events before this moment are shown')
     given = words.parse_args()
-    try:
-        print(make(given))
-        sys.stdout.flush()
-    except Unreadable as wrong:
-        print(f'{OWN_NAME}: {wrong}', file=sys.stderr)
-        return 1
-    except BrokenPipeError:
-        os.dup2(os.open(os.devnull, os.O_WRONLY), sys.stdout.fileno())
-    except OSError as wrong:
-        print(f'{OWN_NAME}: {wrong.filename}: {wrong.strerror}', file=sys.stderr)
-        return 1
-    except KeyboardInterrupt:
-        return 130
-    return 0
+    path = given.output or os.path.splitext(os.path.basename(given.scenario))[0] + '.html'
+    with output.written(path, inputs_of(given)) as file:
+        said = make(given, file)
+    with output.opened() as out:
+        out.write(f'{path}: {said}\n')

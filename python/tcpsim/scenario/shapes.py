@@ -11,8 +11,10 @@ import sys
 from collections import deque
 from dataclasses import dataclass, field
 
+from tcpsim import output
+from tcpsim.command_line import Words, Wrong, as_type
 from tcpsim.scenario import units
-from tcpsim.scenario.units import HEADER_BYTES, Queue, Wrong, spelled_rate, spelled_time
+from tcpsim.scenario.units import HEADER_BYTES, Queue, spelled_rate, spelled_time
 
 SENDER, RECEIVER, ROUTER = 'sender', 'receiver', 'router'
 MOST_NODES, MOST_LINKS, MOST_FLOWS, MOST_ROUTER_LINKS = 256, 1_024, 128, 16
@@ -196,13 +198,14 @@ def halves(round_trip, parts):
     return delays
 
 
-def add_flow(net, given, n, name, at, to, sender_delays, receiver_delay, note):
-    """Flow n with a sender at router `at`, and a receiver at router `to`."""
-    sender, receiver = net.node(SENDER, 's' + name), net.node(RECEIVER, 'r' + name)
-    net.joined(sender, at, given.access, sender_delays, given.access_queue)
-    net.joined(to, receiver, given.access, (receiver_delay,) * 2, given.access_queue)
+def add_flow(net, given, n, routers, delays, note):
+    """Flow fn, the n-th from 0, with a sender at the first of two routers and a receiver at the other. `delays` are the
+    sender's, there and back, and the receiver's."""
+    sender, receiver = net.node(SENDER, f's{n}'), net.node(RECEIVER, f'r{n}')
+    net.joined(sender, routers[0], given.access, delays[0], given.access_queue)
+    net.joined(routers[1], receiver, given.access, (delays[1],) * 2, given.access_queue)
     start = nth(given.start, n)
-    net.flow(sender, receiver, given.mss, nth(given.segments, n), start, given.rwnd, given.delack, 'f' + name,
+    net.flow(sender, receiver, given.mss, nth(given.segments, n), start, given.rwnd, given.delack, f'f{n}',
              f'{note}, from {spelled_time(start)} on')
 
 
@@ -222,7 +225,7 @@ def dumbbell(net, given):
     net.link(q, p, given.rate, middle, given.back_queue, 'qp', 'the way back of acknowledgements')
     for n in range(given.flows):
         trip = nth(given.rtt, n)
-        add_flow(net, given, n, str(n + 1), p, q, halves(trip, (middle, last)), last,
+        add_flow(net, given, n, (p, q), (halves(trip, (middle, last)), last),
                  f'a round trip of {spelled_time(trip)}')
     return (f'A dumbbell: {flows(given.flows)} over the bottleneck pq of {spelled_rate(given.rate)}bit/s with the '
             f'queue {given.queue}.', 'A round trip is that of the delays alone: waiting and sending come on top.')
@@ -256,12 +259,11 @@ def parking_lot(net, given):
     not_longer(given, given.hops, 'hops', 'rate', 'delay')
     not_longer(given, 1 + given.hops * given.cross, 'flows', 'start', 'segments')
     routers = row_of_routers(net, given)
-    ends = given.access_delay, given.access_delay
-    add_flow(net, given, 0, '0', routers[0], routers[-1], ends, given.access_delay, 'over every hop')
+    delays = (given.access_delay, given.access_delay), given.access_delay
+    add_flow(net, given, 0, (routers[0], routers[-1]), delays, 'over every hop')
     for n in range(given.hops * given.cross):
         hop = n // given.cross
-        add_flow(net, given, n + 1, str(n + 1), routers[hop], routers[hop + 1], ends, given.access_delay,
-                 f'over hop {hop + 1}')
+        add_flow(net, given, n + 1, routers[hop:hop + 2], delays, f'over hop {hop + 1}')
     return (f'A parking lot: flow f0 goes over {given.hops} hops, and at each it meets {flows(given.cross)} that '
             f'{"goes" if given.cross == 1 else "go"} over that hop alone.',)
 
@@ -272,8 +274,7 @@ def chain(net, given):
     not_longer(given, given.flows, 'flows', 'start', 'segments')
     routers = row_of_routers(net, given)
     for n in range(given.flows):
-        add_flow(net, given, n, str(n + 1), routers[0], routers[-1], (given.access_delay,) * 2, given.access_delay,
-                 'over every hop')
+        add_flow(net, given, n, (routers[0], routers[-1]), ((given.access_delay,) * 2, given.access_delay), 'over every hop')
     return (f'A chain: {flows(given.flows)} over {given.hops} hops in a row.',)
 
 
@@ -293,7 +294,7 @@ def asymmetric(net, given):
     for n in range(count):
         trip, upload = nth(given.rtt, n), n >= given.flows
         at, to = (q, p) if upload else (p, q)
-        add_flow(net, given, n, str(n + 1), at, to, halves(trip, (middle, last)), last,
+        add_flow(net, given, n, (at, to), (halves(trip, (middle, last)), last),
                  f'{"an upload" if upload else "a download"}, a round trip of {spelled_time(trip)}')
     return (f'An asymmetric access: {many(given.flows, "download")} over {spelled_rate(given.down)}bit/s and '
             f'{many(given.uploads, "upload")} over {spelled_rate(given.up)}bit/s.',
@@ -314,8 +315,7 @@ def tree(net, given):
             net.joined(leaf, top, given.access, (branch,) * 2, given.access_queue)
     for n in range(count):
         trip, leaf = nth(given.rtt, n), n % given.leaves
-        add_flow(net, given, n, f'{n + 1}', leaves[0][leaf], leaves[1][leaf],
-                 halves(trip, (middle, branch, branch, branch)), branch,
+        add_flow(net, given, n, (leaves[0][leaf], leaves[1][leaf]), (halves(trip, (middle, branch, branch, branch)), branch),
                  f'from leaf p{leaf + 1} to leaf q{leaf + 1}, a round trip of {spelled_time(trip)}')
     return (f'A tree on each side of the bottleneck pq of {spelled_rate(given.rate)}bit/s: {given.leaves} leaves, '
             f'and {flows(count)} from those of p to those of q.',)
@@ -343,7 +343,7 @@ def islands(net, given):
         island, trip = n % given.islands, nth(given.rtt, n)
         crosses = n // given.islands >= given.flows - given.crossing
         to = (island + 1) % given.islands if crosses else island
-        add_flow(net, given, n, str(n + 1), near[island], far[to], halves(trip, (middle, last)), last,
+        add_flow(net, given, n, (near[island], far[to]), (halves(trip, (middle, last)), last),
                  f'from island {island + 1} to {"island " + str(to + 1) if crosses else "itself"}')
         island_of += [island, to]
     return (f'{given.islands} islands in a ring of cables of {spelled_time(given.between)}, {flows(given.flows)} from '
@@ -355,11 +355,11 @@ def islands(net, given):
 # ---- the command line
 
 def number(name):
-    return units.as_type(lambda word: units.number(name, word))
+    return as_type(lambda word: units.number(name, word))
 
 
 def numbers(name):
-    return units.as_type(lambda words: [units.number(name, word) for word in words.split(',')])
+    return as_type(lambda words: [units.number(name, word) for word in words.split(',')])
 
 
 def between(least, most):
@@ -367,10 +367,10 @@ def between(least, most):
         if not least <= units.count(word) <= most:
             raise Wrong(f'{word} is out of range: from {least} to {most}')
         return int(word)
-    return units.as_type(read)
+    return as_type(read)
 
 
-QUEUE = units.as_type(units.queue_in_range)
+QUEUE = as_type(units.queue_in_range)
 OPTIONS = {
     '--flows': dict(type=between(1, MOST_FLOWS), metavar='N', help='how many flows'),
     '--rate': dict(type=number('rate'), metavar='RATE', help='of the bottleneck, 10M if none is given'),
@@ -421,7 +421,7 @@ SHAPES = {      # name: builder, its options, and what differs from the options 
 
 
 def command_line():
-    words = units.Words(prog=units.tool(), description='Writes a scenario\'s text to standard output.',
+    words = Words(description='Writes a scenario\'s text to standard output.',
                         epilog='Rates are in bit/s with k, M, G; times in ns, us, ms, s. A list that is shorter than '
                         'the flows or hops begins again.')
     shapes = words.add_subparsers(dest='shape', metavar='SHAPE', required=True)
@@ -433,6 +433,7 @@ def command_line():
                 given['type'] = between(0, MOST_FLOWS)
             shape.add_argument('--rate' if option == '--rates' else option, dest=option[2:].replace('-', '_').replace(
                 'rates', 'rate'), **given)
+        shape.add_output('the scenario')
         shape.set_defaults(rate=[10**7] if '--rates' in options else 10**7)
         shape.set_defaults(**{'rtt': [40 * 10**6], **defaults})
     return words
@@ -440,7 +441,11 @@ def command_line():
 
 def scenario(words):
     """The text of a command line's words."""
-    given = command_line().parse_args(words)
+    return text_of(command_line().parse_args(words), words)
+
+
+def text_of(given, words):
+    """The text of what a command line asks for; its first lines have the words, but for where it is written to."""
     if given.rwnd < given.mss:
         raise Wrong(f'--rwnd {given.rwnd} is below a segment of {given.mss} bytes')
     if max(given.start) >= given.end:
@@ -448,13 +453,22 @@ def scenario(words):
     net = Net()
     head = SHAPES[given.shape][0](net, given)
     net.check()
-    return net.text(given.end, (*head, 'Written by: tcpsim-net ' + ' '.join(map(shlex.quote, words))))
+    return net.text(given.end, (*head, 'Written by: tcpsim-net ' + ' '.join(map(shlex.quote, without_output(words)))))
+
+
+def without_output(words):
+    """The words without the option -o."""
+    kept, rest = [], iter(words)
+    for word in rest:
+        if word in ('-o', '--output'):
+            next(rest)
+        elif not word.startswith(('-o', '--output=')):
+            kept.append(word)
+    return kept
 
 
 def main():
-    try:
-        text = scenario(sys.argv[1:])
-    except Wrong as wrong:
-        units.refuse(wrong)
-    units.to_standard_output(text)
-    return 0
+    words = sys.argv[1:]
+    given = command_line().parse_args(words)
+    with output.opened(given.output) as file:
+        file.write(text_of(given, words))

@@ -4,12 +4,11 @@ Each reader takes a word and answers a number in the scenario's own unit (bit/s,
 raises `Wrong` with what is wrong with the word. Used by the commands; nothing but Python's
 standard library.
 """
-import argparse
-import os
 import re
-import sys
 from collections import namedtuple
 from fractions import Fraction
+
+from tcpsim.command_line import Wrong
 
 HEADER_BYTES = 40
 BITS_NS = 8 * 10**9         # bits of a byte times nanoseconds of a second
@@ -25,10 +24,6 @@ TIME_UNITS = {'ns': 1, 'us': 10**3, 'ms': 10**6, 's': 10**9}
 SIZE_UNITS = {'': 1, 'k': 10**3, 'M': 10**6, 'G': 10**9}
 WORD = re.compile(r'([0-9]{1,20})(?:\.([0-9]{1,20}))?([A-Za-z/]*)')
 CODEL_LIMIT = 1000          # packets, where `codel:TARGET:INTERVAL` names no limit
-
-
-class Wrong(Exception):
-    """A word that is not what is asked for. The text says what is wrong, without a full stop."""
 
 
 # ---- numbers
@@ -52,7 +47,18 @@ def time(word):
     """Nanoseconds: 20ms, 0.5s, 100us, 1ns; of the numbers alone only 0."""
     if word == '0':
         return 0
+    found = WORD.fullmatch(word)
+    if found and not found[3]:
+        raise Wrong(f'{word!r} is no time, as it has no unit: write {word}s, {word}ms, {word}us or {word}ns')
     return _amount(word, TIME_UNITS, 'time', '20ms (units ns, us, ms, s)')
+
+
+def moment(word):
+    """A time that a run can have, in nanoseconds."""
+    read = time(word)
+    if read > RANGES['end'][1]:
+        raise Wrong(f'{word!r} is past every run: at most {spelled_time(RANGES["end"][1])}')
+    return read
 
 
 def size(word):
@@ -184,51 +190,3 @@ def round_trip(link, ways, delays):
         if trips:
             return sum(trips) // len(trips)
     return 0
-
-
-# ---- command lines
-
-def as_type(read):
-    """A reader as argparse takes it."""
-    def read_word(word):
-        try:
-            return read(word)
-        except Wrong as wrong:
-            raise argparse.ArgumentTypeError(str(wrong)) from None
-    return read_word
-
-
-class Words(argparse.ArgumentParser):
-    """A command line whose every fault is one sentence and status 2."""
-
-    def __init__(self, **given):
-        super().__init__(allow_abbrev=False, **given)
-
-    def error(self, message):
-        refuse(message)
-
-    def print_help(self, file=None):
-        to_standard_output(self.format_help())
-
-
-def tool():
-    """The name under which the script was called."""
-    return os.path.basename(sys.argv[0])
-
-
-def refuse(message, status=2):
-    """Ends with one sentence on standard error."""
-    print(f'{tool()}: {" ".join(str(message).split())}', file=sys.stderr)
-    sys.exit(status)
-
-
-def to_standard_output(text):
-    """Writes a text; a reader that has seen enough, as `head`, ends it quietly."""
-    try:
-        sys.stdout.write(text)
-        sys.stdout.flush()
-    except BrokenPipeError:
-        os.dup2(os.open(os.devnull, os.O_WRONLY), sys.stdout.fileno())
-    except OSError as wrong:
-        os.dup2(os.open(os.devnull, os.O_WRONLY), sys.stdout.fileno())
-        refuse(f'standard output: {wrong.strerror}', 1)

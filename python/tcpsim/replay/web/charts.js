@@ -1,8 +1,9 @@
 'use strict';
 // Two charts over the page's whole span: windows of the flows that are ticked, lengths of the queues.
 
-const CHART = {wide: 632, tall: 150, left: 52, right: 8, top: 14, bottom: 20};
-const COLUMNS = 560;
+const CHART = {wide: 632, tall: 150, left: 52, right: 8, bottom: 20, apart: 8};
+const BESIDE_AXIS = 10;                 // what an axis' ticks take beside their labels
+const TICKS = [8, 6, 5, 4, 3, 2, 1];
 const DASHES = ['', '7 3', '2 3', '9 3 2 3'];
 
 // Points of a curve of steps: of each column of the picture the first, least, greatest and last value.
@@ -21,29 +22,63 @@ function thinned(curve, scale) {
   return [...new Set(points)].map(k => [times[k], values[k]]);
 }
 
+// The width of the widest label of an axis.
+function widestOf(axis) {
+  return d3.max(axis.selectAll('text')[0], text => text.getComputedTextLength()) || 0;
+}
+
 class Chart {
-  constructor(svg, record, title, unit, go) {
-    Object.assign(this, {record, go, title, unit, series: []});
-    const box = svg.node().getBoundingClientRect(), {left, right, top, bottom} = CHART;
-    const wide = Math.max(300, box.width || CHART.wide), tall = Math.max(80, box.height || CHART.tall);
-    this.svg = svg.attr('viewBox', `0 0 ${wide} ${tall}`).attr('preserveAspectRatio', 'none');
+  // `titles` say the same, the longest first; the first that has room is shown.
+  constructor(svg, record, titles, go) {
+    Object.assign(this, {record, go});
+    const box = svg.node().getBoundingClientRect();
+    this.wide = Math.max(300, box.width || CHART.wide); this.tall = Math.max(80, box.height || CHART.tall);
+    this.svg = svg.attr('viewBox', `0 0 ${this.wide} ${this.tall}`).attr('preserveAspectRatio', 'none');
     const begin = record.times[0], end = record.times[record.count];
-    this.x = d3.scale.linear().domain([begin, Math.max(end, begin + 1)]).range([left, wide - right]);
-    this.y = d3.scale.linear().range([tall - bottom, top]);
-    this.svg.append('text').attr('class', 'title').attr('x', left).attr('y', 10).text(unit ? `${title}, ${unit}` : title);
-    const span = end - begin, [scale, name] = span >= 2e9 ? [1e9, 's'] : span >= 2e6 ? [1e6, 'ms'] : [1e3, 'µs'];
-    const axis = d3.svg.axis().scale(this.x.copy().domain(this.x.domain().map(t => t / scale))).orient('bottom').ticks(8).tickFormat(t => `${t} ${name}`);
-    this.svg.append('g').attr('class', 'axis').attr('transform', `translate(0,${tall - bottom})`).call(axis);
-    this.left = this.svg.append('g').attr('class', 'axis').attr('transform', `translate(${left},0)`);
+    this.x = d3.scale.linear().domain([begin, Math.max(end, begin + 1)]);
+    this.title = this.svg.append('text').attr('class', 'title');
+    this.left = this.svg.append('g').attr('class', 'axis');
+    this.under = this.svg.append('g').attr('class', 'axis').attr('transform', `translate(0,${this.tall - CHART.bottom})`);
     this.curves = this.svg.append('g');
+    this.layTitle(titles);
+    this.y = d3.scale.linear().range([this.tall - CHART.bottom, this.top]);
     // The line at the present moment lies over the picture, which then need not be drawn again.
-    this.wide = wide; this.node = svg.node();
+    this.node = svg.node();
     this.present = document.createElement('div');
     this.present.className = 'present';
     this.node.parentNode.append(this.present);
     this.resize();
-    this.svg.append('rect').attr('class', 'catch').attr('x', left).attr('y', top).attr('width', wide - left - right)
-      .attr('height', tall - top - bottom).on('click', () => this.go(this.x.invert(d3.mouse(this.svg.node())[0])));
+    this.catch = this.svg.append('rect').attr('class', 'catch').attr('y', this.top)
+      .attr('height', this.tall - this.top - CHART.bottom).on('click', () => this.go(this.x.invert(d3.mouse(this.svg.node())[0])));
+    this.layTime(CHART.left);
+  }
+  // The title as high as its letters are, and what is below it further down.
+  layTitle(titles) {
+    const node = this.title.attr('x', CHART.left).attr('y', 0).node(), room = this.wide - CHART.left - 2;
+    this.title.text(titles.find(words => { this.title.text(words); return node.getComputedTextLength() <= room; }) || '');
+    const {y, height} = node.getBBox();
+    this.title.attr('y', -y);
+    this.top = height + 1;
+  }
+  // The axis of time from `left` on: as many ticks as have room for their labels, the first and the last whole.
+  layTime(left) {
+    const [begin, end] = this.x.domain(), span = end - begin;
+    const [scale, name] = span >= 2e9 ? [1e9, 's'] : span >= 2e6 ? [1e6, 'ms'] : [1e3, 'µs'];
+    const times = this.x.copy().domain([begin / scale, end / scale]);
+    const axis = d3.svg.axis().orient('bottom').tickFormat(t => `${t} ${name}`);
+    for (const count of TICKS) {
+      this.under.call(axis.scale(times).tickValues(times.ticks(count)));
+      const widest = widestOf(this.under);
+      this.x.range([Math.max(left, widest / 2 + 1), this.wide - Math.max(CHART.right, widest / 2 + 1)]);
+      times.range(this.x.range());
+      const [first, second] = times.ticks(count).map(times);
+      if (second === undefined || second - first > widest + CHART.apart) break;
+    }
+    this.under.call(axis.scale(times));
+    const [from, to] = this.x.range();
+    this.leftOf = left;
+    this.left.attr('transform', `translate(${from},0)`);
+    this.catch.attr('x', from).attr('width', to - from);
   }
   resize() {
     const box = this.node.getBoundingClientRect();
@@ -56,7 +91,9 @@ class Chart {
     const greatest = d3.max(series.filter(s => !s.thin), s => d3.max(s.curve.values)) || 1;
     this.y.domain([0, greatest * 1.1]);
     this.left.call(d3.svg.axis().scale(this.y).orient('left').tickValues(this.y.ticks(4).filter(Number.isInteger)).tickFormat(d3.format('s')));
-    const line = d3.svg.line().x(p => this.x(p[0])).y(p => Math.max(CHART.top, this.y(p[1]))).interpolate('step-after');
+    const left = Math.max(CHART.left, widestOf(this.left) + BESIDE_AXIS);
+    if (left !== this.leftOf) { this.layTime(left); this.mark(this.time); }
+    const line = d3.svg.line().x(p => this.x(p[0])).y(p => Math.max(this.top, this.y(p[1]))).interpolate('step-after');
     const end = this.record.times[this.record.count];
     this.curves.selectAll('*').remove();
     for (const one of series) {
@@ -67,6 +104,7 @@ class Chart {
     }
   }
   mark(time) {
+    this.time = time;
     const x = this.x(Math.min(this.x.domain()[1], Math.max(this.x.domain()[0], time))).toFixed(1);
     this.present.style.transform = `translateX(${x * this.shown / this.wide}px)`;
     this.present.dataset.time = time;

@@ -80,8 +80,10 @@ function spaced(wishes, apart, low, high) {
 }
 
 class Layout {
-  constructor(facts, panelWide, panelTall) {
+  // `leastLength` is what the words beside a link need of its length.
+  constructor(facts, panelWide, panelTall, leastLength) {
     this.facts = facts;
+    this.leastLength = leastLength;
     this.column = columnsOf(facts);
     this.tracks = tracksOf(facts, this.column);
     this.count = Math.max(...this.column) + 1;
@@ -196,7 +198,7 @@ class Layout {
   // As large as the panel lets it be.
   scale(panelWide, panelTall) {
     const {facts, tracks, column} = this, name = '12px sans-serif';
-    let lines = 1, length = LEAST_LENGTH;
+    let lines = 1, length = Math.max(LEAST_LENGTH, this.leastLength);
     for (const t of tracks) {
       const words = nameOf(facts, t), whole = textWidth(words.join(' '), name);
       t.name = whole <= MOST_NAME ? [words.join(' ')] : words;
@@ -205,7 +207,8 @@ class Layout {
     }
     this.row = ROW + (lines - 1) * MORE_NAME;
     this.nodeWide = facts.nodes.map(node =>
-      Math.max(node.kind === 'router' ? 46 : 58, 14 + textWidth(node.name, 'bold 15px sans-serif')));
+      Math.max(node.kind === 'router' ? 46 : 58, 14 + textWidth(node.name, 'bold 15px sans-serif'),
+        10 + textWidth(node.kind, '10px sans-serif')));
     this.columnWide = d3.range(this.count).map(c => d3.max(this.nodeWide.filter((_, n) => column[n] === c)) || 0);
     const least = d3.sum(this.columnWide) + (this.count - 1) * length + 2 * EDGE;
     const scale = Math.min(MOST_SCALE, panelTall / (this.rows * this.row), panelWide / least);

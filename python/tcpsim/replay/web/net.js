@@ -5,6 +5,7 @@
 const DECK = 4, MOST_IN_A_DECK = 5;    // how far apart drops of one event lie
 const MOST_BOXES = 30, MOST_ON_A_LINK = 240, MOST_FALLING = 12;
 const BOX = {wide: 10, tall: 12, step: 11};
+const REASON_AT = 13;                   // from a drop to its words
 const OFF_THE_NODE = 11;                // a packet at an end of its link lies beside the node, not over it
 // From a track's middle: the queue of the link to the right, that of the link to the left, what was dropped.
 const UPPER_QUEUE = -31, LOWER_QUEUE = 19, DROPPED = 39, NAME = -36;
@@ -13,13 +14,16 @@ const COLOURS = ['#0072B2', '#E69F00', '#009E73', '#CC79A7', '#56B4E9', '#7A5C00
 const LIGHT = [1, 3, 4];                // of these, those on which dark numbers are read better
 function colourOf(flow) { return COLOURS[flow % COLOURS.length]; }
 function inkOf(flow) { return LIGHT.includes(flow % COLOURS.length) ? '#000' : '#fff'; }
+function reasonOf(drop, count) {
+  return `\u2715 ${drop.reason} ${drop.flow}:${drop.number}${count > 1 ? ` +${count - 1}` : ''}`;
+}
 function waitingWord(p) { return `${p.flow}:${p.sort === DATA ? 'd' : 'a'}:${p.number}@${p.entered}`; }
 
 class Net {
   constructor(svg, record, show) {
     this.record = record; this.facts = record.facts; this.show = show;
     const box = svg.node().getBoundingClientRect();
-    const layout = new Layout(this.facts, box.width || 1264, box.height || 340);
+    const layout = new Layout(this.facts, box.width || 1264, box.height || 340, this.widestReason() + 2 * REASON_AT);
     this.places = layout.places; this.tracks = layout.tracks; this.row = layout.row;
     this.svg = svg.attr('viewBox', `0 0 ${layout.wide} ${layout.tall}`);
     this.world = this.svg.append('g').attr('class', 'world');
@@ -34,6 +38,13 @@ class Net {
     this.falling = this.world.append('g').attr('class', 'falling').node();
     this.fallen = new Map();      // drops that have an element
     this.drawn = new Map();       // packets under way that have an element
+  }
+
+  // The width of the longest words of a drop.
+  widestReason() {
+    const longest = d3.max(this.record.drops, drop => reasonOf(drop, 99).length);
+    return d3.max(this.record.drops.filter(drop => reasonOf(drop, 99).length === longest).slice(0, 99),
+      drop => textWidth(reasonOf(drop, 99), 'bold 12px sans-serif')) || 0;
   }
 
   // A link's line: the way of its packets, where its queue begins and where its boxes go, where its drops
@@ -270,9 +281,8 @@ class Net {
     Object.assign(group.dataset, {link: drop.link, flow: drop.flow, number: drop.number, reason: drop.reason,
       event: drop.event, count});
     if (rank === count - 1)
-      d3.select(group).append('text').attr('class', 'reason').attr('x', 13 * sign).attr('y', 4)
-        .attr('text-anchor', sign > 0 ? 'start' : 'end')
-        .text(`\u2715 ${drop.reason} ${drop.flow}:${drop.number}${count > 1 ? ` +${count - 1}` : ''}`);
+      d3.select(group).append('text').attr('class', 'reason').attr('x', REASON_AT * sign).attr('y', 4)
+        .attr('text-anchor', sign > 0 ? 'start' : 'end').text(reasonOf(drop, count));
     group.addEventListener('click', () => this.show({event: drop.event}));
     return group;
   }

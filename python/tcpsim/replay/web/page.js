@@ -12,17 +12,43 @@ function rowsOf(line, letters) {
   return rows;
 }
 
+function whereText(event, last, time) { return `event ${number(event)} of ${number(last)}   ${seconds(time)}`; }
+const PLAY = ['▶ play', '❚❚ pause'], LEAST_FONT = 8;
+
+// Takes smaller letters, down to LEAST_FONT, until an element's words have room in it.
+function fit(element) {
+  element.style.fontSize = '';
+  const cut = () => element.scrollHeight > element.clientHeight || element.scrollWidth > element.clientWidth;
+  for (let size = parseFloat(getComputedStyle(element).fontSize); size > LEAST_FONT && cut();)
+    element.style.fontSize = `${size -= 0.5}px`;
+}
+
 class Page {
   constructor(record) {
     Object.assign(this, {record, facts: record.facts, time: record.times[0], playing: false, picked: null, frames: 0});
     this.makeTicks();
+    this.keepRoom();
     this.net = new Net(d3.select('#net'), record, what => this.pick(what));
-    this.windows = new Chart(d3.select('#windows'), record, 'cwnd (thick), ssthresh (thin; along the top where it is higher)', 'bytes', time => this.goTo(time));
-    this.lengths = new Chart(d3.select('#lengths'), record, 'packets that wait', '', time => this.goTo(time));
+    this.windows = new Chart(d3.select('#windows'), record, ['cwnd (thick), ssthresh (thin; along the top where it is higher), bytes',
+      'cwnd (thick), ssthresh (thin), bytes', 'cwnd, ssthresh, bytes'], time => this.goTo(time));
+    this.lengths = new Chart(d3.select('#lengths'), record, ['packets that wait'], time => this.goTo(time));
     this.drawFlows(); this.drawLinks(); this.makeLines(); this.makeControls();
     this.fromAddress();
     window.addEventListener('hashchange', () => this.fromAddress());
     window.addEventListener('keydown', event => this.key(event));
+  }
+
+  // What changes its words keeps room for the longest, so that nothing else moves.
+  keepRoom() {
+    const {record} = this, room = (id, ...texts) => {
+      const element = document.getElementById(id), {style} = element, now = element.textContent;
+      style.minWidth = `${d3.max(texts, text => { element.textContent = text; return Math.ceil(element.getBoundingClientRect().width); })}px`;
+      element.textContent = now;
+    };
+    room('where', whereText(record.last, record.last, record.times[record.count]));
+    room('play', ...PLAY);
+    room('pace', '0.001 ×', '10000 a second');
+    fit(document.getElementById('under'));
   }
 
   // ---- where we are
@@ -63,7 +89,7 @@ class Page {
     this.net.draw(this.time, this.fallTime());
     this.windows.mark(this.time); this.lengths.mark(this.time);
     const where = document.getElementById('where');
-    where.textContent = `event ${number(record.at)} of ${number(record.last)}   ${seconds(this.time)}`;
+    where.textContent = whereText(record.at, record.last, this.time);
     where.dataset.event = record.at;
     document.documentElement.dataset.event = record.at;
   }
@@ -153,6 +179,7 @@ class Page {
     commands.append('tcpsim debug: ', code(`step ${event}`), ' to just after it, ', code(`until ${moment}`),
       ' to before its moment');
     box.append(commands, table);
+    fit(box);
     box.dataset.event = event;
   }
   lineRows(event) {
@@ -270,13 +297,17 @@ class Page {
         ' (tcpsim-stalls says why)');
     }
   }
-  say(words) { document.getElementById('notice').textContent = words; }
+  say(words) {
+    const notice = document.getElementById('notice');
+    notice.textContent = words;
+    fit(notice);
+  }
 
   play(on) {
     if (on === this.playing) return;
     if (on && this.record.at === this.record.last) this.goEvent(this.record.first);
     this.playing = on;
-    document.getElementById('play').textContent = on ? '❚❚ pause' : '▶ play';
+    document.getElementById('play').textContent = PLAY[+on];
     if (!on) { this.show(); return; }
     this.picked = null; this.say('');
     this.then = null; this.carry = 0;

@@ -1,0 +1,169 @@
+"""Command lines of the tools, and how a tool ends: done, refused in one sentence, or by a signal.
+
+`run` is what a command calls. Nothing but Python's standard library, and little of it: until `run` is called an
+interruption is Python's own.
+"""
+import argparse
+import contextlib
+import importlib
+import os
+import signal
+import sys
+
+ENDS = signal.SIGINT, signal.SIGTERM, signal.SIGHUP     # the signals that ask a tool to end
+AGAIN = 0.01            # seconds after which an interruption comes again that nobody could take
+WAKE = 0.5              # seconds after which a read is looked into that began just as a signal had come, and would wait
+
+
+class Refused(Exception):
+    """What a tool does not do; the text is the sentence that says why, without a full stop."""
+
+    status = 1
+
+
+class Wrong(Refused):
+    """A command line, or a word of it, that is not what is asked for."""
+
+    status = 2
+
+
+class Ended(KeyboardInterrupt):
+    """A signal asked the tool to end."""
+
+    def __init__(self, number):
+        super().__init__(number)
+        self.number = number
+
+
+class OutputClosed(Exception):
+    """Nobody reads standard output any more, as behind `head`: the tool ends quietly."""
+
+    status = 128 + signal.SIGPIPE
+
+
+# ---- words
+
+def as_type(read):
+    """A reader of words as argparse takes it."""
+    def read_word(word):
+        try:
+            return read(word)
+        except Wrong as wrong:
+            raise argparse.ArgumentTypeError(str(wrong)) from None
+    return read_word
+
+
+class Words(argparse.ArgumentParser):
+    """A command line whose every fault is one sentence and status 2."""
+
+    def __init__(self, **given):
+        super().__init__(allow_abbrev=False, **{'prog': tool(), **given})
+
+    def error(self, message):
+        raise Wrong(message)
+
+    def print_help(self, file=None):
+        from tcpsim import output
+        with output.opened() as out:
+            out.write(self.format_help())
+
+    def add_output(self, what):
+        """The option -o; `what` says what is written."""
+        self.add_argument('-o', '--output', metavar='FILE', help=f'{what}; else standard output')
+
+    def add_trace(self):
+        """What tools that read a run take: a trace, or the program that writes it."""
+        self.add_argument('trace', metavar='TRACE', nargs='?', help='else the program is run')
+        self.add_argument('--partial', action='store_true', help='take a trace that is cut, as far as it goes')
+        self.add_argument('--program', metavar='FILE', help='the program that is run where no trace is given')
+
+
+def tool():
+    """The name under which the tool was called."""
+    return os.path.basename(sys.argv[0])
+
+
+# ---- ends
+
+def run(module):
+    """Runs a tool, the `main` of a module; answers its status. Signals that ask to end are raised as `Ended`, so that
+    what was begun is taken away; those that were ignored from the start stay so, as nohup has it."""
+    open_standard_files()
+    heard = [number for number in ENDS if signal.getsignal(number) is not signal.SIG_IGN]
+    try:
+        sys.unraisablehook = end_later
+        signal.signal(signal.SIGALRM, nothing)
+        signal.setitimer(signal.ITIMER_REAL, WAKE, WAKE)
+        for number in heard:
+            signal.signal(number, end)
+        status = status_of(module)
+    except Ended as wrong:
+        status = 128 + wrong.number
+    signal.setitimer(signal.ITIMER_REAL, 0)
+    for number in heard:
+        signal.signal(number, nothing)
+    return status
+
+
+def end(number, _frame):
+    """A handler: what comes after the first signal no longer counts, so that nothing breaks into taking away."""
+    for other in ENDS:
+        signal.signal(other, nothing)
+    raise Ended(number)
+
+
+def nothing(_number, _frame):
+    """A handler."""
+
+
+def end_later(unraisable):
+    """Where a signal came while a destructor ran, nobody could take what it raised: it is raised again."""
+    if isinstance(unraisable.exc_value, Ended):
+        signal.signal(signal.SIGALRM, lambda *_: end(unraisable.exc_value.number, None))
+        signal.setitimer(signal.ITIMER_REAL, AGAIN)
+    else:
+        sys.__unraisablehook__(unraisable)
+
+
+def status_of(module):
+    """The status of a tool; where it is refused, standard error has the sentence."""
+    try:
+        importlib.import_module(module).main()
+    except Ended as wrong:
+        return 128 + wrong.number
+    except OutputClosed as wrong:
+        return wrong.status
+    except Refused as wrong:
+        return refuse(wrong, wrong.status)
+    except OSError as wrong:
+        return refuse(sentence(wrong))
+    except MemoryError:
+        return refuse('there is not enough memory for this run')
+    return 0
+
+
+def sentence(wrong):
+    """What an error of the operating system says, with the file's name where it has one."""
+    return ': '.join(str(part) for part in (wrong.filename, wrong.strerror or wrong) if part is not None)
+
+
+def refuse(message, status=1):
+    """Says one sentence on standard error; answers the status."""
+    note(f'{tool()}: {" ".join(str(message).split())}')
+    return status
+
+
+def note(text, end='\n'):
+    """Writes a line on standard error; where nobody can be told, nobody is."""
+    if sys.stderr is not None:
+        with contextlib.suppress(OSError):
+            print(text, end=end, file=sys.stderr, flush=True)
+
+
+def open_standard_files():
+    """Has something at the descriptors 0 to 2 where they are closed, so that no file that is opened gets one of them."""
+    for number in range(3):
+        try:
+            os.fstat(number)
+        except OSError:
+            os.open(os.devnull, os.O_WRONLY if number == 0 else os.O_RDONLY)

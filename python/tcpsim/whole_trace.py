@@ -1,0 +1,214 @@
+"""Reads runs: a scenario's file, and the lines of its whole trace, of a file or as the program writes them.
+
+A trace is whole where its last line is `end N` and N events stand before it. What is cut is refused, as figures of a
+part would pass for those of the run; with `partial` it is taken as far as it goes. Nothing but Python's standard
+library.
+"""
+import codecs
+import contextlib
+import itertools
+import subprocess
+import sys
+import tempfile
+
+from tcpsim.output import named
+from tcpsim.program import find_program, found
+from tcpsim.trace import Run, Scenario, Unreadable
+
+BLOCK = 1 << 18                 # bytes of a trace that are read at once
+LONGEST_LINE = 1 << 27          # characters
+LONGEST_SCENARIO = 1 << 26      # bytes
+IMAGE_BEGINS = b'TCB'
+PATIENCE = 10                   # seconds in which a program ends that has closed its output
+S = 10**9
+PROGRAMS = []                   # those that run
+SOON = 0.5                      # seconds in which a program ends whose output is refused, if it ends by itself
+
+
+def read_run(scenario_path, trace_path=None, program=None, partial=False):
+    """The run of a scenario's file: from its trace's file, or else by running the program."""
+    with opened_run(scenario_path, trace_path, program, partial) as (scenario, lines):
+        return Run(scenario, lines)
+
+
+@contextlib.contextmanager
+def opened_run(scenario_path, trace_path=None, program=None, partial=False):
+    """A scenario's file, a text or an image (`-`: standard input), and its trace's lines, one by one: of the
+    trace's file, or else as the program prints them."""
+    source = scenario_bytes(scenario_path)
+    if trace_path is not None:
+        scenario = Scenario(scenario_text(source, scenario_path, program))
+        with open(trace_path, 'rb') as file:
+            yield scenario, itertools.chain.from_iterable(blocks(file.read, trace_path, scenario, partial))
+        return
+    path = find_program(program)
+    with running([path, 'run'], source) as process:
+        first = process.read(BLOCK)
+        if not first:
+            process.check()
+        scenario = Scenario(scenario_text(source, scenario_path, program))
+        read = Rest(first, process.read).read
+        yield scenario, itertools.chain.from_iterable(blocks(read, f'the trace of {path}', scenario, partial, process.check))
+
+
+class Rest:
+    """Gives again the block that was read, and then further ones."""
+
+    def __init__(self, first, read):
+        self._first, self._read = first, read
+
+    def read(self, size):
+        block, self._first = self._first, b''
+        return block or self._read(size)
+
+
+def inputs_of(given):
+    """The files that a command line has a tool read, and the program that it may run."""
+    return given.scenario, getattr(given, 'trace', None), given.program or found()
+
+
+# ---- scenarios
+
+def scenario_bytes(path):
+    """What stands in a scenario's file."""
+    if path == '-':
+        if sys.stdin is None:
+            raise Unreadable('standard input is closed')
+        source = sys.stdin.buffer.read(LONGEST_SCENARIO + 1)
+    else:
+        with open(path, 'rb') as file:
+            source = file.read(LONGEST_SCENARIO + 1)
+    if len(source) > LONGEST_SCENARIO:
+        raise Unreadable(f'{path} is no scenario: it is longer than {LONGEST_SCENARIO:,} bytes')
+    return source
+
+
+def scenario_text(source, name, program=None):
+    """The text of a scenario: itself, or of an image what `tcpsim dis` writes."""
+    if source.startswith(IMAGE_BEGINS):
+        done = subprocess.run([find_program(program), 'dis'], input=source, capture_output=True, check=False)
+        if done.returncode:
+            raise ProgramFailed(done.returncode, done.stderr)
+        source = done.stdout
+    try:
+        return source.decode('ascii')
+    except UnicodeDecodeError as wrong:
+        raise Unreadable(f'{name} is no scenario: its byte {wrong.start} is not ASCII') from wrong
+
+
+# ---- lines
+
+def blocks(read, name, scenario, partial=False, ended=lambda: None):
+    """The lines of each block of a trace, its `end N` among them. `ended` raises where what wrote the trace failed; it is
+    asked before the last lines are given."""
+    count, last, rest = 0, '', ''
+    for text in texts(read, name):
+        *lines, rest = text.split('\n')
+        if text.startswith('end') or '\nend' in text:
+            at = next((at for at, line in enumerate(lines) if line.startswith('end')), None)
+            if at is not None:
+                if lines[at + 1:] or rest or read(1):
+                    raise Unreadable(f'{name}: line {count + at + 2} is behind `end`')
+                ended()
+                yield lines
+                return
+        if lines:
+            count, last = count + len(lines), lines[-1]
+            yield lines
+    ended()
+    if rest.startswith('end '):
+        yield [rest]
+    elif not count:
+        raise Unreadable(f'{name} is empty: line 1 is not there' if not rest else f'{name}: line 1 is cut short')
+    elif not partial:
+        raise Unreadable(cut(name, count, last, scenario, rest))
+
+
+def texts(read, name):
+    """The text of each block, from the beginning of the line that the block before it ended in."""
+    decoder, held, size, line = codecs.getincrementaldecoder('ascii')(), [], 0, 1
+    while block := read(BLOCK):
+        try:
+            text = decoder.decode(block)
+        except UnicodeDecodeError as wrong:
+            line += wrong.object[:wrong.start].count(b'\n')
+            raise Unreadable(f'{name} is no trace: in line {line} there is a byte that is not ASCII') from wrong
+        held.append(text)
+        size += len(text)
+        if '\n' in text:
+            whole = ''.join(held)
+            yield whole
+            held = [whole[whole.rindex('\n') + 1:]]
+            size, line = len(held[0]), line + whole.count('\n')
+        elif size > LONGEST_LINE:
+            raise Unreadable(f'{name} is no trace: line {line} has no end')
+    if held and held[0]:
+        yield ''.join(held)
+
+
+def cut(name, count, last, scenario, rest):
+    """Says where a trace is cut."""
+    where = f'line {count + 1} is cut short' if rest else f'cut behind event {count}'
+    time = last.split()[1:2]
+    until = f', {seconds(int(time[0]))} s of {seconds(scenario.end)} s' if time and time[0].isdigit() else ''
+    return f'{name} has no "end": {where}{until} (--partial takes it)'
+
+
+def seconds(time):
+    return f'{time / S:.3f}'.rstrip('0').rstrip('.')
+
+
+# ---- the program
+
+class Running:
+    """A program that runs: what it writes, and how it ended."""
+
+    def __init__(self, process, note):
+        self._process, self._note, self.read = process, note, process.stdout.read
+
+    def check(self):
+        """Raises where the program that has closed its output did not end well."""
+        try:
+            self.check_status(PATIENCE)
+        except subprocess.TimeoutExpired:
+            raise Unreadable(f'the program closed its output, and did not end in {PATIENCE} s') from None
+
+    def check_status(self, patience):
+        """Raises where the program does not end so soon, or not well."""
+        status = self._process.wait(patience)
+        if status:
+            self._note.seek(0)
+            raise ProgramFailed(status, self._note.read(1 << 16))
+
+
+@contextlib.contextmanager
+def running(words, source):
+    """Runs a program on the bytes of a scenario, and ends it where not all that it writes is wanted. Its input and its
+    notes are files, so that neither of us waits for the other."""
+    with tempfile.TemporaryFile() as given, tempfile.TemporaryFile() as note:
+        with named(tempfile.gettempdir()):
+            given.write(source)
+            given.seek(0)
+        with subprocess.Popen(words, stdin=given, stdout=subprocess.PIPE, stderr=note, bufsize=0) as process:
+            PROGRAMS.append(process)
+            program = Running(process, note)
+            try:
+                yield program
+            except Unreadable:          # a program that ended, and not well, says better than its output what is wrong
+                with contextlib.suppress(subprocess.TimeoutExpired):
+                    program.check_status(SOON)
+                raise
+            finally:
+                process.stdout.close()
+                process.kill()
+                PROGRAMS.remove(process)
+
+
+class ProgramFailed(Unreadable):
+    """The program did not end with status 0; `note` is what it said of that."""
+
+    def __init__(self, status, note):
+        self.ended = status
+        self.note = ' '.join(note.decode('utf-8', 'replace').split())
+        how = f'was ended by signal {-status}' if status < 0 else f'ended with status {status}'
+        super().__init__(f'the program {how}' + f': {self.note}' * bool(self.note))

@@ -1,0 +1,584 @@
+"""How the seven tools end, whatever they write to and whatever they read: by pytest, `pytest python/tests/test_ends.py`.
+
+The table is seven tools times what `-o` names, what standard output is, what fails, and which signal comes. In each
+row a tool has written all and ends with 0, or says one sentence and leaves what was there. Then come whole traces and
+the programs that write them. test_inputs.py has traces and scenarios that are cut, changed or another's.
+"""
+import contextlib
+import importlib
+import os
+import pathlib
+import re
+import resource
+import shutil
+import signal
+import stat
+import subprocess
+import sys
+import tempfile
+import threading
+import time
+
+import pytest
+
+from paths import TOP
+from seven_tools import (ENDINGS, EXAMPLE, MODULES, OLD, PATIENCE, PROGRAM, READERS, TOOLS, call, is_told, place, run, target,
+                         to_old, to_private, whole, words)
+
+from tcpsim.scenario import shapes
+from tcpsim.trace import Scenario
+
+__all__ = ['place']
+NOBODY = 65534
+NEEDS_ROOT = pytest.mark.skipif(os.geteuid() != 0, reason='wants root: a device, another\'s file')
+
+
+# ---- what -o names
+
+def to_nothing(path):
+    """No file is there."""
+
+
+def to_link(path):
+    to_private(path.parent / 'target')
+    path.symlink_to('target')
+
+
+def to_broken_link(path):
+    path.symlink_to('target')
+
+
+def to_device(path):
+    """A device like /dev/null, of our own: a tool that puts a file in its place harms nobody."""
+    os.mknod(path, 0o666 | stat.S_IFCHR, os.makedev(1, 3))
+
+
+def to_others(path):
+    to_old(path)
+    os.chown(path, NOBODY, NOBODY)
+
+
+@pytest.mark.parametrize('tool', TOOLS)
+@pytest.mark.parametrize('make, mode', [(to_nothing, 0o640), (to_old, 0o644), (to_private, 0o600), (to_link, 0o600),
+                                        (to_broken_link, 0o640)])
+def test_file(tool, make, mode, place):
+    """A new file has the mode of all new files, another keeps its own; a link stays, and what it points to is written."""
+    path = target(place, tool)
+    make(path)
+    before = sorted(os.listdir(place / 'out'))
+    done = run(tool, *words(tool), '-o', path, cwd=place, preexec_fn=lambda: os.umask(0o027))
+    assert done.returncode == 0, done.stderr
+    assert path.read_bytes() == whole(tool)
+    assert stat.S_IMODE(path.stat().st_mode) == mode
+    assert path.is_symlink() == (make in (to_link, to_broken_link))
+    assert sorted(os.listdir(place / 'out')) == (before if make not in (to_nothing, to_broken_link) else
+                                                 sorted({*before, path.name, *(['target'] if before else [])}))
+
+
+@NEEDS_ROOT
+@pytest.mark.parametrize('tool', TOOLS)
+def test_device(tool, place):
+    path = target(place, tool)
+    to_device(path)
+    done = run(tool, *words(tool), '-o', path, cwd=place)
+    assert done.returncode == 0, done.stderr
+    assert stat.S_ISCHR(path.lstat().st_mode) and path.lstat().st_rdev == os.makedev(1, 3)
+    assert os.listdir(place / 'out') == [path.name]
+
+
+@pytest.mark.parametrize('tool', TOOLS)
+def test_fifo(tool, place):
+    path, read = target(place, tool), []
+    os.mkfifo(path)
+    reader = threading.Thread(target=lambda: read.append(path.read_bytes()))
+    reader.start()
+    done = run(tool, *words(tool), '-o', path, cwd=place)
+    if reader.is_alive() and not path.is_fifo():
+        path.unlink()
+    with contextlib.suppress(OSError):
+        os.close(os.open(path, os.O_WRONLY | os.O_NONBLOCK))      # a reader that nobody wrote to ends
+    reader.join(10)
+    assert done.returncode == 0, done.stderr
+    assert read == [whole(tool)] and path.is_fifo()
+
+
+@NEEDS_ROOT
+@pytest.mark.parametrize('tool', TOOLS)
+def test_others(tool, place):
+    """Another's file stays another's."""
+    path = target(place, tool)
+    to_others(path)
+    done = run(tool, *words(tool), '-o', path, cwd=place)
+    assert done.returncode == 0, done.stderr
+    assert path.read_bytes() == whole(tool)
+    assert (path.stat().st_uid, path.stat().st_gid) == (NOBODY, NOBODY)
+
+
+def as_nobody():
+    os.setgroups([])
+    os.setgid(NOBODY)
+    os.setuid(NOBODY)
+
+
+@contextlib.contextmanager
+def open_to_all(place):
+    """The folder where anybody can come; above it nothing changes that is not made for this test."""
+    with tempfile.TemporaryDirectory(prefix='ends-') as folder:
+        os.chmod(folder, 0o755)
+        moved = pathlib.Path(shutil.copytree(place, os.path.join(folder, 'place')))
+        (moved / 'out').chmod(0o777)
+        yield moved
+
+
+@NEEDS_ROOT
+@pytest.mark.skipif(not os.access('/usr/bin/python3', os.X_OK), reason='no python3 that nobody can run')
+@pytest.mark.parametrize('tool', TOOLS)
+@pytest.mark.parametrize('mode, status', [(0o644, 1), (0o666, 0)])
+def test_others_as_nobody(tool, mode, status, place):
+    """A file of root's that may not be written stays, in a folder that may; one that may be written stays root's."""
+    with open_to_all(place) as moved:
+        path = target(moved, tool)
+        to_old(path)
+        path.chmod(mode)
+        done = subprocess.run(['/usr/bin/python3', *call(tool)[1:], *words(tool), '-o', path], cwd=moved, check=False,
+                              capture_output=True, preexec_fn=as_nobody, timeout=PATIENCE,
+                              env={**os.environ, 'TMPDIR': str(moved / 'out'), 'MPLCONFIGDIR': str(moved / 'out'),
+                                   'HOME': '/', 'PYTHONDONTWRITEBYTECODE': '1'})
+        if status:
+            is_told(done, 1, str(path), 'Permission denied')
+        assert done.returncode == status, done.stderr
+        assert path.read_bytes() == (OLD.encode() if status else whole(tool))
+        assert path.stat().st_uid == 0 and stat.S_IMODE(path.stat().st_mode) == mode
+
+
+@pytest.mark.parametrize('tool', [tool for tool in TOOLS if tool != 'net'])
+@pytest.mark.parametrize('way', ['itself', 'another name', 'a link'])
+def test_input(tool, way, place):
+    """What is read is not written over, under whatever name."""
+    for read in ['s.txt'] + ['s.trace'] * (tool in READERS):
+        given = words(tool)
+        path = place / ('i' + ENDINGS.get(tool, '.txt'))
+        if way == 'itself':
+            (place / read).rename(path)
+            given = [path.name if word == read else word for word in given]
+        elif way == 'a link':
+            path.symlink_to(read)
+        else:
+            path.hardlink_to(place / read)
+        before = path.read_bytes()
+        is_told(run(tool, *given, '-o', path, cwd=place), 2, path.name, 'read')
+        assert path.read_bytes() == before
+        assert not [name for name in os.listdir(place) if name.endswith('.part')]
+        path.rename(place / read) if way == 'itself' else path.unlink()
+
+
+def test_outputs_that_are_one(place):
+    done = run('sweep', *words('sweep'), '-o', 'a.svg', '--plot', './a.svg', cwd=place)
+    is_told(done, 2, 'one file')
+    done = run('sweep', *words('sweep'), '--plot', 's.svg', cwd=place)
+    assert done.returncode == 0 and (place / 's.svg').read_bytes().startswith(b'<?xml')
+    (place / 's.txt').rename(place / 'i.svg')
+    is_told(run('sweep', *words('sweep', 'i.svg'), '--plot', 'i.svg', cwd=place), 2, 'i.svg', 'read')
+
+
+# ---- what fails
+
+@contextlib.contextmanager
+def full_disk(folder):
+    """A folder on a disk that is full but for nothing; where none can be mounted, files can have no byte. Gives what is
+    to be called in the tool's process, and what is said."""
+    size = subprocess.run(['mount', '-t', 'tmpfs', '-o', 'size=64k', 'none', folder], check=False, capture_output=True)
+    if size.returncode:
+        yield lambda: resource.setrlimit(resource.RLIMIT_FSIZE, (0, 0)), 'File too large'
+        return
+    try:
+        yield None, 'No space left on device'
+    finally:
+        subprocess.run(['umount', folder], check=True)
+
+
+@pytest.mark.parametrize('tool', TOOLS)
+@pytest.mark.parametrize('make', [to_nothing, to_old, to_link])
+def test_full_disk(tool, make, place):
+    """The old file stays, and nothing is beside it."""
+    with full_disk(place / 'out') as (begin, says):
+        path = target(place, tool)
+        make(path)
+        with contextlib.suppress(OSError), open(place / 'out' / 'filler', 'wb', 0) as filler:
+            while begin is None:
+                filler.write(bytes(1024))
+        before = sorted(os.listdir(place / 'out'))
+        done = run(tool, *words(tool), '-o', path, cwd=place, preexec_fn=begin)
+        assert sorted(os.listdir(place / 'out')) == before
+        if done.returncode == 0 and make is to_link and begin is None:
+            assert path.read_bytes() == whole(tool)     # it had room where the old one was
+            return
+        is_told(done, 1, str(path), says)
+        if make is not to_nothing:
+            assert path.read_text() == OLD
+
+
+@pytest.mark.parametrize('tool', TOOLS)
+def test_dev_full(tool, place):
+    path = target(place, tool)
+    path.symlink_to('/dev/full')
+    is_told(run(tool, *words(tool), '-o', path, cwd=place), 1, f'{path}: No space left on device')
+    assert os.readlink(path) == '/dev/full' and os.listdir(place / 'out') == [path.name]
+
+
+@pytest.mark.parametrize('tool', TOOLS)
+def test_full_standard_output(tool, place):
+    """Of plot nothing goes there."""
+    given = words(tool) + (['-o', target(place, tool)] if tool in ('plot', 'replay') else [])
+    with open('/dev/full', 'wb', 0) as full:
+        done = run(tool, *given, cwd=place, stdout=full)
+    if tool == 'plot':
+        assert (done.returncode, done.stderr) == (0, b'')
+    else:
+        is_told(done, 1, 'standard output: No space left on device')
+
+
+@pytest.mark.parametrize('tool', TOOLS)
+@pytest.mark.parametrize('closed', ['>&-', '<&- >&-', '>&- 2>&-', '<&- >&- 2>&-'])
+def test_closed_standard_output(tool, closed, place):
+    """What cannot be said is no success, and no file gets what was to be said."""
+    path = target(place, tool)
+    given = words(tool) + (['-o', path] if tool in ('plot', 'replay') else [])
+    done = subprocess.run(['sh', '-c', f'exec "$@" {closed}', 'sh', *call(tool), *map(str, given)], cwd=place, check=False,
+                          stdin=subprocess.DEVNULL, capture_output=True, timeout=PATIENCE)
+    if tool == 'plot':
+        assert (done.returncode, done.stderr) == (0, b'')
+    elif '2>' in closed:
+        assert (done.returncode, done.stderr) == (1, b'')
+    else:
+        is_told(done, 1, 'standard output')
+    if tool in ('plot', 'replay'):
+        assert path.read_bytes() == whole(tool)
+    assert done.stdout == b''
+
+
+@pytest.mark.parametrize('tool', [tool for tool in TOOLS if tool != 'plot'])
+def test_reader_that_has_seen_enough(tool, place):
+    """As behind `head`: not a word, and the status of what SIGPIPE ends."""
+    read, write = os.pipe()
+    os.close(read)
+    given = words(tool) + (['-o', target(place, tool)] if tool == 'replay' else [])
+    try:
+        done = run(tool, *given, cwd=place, stdout=write)
+    finally:
+        os.close(write)
+    assert done.returncode == 128 + signal.SIGPIPE
+    assert not [line for line in done.stderr.decode().splitlines() if not re.match(r'\d of \d runs', line)]
+
+
+@pytest.mark.parametrize('tool', TOOLS)
+def test_closed_standard_error(tool, place):
+    """What is written is what is written else."""
+    path = target(place, tool)
+    done = subprocess.run(['sh', '-c', 'exec "$@" 2>&-', 'sh', *call(tool), *words(tool), '-o', str(path)], cwd=place,
+                          check=False, stdin=subprocess.DEVNULL, capture_output=True, timeout=PATIENCE)
+    assert (done.returncode, done.stderr) == (0, b'')
+    assert path.read_bytes() == whole(tool)
+    assert b' of 2 runs' not in done.stdout
+
+
+@pytest.mark.parametrize('tool', TOOLS)
+def test_folder_that_is_not_there(tool, place):
+    path = place / 'nowhere' / target(place, tool).name
+    is_told(run(tool, *words(tool), '-o', path, cwd=place), 1, f'{path}: No such file or directory')
+
+
+# ---- signals
+
+def session(leader):
+    """The processes of a session, but for those that have ended and are not yet waited for."""
+    found = []
+    for name in os.listdir('/proc'):
+        if name.isdigit():
+            with contextlib.suppress(OSError):
+                state, _, _, its = pathlib.Path('/proc', name, 'stat').read_text().rpartition(')')[2].split()[:4]
+                if int(its) == leader and state != 'Z':
+                    found.append(int(name))
+    return found
+
+
+def ends(leader, within=10):
+    """Whether all of a session ends soon."""
+    until = time.monotonic() + within
+    while session(leader) and time.monotonic() < until:
+        time.sleep(0.02)
+    return not session(leader)
+
+
+@contextlib.contextmanager
+def waiting(tool, place, path, **more):
+    """A tool that waits: for its trace, for a program that sleeps, or for who reads what it writes."""
+    given = words(tool)
+    if tool == 'net':
+        if path.exists():
+            path.unlink()
+        os.mkfifo(path)
+    elif tool == 'sweep':
+        program = place / 'sleeps'
+        program.write_text('#!/bin/sh\nexec sleep 100\n')
+        program.chmod(0o755)
+        given[given.index(PROGRAM)] = str(program)
+    else:
+        (place / 's.trace').unlink()
+        os.mkfifo(place / 's.trace')
+    held = os.open(place / 's.trace', os.O_RDWR)
+    process = subprocess.Popen([*call(tool), *map(str, given), '-o', str(path)], cwd=place, start_new_session=True,
+                               stdin=subprocess.DEVNULL, stdout=subprocess.PIPE, stderr=subprocess.PIPE, **more)
+    try:
+        until = time.monotonic() + 5
+        while time.monotonic() < until and not (tool == 'net' or any(name.endswith('.part') for name in os.listdir(path.parent))):
+            time.sleep(0.02)
+        time.sleep(0.7 if tool in ('sweep', 'net') else 0.1)
+        yield process
+    finally:
+        for each in session(process.pid):
+            with contextlib.suppress(ProcessLookupError):
+                os.kill(each, signal.SIGKILL)
+        process.communicate()
+        os.close(held)
+
+
+@pytest.mark.parametrize('tool', TOOLS)
+@pytest.mark.parametrize('number', [signal.SIGINT, signal.SIGTERM, signal.SIGHUP])
+def test_signal(tool, number, place):
+    """A signal to the tool alone: it ends at once and says nothing, the old file stays, nothing is beside it, and no
+    process is left."""
+    path = target(place, tool)
+    to_private(path)
+    with waiting(tool, place, path, preexec_fn=lambda: signal.signal(signal.SIGINT, signal.default_int_handler)) as process:
+        process.send_signal(number)
+        said = process.communicate(timeout=20)
+        assert (process.returncode, *said) == (128 + number, b'', b'')
+        assert ends(process.pid)
+    assert os.listdir(path.parent) == [path.name]
+    if tool != 'net':
+        assert path.read_text() == OLD and stat.S_IMODE(path.stat().st_mode) == 0o600
+
+
+def test_signals_one_after_another(place):
+    """What is taken away is taken away, though a second signal comes."""
+    path = target(place, 'flows')
+    for _ in range(20):
+        with waiting('flows', place, path) as process:
+            for number in (signal.SIGTERM, signal.SIGHUP, signal.SIGINT, signal.SIGTERM):
+                process.send_signal(number)
+            assert process.communicate(timeout=20) == (b'', b'')
+            assert process.returncode in (143, 129, -1, -2, -15)        # the last three where it came when all was over
+        assert os.listdir(path.parent) == []
+        (place / 's.trace').unlink()
+        (place / 's.trace').touch()
+
+
+def test_sweep_that_is_killed(place):
+    """Its workers and their programs end with it."""
+    with waiting('sweep', place, target(place, 'sweep')) as process:
+        assert len(session(process.pid)) == 5           # itself, two workers, two programs
+        process.kill()
+        process.wait()
+        assert ends(process.pid)
+
+
+def test_worker_that_is_ended(place):
+    """The old file stays, and the sweep says so."""
+    path = target(place, 'sweep')
+    to_old(path)
+    with waiting('sweep', place, path) as process:
+        workers = [each for each in session(process.pid) if each != process.pid and
+                   b'tcpsim-sweep' in pathlib.Path('/proc', str(each), 'cmdline').read_bytes()]
+        os.kill(workers[0], signal.SIGTERM)
+        said = process.communicate(timeout=20)[1]
+        assert (process.returncode, said) == (1, b'tcpsim-sweep: a run\'s process was ended from outside\n')
+        assert ends(process.pid)
+    assert path.read_text() == OLD and os.listdir(path.parent) == [path.name]
+
+
+def test_nohup(place):
+    """A signal that was ignored from the start stays so."""
+    path = target(place, 'flows')
+    with waiting('flows', place, path, preexec_fn=lambda: signal.signal(signal.SIGHUP, signal.SIG_IGN)) as process:
+        process.send_signal(signal.SIGHUP)
+        time.sleep(0.3)
+        assert process.poll() is None
+        process.send_signal(signal.SIGTERM)
+        process.communicate(timeout=20)
+        assert process.returncode == 143
+
+
+# ---- whole traces
+
+def lines_of(path=EXAMPLE.with_suffix('.trace')):
+    return path.read_text().splitlines(True)
+
+
+@pytest.mark.parametrize('tool', READERS)
+def test_cut_at_the_end_of_a_line(tool, place):
+    """A trace without its end has no figures, but with --partial those of its part."""
+    lines, path = lines_of(), target(place, tool)
+    (place / 's.trace').write_text(''.join(lines[:26]))
+    assert lines[25].startswith('26 1006200000 ')
+    is_told(run(tool, *words(tool), '-o', path, cwd=place), 1,
+            's.trace has no "end": cut behind event 26, 1.006 s of 10 s (--partial takes it)')
+    assert os.listdir(place / 'out') == []
+    done = run(tool, *words(tool), '--partial', '-o', path, cwd=place)
+    assert (done.returncode, done.stderr) == (0, b'')
+    part = path.read_bytes()
+    assert part != whole(tool)
+    (place / 's.trace').write_text(''.join(lines[:26]) + lines[26][:-1])
+    is_told(run(tool, *words(tool), '-o', path, cwd=place), 1, 's.trace has no "end": line 27 is cut short', '--partial')
+    assert run(tool, *words(tool), '--partial', '-o', path, cwd=place).returncode == 0
+    assert path.read_bytes() == part
+
+
+@pytest.mark.parametrize('tool', READERS)
+def test_traces_that_are_none(tool, place):
+    lines, path = lines_of(), target(place, tool)
+    for text, says in (('', 'empty'), ('\n', 'line 1'), ('end 0\n', 'line 1 '), (''.join(lines[:9]) + 'end 8\n', 'line 10'),
+                       (''.join(lines[:9]) + 'end 10\n', 'line 10'), (''.join([*lines, '\n']), 'line 53 is behind `end`'),
+                       (''.join([*lines, lines[0]]), 'line 53 is behind `end`'), (''.join(lines)[:-2], 'line 52'),
+                       ('\ufffd\n', 'line 1'), (''.join(lines[:30]) + 'é\n', 'line 31')):
+        for more in ((), ('--partial',)):
+            (place / 's.trace').write_text(text, encoding='utf-8')
+            done = run(tool, *words(tool), *more, '-o', path, cwd=place)
+            is_told(done, 1, says)
+            assert os.listdir(place / 'out') == []
+
+
+PROGRAMS = {
+    'wrote nothing': ('exit 0', 'is empty'), 'a status': ('echo no memory >&2; exit 4', 'status 4: no memory'),
+    'a status behind its trace': ('cat "{trace}"; echo no room >&2; exit 4', 'status 4: no room'),
+    'killed': ('head -n 9 "{trace}"; kill -9 $$', 'signal 9'),
+    'a cut trace': ('head -n 9 "{trace}"', 'has no "end": cut behind event 9, '),
+    'a long note': ('head -c 300000 /dev/zero | tr "\\0" x >&2; head -n 9 "{trace}"', 'has no "end"'),
+    'no lines': ('exec yes', 'line 1'), 'a line with no end': ('exec cat /dev/zero', 'line 1'),
+    'does not read': ('exec <&-; head -n 9 "{trace}"', 'has no "end"'),
+}
+
+
+@pytest.mark.parametrize('tool', READERS)
+@pytest.mark.parametrize('sort', PROGRAMS)
+def test_program(tool, sort, place):
+    """A program that does not write the whole trace, or does not end well, has no figures."""
+    script, says = PROGRAMS[sort]
+    program, path = place / 'program', target(place, tool)
+    program.write_text('#!/bin/sh\n' + script.format(trace=place / 's.trace') + '\n')
+    program.chmod(0o755)
+    done = run(tool, *words(tool, trace=None), '--program', program, '-o', path, cwd=place)
+    is_told(done, 1, says)
+    assert os.listdir(place / 'out') == []
+
+
+@pytest.mark.parametrize('more', [(), ('--engine',)])
+@pytest.mark.parametrize('sort', [sort for sort in PROGRAMS if sort != 'a long note'])
+def test_program_of_a_sweep(sort, more, place):
+    """Each run has a row, and the sweep is no success."""
+    script, says = PROGRAMS[sort]
+    program, path = place / 'program', target(place, 'sweep')
+    program.write_text('#!/bin/sh\n' + script.format(trace=place / 's.trace') + '\n')
+    program.chmod(0o755)
+    done = run('sweep', 's.txt', '--set', 'a.lose=none,5', '--program', program, '-o', path, *more, cwd=place)
+    is_told(done, 1, '2 of 2 runs have no figures')
+    assert path.read_text().count('\n') == 3 and ',done,' not in path.read_text()
+
+
+def test_table_of_figures_that_is_cut(place):
+    """`flows --engine` wants the whole table of the program."""
+    table = subprocess.run([PROGRAM, 'figures'], input=(place / 's.txt').read_bytes(), capture_output=True, check=True).stdout
+    program = place / 'program'
+    program.write_text(f'#!/bin/sh\ncat "{place}/table"\n')
+    program.chmod(0o755)
+    lines = table.splitlines(True)
+    for cut in [b''.join(lines[:n]) for n in range(len(lines))] + [table[:-n] for n in range(1, 4)] + [
+            table.replace(b'flow,0', b'flow,1', 1), table + lines[-1]]:
+        (place / 'table').write_bytes(cut)
+        for given in (('flows', 's.txt', '--engine'), ('sweep', 's.txt', '--engine', '--set', 'a.lose=none')):
+            if given[0] == 'sweep' and len(cut) % 5:
+                continue            # one in five is enough of what is the same table
+            is_told(run(*given, '--program', program, cwd=place), 1)
+
+
+# ---- times and names
+
+@pytest.mark.parametrize('given', [('flows', '--from'), ('flows', '--to'), ('flows', '--series'), ('plot', '--from'),
+                                   ('plot', '--to'), ('plot', '--longer'), ('replay', '--from'), ('replay', '--to'),
+                                   ('stalls', '--longer'), ('sweep', '--skip'), ('net', '--rtt'), ('net', '--end'),
+                                   ('net', '--start')])
+def test_times_have_a_unit(given, place):
+    tool, option = given
+    for number in ('5', '1.5'):
+        done = run(tool, *words(tool), option, number, '-o', target(place, tool), cwd=place)
+        is_told(done, 2, option, f'\'{number}\' is no time, as it has no unit: write {number}s, ')
+    is_told(run(tool, *words(tool), option, '0.0000000001s', '-o', target(place, tool), cwd=place), 2, option, 'finer')
+    assert os.listdir(place / 'out') == []
+
+
+@pytest.mark.parametrize('shape', shapes.SHAPES)
+def test_flows_are_named_by_their_numbers(shape):
+    flows = Scenario(shapes.scenario([shape])).flows
+    assert [flow.name for flow in flows] == [f'f{number}' for number in range(len(flows))]
+
+
+@pytest.mark.parametrize('name', ['a\nb', b'\xff', 'a\rb', 'a b\'"$c'])
+def test_folder_of_jobs(name, place):
+    """A list of jobs has a line for each. What cannot stand in it is refused, and nothing is written; all else runs."""
+    folder = os.fsencode(place) + b'/' + os.fsencode(name)
+    done = run('sweep', 's.txt', '--set', 'a.lose=none,5', '--program', PROGRAM, '--print', folder, cwd=place)
+    if name in ('a\nb', b'\xff'):
+        is_told(done, 2, '--print')
+        assert not os.path.exists(folder)
+        return
+    assert done.returncode == 0, done.stderr
+    for line in pathlib.Path(os.fsdecode(folder), 'jobs').read_bytes().decode('utf-8').split('\n')[:-1]:
+        subprocess.run(['sh', '-c', line], check=True, capture_output=True)
+    done = run('sweep', '--gather', folder, cwd=place)
+    assert (done.returncode, done.stderr) == (0, b'')
+
+
+def test_jobs_that_were_not_run_or_are_cut(place):
+    run('sweep', 's.txt', '--set', 'a.lose=none,5', '--program', PROGRAM, '--print', 'd', cwd=place)
+    is_told(run('sweep', '--gather', 'd', cwd=place), 1, '2 of 2 runs have no figures: not run')
+    (place / 'd' / '1_none.csv').write_text('a.lose,status,link\nnone,done,a\n')
+    is_told(run('sweep', '--gather', 'd', cwd=place), 1, '2 of 2 runs have no figures: its row is cut')
+    (place / 'd' / '1_none.csv').write_bytes(b'\xff\0,\n')
+    is_told(run('sweep', '--gather', 'd', cwd=place), 1, '1_none.csv')
+    (place / 'd' / '1_none.csv').write_bytes(b'')
+    for name in ('grid.csv', '1_none.csv'):
+        before = (place / 'd' / name).read_bytes()
+        is_told(run('sweep', '--gather', 'd', '-o', f'd/{name}', cwd=place), 2, name, 'read')
+        assert (place / 'd' / name).read_bytes() == before
+
+
+def test_names_that_are_no_text(place):
+    """A scenario whose name is no UTF-8, or looks like mathematics, is drawn and shown."""
+    for name in (b'\xff.txt', b'a$\\frac$.txt', b'<b>.txt'):
+        shutil.copy(os.fsencode(place / 's.txt'), os.fsencode(place) + b'/' + name)
+        for tool in READERS:
+            path = target(place, tool)
+            done = run(tool, *[name if word == 's.txt' else word for word in words(tool)], '-o', path, cwd=place)
+            assert (done.returncode, done.stderr) == (0, b'')
+
+
+@pytest.mark.parametrize('prefix', ['a\'b', 'a b', 'a"b', 'a\'"; touch x; \'b'])
+def test_install(prefix, tmp_path):
+    """Whatever the folder's name is. The model is the program here, so that nothing need be built."""
+    folder = tmp_path / prefix
+    for target_name in ('install', 'uninstall'):
+        done = subprocess.run(['make', '-s', 'PROGRAM=bin/tcpsim-model', f'PREFIX={folder}', target_name], cwd=TOP, check=False,
+                              capture_output=True, timeout=PATIENCE)
+        assert done.returncode == 0, done.stderr
+        if target_name == 'install':
+            for tool in TOOLS:
+                done = subprocess.run([sys.executable, folder / 'bin' / f'tcpsim-{tool}', '--help'], check=False,
+                                      capture_output=True, timeout=PATIENCE)
+                assert (done.returncode, done.stderr) == (0, b'')
+                assert done.stdout.startswith(f'usage: tcpsim-{tool} '.encode())
+    assert not [path for path in tmp_path.rglob('*') if not path.is_dir()]
+
+
+@pytest.mark.parametrize('module', MODULES.values())
+def test_modules_are_those_of_the_commands(module):
+    assert callable(importlib.import_module(module).main)
