@@ -47,7 +47,7 @@ def written_table(process):
             raise Unreadable(f'the program wrote no table of figures: more than {LONGEST_TABLE:,} bytes')
     process.check()
     if not blocks:
-        raise Unreadable('the program wrote nothing')
+        raise Unreadable('the program wrote nothing: no table of figures')
     return b''.join(blocks).decode('ascii', 'replace')
 
 

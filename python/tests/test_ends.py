@@ -189,7 +189,7 @@ def full_disk(folder):
     to be called in the tool's process, and what is said."""
     size = subprocess.run(['mount', '-t', 'tmpfs', '-o', 'size=64k', 'none', folder], check=False, capture_output=True)
     if size.returncode:
-        yield lambda: resource.setrlimit(resource.RLIMIT_FSIZE, (0, 0)), 'File too large'
+        yield lambda: resource.setrlimit(resource.RLIMIT_FSIZE, (0, 0)), ''
         return
     try:
         yield None, 'No space left on device'
@@ -213,7 +213,7 @@ def test_full_disk(tool, make, place):
         if done.returncode == 0 and make is to_link and begin is None:
             assert path.read_bytes() == whole(tool)     # it had room where the old one was
             return
-        is_told(done, 1, str(path), says)
+        is_told(done, 1, says, *([str(path)] if begin is None else []))      # a limit is one of all disks
         if make is not to_nothing:
             assert path.read_text() == OLD
 

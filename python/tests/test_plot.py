@@ -163,8 +163,8 @@ class WhatIsShown(Folder):
         self.refused(1, 'the last event is at 11.4 ms', *self.hand, '--from', '100s')
         later = self.write('later', BY_HAND.replace('8 0 64000', '8 5000000 64000'),
                            '1 5000000 0 0 0 start 0 una=0 nxt=4000 cwnd=4000 ssthresh=64000 phase=ss tx=0:0:0 '
-                           'drop=full:0:3000\nend 1\n')
-        self.refused(1, 'nothing happens before 2 ms', *later, '--from', '0', '--to', '2ms')
+                           'drop=full:0:3000\n')
+        self.refused(1, 'nothing happens before 2 ms', *later, '--partial', '--from', '0', '--to', '2ms')
 
     def test_a_window_in_which_no_packet_entered(self):
         file = os.path.join(self.folder.name, 'small.png')
@@ -173,12 +173,12 @@ class WhatIsShown(Folder):
         self.assertEqual((done.returncode, done.stderr), (0, ''))
 
     def test_a_trace_without_a_line(self):
-        self.refused(1, 'no line', *self.write('none', BY_HAND, ''))
+        self.refused(1, 'is empty', *self.write('none', BY_HAND, ''))
 
     def test_words_that_are_refused(self):
         for status, note, words in (
                 (2, 'no time', ('--from', 'soon')), (2, 'no time', ('--from', '-1')), (2, 'no time', ('--to', 'nan')),
-                (2, '1,000,000', ('--to', '9999999')), (1, 'no flow is named x', ('--flow', 'x')),
+                (2, '1,000,000', ('--to', '9999999s')), (1, 'no flow is named x', ('--flow', 'x')),
                 (2, 'named twice', ('--flow', 'f,f')), (2, 'no panel', ('--panels', 'delay,cwnd')),
                 (2, 'write --beside again', ('--beside', 'a', 'b', 'c')), (2, '2, and there are 1', ('--names', 'a,b')),
                 (1, 'no such', ('--beside', 'no such')),
@@ -224,11 +224,11 @@ class WhatIsShown(Folder):
         text = STALL.replace('flow f', 'node t sender\nnode u receiver\nlink c t u 8000000 1000000 droptail 2\n'
                              'link d u t 8000000 1000000 droptail 2\nflow g t u 1000 1 0 64000 0\nflow f')
         trace = STALL_TRACE.replace(' start 0', ' start 1').replace(':0:', ':1:').replace('rto 0', 'rto 1') \
-            .replace('data 0', 'data 1').replace('ack 0', 'ack 1')
+            .replace('data 0', 'data 1').replace('ack 0', 'ack 1').rpartition('end ')[0]
         other = self.write('two', text, trace)
-        figure = self.figure(*other, '--flow', 'f', '--panels', 'utilization')
+        figure = self.figure(*other, '--partial', '--flow', 'f', '--panels', 'utilization')
         self.assertIn('link a:', figure.subfigs[0]._suptitle.get_text())
-        figure = self.figure(*other, '--flow', 'g', '--panels', 'utilization')
+        figure = self.figure(*other, '--partial', '--flow', 'g', '--panels', 'utilization')
         self.assertTrue(figure.subfigs[0]._suptitle.get_text().startswith('links c:'))     # idle, as is d
 
 

@@ -7,7 +7,7 @@ def main():
     try:
         return run('tcpsim.plot')
     except ImportError as wrong:
-        if (wrong.name or '').partition('.')[0] not in ('matplotlib', 'numpy'):
+        if (wrong.name or 'matplotlib').partition('.')[0] not in ('matplotlib', 'numpy'):
             raise
         return refuse('matplotlib is not there: apt-get install python3-matplotlib, and run this with Debian\'s '
                       '/usr/bin/python3')

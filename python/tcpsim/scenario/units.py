@@ -57,7 +57,7 @@ def moment(word):
     """A time that a run can have, in nanoseconds."""
     read = time(word)
     if read > RANGES['end'][1]:
-        raise Wrong(f'{word!r} is past every run: at most {spelled_time(RANGES["end"][1])}')
+        raise Wrong(f'{word!r} is past every run: at most {RANGES["end"][1] // TIME_UNITS["s"]:,} s')
     return read
 
 
