@@ -13,7 +13,7 @@ import sys
 from paths import TOP
 from tcpsim.command_line import Words, run
 from tcpsim.output import opened, written
-from tcpsim.replay.recording import Part, page, read_d3
+from tcpsim.replay.recording import Part, page
 from tcpsim.trace import Unreadable
 from tcpsim.whole_trace import opened_run
 
@@ -74,7 +74,6 @@ def write_all(folder, out):
     names = names_in(folder)
     if not names:
         raise Unreadable(f'{folder} has no scenario NAME.txt with its NAME.trace')
-    read_d3()
     os.makedirs(out, exist_ok=True)
     rows = [write_one(folder, name, out) for name in names]
     with written(os.path.join(out, 'index.html')) as file:

@@ -5,7 +5,7 @@ Usage: bin/tcpsim-replay SCENARIO [TRACE] [-o PAGE.html] [--from T] [--to T] [--
 
 Without TRACE the program is run. T is a time with its unit, as `1.5s`, `20ms`, `7us` or `9ns`. The page shows
 the events from --from on (that moment's own too) and before --to. It needs no network and no server; d3 is put
-into it whole: apt-get install libjs-d3.
+into it whole.
 """
 import base64
 import html
@@ -26,7 +26,7 @@ from tcpsim.whole_trace import inputs_of, opened_run
 HERE = os.path.dirname(os.path.realpath(__file__))
 PARTS = os.path.join(HERE, 'web')
 SCRIPTS = ('record.js', 'words.js', 'layout.js', 'net.js', 'charts.js', 'page.js')
-LIBRARY = '/usr/share/javascript/d3/d3.min.js'       # version 3, as Debian has it
+LIBRARY = os.path.join(PARTS, 'vendor', 'd3.v3.min.js')
 MOST_EVENTS = 200_000
 IN_A_TRACE = b'abcdefghijklmnopqrstuvwxyz0123456789 =:'
 
@@ -351,15 +351,6 @@ def for_script(value):
     return json.dumps(value, separators=(',', ':')).replace('<', '\\u003c')
 
 
-def read_d3():
-    if not os.path.exists(LIBRARY):
-        raise Unreadable('d3 is not installed: apt-get install libjs-d3')
-    text = read_part(LIBRARY)
-    if 'version:"3.' not in text[:200]:
-        raise Unreadable(f'{LIBRARY} is not version 3 of d3: apt-get install libjs-d3')
-    return text
-
-
 def read_part(name):
     with open(name, encoding='utf-8') as file:
         return file.read()
@@ -373,7 +364,7 @@ def page(title, scenario, part):
     holes = {
         'TITLE': html.escape(title),
         'STYLE': read_part(os.path.join(PARTS, 'page.css')),
-        'LIBRARY': read_d3().replace('</script', '<\\/script'),
+        'LIBRARY': read_part(LIBRARY).replace('</script', '<\\/script'),
         'FACTS': for_script(facts),
         'TRACE': packed,
         'SCRIPT': '\n'.join(read_part(os.path.join(PARTS, name)) for name in SCRIPTS)}
@@ -385,7 +376,6 @@ def page(title, scenario, part):
 
 def make(given, file):
     """Reads the run and writes its page; answers what is said of it."""
-    read_d3()
     with opened_run(given.scenario, given.trace, given.program, given.partial) as (scenario, lines):
         part = Part(scenario, lines, given.begin or 0, given.end)
     whole = page(title_of(given.scenario), scenario, part)
