@@ -11,6 +11,7 @@ import signal
 import sys
 
 ENDS = signal.SIGINT, signal.SIGTERM, signal.SIGHUP     # the signals that ask a tool to end
+MODEL = '--model'       # as a program's name: the model, wherever it is
 AGAIN = 0.01            # seconds after which an interruption comes again that nobody could take
 WAKE = 0.5              # seconds after which a read is looked into that began just as a signal had come, and would wait
 
@@ -75,7 +76,13 @@ class Words(argparse.ArgumentParser):
         """What tools that read a run take: a trace, or the program that writes it."""
         self.add_argument('trace', metavar='TRACE', nargs='?', help='else the program is run')
         self.add_argument('--partial', action='store_true', help='take a trace that is cut, as far as it goes')
-        self.add_argument('--program', metavar='FILE', help='the program that is run where no trace is given')
+        self.add_program('the program that is run where no trace is given')
+
+    def add_program(self, what):
+        """What names who runs scenarios; `what` says what the program is."""
+        self.add_argument('--program', metavar='FILE', help=what)
+        self.add_argument('--model', action='store_const', const=MODEL, dest='program',
+                          help='run the model, even where the program is there, however long it takes')
 
 
 def tool():
@@ -103,6 +110,12 @@ def run(module):
     for number in heard:
         signal.signal(number, nothing)
     return status
+
+
+def become(path, words):
+    """Goes on as another program; its signals and timers are as a new one's."""
+    signal.setitimer(signal.ITIMER_REAL, 0)
+    os.execv(path, [path, *words])
 
 
 def end(number, _frame):

@@ -3,6 +3,7 @@
 docs/FORMATS.md has the table. Used by figures.py and sweep.py; nothing but Python's standard library. All times are
 nanoseconds, all sizes bytes.
 """
+from tcpsim.command_line import MODEL
 from tcpsim.program import find_program
 from tcpsim.trace import BITS_NS, HEADER_BYTES, Scenario, Unreadable
 from tcpsim.whole_trace import BLOCK, ProgramFailed, running, scenario_bytes, scenario_text
@@ -27,7 +28,7 @@ REASONS = ('dropped as lost', 'dropped as full', 'dropped by CoDel')
 
 def table_of(source, program=None):
     """The table of a scenario's bytes, as the program writes it."""
-    path = find_program(program)
+    path = find_program(program, lambda: [scenario_text(source, 'the scenario', MODEL)])
     try:
         with running([path, 'figures'], source) as process:
             return written_table(process)

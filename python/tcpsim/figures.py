@@ -529,7 +529,7 @@ def words_of(given=None):
 
 def run_of(given):
     """The figures that the words ask for."""
-    with opened_run(given.scenario, given.trace, given.program, given.partial) as (scenario, lines):
+    with opened_run(given.scenario, given.trace, given.program, given.partial, given.end) as (scenario, lines):
         return Figures(scenario, lines, given.begin, given.end, given.series)
 
 

@@ -20,7 +20,7 @@ from concurrent.futures.process import BrokenProcessPool
 from multiprocessing import active_children, get_context
 
 from tcpsim import output
-from tcpsim.command_line import ENDS, OutputClosed, Refused, Words, Wrong, as_type, note
+from tcpsim.command_line import ENDS, MODEL, OutputClosed, Refused, Words, Wrong, as_type, note
 from tcpsim.engine import BUSY, EngineRun, written_table
 from tcpsim.figures import Figures, aligned, figures, jain
 from tcpsim.program import find_program
@@ -531,6 +531,13 @@ def legend_of(all_axes):
 
 # ---- jobs for other machines
 
+def program_words(named):
+    """The words by which a job names who runs its scenario."""
+    if named == MODEL:
+        return [MODEL]
+    return ['--program', os.path.abspath(named)] if named else []
+
+
 def print_jobs(grid, given):
     """Writes the grid's scenarios, `jobs` with a command a line, and `grid.csv`, which names each point's values."""
     folder = os.path.abspath(given.folder)
@@ -538,7 +545,7 @@ def print_jobs(grid, given):
     paths = [os.path.join(folder, name) for name in names]
     options = [*(['--link', grid.link] if grid.link else []), *(['--skip', spelled_time(grid.skip)] if grid.skip else []),
                *(['--engine'] if grid.engine else []),
-               *(['--program', os.path.abspath(given.program)] if given.program else []), '-j', '1']
+               *program_words(given.program), '-j', '1']
     script = os.path.abspath(sys.argv[0])
     call = [script] if os.access(script, os.X_OK) else [sys.executable, script]
     lines = [shlex.join([*call, path + '.txt', *options, '-o', path + '.csv']) + ' > /dev/null\n' for path in paths]
@@ -607,7 +614,7 @@ def command_line():
     words.add_argument('--plot', metavar='FILE', help='a picture: wait against utilization (.svg, .png, .pdf)')
     words.add_argument('--print', metavar='DIR', dest='folder', help='write scenarios and a list of jobs, run nothing')
     words.add_argument('--gather', metavar='DIR', help='the rows of the jobs of --print')
-    words.add_argument('--program', metavar='FILE', help='the program that is run')
+    words.add_program('the program that is run')
     return words
 
 
@@ -684,7 +691,7 @@ def sweep(given):
         with output.opened() as file:
             file.write(f'{len(grid.points)} scenarios and {output.printable(jobs)}\n')
         return
-    program, inputs = find_program(given.program), inputs_of(given)
+    program, inputs = find_program(given.program, lambda: map(grid.text, range(len(grid.points)))), inputs_of(given)
     plt = drawing_of(grid, given, inputs) if given.plot else None
     with output.written(given.output, inputs) if given.output else contextlib.nullcontext() as file:
         rows = run_all(grid, program, given.jobs or os.cpu_count() or 1, file)

@@ -11,6 +11,7 @@ import subprocess
 import sys
 import tempfile
 
+from tcpsim.command_line import MODEL
 from tcpsim.output import named
 from tcpsim.program import find_program, found
 from tcpsim.trace import Run, Scenario, Unreadable
@@ -32,16 +33,16 @@ def read_run(scenario_path, trace_path=None, program=None, partial=False):
 
 
 @contextlib.contextmanager
-def opened_run(scenario_path, trace_path=None, program=None, partial=False):
+def opened_run(scenario_path, trace_path=None, program=None, partial=False, until=None):
     """A scenario's file, a text or an image (`-`: standard input), and its trace's lines, one by one: of the
-    trace's file, or else as the program prints them."""
+    trace's file, or else as the program prints them. No line is wanted of events past the moment `until`."""
     source = scenario_bytes(scenario_path)
     if trace_path is not None:
         scenario = Scenario(scenario_text(source, scenario_path, program))
         with open(trace_path, 'rb') as file:
             yield scenario, itertools.chain.from_iterable(blocks(file.read, trace_path, scenario, partial))
         return
-    path = find_program(program)
+    path = find_program(program, lambda: [scenario_text(source, scenario_path, MODEL)], until)
     with running([path, 'run'], source) as process:
         first = process.read(BLOCK)
         if not first:

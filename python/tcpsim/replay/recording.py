@@ -376,7 +376,7 @@ def page(title, scenario, part):
 
 def make(given, file):
     """Reads the run and writes its page; answers what is said of it."""
-    with opened_run(given.scenario, given.trace, given.program, given.partial) as (scenario, lines):
+    with opened_run(given.scenario, given.trace, given.program, given.partial, given.end) as (scenario, lines):
         part = Part(scenario, lines, given.begin or 0, given.end)
     whole = page(title_of(given.scenario), scenario, part)
     file.write(whole)
