@@ -10,6 +10,8 @@ import os
 import signal
 import sys
 
+from tcpsim import __version__
+
 ENDS = signal.SIGINT, signal.SIGTERM, signal.SIGHUP     # the signals that ask a tool to end
 MODEL = '--model'       # as a program's name: the model, wherever it is
 AGAIN = 0.01            # seconds after which an interruption comes again that nobody could take
@@ -59,6 +61,7 @@ class Words(argparse.ArgumentParser):
 
     def __init__(self, **given):
         super().__init__(allow_abbrev=False, **{'prog': tool(), **given})
+        self.add_argument('--version', action='version', version=f'{tool()} {__version__}', help='the version of the tools')
 
     def error(self, message):
         raise Wrong(message)

@@ -5,8 +5,12 @@ Usage: tcpsim-model run|debug [--workers N] [--groups G] [FILE]
        tcpsim-model debug [--workers N] [--groups G] [--steps N] FILE
 
 The scenario is the file's, or where none is named standard input's. Where `debug` has a file, standard input has lines
-typed at a prompt. --steps N takes the prompt's grammar after the first N steps in which it was made; 0 is that of the
-other form.
+typed at a prompt.
+
+  --workers N  from 1 to 64; it changes nothing
+  --groups G   one, each, auto, or a number for each node, with commas between them; it changes nothing
+  --steps N    at a prompt: the grammar after the first N steps in which it was made; 0 is that of the other form
+  --help       show this
 """
 import io
 import os
