@@ -13,8 +13,9 @@ import sys
 from paths import TOP
 from tcpsim.command_line import Words, run
 from tcpsim.output import opened, written
-from tcpsim.replay.recording import Part, page
-from tcpsim.trace import Unreadable
+from tcpsim.replay.page import page
+from tcpsim.replay.recording import Part
+from tcpsim.scenario.text import Unreadable
 from tcpsim.whole_trace import opened_run
 
 INDEX = '''<!DOCTYPE html>

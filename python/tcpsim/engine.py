@@ -5,7 +5,8 @@ nanoseconds, all sizes bytes.
 """
 from tcpsim.command_line import MODEL
 from tcpsim.program import find_program
-from tcpsim.trace import BITS_NS, HEADER_BYTES, Scenario, Unreadable
+from tcpsim.scenario.text import Scenario, Unreadable
+from tcpsim.scenario.units import BITS_NS, HEADER_BYTES
 from tcpsim.whole_trace import BLOCK, ProgramFailed, running, scenario_bytes, scenario_text
 
 LONGEST_TABLE = 1 << 26         # bytes

@@ -5,7 +5,8 @@ is between 0.85 and 1.4 times what they have. Nothing but Python's standard libr
 """
 from __future__ import annotations
 
-from tcpsim.trace import BITS_NS, HEADER_BYTES, Scenario, Unreadable
+from tcpsim.scenario.text import Scenario, Unreadable
+from tcpsim.scenario.units import BITS_NS, HEADER_BYTES
 
 
 def events_of(text: str, until: int | None = None) -> float:

@@ -195,3 +195,10 @@ def held_back(signals):
         yield
     finally:
         signal.pthread_sigmask(signal.SIG_SETMASK, before)
+
+
+def aligned(rows):
+    """Rows of words, the first column to the left and the others to the right."""
+    widths = [max(map(len, column)) for column in zip(*rows)]
+    return [row[0].ljust(widths[0]) + ''.join('  ' + word.rjust(width) for word, width in zip(row[1:], widths[1:]))
+            for row in rows]

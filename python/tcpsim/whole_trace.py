@@ -14,7 +14,7 @@ import tempfile
 from tcpsim.command_line import MODEL
 from tcpsim.output import named
 from tcpsim.program import find_program, found
-from tcpsim.trace import Run, Scenario, Unreadable
+from tcpsim.scenario.text import Scenario, Unreadable
 
 BLOCK = 1 << 18                 # bytes of a trace that are read at once
 LONGEST_LINE = 1 << 27          # characters
@@ -24,12 +24,6 @@ PATIENCE = 10                   # seconds in which a program ends that has close
 S = 10**9
 PROGRAMS = []                   # those that run
 SOON = 0.5                      # seconds in which a program ends whose output is refused, if it ends by itself
-
-
-def read_run(scenario_path, trace_path=None, program=None, partial=False):
-    """The run of a scenario's file: from its trace's file, or else by running the program."""
-    with opened_run(scenario_path, trace_path, program, partial) as (scenario, lines):
-        return Run(scenario, lines)
 
 
 @contextlib.contextmanager

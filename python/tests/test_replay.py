@@ -24,11 +24,11 @@ import time
 import unittest
 
 from paths import BIN, MODEL, TOP
-from tcpsim.replay import recording
+from tcpsim.replay import page, recording
 from tcpsim.program import NoProgram, find_program
 from tcpsim.scenario import units
-from tcpsim.trace import Scenario, Unreadable
-from tcpsim.whole_trace import read_run
+from tcpsim.scenario.text import Scenario, Unreadable
+from tcpsim.run import read_run
 
 EXAMPLES = os.path.join(TOP, 'examples')
 PICTURES = os.path.join(TOP, 'docs', 'pictures')
@@ -478,10 +478,10 @@ class Pages(Folder):
 
     def test_d3_is_brought_along(self):
         """Each page has the clone's d3 whole, and its license lies beside it."""
-        with open(recording.LIBRARY, encoding='utf-8') as file:
+        with open(page.LIBRARY, encoding='utf-8') as file:
             library = file.read()
         self.assertIn('version:"3.', library[:200])
-        with open(os.path.join(os.path.dirname(recording.LIBRARY), 'LICENSE'), encoding='utf-8') as file:
+        with open(os.path.join(os.path.dirname(page.LIBRARY), 'LICENSE'), encoding='utf-8') as file:
             self.assertIn('Michael Bostock', file.read())
         out = self.path('a.html')
         self.assertEqual(self.run_script(*example('one_segment'), '-o', out).returncode, 0)

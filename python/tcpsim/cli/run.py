@@ -10,7 +10,7 @@ import tempfile
 
 from tcpsim.command_line import Words, Wrong, become
 from tcpsim.program import MODEL, find_program, is_model
-from tcpsim.trace import Unreadable
+from tcpsim.scenario.text import Unreadable
 from tcpsim.whole_trace import scenario_bytes, scenario_text
 
 COMMANDS = ('run', 'figures', 'debug', 'asm', 'dis')

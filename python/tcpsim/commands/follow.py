@@ -4,4 +4,4 @@ from tcpsim.command_line import run
 
 def main():
     """Answers the status."""
-    return run('tcpsim.follow')
+    return run('tcpsim.cli.follow')

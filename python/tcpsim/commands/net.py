@@ -4,4 +4,4 @@ from tcpsim.command_line import run
 
 def main():
     """Answers the status."""
-    return run('tcpsim.scenario.shapes')
+    return run('tcpsim.cli.net')

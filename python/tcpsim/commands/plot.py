@@ -5,7 +5,7 @@ from tcpsim.command_line import refuse, run
 def main():
     """Draws what the words ask for; answers the status, 1 where matplotlib is not there."""
     try:
-        return run('tcpsim.plot')
+        return run('tcpsim.cli.plot')
     except ImportError as wrong:
         if (wrong.name or 'matplotlib').partition('.')[0] not in ('matplotlib', 'numpy'):
             raise

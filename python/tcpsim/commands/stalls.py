@@ -4,4 +4,4 @@ from tcpsim.command_line import run
 
 def main():
     """Answers the status."""
-    return run('tcpsim.stalls')
+    return run('tcpsim.cli.stalls')

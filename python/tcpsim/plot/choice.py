@@ -8,8 +8,9 @@ import numpy as np
 from tcpsim.command_line import Words, as_type
 from tcpsim.output import printable
 from tcpsim.scenario import units
-from tcpsim.trace import Unreadable
-from tcpsim.whole_trace import inputs_of, read_run
+from tcpsim.scenario.text import Unreadable
+from tcpsim.run import read_run
+from tcpsim.whole_trace import inputs_of
 
 from .clock import Clock, idle_spans, length_text
 from .layout import FIRST_CHOICE, PANELS

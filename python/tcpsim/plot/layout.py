@@ -4,7 +4,7 @@ import math
 import matplotlib.pyplot as plt
 import numpy as np
 
-from tcpsim.trace import Unreadable
+from tcpsim.scenario.text import Unreadable
 
 from .flow_panels import (columns_of, progress_panel, sequence_key, sequence_panel, window_key, window_panel)
 from .labels import place_labels
