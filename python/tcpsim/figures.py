@@ -3,18 +3,21 @@
 A trace is not kept. The span is from the first flow's start to the last line where every flow is complete, else to the
 scenario's end. Nothing but Python's standard library. All times are nanoseconds, all sizes bytes.
 """
+from __future__ import annotations
+
 import math
 import tempfile
 from array import array
 from collections import Counter, defaultdict
+from collections.abc import Iterable, Sequence
 from itertools import islice
 
 from tcpsim import output
-from tcpsim.engine import BUSY, REASONS, WAITED
+from tcpsim.engine import BUSY, REASONS, WAITED, EngineRun
 from tcpsim.samples import Sample
-from tcpsim.scenario.text import Unreadable
+from tcpsim.scenario.text import Flow, Link, Scenario, Unreadable
 from tcpsim.scenario.units import BITS_NS
-from tcpsim.trace import ACK, DATA, NEVER, FlowState, LinkState, Reader
+from tcpsim.trace import ACK, DATA, NEVER, FlowState, LinkState, Reader, Stream
 
 S = 10**9
 HELD = 1 << 19          # numbers that all samples together hold in memory
@@ -22,7 +25,7 @@ PORTION = 1 << 16       # lines between two looks at how many are held
 ROWS = 10**6            # the most of a series
 
 
-def jain(shares):
+def jain(shares: Sequence[float]) -> float | None:
     """Jain's index of fairness: 1 where all are equal, 1/n where one has all; None where all are zero."""
     squares = sum(share * share for share in shares)
     return sum(shares)**2 / (len(shares) * squares) if squares else None
@@ -33,37 +36,42 @@ def jain(shares):
 class FlowFigures(FlowState):
     """A flow's counts from the span's begin on."""
 
-    def __init__(self, flow, number):
+    def __init__(self, flow: Flow, number: int):
         super().__init__(flow, number)
         self.begin()
 
-    def begin(self):
+    def begin(self) -> None:
         """Counts from here on."""
         self.expected_before, self.high_before = self.expected, self.high
         self.by_fast_retransmit = self.by_timeout = self.timeouts = 0
         self.drops = Counter()          # of each reason, sort and link
         del self.round_trips[:]
 
-    def on_again(self, _time, _number, by_dups):
+    def on_again(self, _time: int, _number: int, by_dups: bool) -> None:
+        """Counts a segment that was sent again."""
         if by_dups:
             self.by_fast_retransmit += 1
         else:
             self.by_timeout += 1
 
-    def on_timeout(self, _time):
+    def on_timeout(self, _time: int) -> None:
+        """Counts a timeout."""
         self.timeouts += 1
 
-    def on_drop(self, _time, link, reason, sort, _number):
+    def on_drop(self, _time: int, link: int, reason: str, sort: int, _number: int) -> None:
+        """Counts a packet that was dropped."""
         self.drops[reason, sort, link] += 1
 
-    def delivered(self):
+    def delivered(self) -> int:
+        """Bytes that the receiver got in order in the span."""
         return self.expected - self.expected_before
 
-    def sent(self):
+    def sent(self) -> int:
+        """Segments sent in the span, again ones too."""
         first = (self.high - self.high_before) // self.flow.mss
         return first + self.by_fast_retransmit + self.by_timeout
 
-    def goodput(self, begin, end):
+    def goodput(self, begin: int, end: int) -> float | None:
         """Bits a second that came to the receiver in order, from the flow's start to its completion; None
         where it was not under way in the span."""
         since = max(begin, self.flow.start)
@@ -76,7 +84,8 @@ class FlowSeries(FlowFigures):
 
     cwnd = area = 0     # the area up to a moment t is `area + cwnd * t`
 
-    def on_window(self, time, cwnd, _ssthresh, _flight):
+    def on_window(self, time: int, cwnd: str, _ssthresh: str, _flight: int) -> None:
+        """Sums the window over the time."""
         now = int(cwnd) if self.completed is None else 0
         self.area += (self.cwnd - now) * time
         self.cwnd = now
@@ -85,13 +94,13 @@ class FlowSeries(FlowFigures):
 class LinkFigures(LinkState):
     """A link's counts from the span's begin on."""
 
-    def __init__(self, link, number, kind):
+    def __init__(self, link: Link, number: int, kind: str):
         super().__init__(link, number, kind)
         self.waits = array('q')
         self.began, self.last = 0, None     # when it began the last packet, and which
         self.begin(0)
 
-    def begin(self, time):
+    def begin(self, time: int) -> None:
         """Counts from this moment on."""
         self.overhang = 0 if self.last is None else max(0, self.began + self.duration(self.last) - time)
         self.count = defaultdict(int)       # packets sent of each stream
@@ -100,40 +109,47 @@ class LinkFigures(LinkState):
         self.last = None
         del self.waits[:]
 
-    def duration(self, stream):
+    def duration(self, stream: Stream) -> int:
+        """Nanoseconds that a packet takes to be sent."""
         return -(-stream.size * BITS_NS // self.link.rate)
 
-    def summed(self, time):
+    def summed(self, time: int) -> int:
         """How many packets waited, summed over the time up to this moment."""
         return self.waited + len(self.waiting) * time
 
-    def on_taken(self, time, stream, entered):
+    def on_taken(self, time: int, stream: Stream, entered: int) -> None:
+        """Counts a packet that it begins to send."""
         self.count[stream] += 1
         self.waits.append(time - entered)
         self.began, self.last = time, stream
 
-    def on_drop(self, *_):
+    def on_drop(self, *_) -> None:
+        """Counts a packet that was dropped."""
         self.drops += 1
 
-    def sent(self):
+    def sent(self) -> int:
+        """Packets that it began to send."""
         return sum(self.count.values())
 
-    def idle(self):
+    def idle(self) -> bool:
         """Whether it has carried and dropped nothing."""
         return not (self.count or self.overhang or self.drops)
 
-    def mean_queue(self, begin, end):
+    def mean_queue(self, begin: int, end: int) -> float:
+        """How many packets waited, in the mean over a span in ns."""
         return (self.summed(end) - self.before) / (end - begin)
 
-    def greatest_queue(self):
+    def greatest_queue(self) -> int:
+        """The most packets that waited at once."""
         return max(self.most, self.greatest)
 
-    def sending(self, end):
+    def sending(self, end: int) -> int:
         """Nanoseconds in which it was sending."""
         past = 0 if self.last is None else max(0, self.began + self.duration(self.last) - end)
         return self.overhang + sum(n * self.duration(stream) for stream, n in self.count.items()) - past
 
-    def bytes_of(self, number):
+    def bytes_of(self, number: int) -> int:
+        """Bytes of a flow that it sent."""
         return sum(n * stream.size for stream, n in self.count.items() if stream.flow == number)
 
 
@@ -141,7 +157,8 @@ class Figures(Reader):
     """A trace's figures from `begin` (else the first flow's start) to `end`, read as they come. With a
     `step`, the rows of a series."""
 
-    def __init__(self, scenario, lines, begin=None, end=None, step=None):
+    def __init__(self, scenario: Scenario, lines: Iterable[str], begin: int | None = None, end: int | None = None,
+                 step: int | None = None):
         super().__init__(scenario, FlowFigures if step is None else FlowSeries, LinkFigures)
         self._file, self.series = tempfile.TemporaryFile(), tempfile.TemporaryFile()
         self.trips = [Sample(self._file) for _ in self.flows]
@@ -183,7 +200,8 @@ class Figures(Reader):
 
     # Moments at which the span begins, a row ends, or the span ends.
 
-    def reached(self, time):
+    def reached(self, time: int) -> int | None:
+        """Begins the span, ends a row or the span; answers the next such moment in ns. Unreadable where rows are too many."""
         if self._step and (min(time, self._stop) - self._row_begin) // self._step + self.rows > ROWS:
             raise Unreadable(f'the series has more than {ROWS:,} rows: take a longer step')
         while self._due is not None and self._due <= time:
@@ -209,7 +227,7 @@ class Figures(Reader):
 
     # The rows of a series: in the file `series`, the two moments and then a number for each column.
 
-    def columns(self):
+    def columns(self) -> list[tuple]:
         """The titles of a row's numbers, and the link of each, if it is a link's."""
         return [('from s', None), ('to s', None)] + [
             (f'{flow.flow.name} {what}', None) for flow in self.flows
@@ -241,12 +259,12 @@ class Figures(Reader):
         self.rows, self._row_begin, self._before = self.rows + 1, end, now
 
 
-def part(count, of):
+def part(count: int, of: int) -> float | None:
     """The part that a count is of a whole; None of none."""
     return count / of if of else None
 
 
-def flow_figures(run, number, used):
+def flow_figures(run: Figures, number: int, used: Sequence[float]) -> list[tuple]:
     """The figures of a flow: (figure, unit, value), value None where there is none."""
     flow, trips = run.flows[number], run.trips[number]
     busiest = max(run.scenario.ways[number][0], key=lambda link: used[link])    # the first where equal
@@ -271,7 +289,7 @@ def flow_figures(run, number, used):
     return rows + [(f'{sort} dropped as {reason} at {at}', 'packets', n) for reason, sort, at, n in drops]
 
 
-def link_figures(run, number, used):
+def link_figures(run: Figures, number: int, used: Sequence[float]) -> list[tuple]:
     """The figures of a link, as those of a flow. Its loss is of the packets that it has sent or dropped."""
     link, waits = run.links[number], run.waits[number]
     return [('utilization', 'part', used[number]),
@@ -284,7 +302,7 @@ def link_figures(run, number, used):
             ('loss', 'part', part(link.drops, link.sent() + link.drops))]
 
 
-def figures(run, only_busy=False):
+def figures(run: Figures, only_busy: bool = False) -> list[tuple]:
     """All figures: (what, name, figure, unit, value), value None where there is none."""
     span = run.end - run.begin
     used = [link.sending(run.end) / span for link in run.links]
@@ -308,7 +326,7 @@ TIMED = (('least timed round trip', 'least round trip'), ('median timed round tr
          ('99th percentile of timed round trips', '99th percentile of round trips'))
 
 
-def engine_flow_figures(run, number, used):
+def engine_flow_figures(run: EngineRun, number: int, used: Sequence[float]) -> list[tuple]:
     """The figures of a flow, from the program's table."""
     values, way = run.flows[number], run.scenario.ways[number][0]
     busiest = max(way, key=lambda link: -1 if used[link] is None else used[link])       # the first where equal
@@ -322,7 +340,7 @@ def engine_flow_figures(run, number, used):
             ('completed', 'ns', values['completed', 'ns'])]
 
 
-def engine_link_figures(run, number, used):
+def engine_link_figures(run: EngineRun, number: int, used: Sequence[float]) -> list[tuple]:
     """The figures of a link, from the program's table."""
     values, drops = run.links[number], run.dropped(number)
     sent = values['sent', 'packets']
@@ -337,7 +355,7 @@ def engine_link_figures(run, number, used):
             ('loss', 'part', part(drops, sent + drops))]
 
 
-def engine_figures(run, only_busy=False):
+def engine_figures(run: EngineRun, only_busy: bool = False) -> list[tuple]:
     """As `figures`, from the program's table."""
     used = [run.over_span(number, BUSY) for number in range(len(run.links))]
     rows = [('flow', flow.name, *row) for number, flow in enumerate(run.scenario.flows)

@@ -6,11 +6,14 @@ counts, or else the copy of the segment that was sent first and is still in the 
 or a link is sending it (serialized), or it is under way. Where there is none the segment stands still.
 Times are nanoseconds.
 """
+from __future__ import annotations
+
 from collections import namedtuple
+from collections.abc import Iterable
 
 from tcpsim.causes import counted, seconds
-from tcpsim.lives import ALARM, CAME, CODEL, DATA, FIRST, FULL, TIMEOUT, Watch
-from tcpsim.scenario.text import Unreadable
+from tcpsim.lives import ALARM, CAME, CODEL, DATA, FIRST, FULL, TIMEOUT, FlowState, Packet, Port, Watch
+from tcpsim.scenario.text import Scenario, Unreadable
 from tcpsim.walk import Walk
 
 WAITED, SERIALIZED, UNDER_WAY, STOOD = 'waited', 'serialized', 'under way', 'stood still'
@@ -26,7 +29,7 @@ State = namedtuple('State', 'name begin end')
 class Row:
     """One row of the table. `span` is the time that it tells of (a wait, a sending, a way) or None."""
 
-    def __init__(self, line, time, order, packet, event, at, words, span, behind):
+    def __init__(self, line: int, time: int, order, packet: Packet, event: str, at: str, words, span, behind):
         self.line, self.time, self.order, self.packet, self.event = line, time, order, packet, event
         self.at, self.words, self.span, self.behind = at, words, span, behind
 
@@ -34,10 +37,11 @@ class Row:
 class Life(Watch):
     """A followed packet: its name, its rows, and the states that it was in."""
 
-    def __init__(self, walk, name):
+    def __init__(self, walk: Walk, name):
         self.walk, self.name, self.rows, self.states, self.wait = walk, name, [], [], None
 
-    def row(self, event, at, words, span=None, behind=None):
+    def row(self, event: str, at: str, words, span=None, behind=None) -> Row:
+        """Keeps a moment of its life."""
         return self.walk.row(self.rows, self.name, event, at, words, span, behind)
 
     def turn(self, name):
@@ -50,7 +54,8 @@ class Life(Watch):
             self.states.append(State(name, time, None))
         return spent
 
-    def entered(self, packet, port):
+    def entered(self, packet: Packet, port: Port) -> None:
+        """It waits in a queue."""
         self.turn(WAITED)
         waiting = len(port.waiting)
         behind = waiting + (port.sending is not None)
@@ -60,21 +65,25 @@ class Life(Watch):
             words = f'behind {counted(behind, "packet")} ({waiting} in the queue, 1 being sent)'
         self.wait = self.row('waits', port.link.name, words, behind=behind)
 
-    def began(self, packet, port):
+    def began(self, packet: Packet, port: Port) -> None:
+        """A link begins to send it."""
         self.wait.span = self.turn(SERIALIZED)
         if self.wait.span:
             self.wait.words += f', for {seconds(self.wait.span)}'
         span = packet.hop.span
         self.row('tx', port.link.name, f'begins to be sent, for {seconds(span)}', span)
 
-    def left(self, packet, port):
+    def left(self, packet: Packet, port: Port) -> None:
+        """It is under way."""
         self.turn(UNDER_WAY)
 
-    def came(self, packet, port):
+    def came(self, packet: Packet, port: Port) -> None:
+        """It has arrived."""
         span = self.turn(None)
         self.row('arrives', self.walk.name_of(port.link.to), f'over {port.link.name}, under way for {seconds(span)}', span)
 
-    def dropped(self, packet, port):
+    def dropped(self, packet: Packet, port: Port) -> None:
+        """It was dropped."""
         waited = self.turn(None)
         if packet.fate == CODEL:
             self.wait.span = waited
@@ -89,10 +98,11 @@ class Life(Watch):
 class Request(Watch):
     """An acknowledgement that asks for a followed segment: that it was dropped can be why it was not sent again."""
 
-    def __init__(self, walk, segment):
+    def __init__(self, walk: Walk, segment):
         self.walk, self.segment = walk, segment
 
-    def dropped(self, packet, port):
+    def dropped(self, packet: Packet, port: Port) -> None:
+        """The acknowledgement was dropped."""
         self.walk.row(self.segment.rows, f'ack {packet.number}', 'dropped', port.link.name,
                       f'{packet.fate}: it would have asked for the segment')
 
@@ -101,7 +111,7 @@ class Segment:
     """What became of one segment: its copies, the acknowledgements above it in the order in which they
     were sent, rows of its own, and when it arrived, was in order, was answered, was acknowledged."""
 
-    def __init__(self, number):
+    def __init__(self, number: int):
         self.number, self.copies, self.acks, self.rows = number, [], [], []
         self.arrived = self.passed = self.answered = self.done = None
 
@@ -112,11 +122,12 @@ class Segment:
                 return self.acks[:at + 1]
         return self.acks
 
-    def table(self):
+    def table(self) -> list[Row]:
+        """Its rows, in the order of time."""
         rows = self.rows + [row for packet in self.copies + self.answers() for row in packet.watch.rows]
         return sorted(rows, key=lambda row: row.order)
 
-    def stands(self, time):
+    def stands(self, time: int):
         """Why the segment stands still from this moment on, when nothing of it is in the net."""
         if self.arrived is None or time < self.arrived:
             return 'it was dropped and not yet sent again'
@@ -130,16 +141,18 @@ class Segment:
 class Follow(Walk):
     """Follows a segment of a flow while a run is read, or all of the flow where `only` is None."""
 
-    def __init__(self, scenario, flow, only=None):
+    def __init__(self, scenario: Scenario, flow: FlowState, only=None):
         super().__init__(scenario)
         self.target, self.only = self.flows[flow], only
         self.segments, self.open = {}, {}       # by number: all, and those not yet acknowledged
         self.made = 0                           # how many rows were made
 
-    def name_of(self, node):
+    def name_of(self, node: int) -> str:
+        """The name of a node."""
         return self.scenario.nodes[node].name
 
-    def row(self, rows, packet, event, at, words, span=None, behind=None):
+    def row(self, rows, packet: Packet, event: str, at: str, words, span=None, behind=None) -> Row:
+        """Keeps a row."""
         self.made += 1
         rows.append(Row(self.line, self.time, (self.line, RANKS.get(event, 2), self.made), packet, event, at,
                         words, span, behind))
@@ -147,7 +160,8 @@ class Follow(Walk):
 
     # ---- hooks
 
-    def born(self, packet):
+    def born(self, packet: Packet) -> None:
+        """Watches a packet of the flow that is followed."""
         if packet.flow is not self.target:
             return
         if packet.sort != DATA:
@@ -187,7 +201,8 @@ class Follow(Walk):
         life = packet.watch = Life(self, f'ack {packet.number}')
         life.row('answered', self.name_of(self.target.flow.receiver), words, span)
 
-    def at_receiver(self, flow, packet, answer, before):
+    def at_receiver(self, flow: FlowState, packet: Packet, answer, before: int) -> None:
+        """What the receiver makes of it."""
         if flow is not self.target:
             return
         if packet is not None and packet.watch is not None:
@@ -208,7 +223,8 @@ class Follow(Walk):
         elif answer is None:
             life.row('answer waits', at, f'for the alarm in {seconds(flow.flow.delack)}, or for another segment')
 
-    def at_sender(self, flow, kind, packet, before):
+    def at_sender(self, flow: FlowState, kind: str, packet: Packet, before: int) -> None:
+        """What the sender makes of an acknowledgement."""
         if flow is not self.target or packet is None:
             return
         name, at = f'ack {packet.number}', self.name_of(flow.flow.sender)
@@ -247,7 +263,7 @@ class Follow(Walk):
         return end - begin, parts, list(reasons.items())
 
 
-def follow(scenario, lines, flow, byte):
+def follow(scenario: Scenario, lines: Iterable[str], flow: int, byte: int):
     """The walk that followed the segment of a byte of a flow (by the flow's number), and the segment."""
     declared = scenario.flows[flow]
     total = declared.mss * declared.segments

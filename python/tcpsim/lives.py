@@ -1,9 +1,12 @@
 """The life of a packet: where it was offered, waited, was sent, came to its end or was dropped, and what it answers; and
 the state of ports and flows that decides it. walk.py goes by them through a trace. Times are nanoseconds, sizes bytes.
 """
-from collections import deque
+from __future__ import annotations
 
-from tcpsim.scenario.text import Unreadable
+from collections import deque
+from collections.abc import Iterator
+
+from tcpsim.scenario.text import Flow, Link, Unreadable
 from tcpsim.scenario.units import BITS_NS, HEADER_BYTES
 from tcpsim.trace import ACK, DATA
 
@@ -24,19 +27,19 @@ DROPPED = LOST, FULL, CODEL
 class Watch:
     """What is told of a packet on its way, where `packet.watch` is one of these."""
 
-    def entered(self, packet, port):
+    def entered(self, packet: Packet, port: Port) -> None:
         """It enters the port's queue, behind those in `port.waiting`."""
 
-    def began(self, packet, port):
+    def began(self, packet: Packet, port: Port) -> None:
         """The link begins to send it."""
 
-    def left(self, packet, port):
+    def left(self, packet: Packet, port: Port) -> None:
         """Its last bit was sent; it arrives a delay later."""
 
-    def came(self, packet, port):
+    def came(self, packet: Packet, port: Port) -> None:
         """It arrives over the port's link, at a router or at its end."""
 
-    def dropped(self, packet, port):
+    def dropped(self, packet: Packet, port: Port) -> None:
         """It was dropped; `packet.fate` says why. Where that is `CODEL` it had waited."""
 
 
@@ -45,7 +48,7 @@ class Packet:
     __slots__ = ('flow', 'sort', 'number', 'word', 'text', 'offered', 'line', 'why', 'of', 'since', 'hop',
                  'due', 'count', 'fate', 'ended', 'ended_line', 'asked', 'watch')
 
-    def __init__(self, flow, sort, number, offered, line, why):
+    def __init__(self, flow: FlowState, sort: int, number: int, offered: int, line: int, why: str | None):
         self.flow, self.sort, self.number = flow, sort, number  # the flow's state; DATA or ACK
         self.word = str(number)
         self.text = flow.begin + self.word                      # as an act of the trace names it
@@ -56,7 +59,8 @@ class Packet:
         self.asked = None               # a segment's: what the receiver asked for when it came, its next byte
         self.watch = None
 
-    def end(self, fate, time, line):
+    def end(self, fate: str, time: int, line: int) -> None:
+        """Its life ends: how, when, and in which line."""
         self.fate, self.ended, self.ended_line = fate, time, line
 
 
@@ -65,14 +69,14 @@ class Hop:
     arrival, and the next hop. `place` is for a watch that keeps account of the flow's packets at the link."""
     __slots__ = ('port', 'span', 'kind', 'flow', 'next', 'place')
 
-    def __init__(self, port, span, kind, flow, following):
+    def __init__(self, port: Port, span: int, kind: str, flow, following):
         self.port, self.span, self.kind, self.flow, self.next, self.place = port, span, kind, flow, following, None
 
 
 class Port:
     """The sending side of a link."""
 
-    def __init__(self, number, link, place, kind):
+    def __init__(self, number: int, link: Link, place: int, kind: str):
         self.number, self.link, self.capacity, self.delay = number, link, link.capacity, link.delay
         self.tx = f'tx={number}:'
         self.node, self.alarm = str(link.source), str(3 + place)    # in the key of a line `free l`
@@ -85,7 +89,7 @@ class Port:
 class FlowState:
     """Both ends of a flow, as the lines so far leave them."""
 
-    def __init__(self, number, flow, ways, ports):
+    def __init__(self, number: int, flow: Flow, ways: tuple[list[int], list[int]], ports: list[Port]):
         self.number, self.flow, self.word, self.begin = number, flow, str(number), f'{number}:'
         self.mss, self.total = flow.mss, flow.mss * flow.segments
         forth, back = ([ports[link] for link in links] for links in ways)
@@ -105,20 +109,20 @@ class FlowState:
         self.next, self.above = 0, set()
         self.waits = self.waits_since = None    # the segment whose answer waits, since when
 
-    def hops(self):
+    def hops(self) -> Iterator[Hop]:
         """All hops, of both ways."""
         for hop in self.ways.values():
             while hop is not None:
                 yield hop
                 hop = hop.next
 
-    def due(self, kind):
+    def due(self, kind: str) -> int | None:
         """When an alarm is to come, or None."""
         if kind == 'delack':
             return None if self.waits is None else self.waits_since + self.flow.delack
         return self.flow.start if kind == 'start' else self.deadline
 
-    def acknowledge(self, ack, time, partial):
+    def acknowledge(self, ack: int, time: int, partial: bool) -> None:
         """The sender gets a new acknowledgement. Of the partial ones of a recovery the first sets the timer anew."""
         if self.timing is not None and ack >= self.timing[0]:
             self.sample(time - self.timing[1])
@@ -128,13 +132,13 @@ class FlowState:
             self.deadline = time + self.rto if ack < self.nxt else None
         self.partial = partial
 
-    def notice_loss(self):
+    def notice_loss(self) -> None:
         """A recovery begins, or the timer ends."""
         self.partial = False
         if self.flow.newreno:
             self.recover = self.high
 
-    def expire(self, time):
+    def expire(self, time: int):
         """The timer ends; answers how long it ran, and whether it had been doubled."""
         self.notice_loss()
         expired = self.rto, self.doubled
@@ -143,7 +147,7 @@ class FlowState:
         self.deadline = time + self.rto
         return expired
 
-    def receive(self, packet, time):
+    def receive(self, packet: Packet, time: int):
         """The receiver gets a segment; answers whether it makes its answer wait."""
         number, above = packet.number, self.above
         in_order = number == self.next
@@ -160,7 +164,7 @@ class FlowState:
         packet.asked = self.next
         return waits
 
-    def sample(self, trip):
+    def sample(self, trip: int) -> None:
         """RFC 6298 section 2."""
         if self.srtt is None:
             self.srtt, self.rttvar = trip, trip // 2
@@ -171,7 +175,7 @@ class FlowState:
         self.doubled = False
 
 
-def way(ports, size, kind, flow):
+def way(ports, size: int, kind: str, flow) -> Hop:
     """The first hop of a way over these ports, for packets of this size."""
     if not ports:
         raise Unreadable('the scenario has a flow from a node to itself')

@@ -1,13 +1,17 @@
 """Percentiles of numbers, however many there are. Nothing but Python's standard library."""
+from __future__ import annotations
+
 import os
 import tempfile
 from array import array
 from collections import Counter
+from collections.abc import Iterable
+from typing import BinaryIO
 
 from tcpsim import output
 
 
-def percentile(values, percent):
+def percentile(values: Iterable[int], percent: int) -> int | None:
     """The least value that at least `percent` in a hundred of the values do not exceed (nearest rank);
     None of no values."""
     ranked = sorted(values)
@@ -18,24 +22,27 @@ class Sample:
     """Numbers not below 0, of which percentiles are asked for. `recent` takes them; `spill` puts them into a
     file, so that no run is too long for the memory."""
 
-    def __init__(self, file):
+    def __init__(self, file: BinaryIO):
         self.recent, self._file, self._parts = array('q'), file, []
 
-    def spill(self):
+    def spill(self) -> None:
+        """Puts the recent numbers into the file."""
         if self.recent:
             with output.named(tempfile.gettempdir()):
                 self._parts.append((self._file.seek(0, os.SEEK_END), len(self.recent)))
                 self.recent.tofile(self._file)
             del self.recent[:]
 
-    def clear(self):
+    def clear(self) -> None:
+        """Forgets all numbers."""
         self._parts = []
         del self.recent[:]
 
-    def least(self):
+    def least(self) -> int | None:
+        """The least number; None of none."""
         return min((min(portion) for portion in self._portions() if portion), default=None)
 
-    def percentile(self, percent):
+    def percentile(self, percent: int) -> int | None:
         """As `percentile` above. Where the numbers stand in a file, those that fall into each of 65,536
         cells are counted, and then again within the cell that has the rank, until a cell is one number."""
         if not self._parts:

@@ -1,4 +1,6 @@
 """One scenario over a grid of values: which values a point of the grid has, its text, its run and its row of figures."""
+from __future__ import annotations
+
 import csv
 import itertools
 import os
@@ -8,6 +10,7 @@ import sys
 import threading
 import time as clock
 from collections import namedtuple
+from collections.abc import Sequence
 from concurrent.futures import ProcessPoolExecutor, as_completed
 from concurrent.futures.process import BrokenProcessPool
 from multiprocessing import active_children, get_context
@@ -19,7 +22,7 @@ from tcpsim.figures import Figures, figures, jain
 from tcpsim.scenario import units
 from tcpsim.scenario.text import Scenario, Unreadable
 from tcpsim.scenario.units import HEADER_BYTES, spelled_rate, spelled_time
-from tcpsim.whole_trace import BLOCK, PROGRAMS, ProgramFailed, Rest, blocks, running
+from tcpsim.whole_trace import BLOCK, PROGRAMS, ProgramFailed, Rest, Running, blocks, running
 
 MS = 10**6
 MOST_RUNS, MOST_PANELS = 100_000, 12
@@ -35,11 +38,12 @@ class Setting(namedtuple('Setting', 'key names field values')):
     """A part of the command line: `names` get each of `values` in turn, in their statements' `field`. `values` are
     numbers, queues, or the numbers of packets that are lost."""
 
-    def label(self, value):
+    def label(self, value) -> str:
+        """A value in words."""
         return spell(self.field, value)
 
 
-def spell(field, value):
+def spell(field: str, value) -> str:
     """A value as a command line has it."""
     if field == 'rate':
         return spelled_rate(value)
@@ -51,7 +55,7 @@ def spell(field, value):
 class Pattern:
     """A scenario's text whose statements' words can be changed."""
 
-    def __init__(self, text):
+    def __init__(self, text: str):
         self.lines = text.split('\n')
         self.places, self.sorts = {}, {}        # of each name, and of `sim`
         for number, line in enumerate(self.lines):
@@ -62,10 +66,11 @@ class Pattern:
             elif words and words[0] == 'sim':
                 self.places['sim'], self.sorts['sim'] = number, 'sim'
 
-    def named(self, sort):
+    def named(self, sort: str) -> list[str]:
+        """The names of all nodes, links or flows."""
         return [name for name, its in self.sorts.items() if its == sort]
 
-    def point(self, settings, values):
+    def point(self, settings: Sequence[Setting], values) -> str:
         """The text with each setting's value. Queues come last: a bandwidth-delay product is that of the point."""
         lines, queues = list(self.lines), []
         for setting, value in zip(settings, values):
@@ -95,7 +100,7 @@ class Pattern:
         lines[self.places[name]] = ' '.join(words) + (f'  {sign}{comment}' if sign else '')
 
 
-def lose(lines, name, numbers):
+def lose(lines: list[str], name: str, numbers) -> None:
     """Has a link lose these packets and no others. Lines keep their numbers; what is new stands at the end."""
     for number, line in enumerate(lines):
         if line.partition('#')[0].split()[:2] == ['lose', name]:
@@ -104,7 +109,7 @@ def lose(lines, name, numbers):
     lines += [f'lose {name} {number}' for number in numbers] + last
 
 
-def losses(word):
+def losses(word: str) -> tuple[int, ...]:
     """The packets of a word: 5, or 5+6 for two, or none."""
     numbers = [] if word == 'none' else [units.count(number) for number in word.split('+')]
     if len(set(numbers)) < len(numbers):
@@ -112,14 +117,14 @@ def losses(word):
     return tuple(sorted(numbers))
 
 
-def greatest_packet(lines):
+def greatest_packet(lines: list[str]) -> int:
     """Bytes of the greatest packet of any flow, as far as the lines have flows."""
     sizes = [int(words[4]) for words in (line.partition('#')[0].split() for line in lines)
              if len(words) in (9, 11) and words[0] == 'flow' and re.fullmatch('[0-9]{1,9}', words[4])]
     return max(sizes, default=1460) + HEADER_BYTES
 
 
-def product_of(lines, name, packet):
+def product_of(lines: list[str], name: str, packet: int) -> int:
     """The bandwidth-delay product of a link in packets; 1 in a text that has no ways."""
     try:
         read = Scenario('\n'.join(lines))
@@ -130,7 +135,7 @@ def product_of(lines, name, packet):
     return units.product(read.links[number].rate, trip, packet)
 
 
-def setting(word, pattern):
+def setting(word: str, pattern: Pattern) -> Setting:
     """What `--set` names: NAME.FIELD=VALUE,.. with `+` between several names and `*` for all, or end=TIME,.."""
     key, sign, values = word.partition('=')
     names, dot, field = key.rpartition('.')
@@ -159,7 +164,8 @@ EXAMPLES = {'queue': 'droptail:10,50,codel:5ms:100ms', 'rate': '1M,10M', 'delay'
             'segments': '100,1000', 'start': '0,1s', 'rwnd': '64000,1M', 'delack': '0,40ms', 'end': '20s'}
 
 
-def values_of(word, field, values):
+def values_of(word: str, field: str, values) -> list:
+    """The values of a word of --set, or Wrong."""
     try:
         reader = {**units.READERS, 'lose': losses}.get(field)
         read = units.queues(values) if field == 'queue' else [reader(value) for value in values.split(',')]
@@ -170,7 +176,7 @@ def values_of(word, field, values):
     return read
 
 
-def settings_of(words, pattern):
+def settings_of(words: Sequence[str], pattern: Pattern) -> list[Setting]:
     """All settings, none of which sets what another sets."""
     settings, taken = [setting(word, pattern) for word in words], set()
     for each in settings:
@@ -188,7 +194,7 @@ def settings_of(words, pattern):
 
 # ---- one run
 
-def figures_of(run, link):
+def figures_of(run, link: str | None) -> dict:
     """The figures of a row, from those of figures.py, and the link that they are of: the one of this name, or the
     busiest of the flows' data, the first where equal. Goodput is of all flows together, over the whole span."""
     links, flows_of, whole = {}, {}, {}
@@ -210,7 +216,7 @@ def figures_of(run, link):
             'jain': whole['Jain\'s index of goodput']}
 
 
-def engine_figures_of(run, link):
+def engine_figures_of(run, link: str | None) -> dict:
     """The same figures, from the table of `tcpsim figures`."""
     links, flows_of = run.scenario.links, run.flows
     used = [run.over_span(number, BUSY) for number in range(len(links))]
@@ -231,7 +237,7 @@ def engine_figures_of(run, link):
             'jain': jain([share for share in shares if share is not None])}
 
 
-def row_of(text, program, link, skip, engine):
+def row_of(text: str, program: str, link: str | None, skip: int, engine: bool) -> dict:
     """The row of one run: its figures, or in `status` why there are none."""
     try:
         with running([program, 'figures' if engine else 'run'], text.encode('latin-1')) as process:
@@ -246,7 +252,7 @@ def row_of(text, program, link, skip, engine):
         return {'status': f'cannot be run: {wrong.strerror}'}
 
 
-def trace_row(text, process, link, skip):
+def trace_row(text: str, process: Running, link: str | None, skip: int) -> dict:
     """The figures of the trace that a program writes, read as it is made."""
     first = process.read(BLOCK)
     if not first:
@@ -257,7 +263,7 @@ def trace_row(text, process, link, skip):
     return figures_of(Figures(scenario, itertools.chain.from_iterable(lines), skip or None), link)
 
 
-def table_row(text, process, link):
+def table_row(text: str, process: Running, link: str | None) -> dict:
     """The figures of the table that a program writes."""
     table = written_table(process)
     return engine_figures_of(EngineRun(Scenario(text), table), link)
@@ -268,26 +274,30 @@ def table_row(text, process, link):
 class Grid:
     """The points of a sweep: for each its values and its text, made when it is asked for."""
 
-    def __init__(self, pattern, settings, link, skip, engine=False):
+    def __init__(self, pattern: Pattern, settings: Sequence[Setting], link: str | None, skip: int,
+                 engine: bool = False):
         self.pattern, self.settings, self.link, self.skip, self.engine = pattern, settings, link, skip, engine
         self.points = list(itertools.product(*(each.values for each in settings)))
 
-    def text(self, number):
+    def text(self, number: int) -> str:
+        """The scenario of a point."""
         return self.pattern.point(self.settings, self.points[number])
 
-    def labels(self, number):
+    def labels(self, number: int) -> dict[str, str]:
+        """The values of a point, by the keys of the settings."""
         return {each.key: each.label(value) for each, value in zip(self.settings, self.points[number])}
 
-    def name(self, number):
+    def name(self, number: int) -> str:
         """A file's name for the point."""
         words = '_'.join(self.labels(number).values()).replace(':', '-')
         return f'{number + 1:0{len(str(len(self.points)))}}' + f'_{words}'[:80] * bool(words)
 
-    def columns(self):
+    def columns(self) -> list[str]:
+        """The titles of a row as CSV."""
         return [each.key for each in self.settings] + ['status', 'link', *FIGURES]
 
 
-def begin_worker(ends):
+def begin_worker(ends) -> None:
     """A signal ends a worker at once, with its program; and so does the end of its parent. `ends` are those of a pipe
     into which nobody writes: once the parent is gone, it is at its end."""
     os.close(ends[1])
@@ -297,18 +307,20 @@ def begin_worker(ends):
     threading.Thread(target=end_with_parent, args=(ends[0],), daemon=True).start()
 
 
-def end_with_parent(pipe):
+def end_with_parent(pipe) -> None:
+    """Ends a worker once its parent has gone."""
     os.read(pipe, 1)
     os.kill(os.getpid(), signal.SIGTERM)
 
 
-def end_worker(number, _frame):
+def end_worker(number: int, _frame) -> None:
+    """A handler: ends the programs that a worker runs, and the worker."""
     for program in PROGRAMS:
         program.kill()
     os._exit(128 + number)
 
 
-def rows_of(grid, program, jobs):
+def rows_of(grid: Grid, program: str, jobs: int):
     """(number, row) of each run as it ends; `jobs` runs go side by side."""
     count = len(grid.points)
     if jobs == 1 or count == 1:
@@ -340,11 +352,12 @@ class Progress:
     """A line on standard error: how many runs are done, and how long it took. On a terminal it is
     written over."""
 
-    def __init__(self, count):
+    def __init__(self, count: int):
         self.count, self.done, self.refused, self.began = count, 0, 0, clock.monotonic()
         self.terminal = sys.stderr is not None and sys.stderr.isatty()
 
-    def note(self, labels, row):
+    def note(self, labels: dict[str, str], row: dict[str, str]) -> None:
+        """Says on standard error that a run is done."""
         self.done += 1
         self.refused += row['status'] != 'done'
         failed = f', {self.refused} without figures' if self.refused else ''
@@ -357,10 +370,11 @@ class Progress:
 
 
 def as_csv(value):
+    """A value as a cell of CSV."""
     return '' if value is None else f'{value:.6f}' if isinstance(value, float) else value
 
 
-def run_all(grid, program, jobs, file):
+def run_all(grid: Grid, program: str, jobs: int, file) -> list[dict]:
     """Every run's row, in the grid's order. Into `file` each row goes as soon as those before it are there."""
     rows, progress, written = {}, Progress(len(grid.points)), 0
     out = csv.DictWriter(file, grid.columns(), restval='', lineterminator='\n') if file else None
@@ -377,6 +391,6 @@ def run_all(grid, program, jobs, file):
     return [rows[number] for number in range(len(grid.points))]
 
 
-def along(settings):
+def along(settings: Sequence[Setting]) -> int:
     """The setting whose values are the points of a line: the first of a queue, else the first."""
     return next((n for n, each in enumerate(settings) if each.field == 'queue'), 0)

@@ -1,4 +1,7 @@
 """A sweep's jobs for other machines: their scenarios and commands as files, and their rows, gathered."""
+from __future__ import annotations
+
+import argparse
 import contextlib
 import csv
 import os
@@ -9,18 +12,18 @@ from tcpsim import output
 from tcpsim.command_line import MODEL, Wrong
 from tcpsim.scenario.text import Unreadable
 from tcpsim.scenario.units import spelled_time
-from tcpsim.sweep import FIGURES
+from tcpsim.sweep import FIGURES, Grid
 from tcpsim.whole_trace import inputs_of
 
 
-def program_words(named):
+def program_words(named: str | None) -> list[str]:
     """The words by which a job names who runs its scenario."""
     if named == MODEL:
         return [MODEL]
     return ['--program', os.path.abspath(named)] if named else []
 
 
-def print_jobs(grid, given):
+def print_jobs(grid: Grid, given: argparse.Namespace) -> str:
     """Writes the grid's scenarios, `jobs` with a command a line, and `grid.csv`, which names each point's values."""
     folder = os.path.abspath(given.folder)
     names = [grid.name(number) for number in range(len(grid.points))]
@@ -49,7 +52,7 @@ def print_jobs(grid, given):
     return os.path.join(folder, 'jobs')
 
 
-def read_csv(path):
+def read_csv(path: str) -> list[dict]:
     """The rows of a file of CSV."""
     try:
         with open(path, encoding='utf-8', newline='') as file:
@@ -58,7 +61,7 @@ def read_csv(path):
         raise Unreadable(f'{path} is no CSV: {wrong}') from wrong
 
 
-def gathered(folder):
+def gathered(folder: str) -> tuple[list[dict], list[str]]:
     """The rows of jobs that are done, and the keys of their settings; a job without a row has one that says so."""
     points = read_csv(os.path.join(folder, 'grid.csv'))
     if not points or any(None in point.values() or 'scenario' not in point for point in points):

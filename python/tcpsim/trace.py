@@ -6,10 +6,13 @@ to its reader" in docs/FORMATS.md), and a queue gives its packets in their order
 a trace line by line and keeps only the present state; `Run` of run.py keeps all curves. Nothing but Python's
 standard library. All times are nanoseconds, all sizes bytes.
 """
+from __future__ import annotations
+
 from array import array
 from collections import deque
+from collections.abc import Iterable
 
-from tcpsim.scenario.text import Unreadable
+from tcpsim.scenario.text import Flow, Link, Scenario, Unreadable
 from tcpsim.scenario.units import BITS_NS, HEADER_BYTES
 
 DATA, ACK = 0, 1
@@ -18,7 +21,7 @@ NEVER = 1 << 62         # past every moment of a run
 
 # ---- a trace, line by line
 
-def first_window(flow):
+def first_window(flow: Flow) -> int:
     """The initial cwnd in bytes, of RFC 5681 section 3.1 or of RFC 6928 section 2."""
     if flow.iw10:
         return min(10 * flow.mss, max(2 * flow.mss, 14_600))
@@ -29,7 +32,7 @@ class Stream:
     """The packets of one sort that a flow sends."""
     __slots__ = 'flow', 'sort', 'size'
 
-    def __init__(self, flow, sort, size):
+    def __init__(self, flow: Flow, sort: int, size: int):
         self.flow, self.sort, self.size = flow, sort, size
 
 
@@ -47,7 +50,7 @@ class FlowState:
     on_timeout = None       # (time)
     on_drop = None          # (time, link, reason, DATA or ACK, number)
 
-    def __init__(self, flow, number):
+    def __init__(self, flow: Flow, number: int):
         self.flow, self.number, self.text = flow, number, f'{number}:'
         self.data = Stream(number, DATA, HEADER_BYTES + flow.mss)
         self.acks = Stream(number, ACK, HEADER_BYTES)
@@ -61,11 +64,11 @@ class FlowState:
         self.answer_waits, self.answer_due = False, 0
         self.hops = {}                  # of each router, as a word, its links for data and for acknowledgements
 
-    def delivered(self):
+    def delivered(self) -> int:
         """Bytes that the receiver has in order."""
         return self.expected
 
-    def sends(self, kind, words, time):
+    def sends(self, kind: str, words: list[str], time: int) -> tuple[Iterable[int], int]:
         """What a sender's line says: the numbers of the segments that it sends, in order, and the place of
         its first act."""
         at = 7
@@ -132,7 +135,7 @@ class FlowState:
             if self.on_sent:
                 self.on_sent(time, number)
 
-    def answers(self, seq, expected, time):
+    def answers(self, seq: int | None, expected: int, time: int) -> bool:
         """Whether a receiver's line offers an acknowledgement, or waits for its delay."""
         before = self.expected
         if expected > before:
@@ -154,7 +157,7 @@ class LinkState:
     on_queue = None         # (time): how many packets wait may have changed
     on_drop = None          # (time, reason, flow, DATA or ACK, number)
 
-    def __init__(self, link, number, kind):
+    def __init__(self, link: Link, number: int, kind: str):
         self.link, self.number, self.sends = link, number, f'tx={number}:'
         self.node, self.first = str(link.source), 7 + {'sender': 5, 'receiver': 1, 'router': 0}[kind]
         self.to, self.lost = str(link.to), ()       # the node at its end; which of those offered to it are lost
@@ -165,7 +168,7 @@ class LinkState:
         self.greatest = 0               # the most packets that waited at once
         self.waited = 0                 # moments of leaving the queue less moments of entering it, summed
 
-    def on_taken(self, time, stream, entered):
+    def on_taken(self, time: int, stream: Stream, entered: int) -> None:
         """Told that it begins to send a packet."""
 
 
@@ -173,7 +176,8 @@ class Reader:
     """Goes through a trace. `flows` and `links` are what was found of each; `last` is the last line's time,
     `lines` how many were read, `whole` that the trace has its line `end N`."""
 
-    def __init__(self, scenario, flow_kind=FlowState, link_kind=LinkState):
+    def __init__(self, scenario: Scenario, flow_kind: type[FlowState] = FlowState,
+                 link_kind: type[LinkState] = LinkState):
         self.scenario = scenario
         self.flows = [flow_kind(flow, number) for number, flow in enumerate(scenario.flows)]
         self.links = [link_kind(link, number, scenario.nodes[link.source].kind)
@@ -195,12 +199,12 @@ class Reader:
                     flow.hops[str(node)] = (None if forth is None else self.links[forth],
                                             None if back is None else self.links[back])
 
-    def reached(self, time):
+    def reached(self, time: int) -> int | None:
         """Told before the first line that is not before the moment that it answered last; answers the next
         such moment, or None where no further line is to be read."""
         return NEVER
 
-    def read(self, lines, moment=NEVER):
+    def read(self, lines: Iterable[str], moment: int = NEVER) -> None:
         """Reads lines to `end N`, to their end, or until `reached` answers None."""
         count, words = self.lines, []
         try:

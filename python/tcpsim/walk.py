@@ -6,12 +6,16 @@ queue's order and limit, the time that a packet takes. `Walk` is a base class: f
 say in its hooks, and in the watch that they put on a packet, what they want to know. Nothing is kept but
 the packets in the net.
 """
+from __future__ import annotations
+
+import argparse
 import os
+from collections.abc import Iterable, Iterator
 from contextlib import contextmanager
 
 from tcpsim.lives import (AFTER_TIMEOUT, ALARM, AT_ONCE, CAME, CODEL, FIRST, PARTIAL, PHASES, THIRD_DUPLICATE, TIMEOUT,
                           FlowState, Packet, Port)
-from tcpsim.scenario.text import Unreadable
+from tcpsim.scenario.text import Scenario, Unreadable
 from tcpsim.trace import ACK, DATA
 from tcpsim.whole_trace import IMAGE_BEGINS, opened_run
 
@@ -20,7 +24,7 @@ class Walk:
     """A run, line by line. `time` and `line` are those of the present line; `ended` says that the
     trace has its line `end N`."""
 
-    def __init__(self, scenario):
+    def __init__(self, scenario: Scenario):
         self.scenario = scenario
         self.time, self.line, self.ended = 0, 0, False
         self.expired = None         # of the last timer that ended: how long it ran, whether it had been doubled
@@ -35,20 +39,20 @@ class Walk:
 
     # ---- hooks: what a reader of lives wants to know
 
-    def born(self, packet):
+    def born(self, packet: Packet) -> None:
         """The packet's end is about to offer it; here it can get its watch."""
 
-    def at_sender(self, flow, kind, packet, before):
+    def at_sender(self, flow: FlowState, kind: str, packet: Packet, before: int) -> None:
         """After a sender's line: `packet` is the acknowledgement that came or None, `before` is una
         before the line."""
 
-    def at_receiver(self, flow, packet, answer, before):
+    def at_receiver(self, flow: FlowState, packet: Packet | None, answer, before: int) -> None:
         """After a receiver's line: the segment that came or None, the acknowledgement or None, the next
         byte before the line."""
 
     # ---- lines
 
-    def read(self, lines):
+    def read(self, lines: Iterable[str]) -> None:
         """Reads all lines; whatever is wrong with one becomes an `Unreadable` with its number."""
         numbered, line, words, last, end = enumerate(lines, 1), '', [], -1, self.scenario.end
         try:
@@ -276,13 +280,13 @@ class Walk:
         return answer
 
 
-def rises(words, before):
+def rises(words: list[str], before: list[str]) -> bool:
     """Whether the key of a line is above that of the line before it, at the same time."""
     node, other = int(words[2]), int(before[2])
     return node > other or node == other and list(map(int, words[3:5])) > list(map(int, before[3:5]))
 
 
-def reason(wrong):
+def reason(wrong) -> str:
     """What is wrong with a line, in words."""
     if isinstance(wrong, ValueError) and not str(wrong).startswith('invalid literal'):
         return str(wrong)
@@ -292,7 +296,7 @@ def reason(wrong):
 # ---- files
 
 @contextmanager
-def opened(given):
+def opened(given: argparse.Namespace) -> Iterator[tuple[Scenario, Iterator[str]]]:
     """The scenario's text and its trace's lines that a command line names, of the file or of the program that runs it
     meanwhile. An image is refused, as the debugger takes texts alone; a pipe, which can be read only once, is not looked
     at before."""
@@ -303,12 +307,13 @@ def opened(given):
         yield scenario, lines
 
 
-def begins_as_image(path):
+def begins_as_image(path: str) -> bool:
+    """Whether a file is an image."""
     with open(path, 'rb') as file:
         return file.read(len(IMAGE_BEGINS)) == IMAGE_BEGINS
 
 
-def flow_named(scenario, word):
+def flow_named(scenario: Scenario, word: str) -> int:
     """The number of the flow with this name, or with this number."""
     for number, flow in enumerate(scenario.flows):
         if word in (flow.name, str(number)):

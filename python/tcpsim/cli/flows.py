@@ -10,6 +10,9 @@ or 20ms) choose a part of the span, to which what happens at --to itself does no
 refused, or with --partial taken as far as it goes. --series writes as CSV each flow's mean window and goodput and each
 link's mean and greatest queue, a row for each STEP. --busy leaves out the links that carried and dropped nothing.
 """
+from __future__ import annotations
+
+import argparse
 import csv
 import math
 from array import array
@@ -18,7 +21,7 @@ from tcpsim import output
 from tcpsim.command_line import Words, as_type
 from tcpsim.engine import engine_run
 from tcpsim.figures import S, Figures, engine_figures, figures
-from tcpsim.output import aligned
+from tcpsim.output import Output, aligned
 from tcpsim.scenario import units
 from tcpsim.whole_trace import inputs_of, opened_run
 
@@ -45,13 +48,14 @@ ENGINE_COLUMNS = {
 }
 
 
-def shown(form, scale, value):
+def shown(form, scale, value) -> str:
+    """A figure in words, `-` where there is none."""
     if value is None:
         return '-'
     return form.format(value / scale if scale not in (0, 1) else value)
 
 
-def table(rows, columns_of=TRACE_COLUMNS):
+def table(rows: list, columns_of=TRACE_COLUMNS) -> list[str]:
     """The lines of the table of all figures."""
     lines = []
     for what, columns in columns_of.items():
@@ -71,14 +75,15 @@ def table(rows, columns_of=TRACE_COLUMNS):
     return lines
 
 
-def write_csv(rows, file):
+def write_csv(rows: list, file: Output) -> None:
+    """Writes figures, one a row."""
     out = csv.writer(file, lineterminator='\n')
     out.writerow(('what', 'name', 'figure', 'unit', 'value'))
     for *words, value in rows:
         out.writerow((*words, '' if value is None else f'{value:.6f}' if isinstance(value, float) else value))
 
 
-def write_series(run, file, only_busy=False):
+def write_series(run, file: Output, only_busy=False) -> None:
     """A row for each step: the two moments, each flow's and each link's columns. What is not is empty."""
     columns = run.columns()
     kept = [at for at, (_, link) in enumerate(columns) if not (only_busy and link and link.idle())]
@@ -94,7 +99,8 @@ def write_series(run, file, only_busy=False):
 
 # ---- the command
 
-def words_of(given=None):
+def words_of(given: list[str] | None = None) -> argparse.Namespace:
+    """What the words ask for."""
     words, moment = Words(description='Figures of each flow and each link of a run.'), as_type(units.moment)
     words.add_argument('scenario', metavar='SCENARIO', help='a text or an image; - is standard input')
     words.add_trace()
@@ -122,13 +128,14 @@ def words_of(given=None):
     return given
 
 
-def run_of(given):
+def run_of(given: argparse.Namespace) -> Figures:
     """The figures that the words ask for."""
     with opened_run(given.scenario, given.trace, given.program, given.partial, given.end) as (scenario, lines):
         return Figures(scenario, lines, given.begin, given.end, given.series)
 
 
-def write(given, file):
+def write(given: argparse.Namespace, file: Output) -> None:
+    """Writes what is asked for."""
     if given.series is not None:
         write_series(run_of(given), file, given.busy)
         return
@@ -140,7 +147,8 @@ def write(given, file):
         print('\n'.join(table(rows, ENGINE_COLUMNS if given.engine else TRACE_COLUMNS)), file=file)
 
 
-def main():
+def main() -> None:
+    """Does what the words ask for."""
     given = words_of()
     with output.opened(given.output, inputs_of(given)) as file:
         write(given, file)

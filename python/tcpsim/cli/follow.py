@@ -6,17 +6,22 @@ The segment is the one that has byte B. The table says when it was offered, wher
 and behind how many, when each link began to send it, when it arrived or why it was dropped, why it was
 sent again, how it was answered and when it was acknowledged. Without TRACE the program is run.
 """
+from __future__ import annotations
+
+import argparse
 import csv
 
 from tcpsim import output
 from tcpsim.command_line import Words, as_type
 from tcpsim.follow import follow
+from tcpsim.output import Output
 from tcpsim.scenario.units import count
 from tcpsim.walk import flow_named, opened
 from tcpsim.whole_trace import inputs_of
 
 
-def write_table(walk, segment, file):
+def write_table(walk, segment, file: Output) -> None:
+    """Writes the rows of a segment."""
     rows = [('line', 'time s', 'packet', 'what', 'at', '')]
     rows += [(str(row.line), f'{row.time / 10**9:.9f}', row.packet, row.event, row.at, row.words) for row in segment.table()]
     widths = [max(map(len, column)) for column in zip(*rows)]
@@ -28,7 +33,8 @@ def write_table(walk, segment, file):
     write_sums(walk, segment, file)
 
 
-def write_sums(walk, segment, file):
+def write_sums(walk, segment, file: Output) -> None:
+    """Writes where the time went."""
     whole, parts, reasons = walk.sums(segment)
     width = max(len(f'{whole / 10**9:.9f}'), 12)
     for name, time in parts.items():
@@ -41,7 +47,8 @@ def write_sums(walk, segment, file):
     print(f'{"whole".ljust(12)} {whole / 10**9:>{width}.9f} s, from the first offering to {until}', file=file)
 
 
-def write_csv(walk, segment, file):
+def write_csv(walk, segment, file: Output) -> None:
+    """Writes the rows as CSV."""
     out = csv.writer(file, lineterminator='\n')
     out.writerow(('line', 'time', 'packet', 'event', 'at', 'ns', 'behind', 'words'))
     for row in segment.table():
@@ -55,7 +62,8 @@ def write_csv(walk, segment, file):
     out.writerow((None, None, name, 'sum', None, whole, None, 'whole'))
 
 
-def words_of():
+def words_of() -> argparse.Namespace:
+    """What the words ask for."""
     words = Words(description='The life of one segment and of its acknowledgements.')
     words.add_argument('scenario', metavar='SCENARIO', help='a text; - is standard input')
     words.add_trace()
@@ -67,7 +75,8 @@ def words_of():
     return words.parse_args()
 
 
-def main():
+def main() -> None:
+    """Does what the words ask for."""
     given = words_of()
     with output.opened(given.output, inputs_of(given)) as file:
         with opened(given) as (scenario, lines):

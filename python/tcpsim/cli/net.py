@@ -5,6 +5,9 @@ Usage: bin/tcpsim-net SHAPE [OPTION ..] > SCENARIO, as
 
 Rates are in bit/s with k, M, G; times in ns, us, ms, s.
 """
+from __future__ import annotations
+
+import argparse
 import shlex
 import sys
 
@@ -16,15 +19,18 @@ from tcpsim.scenario.shapes import LONG, asymmetric, chain, dumbbell, islands, p
 from tcpsim.scenario.units import Queue, spelled_time
 
 
-def number(name):
+def number(name: str):
+    """A type of option: a number in the range of `name`."""
     return as_type(lambda word: units.number(name, word))
 
 
-def numbers(name):
+def numbers(name: str):
+    """A type of option: numbers in the range of `name`, with commas."""
     return as_type(lambda words: [units.number(name, word) for word in words.split(',')])
 
 
-def between(least, most):
+def between(least: int, most: int):
+    """A type of option: a whole number from `least` to `most`."""
     def read(word):
         if not least <= units.count(word) <= most:
             raise Wrong(f'{word} is out of range: from {least} to {most}')
@@ -82,7 +88,8 @@ SHAPES = {      # name: builder, its options, and what differs from the options 
 }
 
 
-def command_line():
+def command_line() -> Words:
+    """The words of the command."""
     words = Words(description='Writes a scenario\'s text to standard output.',
                         epilog='Rates are in bit/s with k, M, G; times in ns, us, ms, s. A list that is shorter than '
                         'the flows or hops begins again.')
@@ -101,12 +108,12 @@ def command_line():
     return words
 
 
-def scenario(words):
+def scenario(words: list[str]) -> str:
     """The text of a command line's words."""
     return text_of(command_line().parse_args(words), words)
 
 
-def text_of(given, words):
+def text_of(given: argparse.Namespace, words: list[str]) -> str:
     """The text of what a command line asks for; its first lines have the words, but for where it is written to."""
     if given.rwnd < given.mss:
         raise Wrong(f'--rwnd {given.rwnd} is below a segment of {given.mss} bytes')
@@ -129,7 +136,8 @@ def without_output(words):
     return kept
 
 
-def main():
+def main() -> None:
+    """Does what the words ask for."""
     words = sys.argv[1:]
     given = command_line().parse_args(words)
     with output.opened(given.output) as file:

@@ -4,6 +4,7 @@ Usage: bin/tcpsim-run [run | figures | debug | asm | dis] [OPTIONS] [SCENARIO]
 """
 from __future__ import annotations
 
+import argparse
 import contextlib
 import os
 import tempfile
@@ -33,7 +34,7 @@ def command_line() -> Words:
     return words
 
 
-def call_of(given) -> tuple[str, str | None]:
+def call_of(given: argparse.Namespace) -> tuple[str, str | None]:
     """The command and the scenario's file, None where it is standard input's."""
     words = list(given.words)
     command = words.pop(0) if words and words[0] in COMMANDS else 'run'

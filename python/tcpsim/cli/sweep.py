@@ -4,13 +4,16 @@ Usage: bin/tcpsim-sweep SCENARIO --set NAME.FIELD=VALUE,.. [--set ..] [-j N] [-o
        bin/tcpsim-sweep SCENARIO --set .. --print DIR     the scenarios and a list of jobs, nothing is run
        bin/tcpsim-sweep --gather DIR [-o s.csv]           the rows of these jobs, once they are done
 """
+from __future__ import annotations
+
+import argparse
 import contextlib
 import csv
 import os
 
 from tcpsim import output
 from tcpsim.command_line import OutputClosed, Refused, Words, Wrong, as_type
-from tcpsim.output import aligned
+from tcpsim.output import Output, aligned
 from tcpsim.program import find_program
 from tcpsim.scenario import units
 from tcpsim.sweep import FIGURES, MOST_PANELS, MS, WHERE, Grid, Pattern, along, run_all, settings_of
@@ -22,7 +25,7 @@ COLUMNS = (('goodput_bit_s', 'goodput Mbit/s', 1e6, '{:.3f}'), ('utilization', '
            ('loss_percent', 'loss %', 1, '{:.2f}'), ('timeouts', 'timeouts', 1, '{:.0f}'), ('jain', 'Jain', 1, '{:.3f}'))
 
 
-def table(rows, keys):
+def table(rows: list, keys: list[str]) -> list[str]:
     """The lines of a table of all rows. What is the same in all stands above it."""
     links = {row['link'] for row in rows if row.get('link')}
     fixed = [f'{key}={rows[0][key]}' for key in keys if len(rows) > 1 and len({row[key] for row in rows}) == 1]
@@ -53,7 +56,8 @@ def drawing():
 
 # ---- the command line
 
-def command_line():
+def command_line() -> Words:
+    """The words of the command."""
     words = Words(description='Runs one scenario over a grid of values, a row for each run.',
                         epilog='FIELD is of a link queue, rate, delay, lose; of a flow mss, segments, start, rwnd, delack. '
                         'a+b.FIELD sets both, *.FIELD all links or all flows; end=TIME sets the end.')
@@ -76,7 +80,7 @@ def command_line():
     return words
 
 
-def text_of(path, program):
+def text_of(path: str, program: str | None) -> str:
     """A scenario's text; an image's is the one that the program writes."""
     source = scenario_bytes(path)
     if source.startswith(IMAGE_BEGINS):
@@ -87,7 +91,7 @@ def text_of(path, program):
     return source.decode('latin-1')
 
 
-def grid_of(given):
+def grid_of(given: argparse.Namespace) -> Grid:
     """The grid that the command line asks for, or Wrong."""
     text = text_of(given.scenario, given.program)
     pattern = Pattern(text)
@@ -100,7 +104,8 @@ def grid_of(given):
     return Grid(pattern, settings, link, given.skip, given.engine)
 
 
-def check_words(given):
+def check_words(given: argparse.Namespace) -> None:
+    """Refuses words that do not go together."""
     if bool(given.scenario) == bool(given.gather):
         raise Wrong('name one SCENARIO' if not given.scenario else '--gather takes no SCENARIO')
     if given.gather and (given.sets or given.folder or given.plot or given.engine):
@@ -115,13 +120,14 @@ def check_words(given):
         raise Wrong(f'--plot {given.plot}: the name ends with .svg, .png or .pdf')
 
 
-def write_rows(rows, columns, file):
+def write_rows(rows: list, columns: list[str], file: Output) -> None:
+    """Writes rows as CSV."""
     out = csv.DictWriter(file, columns, restval='', extrasaction='ignore', lineterminator='\n')
     out.writeheader()
     out.writerows(rows)
 
 
-def show(rows, keys, columns, given):
+def show(rows: list, keys: list[str], columns: list[str], given: argparse.Namespace) -> None:
     """The rows on standard output."""
     with output.opened() as file:
         if given.csv:
@@ -130,19 +136,20 @@ def show(rows, keys, columns, given):
             file.write('\n'.join(table(rows, keys)) + '\n')
 
 
-def is_answered(row):
+def is_answered(row: dict[str, str]) -> bool:
     """Whether a run has figures, or was refused by the program."""
     return row['status'] == 'done' or row['status'].startswith('refused ')
 
 
-def check_all(rows):
+def check_all(rows: list) -> None:
     """Refuses rows some of which lack their figures for another reason than a refusal of the scenario."""
     failed = [row['status'] for row in rows if not is_answered(row)]
     if failed:
         raise Refused(f'{len(failed)} of {len(rows)} runs have no figures: {failed[0]}')
 
 
-def sweep(given):
+def sweep(given: argparse.Namespace) -> None:
+    """Runs the grid, or writes its jobs."""
     grid = grid_of(given)
     if given.folder:
         jobs = print_jobs(grid, given)
@@ -166,7 +173,7 @@ def sweep(given):
     check_all(rows)
 
 
-def drawing_of(grid, given, inputs):
+def drawing_of(grid: Grid, given: argparse.Namespace, inputs):
     """What draws a sweep, where the picture can be drawn."""
     at = along(grid.settings)
     panels = len(grid.points) // len(grid.settings[at].values) if grid.settings else 1
@@ -180,7 +187,8 @@ def drawing_of(grid, given, inputs):
     return drawing()
 
 
-def gather(given):
+def gather(given: argparse.Namespace) -> None:
+    """Writes the rows of jobs that are done."""
     rows, keys = gathered(given.gather)
     columns = [*keys, 'status', 'link', *FIGURES]
     if given.output:
@@ -191,7 +199,8 @@ def gather(given):
     check_all(rows)
 
 
-def main():
+def main() -> None:
+    """Does what the words ask for."""
     given = command_line().parse_args()
     check_words(given)
     (gather if given.gather else sweep)(given)

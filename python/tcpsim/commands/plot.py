@@ -2,7 +2,7 @@
 from tcpsim.command_line import refuse, run
 
 
-def main():
+def main() -> int:
     """Draws what the words ask for; answers the status, 1 where matplotlib is not there."""
     try:
         return run('tcpsim.cli.plot')

@@ -6,6 +6,10 @@ Wants matplotlib. All times are nanoseconds.
 and `link_panels` draw a panel each, `labels` finds where names stand, `layout` puts all together, `drawn` says what a
 picture shows, `files` writes it, `sweep` draws a sweep.
 """
+from __future__ import annotations
+
+import argparse
+
 import matplotlib
 matplotlib.use('Agg')
 import matplotlib.pyplot as plt
@@ -19,7 +23,7 @@ from tcpsim.plot.points import busy_parts, steps
 __all__ = ['busy_parts', 'draw', 'drawn', 'figure_of', 'picture_of', 'plt', 'save', 'steps', 'words_of']
 
 
-def figure_of(given):
+def figure_of(given: argparse.Namespace) -> plt.Figure:
     """The figure that the words ask for."""
     runs = runs_of(given)
     title = drawable(given.title) if given.title else '; '.join(title_of(name, run) for name, run in runs)

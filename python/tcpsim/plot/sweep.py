@@ -1,5 +1,8 @@
 """Draws a sweep: wait against utilization, a panel for each choice of the other values. Wants matplotlib."""
+from __future__ import annotations
+
 import matplotlib.pyplot as plt
+from matplotlib.figure import Figure
 
 from tcpsim.plot.labels import place_labels
 from tcpsim.scenario.units import spelled_time
@@ -24,7 +27,7 @@ def panels_of(grid, rows):
     return panels
 
 
-def size_of(grid, number, at):
+def size_of(grid, number: int, at) -> tuple:
     """By what the points of a line are in order: a queue's capacity or target; without a queue none."""
     if not grid.settings or grid.settings[at].field != 'queue':
         return ()
@@ -37,7 +40,7 @@ def size_of(grid, number, at):
     return (int(next(line.split()[7] for line in grid.text(number).split('\n') if line.split()[:2] == ['link', name])),)
 
 
-def short(each, value):
+def short(each, value) -> str:
     """The label of a point: of a queue its capacity or target alone, where the rest is equal for all."""
     if each.field != 'queue':
         return each.label(value)
@@ -47,7 +50,7 @@ def short(each, value):
     return spelled_time(value.target) if len(others) == 1 else str(value).partition(':')[2]
 
 
-def draw(grid, rows):
+def draw(grid, rows) -> Figure:
     """The figure of wait against utilization: a point for the median, a thin line on to the 99th percentile."""
     panels = panels_of(grid, rows)
     across = min(3, len(panels))

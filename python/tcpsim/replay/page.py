@@ -1,12 +1,17 @@
 """The text of a page on which a run moves: packets on their links, queues, drops, windows. It needs no network and no
 server; script, style and d3 are put into it whole, from web/.
 """
+from __future__ import annotations
+
 import base64
 import html
 import json
 import os
 import re
 import zlib
+
+from tcpsim.replay.recording import Part
+from tcpsim.scenario.text import Scenario
 
 HERE = os.path.dirname(os.path.realpath(__file__))
 PARTS = os.path.join(HERE, 'web')
@@ -16,7 +21,7 @@ LIBRARY = os.path.join(PARTS, 'vendor', 'd3.v3.min.js')
 
 # ---- the page
 
-def about(scenario):
+def about(scenario: Scenario) -> dict:
     """What the page has to know of the scenario."""
     return {
         'end': scenario.end, 'remark': [line[1:].strip() for line in scenario.text.split('\n') if line.startswith('#')],
@@ -30,17 +35,18 @@ def about(scenario):
         'ways': [[list(there), list(back)] for there, back in scenario.ways]}
 
 
-def for_script(value):
+def for_script(value) -> str:
     """JSON that may stand in a page's script."""
     return json.dumps(value, separators=(',', ':')).replace('<', '\\u003c')
 
 
-def read_part(name):
+def read_part(name: str) -> str:
+    """A file of web/."""
     with open(name, encoding='utf-8') as file:
         return file.read()
 
 
-def page(title, scenario, part):
+def page(title: str, scenario: Scenario, part: Part) -> str:
     """The whole page's text."""
     packed = base64.b64encode(zlib.compress('\n'.join(part.lines).encode('ascii'), 3)).decode('ascii')
     facts = about(scenario)

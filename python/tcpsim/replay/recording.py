@@ -1,9 +1,12 @@
 """The part of a run that a page shows: the events from one moment to another, and the state before the first of them.
 Each line is held against the scenario.
 """
-from collections import deque
+from __future__ import annotations
 
-from tcpsim.scenario.text import Unreadable
+from collections import deque
+from collections.abc import Iterable
+
+from tcpsim.scenario.text import Scenario, Unreadable
 from tcpsim.scenario.units import BITS_NS, HEADER_BYTES, spelled_time
 from tcpsim.trace import ACK, DATA, first_window
 
@@ -25,7 +28,8 @@ class LinkNow:
         self.waiting = deque()          # (flow, DATA or ACK, number, entered, again)
         self.under_way = deque()        # (flow, DATA or ACK, number, begun, arrives, again, entered)
 
-    def kept(self):
+    def kept(self) -> dict:
+        """Its state as the page takes it."""
         return {'offered': self.offered, 'sent': self.sent, 'arrived': self.arrived,
                 'busy': self.free_at is not None,
                 'waiting': [list(packet) for packet in self.waiting],
@@ -46,7 +50,8 @@ class FlowNow:
         self.delack, self.start, self.newreno = flow.delack, flow.start, flow.newreno
         self.since = None               # when it started, or when una last rose
 
-    def kept(self):
+    def kept(self) -> dict:
+        """Its state as the page takes it."""
         return {'una': self.una, 'nxt': self.nxt, 'high': self.high, 'cwnd': self.cwnd,
                 'ssthresh': self.ssthresh, 'dups': self.dups, 'recovering': self.recovering,
                 'next': self.expected, 'above': sorted(self.above), 'answer_waits': self.answer_waits,
@@ -56,7 +61,7 @@ class FlowNow:
 class Reader:
     """Follows a trace event by event and refuses a line that this scenario's run cannot have there."""
 
-    def __init__(self, scenario):
+    def __init__(self, scenario: Scenario):
         self.scenario = scenario
         self.flows = [FlowNow(flow) for flow in scenario.flows]
         self.links = [LinkNow(number, link, scenario.leaves[link.source].index(number),
@@ -73,7 +78,7 @@ class Reader:
         self.ends = [(flow.sender, flow.receiver) for flow in scenario.flows]
         self.count, self.key = 0, (-1, 0, 0, 0)
 
-    def line(self, words, time):
+    def line(self, words: list[str], time: int) -> None:
         """Takes one event's line. Raises ValueError, KeyError or IndexError where it does not fit."""
         node, source, number, kind, name = int(words[2]), int(words[3]), int(words[4]), words[5], int(words[6])
         key = time, node, source, number
@@ -252,7 +257,7 @@ class Reader:
 class Part:
     """The lines from one moment up to another, and the state before the first of them."""
 
-    def __init__(self, scenario, lines, begin=0, end=None):
+    def __init__(self, scenario: Scenario, lines: Iterable[str], begin: int = 0, end: int | None = None):
         self.lines, self.first, self.base = [], 0, None
         self.begin, self.whole = begin, False
         reader = Reader(scenario)

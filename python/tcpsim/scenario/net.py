@@ -1,7 +1,10 @@
 """A net that a program builds: nodes, links, flows and routes, and its text. Rates are bit/s, times nanoseconds, sizes
 bytes; what is out of its range is `Wrong`.
 """
+from __future__ import annotations
+
 from collections import deque
+from collections.abc import Sequence
 from dataclasses import dataclass, field
 
 from tcpsim.command_line import Wrong
@@ -16,12 +19,16 @@ MOST_NODES, MOST_LINKS, MOST_FLOWS, MOST_ROUTER_LINKS = 256, 1_024, 128, 16
 
 @dataclass
 class Node:
+    """A sender, a receiver or a router."""
+
     name: str
     kind: str
 
 
 @dataclass
 class Link:
+    """A link, from a node to another, by their numbers, and the queue before it."""
+
     name: str
     source: int
     to: int
@@ -34,6 +41,8 @@ class Link:
 
 @dataclass
 class Flow:
+    """A flow, from a sender to a receiver, by their numbers."""
+
     name: str
     sender: int
     receiver: int
@@ -52,32 +61,37 @@ class Net:
     def __init__(self):
         self.nodes, self.links, self.flows, self.around = [], [], [], []
 
-    def node(self, kind, name=None):
+    def node(self, kind: str, name: str | None = None) -> int:
+        """A node more; answers its number."""
         self.nodes.append(Node(name or f'n{len(self.nodes)}', kind))
         self.around.append([])
         return len(self.nodes) - 1
 
-    def link(self, source, to, rate, delay, queue, name=None, note=''):
+    def link(self, source: int, to: int, rate: int, delay: int, queue: Queue, name: str | None = None,
+             note: str = '') -> int:
+        """A link more; answers its number. The rate is bit/s, the delay ns."""
         self.links.append(Link(name or f'l{len(self.links)}', source, to, rate, delay, queue, [], note))
         self.around[source].append(len(self.links) - 1)
         return len(self.links) - 1
 
-    def cable(self, a, b, rate, delay, queue):
+    def cable(self, a: int, b: int, rate: int, delay: int, queue: Queue) -> tuple[int, int]:
         """A link each way, without names."""
         return self.link(a, b, rate, delay, queue), self.link(b, a, rate, delay, queue)
 
-    def joined(self, a, b, rate, delays, queue, note=''):
+    def joined(self, a: int, b: int, rate: int, delays: tuple[int, int], queue: Queue, note: str = '') -> None:
         """A link each way, named by its ends; `delays` are those there and back."""
         for source, to, delay in ((a, b, delays[0]), (b, a, delays[1])):
             self.link(source, to, rate, delay, queue, self.nodes[source].name + self.nodes[to].name, note)
             note = ''
 
-    def flow(self, sender, receiver, mss, segments, start=0, rwnd=2**30, delack=0, name=None, note=''):
+    def flow(self, sender: int, receiver: int, mss: int, segments: int, start: int = 0, rwnd: int = 2**30,
+             delack: int = 0, name: str | None = None, note: str = '') -> int:
+        """A flow more; answers its number. `mss` and `rwnd` are bytes, `start` and `delack` ns."""
         self.flows.append(Flow(name or f'f{len(self.flows)}', sender, receiver, mss, segments, start, rwnd,
                                delack, note))
         return len(self.flows) - 1
 
-    def next_links(self, goal):
+    def next_links(self, goal: int) -> dict[int, int | None]:
         """For each node the first link of a way of fewest hops to `goal` through routers."""
         into = [[] for _ in self.nodes]
         for number, link in enumerate(self.links):
@@ -92,7 +106,7 @@ class Net:
                         queue.append(source)
         return found
 
-    def way(self, start, goal):
+    def way(self, start: int, goal: int) -> list[int]:
         """The links from one node to another."""
         hops, way = self.next_links(goal), []
         while start != goal:
@@ -100,7 +114,7 @@ class Net:
             start = self.links[hops[start]].to
         return way
 
-    def routes(self, every=False):
+    def routes(self, every: bool = False) -> list[tuple[int, int, int]]:
         """(router, destination, link) of all flows' ways, rising; or of every router to every end."""
         routes = set()
         for flow in self.flows:
@@ -111,7 +125,7 @@ class Net:
                                if self.nodes[node].kind == ROUTER}
         return sorted(routes)
 
-    def check(self):
+    def check(self) -> None:
         """Refuses a net of more than the program takes."""
         ports = max((len(links) for links, node in zip(self.around, self.nodes) if node.kind == ROUTER),
                     default=0)
@@ -125,7 +139,7 @@ class Net:
 
     # The text.
 
-    def text(self, end, head=(), notes=True, every_route=False):
+    def text(self, end: int, head: Sequence[str] = (), notes: bool = True, every_route: bool = False) -> str:
         """The scenario's text. With notes each part says what it is."""
         products = self._products()
         lines = [f'# {line}' for line in head] + [f'sim {end}']

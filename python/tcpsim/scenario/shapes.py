@@ -1,8 +1,13 @@
 """Builders of nets: a dumbbell, a parking lot, a chain, a slow way back, a tree, islands. Every route is written out,
 and comments say what each part is.
 """
+from __future__ import annotations
+
+import argparse
+from collections.abc import Sequence
+
 from tcpsim.command_line import Wrong
-from tcpsim.scenario.net import MOST_ROUTER_LINKS, RECEIVER, ROUTER, SENDER
+from tcpsim.scenario.net import MOST_ROUTER_LINKS, RECEIVER, ROUTER, SENDER, Net
 from tcpsim.scenario.units import Queue, spelled_rate, spelled_time
 
 LONG = Queue('droptail', 1_000)
@@ -10,12 +15,12 @@ LONG = Queue('droptail', 1_000)
 
 # ---- shapes
 
-def nth(values, n):
+def nth(values, n: int):
     """The value for flow or hop n, from 0: a list that is shorter begins again."""
     return values[n % len(values)]
 
 
-def not_longer(given, count, what, *names):
+def not_longer(given: argparse.Namespace, count: int, what, *names) -> None:
     """Refuses a list with more values than there is use for."""
     for name in names:
         if len(getattr(given, name)) > count:
@@ -31,7 +36,7 @@ def halves(round_trip, parts):
     return delays
 
 
-def add_flow(net, given, n, routers, delays, note):
+def add_flow(net: Net, given: argparse.Namespace, n: int, routers, delays, note) -> None:
     """Flow fn, the n-th from 0, with a sender at the first of two routers and a receiver at the other. `delays` are the
     sender's, there and back, and the receiver's."""
     sender, receiver = net.node(SENDER, f's{n}'), net.node(RECEIVER, f'r{n}')
@@ -43,10 +48,11 @@ def add_flow(net, given, n, routers, delays, note):
 
 
 def share_of(trips, part):
+    """A part of the least round trip, in ns."""
     return min(trips) // part
 
 
-def dumbbell(net, given):
+def dumbbell(net: Net, given: argparse.Namespace) -> Sequence[str]:
     """Flows over one bottleneck between two routers."""
     if given.flows > MOST_ROUTER_LINKS - 1:
         raise Wrong(f'{given.flows} flows have no room at one router, which has {MOST_ROUTER_LINKS} links: '
@@ -65,18 +71,21 @@ def dumbbell(net, given):
 
 
 def bottleneck(rate, delay, queue):
+    """What a comment says of the bottleneck."""
     return f'the bottleneck: {spelled_rate(rate)}bit/s, {spelled_time(delay)}, {queue}'
 
 
-def many(count, what):
+def many(count: int, what) -> str:
+    """A count with its noun, as 2 flows."""
     return f'{count} {what}{"s" * (count != 1)}'
 
 
-def flows(count):
+def flows(count: int) -> str:
+    """A count of flows, with its noun."""
     return many(count, 'flow')
 
 
-def row_of_routers(net, given):
+def row_of_routers(net: Net, given: argparse.Namespace):
     """Routers p0, p1 and so on, with a cable at each hop."""
     routers = [net.node(ROUTER, f'p{n}') for n in range(given.hops + 1)]
     for n, (a, b) in enumerate(zip(routers, routers[1:])):
@@ -87,7 +96,7 @@ def row_of_routers(net, given):
     return routers
 
 
-def parking_lot(net, given):
+def parking_lot(net: Net, given: argparse.Namespace) -> Sequence[str]:
     """One flow over every hop, and others over one hop each."""
     not_longer(given, given.hops, 'hops', 'rate', 'delay')
     not_longer(given, 1 + given.hops * given.cross, 'flows', 'start', 'segments')
@@ -101,7 +110,7 @@ def parking_lot(net, given):
             f'{"goes" if given.cross == 1 else "go"} over that hop alone.',)
 
 
-def chain(net, given):
+def chain(net: Net, given: argparse.Namespace) -> Sequence[str]:
     """Flows from one end of a row of routers to the other."""
     not_longer(given, given.hops, 'hops', 'rate', 'delay')
     not_longer(given, given.flows, 'flows', 'start', 'segments')
@@ -111,7 +120,7 @@ def chain(net, given):
     return (f'A chain: {flows(given.flows)} over {given.hops} hops in a row.',)
 
 
-def asymmetric(net, given):
+def asymmetric(net: Net, given: argparse.Namespace) -> Sequence[str]:
     """Downloads over a fast link, their acknowledgements over a slow one, and uploads against them."""
     count = given.flows + given.uploads
     if not count:
@@ -134,7 +143,7 @@ def asymmetric(net, given):
             'What comes down is acknowledged on the way up, behind the uploads, and the other way round.')
 
 
-def tree(net, given):
+def tree(net: Net, given: argparse.Namespace) -> Sequence[str]:
     """On each side of one bottleneck a router with leaves below it, and the ends at the leaves."""
     count = given.leaves if given.flows is None else given.flows
     not_longer(given, count, 'flows', 'rtt', 'start', 'segments')
@@ -154,7 +163,7 @@ def tree(net, given):
             f'and {flows(count)} from those of p to those of q.',)
 
 
-def islands(net, given):
+def islands(net: Net, given: argparse.Namespace) -> Sequence[str]:
     """Parts with a bottleneck each, joined in a ring by long cables."""
     if given.crossing > given.flows:
         raise Wrong(f'--crossing {given.crossing} is more than the {flows(given.flows)} of each island')

@@ -1,6 +1,8 @@
 """A scenario's text, read: its nodes, links and flows, and each flow's ways. Times are nanoseconds, sizes bytes, rates
 bit/s. Nothing but Python's standard library.
 """
+from __future__ import annotations
+
 from collections import namedtuple
 
 from tcpsim.command_line import Refused
@@ -20,7 +22,7 @@ class Unreadable(Refused):
 class Scenario:
     """A scenario that the program has taken: names and numbers, and each flow's two ways."""
 
-    def __init__(self, text):
+    def __init__(self, text: str):
         self.text = text
         self.end, self.nodes, self.links, self.flows, self.routes = None, [], [], [], {}
         self.lost = {}                  # of each link that loses packets, which of those that are offered to it
@@ -73,7 +75,7 @@ class Scenario:
     def _lose(self, link, number):
         self.lost.setdefault(self._numbers[link], set()).add(int(number))
 
-    def hop(self, node, to):
+    def hop(self, node: int, to: int) -> int | None:
         """The link over which a node sends what is for `to`."""
         if self.nodes[node].kind == 'router':
             return self.routes.get((node, to))
