@@ -151,6 +151,8 @@ def status_of(module: str) -> int:
         importlib.import_module(module).main()
     except Ended as wrong:
         return 128 + wrong.number
+    except SystemExit as done:          # of --help and --version
+        return done.code or 0
     except OutputClosed as wrong:
         return wrong.status
     except Refused as wrong:

@@ -121,6 +121,14 @@ def test_refusals_are_those_of_who_runs(bare, tmp_path):
         assert done.stderr.removeprefix(BY_MODEL).count(b'\n') == 1, done.stderr
 
 
+def test_help_and_version_end_well(bare):
+    """Status 0, each time: nothing that wakes a tool goes on when it has ended."""
+    for name in ('tcpsim-flows', 'tcpsim-plot', 'tcpsim-run', 'tcpsim-net') * 3:
+        for word in ('--help', '--version'):
+            done = bare(name, word)
+            assert done.returncode == 0 or b'matplotlib is not there' in done.stderr, (name, word, done)
+
+
 # ---- long runs
 
 def long_text():
