@@ -5,7 +5,7 @@
 # of one crate;
 # `make bench` measures the built program and writes bench/RESULTS.md (python3 and valgrind);
 # `make pictures` draws the pictures of README.md and docs/TUTORIAL.md (python3 and matplotlib);
-# `make pages` writes the replay of every example and a list of them into pages/ (libjs-d3);
+# `make pages` writes the replay of every example and a list of them into pages/;
 # `make install PREFIX=DIR` puts the program, the tools tcpsim-NAME, their man pages, the documents with
 # the examples, and completions for bash, zsh and fish below DIR, /usr/local if none is given, and
 # `make uninstall PREFIX=DIR` takes them away.
@@ -23,7 +23,7 @@ BASH_COMPLETIONS = share/bash-completion/completions
 ZSH_COMPLETION = share/zsh/site-functions/_tcpsim
 FISH_COMPLETIONS = share/fish/vendor_completions.d
 # The tools that are installed, each started by bin/tcpsim-NAME, and the packages below python/ that they are made of.
-TOOLS = plot flows net sweep replay follow stalls
+TOOLS = run plot flows net sweep replay follow stalls model
 PACKAGES = tcpsim tcpsim_model
 
 # Where CI=true all that tests want is installed first, and a test that is left out has failed.

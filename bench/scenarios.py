@@ -11,8 +11,8 @@ import sys
 TOP = os.path.dirname(os.path.dirname(os.path.abspath(__file__)))
 sys.path.insert(0, os.path.join(TOP, 'python'))
 
-from tcpsim.scenario import shapes  # noqa: E402
-from tcpsim.scenario.shapes import RECEIVER, ROUTER, SENDER  # noqa: E402
+from tcpsim.scenario import net as nets  # noqa: E402
+from tcpsim.scenario.net import RECEIVER, ROUTER, SENDER  # noqa: E402
 from tcpsim.scenario.units import Queue  # noqa: E402
 from tcpsim_model.text import assemble, disassemble  # noqa: E402
 
@@ -29,7 +29,7 @@ def codel(capacity, target, interval):
     return Queue('codel', capacity, target, interval)
 
 
-class Net(shapes.Net):
+class Net(nets.Net):
     """A net whose nodes, links and flows are called by their numbers."""
 
     def ends(self, at, to, up, down, *numbers):

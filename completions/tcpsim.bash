@@ -54,5 +54,5 @@ _tcpsim_tool() {
 }
 
 complete -o default -F _tcpsim tcpsim
-complete -o default -F _tcpsim_tool tcpsim-flows tcpsim-plot tcpsim-net tcpsim-sweep tcpsim-follow tcpsim-stalls \
+complete -o default -F _tcpsim_tool tcpsim-run tcpsim-model tcpsim-flows tcpsim-plot tcpsim-net tcpsim-sweep tcpsim-follow tcpsim-stalls \
   tcpsim-replay

@@ -13,8 +13,9 @@ import sys
 from paths import TOP
 from tcpsim.command_line import Words, run
 from tcpsim.output import opened, written
-from tcpsim.replay.recording import Part, page, read_d3
-from tcpsim.trace import Unreadable
+from tcpsim.replay.page import page
+from tcpsim.replay.recording import Part
+from tcpsim.scenario.text import Unreadable
 from tcpsim.whole_trace import opened_run
 
 INDEX = '''<!DOCTYPE html>
@@ -74,7 +75,6 @@ def write_all(folder, out):
     names = names_in(folder)
     if not names:
         raise Unreadable(f'{folder} has no scenario NAME.txt with its NAME.trace')
-    read_d3()
     os.makedirs(out, exist_ok=True)
     rows = [write_one(folder, name, out) for name in names]
     with written(os.path.join(out, 'index.html')) as file:

@@ -107,6 +107,7 @@ def room():
     for number in ends:
         signal.signal(number, end)
     folder = tempfile.mkdtemp(prefix='run-tests-')
+    os.chmod(folder, 0o711)         # a test that is run as nobody comes through it
     try:
         yield folder
     finally:

@@ -16,6 +16,7 @@ from unittest import mock
 import compare
 from compare import debugger, prompt
 from paths import TOP
+from tcpsim_model import grammar, waits
 from tcpsim_model.scenario import Refused
 
 ENOUGH = 400        # sessions in which a fault has to show
@@ -31,8 +32,8 @@ with open({model!r} + '/tcpsim_model/command_line.py') as file:
 at_prompt = prompt.Prompt
 right = {name: getattr(place, name) for place, name in (
     (at_prompt, 'answer'), (at_prompt, 'quits'), (at_prompt, 'on_break'), (at_prompt, 'where'), (at_prompt, 'of_node'),
-    (at_prompt, 'of_flow'), (prompt, 'time_in'), (prompt, 'numbered'), (prompt.Marked, 'is_met'), (prompt, 'standing'),
-    (prompt, 'waiting'), (prompt, 'edits'))}
+    (at_prompt, 'of_flow'), (prompt, 'time_in'), (prompt, 'numbered'), (prompt.Marked, 'is_met'), (waits, 'standing'),
+    (waits, 'waiting'), (prompt, 'edits'))}
 
 
 def empty_lines_do_nothing(self, line):
@@ -75,12 +76,12 @@ def back_to_where_it_is(self):
 
 
 def matches_either(self, breakpoint, position):
-    return any(self.is_met(*condition, position) for condition in breakpoint)
+    return any(self.is_met(*condition, position, False) for condition in breakpoint)
 
 
-def drops_are_at_no_link(self, sort, value, position):
+def drops_are_at_no_link(self, sort, value, position, drops):
     acts = self.lines[position - 1].acts
-    return right['is_met'](self, sort, value, position) and (sort != b'link' or any(' tx=' in act for act in acts))
+    return right['is_met'](self, sort, value, position, drops) and (sort != b'link' or any(' tx=' in act for act in acts))
 
 
 def stalls_match_as_long_as_they_last(self):
@@ -97,9 +98,9 @@ def names_the_congestion_window(net, flow):
 # What is wrong in each program: since which step it can be, and what is changed.
 FAULTS = {
     'a long line is read': (1, prompt, 'MOST_LINE', 10**9),
-    'a microsecond is a millisecond': (1, prompt, 'PLACES', {**prompt.PLACES, b'us': 6}),
+    'a microsecond is a millisecond': (1, grammar, 'PLACES', {**grammar.PLACES, b'us': 6}),
     'a time may begin with zeros': (1, prompt, 'time_in', times_may_begin_with_zeros),
-    'the most is one less': (1, prompt, 'MOST', 10**15 - 1),
+    'the most is one less': (1, grammar, 'MOST', 10**15 - 1),
     'st is state': (1, prompt, 'NAMES', {b'state': 1, **prompt.NAMES}),
     'b is break': (1, prompt, 'NAMES', {b'break': 1, **prompt.NAMES}),
     'an empty line does nothing': (1, at_prompt, 'answer', empty_lines_do_nothing),
@@ -115,12 +116,12 @@ FAULTS = {
     'the last that matches is told': (3, at_prompt, 'what_matched', the_last_that_matches),
     'a node has its neighbour\'s line': (4, at_prompt, 'of_node', lambda self, node: right['of_node'](self, max(node - 1, 0))),
     'packets that wait are left out': (4, at_prompt, 'of_flow', only_ends_and_events),
-    'why names cwnd where rwnd binds': (5, prompt, 'standing', names_the_congestion_window),
-    'places are told from 0': (5, prompt, 'waiting', lambda net, flow: [it.replace('place 1 ', 'place 0 ') for it in right['waiting'](net, flow)]),
+    'why names cwnd where rwnd binds': (5, waits, 'standing', names_the_congestion_window),
+    'places are told from 0': (5, waits, 'waiting', lambda net, flow: [it.replace('place 1 ', 'place 0 ') for it in right['waiting'](net, flow)]),
     'r is reverse': (6, prompt, 'NAMES', {b'reverse': 5, **prompt.NAMES}),
     'reverse stops where it is': (6, debugger.Debugger, 'reverse', back_to_where_it_is),
     'a breakpoint of two conditions matches either': (7, prompt.Marked, 'is_matched', matches_either),
-    'conditions are told in another order': (7, prompt, 'CONDITIONS', prompt.CONDITIONS[::-1]),
+    'conditions are told in another order': (7, grammar, 'CONDITIONS', grammar.CONDITIONS[::-1]),
     'a drop is at no link': (7, prompt.Marked, 'is_met', drops_are_at_no_link),
     'a stall that goes on matches again': (8, prompt.Marked, 'event', stalls_match_as_long_as_they_last),
     'a word of four bytes has no nearest name': (1, prompt, 'MOST_WORD', 3),

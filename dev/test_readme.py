@@ -4,7 +4,7 @@ stands and prints what stands below it, docs/index.md has every page, docs/PROOF
 docs/GLOSSARY.md names is there.
 
 The commands run in a folder of their own, with the project's folders in it, so they go after `make run`. Left out
-are `make` and `apt-get`, and pictures and pages where matplotlib or d3 is not there, which is said.
+are `make` and `apt-get`, and pictures where matplotlib is not there, which is said.
 Usage: dev/test_readme.py. The last line is 'N passed, N failed'.
 """
 import os
@@ -20,8 +20,7 @@ MOST_LINES, MOST_OF_A_LINE = 150, 400
 MOST_OF_A_CRATE = 5     # points of docs/PROOFS.md
 # What a command wants beside the program, and how it is found.
 WANTED = {'tcpsim-plot': ('matplotlib', lambda: not subprocess.run([sys.executable, '-c', 'import matplotlib'],
-                                                                   stderr=subprocess.DEVNULL, check=False).returncode),
-          'tcpsim-replay': ('d3', lambda: os.path.exists('/usr/share/javascript/d3/d3.min.js'))}
+                                                                   stderr=subprocess.DEVNULL, check=False).returncode)}
 
 
 def read(*path):

@@ -17,7 +17,7 @@ import unittest
 from paths import MODEL, TOP
 from tcpsim.figures import Figures
 from tcpsim.figures import figures as trace_figures
-from tcpsim.trace import Scenario
+from tcpsim.scenario.text import Scenario
 
 BUILT = os.path.join(TOP, 'crates', 'tcpsim', 'out', 'tcpsim')
 

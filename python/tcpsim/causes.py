@@ -4,6 +4,8 @@ A function is given a `Stall` (stalls.py) at its end and answers None, or a `Fou
 and the lines of the trace that show it. The cause of a stall is the first of `CAUSES` that holds. From
 the third on exactly one of them holds of a stall, whatever their order.
 """
+from __future__ import annotations
+
 from collections import namedtuple
 
 from tcpsim.lives import DROPPED, PARTIAL, THIRD_DUPLICATE
@@ -13,7 +15,7 @@ Found = namedtuple('Found', 'words lines')
 
 # ---- words
 
-def seconds(time):
+def seconds(time: int) -> str:
     """A time in the greatest unit in which it is at least one."""
     for unit, size in (('s', 10**9), ('ms', 10**6), ('us', 10**3)):
         if time >= size:
@@ -21,22 +23,24 @@ def seconds(time):
     return f'{time} ns'
 
 
-def counted(count, noun):
+def counted(count: int, noun: str) -> str:
+    """A count with its noun, as 2 duplicates."""
     return f'{count} {noun}' if count == 1 else f'{count} {noun}s'
 
 
 # ---- what is true of a stall
 
-def is_dropped(packet):
+def is_dropped(packet) -> bool:
+    """Whether a packet was dropped."""
     return packet.fate in DROPPED
 
 
-def is_lost(stall):
+def is_lost(stall) -> bool:
     """Whether every copy of the segment at una that was sent up to the span's beginning was dropped."""
     return all(map(is_dropped, stall.copies))
 
 
-def is_left_to_the_timer(stall):
+def is_left_to_the_timer(stall) -> bool:
     """Whether the segment at una was lost, and neither a third duplicate nor a partial acknowledgement was
     the first to send it again."""
     return is_lost(stall) and not (stall.resent and stall.resent[0].why in (THIRD_DUPLICATE, PARTIAL))
@@ -56,12 +60,14 @@ def lost_acknowledgement(stall):
     return lost if matters(stall, instead - lost.offered) else None
 
 
-def is_lost_again(stall):
+def is_lost_again(stall) -> bool:
+    """Whether the span is due to a retransmission that was dropped."""
     return not is_left_to_the_timer(stall) and any(map(is_dropped, stall.resent)) and \
         (is_lost(stall) or lost_acknowledgement(stall) is not None)
 
 
-def has_lost_acknowledgement(stall):
+def has_lost_acknowledgement(stall) -> bool:
+    """Whether the span is due to an acknowledgement that was dropped."""
     return not is_left_to_the_timer(stall) and not is_lost_again(stall) and lost_acknowledgement(stall) is not None
 
 
@@ -71,7 +77,7 @@ def doubled_timers(stall):
     return ended + ([(None, stall.rto)] if stall.ack is None and stall.doubled else [])
 
 
-def is_unharmed(stall):
+def is_unharmed(stall) -> bool:
     """Whether neither the segment at una nor an acknowledgement whose loss matters was lost."""
     return not is_lost(stall) and not is_lost_again(stall) and lost_acknowledgement(stall) is None
 
@@ -83,7 +89,7 @@ def delay_of_the_answer(stall):
     return 0 if stall.ack.since is None else stall.ack.offered - stall.ack.since
 
 
-def is_delayed(stall):
+def is_delayed(stall) -> bool:
     """Whether the wait of the receiver's answer made the span too long, or more than half of it."""
     delay = delay_of_the_answer(stall)
     return delay > 0 and matters(stall, delay)
@@ -108,6 +114,7 @@ def why_so_few(stall):
 
 
 def words_of_timers(stall):
+    """What is said of the timers that ended."""
     if not stall.timers:
         return ''
     return f'; the timer ended after {" and ".join(seconds(timer.value) for timer in stall.timers)}'
@@ -232,12 +239,13 @@ CAUSES = (the_receive_window_was_full, its_packets_waited_in_one_queue, a_loss_w
 PARTITION = CAUSES[2:]      # of these exactly one holds of each stall
 
 
-def name_of(cause):
+def name_of(cause) -> str:
     """A cause in a few words."""
     return cause.__name__.replace('_', ' ')
 
 
-def rule_of(cause):
+def rule_of(cause) -> str:
+    """The rule of a cause, in words."""
     return ' '.join(cause.__doc__.split())
 
 

@@ -3,6 +3,8 @@
 `run` is what a command calls. Nothing but Python's standard library, and little of it: until `run` is called an
 interruption is Python's own.
 """
+from __future__ import annotations
+
 import argparse
 import contextlib
 import importlib
@@ -10,7 +12,10 @@ import os
 import signal
 import sys
 
+from tcpsim import __version__
+
 ENDS = signal.SIGINT, signal.SIGTERM, signal.SIGHUP     # the signals that ask a tool to end
+MODEL = '--model'       # as a program's name: the model, wherever it is
 AGAIN = 0.01            # seconds after which an interruption comes again that nobody could take
 WAKE = 0.5              # seconds after which a read is looked into that began just as a signal had come, and would wait
 
@@ -58,34 +63,43 @@ class Words(argparse.ArgumentParser):
 
     def __init__(self, **given):
         super().__init__(allow_abbrev=False, **{'prog': tool(), **given})
+        self.add_argument('--version', action='version', version=f'{tool()} {__version__}', help='the version of the tools')
 
-    def error(self, message):
+    def error(self, message: str) -> None:
+        """Raises what is wrong as `Wrong`."""
         raise Wrong(message)
 
-    def print_help(self, file=None):
+    def print_help(self, file=None) -> None:
+        """Writes the help to standard output."""
         from tcpsim import output
         with output.opened() as out:
             out.write(self.format_help())
 
-    def add_output(self, what):
+    def add_output(self, what: str) -> None:
         """The option -o; `what` says what is written."""
         self.add_argument('-o', '--output', metavar='FILE', help=f'{what}; else standard output')
 
-    def add_trace(self):
+    def add_trace(self) -> None:
         """What tools that read a run take: a trace, or the program that writes it."""
         self.add_argument('trace', metavar='TRACE', nargs='?', help='else the program is run')
         self.add_argument('--partial', action='store_true', help='take a trace that is cut, as far as it goes')
-        self.add_argument('--program', metavar='FILE', help='the program that is run where no trace is given')
+        self.add_program('the program that is run where no trace is given')
+
+    def add_program(self, what: str) -> None:
+        """What names who runs scenarios; `what` says what the program is."""
+        self.add_argument('--program', metavar='FILE', help=what)
+        self.add_argument('--model', action='store_const', const=MODEL, dest='program',
+                          help='run the model, even where the program is there, however long it takes')
 
 
-def tool():
+def tool() -> str:
     """The name under which the tool was called."""
     return os.path.basename(sys.argv[0])
 
 
 # ---- ends
 
-def run(module):
+def run(module: str) -> int:
     """Runs a tool, the `main` of a module; answers its status. Signals that ask to end are raised as `Ended`, so that
     what was begun is taken away; those that were ignored from the start stay so, as nohup has it."""
     open_standard_files()
@@ -105,18 +119,24 @@ def run(module):
     return status
 
 
-def end(number, _frame):
+def become(path, words) -> None:
+    """Goes on as another program; its signals and timers are as a new one's."""
+    signal.setitimer(signal.ITIMER_REAL, 0)
+    os.execv(path, [path, *words])
+
+
+def end(number, _frame) -> None:
     """A handler: what comes after the first signal no longer counts, so that nothing breaks into taking away."""
     for other in ENDS:
         signal.signal(other, nothing)
     raise Ended(number)
 
 
-def nothing(_number, _frame):
+def nothing(_number, _frame) -> None:
     """A handler."""
 
 
-def end_later(unraisable):
+def end_later(unraisable) -> None:
     """Where a signal came while a destructor ran, nobody could take what it raised: it is raised again."""
     if isinstance(unraisable.exc_value, Ended):
         signal.signal(signal.SIGALRM, lambda *_: end(unraisable.exc_value.number, None))
@@ -125,12 +145,14 @@ def end_later(unraisable):
         sys.__unraisablehook__(unraisable)
 
 
-def status_of(module):
+def status_of(module: str) -> int:
     """The status of a tool; where it is refused, standard error has the sentence."""
     try:
         importlib.import_module(module).main()
     except Ended as wrong:
         return 128 + wrong.number
+    except SystemExit as done:          # of --help and --version
+        return done.code or 0
     except OutputClosed as wrong:
         return wrong.status
     except Refused as wrong:
@@ -142,25 +164,25 @@ def status_of(module):
     return 0
 
 
-def sentence(wrong):
+def sentence(wrong) -> str:
     """What an error of the operating system says, with the file's name where it has one."""
     return ': '.join(str(part) for part in (wrong.filename, wrong.strerror or wrong) if part is not None)
 
 
-def refuse(message, status=1):
+def refuse(message: object, status: int = 1) -> int:
     """Says one sentence on standard error; answers the status."""
     note(f'{tool()}: {" ".join(str(message).split())}')
     return status
 
 
-def note(text, end='\n'):
+def note(text: str, end: str = '\n') -> None:
     """Writes a line on standard error; where nobody can be told, nobody is."""
     if sys.stderr is not None:
         with contextlib.suppress(OSError):
             print(text, end=end, file=sys.stderr, flush=True)
 
 
-def open_standard_files():
+def open_standard_files() -> None:
     """Has something at the descriptors 0 to 2 where they are closed, so that no file that is opened gets one of them."""
     for number in range(3):
         try:

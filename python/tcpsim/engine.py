@@ -3,9 +3,13 @@
 docs/FORMATS.md has the table. Used by figures.py and sweep.py; nothing but Python's standard library. All times are
 nanoseconds, all sizes bytes.
 """
+from __future__ import annotations
+
+from tcpsim.command_line import MODEL
 from tcpsim.program import find_program
-from tcpsim.trace import BITS_NS, HEADER_BYTES, Scenario, Unreadable
-from tcpsim.whole_trace import BLOCK, ProgramFailed, running, scenario_bytes, scenario_text
+from tcpsim.scenario.text import Scenario, Unreadable
+from tcpsim.scenario.units import BITS_NS, HEADER_BYTES
+from tcpsim.whole_trace import BLOCK, ProgramFailed, Running, running, scenario_bytes, scenario_text
 
 LONGEST_TABLE = 1 << 26         # bytes
 HEADING = 'what,number,figure,unit,value'
@@ -25,9 +29,9 @@ OF_THE_RUN = {('events', 'events'): False, ('end', 'ns'): False}
 REASONS = ('dropped as lost', 'dropped as full', 'dropped by CoDel')
 
 
-def table_of(source, program=None):
+def table_of(source: bytes, program: str | None = None) -> str:
     """The table of a scenario's bytes, as the program writes it."""
-    path = find_program(program)
+    path = find_program(program, lambda: [scenario_text(source, 'the scenario', MODEL)])
     try:
         with running([path, 'figures'], source) as process:
             return written_table(process)
@@ -37,7 +41,7 @@ def table_of(source, program=None):
         raise
 
 
-def written_table(process):
+def written_table(process: Running) -> str:
     """The table that a program writes that runs."""
     blocks, size = [], 0
     while block := process.read(BLOCK):
@@ -51,7 +55,7 @@ def written_table(process):
     return b''.join(blocks).decode('ascii', 'replace')
 
 
-def read_table(table):
+def read_table(table: str) -> dict:
     """The values of a whole table, by what and number, and then by figure and unit; None where there is none."""
     heading, *lines = table.splitlines() or ['']
     values = {}
@@ -85,7 +89,7 @@ class EngineRun:
     The span is that of figures.py: from the first flow's start to the last event where every flow is complete, else to
     the scenario's end."""
 
-    def __init__(self, scenario, table):
+    def __init__(self, scenario: Scenario, table: str):
         values = read_table(table)
         self.flows = [figures_of(values, ('flow', str(n)), OF_A_FLOW) for n in range(len(scenario.flows))]
         self.links = [figures_of(values, ('link', str(n)), OF_A_LINK) for n in range(len(scenario.links))]
@@ -100,16 +104,17 @@ class EngineRun:
         # Past the last event a link can be busy to the scenario's end, for less than its longest packet takes.
         self.beyond = scenario.end - self.last if done else None
 
-    def goodput(self, number):
+    def goodput(self, number: int) -> float | None:
         """Bits a second that came to the receiver in order, from the flow's start to its completion."""
         start, completed = self.scenario.flows[number].start, self.flows[number]['completed', 'ns']
         until = self.end if completed is None else completed
         return self.flows[number]['delivered', 'bytes'] * BITS_NS / (until - start) if start < until else None
 
-    def dropped(self, number):
+    def dropped(self, number: int) -> int:
+        """Packets that a link dropped."""
         return sum(self.links[number][reason, 'packets'] for reason in REASONS)
 
-    def data_dropped(self):
+    def data_dropped(self) -> int | None:
         """Segments that were dropped at any link; None where a link dropped something to which acknowledgements come too."""
         total = 0
         for number in range(len(self.links)):
@@ -119,11 +124,11 @@ class EngineRun:
             total += 0 if back else self.dropped(number)
         return total
 
-    def idle(self, number):
+    def idle(self, number: int) -> bool:
         """Whether a link has carried and dropped nothing."""
         return not (self.links[number]['sent', 'packets'] or self.dropped(number))
 
-    def over_span(self, number, figure):
+    def over_span(self, number: int, figure: tuple[str, str]) -> float | None:
         """What was counted to the scenario's end, over the span; None where that ends earlier and it cannot be told
         whether the link was busy in between."""
         value = self.links[number][figure]
@@ -131,14 +136,14 @@ class EngineRun:
             return None
         return value / (self.end - self.begin)
 
-    def longest(self, number):
+    def longest(self, number: int) -> int:
         """Nanoseconds that the greatest packet takes that can come to a link."""
         sizes = [HEADER_BYTES + (flow.mss if number in there else 0)
                  for flow, (there, back) in zip(self.scenario.flows, self.scenario.ways) if number in there + back]
         return -(-max(sizes, default=0) * BITS_NS // self.scenario.links[number].rate)
 
 
-def engine_run(path, program=None):
+def engine_run(path: str, program: str | None = None) -> EngineRun:
     """The figures of a scenario's file, a text or an image (`-`: standard input)."""
     source = scenario_bytes(path)
     table = table_of(source, program)

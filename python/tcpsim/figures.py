@@ -1,31 +1,23 @@
-"""Figures of each flow and each link of a run, as a table or as CSV.
+"""Figures of each flow and each link of a run, counted while its trace is read, or from the table that the program writes.
 
-Usage: bin/tcpsim-flows SCENARIO [TRACE] [--csv | --series STEP] [--from T] [--to T] [--busy] [--partial] [-o FILE]
-                        [--program PATH]
-       bin/tcpsim-flows SCENARIO --engine [--csv] [--busy] [-o FILE] [--program PATH]
-
-SCENARIO is a text or an image, `-` is standard input. Without TRACE the program is run. The trace is
-read as it comes and is not kept; with --engine there is none, and the figures are from `tcpsim figures`.
-The span is from the first flow's start to the last line where every flow is complete, else to the
-scenario's end; --from and --to (times, as 5s or 20ms) choose a part of it, to which what
-happens at --to itself does not belong. A trace that is cut is refused, or with --partial taken as far as it goes. --series writes as CSV each flow's mean window and goodput and
-each link's mean and greatest queue, a row for each STEP. --busy leaves out the links that carried and
-dropped nothing.
+A trace is not kept. The span is from the first flow's start to the last line where every flow is complete, else to the
+scenario's end. Nothing but Python's standard library. All times are nanoseconds, all sizes bytes.
 """
-import csv
+from __future__ import annotations
+
 import math
-import os
 import tempfile
 from array import array
 from collections import Counter, defaultdict
+from collections.abc import Iterable, Sequence
 from itertools import islice
 
 from tcpsim import output
-from tcpsim.command_line import Words, as_type
-from tcpsim.engine import BUSY, REASONS, WAITED, engine_run
-from tcpsim.scenario import units
-from tcpsim.trace import ACK, BITS_NS, DATA, NEVER, FlowState, LinkState, Reader, Unreadable
-from tcpsim.whole_trace import inputs_of, opened_run
+from tcpsim.engine import BUSY, REASONS, WAITED, EngineRun
+from tcpsim.samples import Sample
+from tcpsim.scenario.text import Flow, Link, Scenario, Unreadable
+from tcpsim.scenario.units import BITS_NS
+from tcpsim.trace import ACK, DATA, NEVER, FlowState, LinkState, Reader, Stream
 
 S = 10**9
 HELD = 1 << 19          # numbers that all samples together hold in memory
@@ -33,67 +25,10 @@ PORTION = 1 << 16       # lines between two looks at how many are held
 ROWS = 10**6            # the most of a series
 
 
-# ---- figures of numbers
-
-def percentile(values, percent):
-    """The least value that at least `percent` in a hundred of the values do not exceed (nearest rank);
-    None of no values."""
-    ranked = sorted(values)
-    return ranked[max(0, -(-percent * len(ranked) // 100) - 1)] if ranked else None
-
-
-def jain(shares):
+def jain(shares: Sequence[float]) -> float | None:
     """Jain's index of fairness: 1 where all are equal, 1/n where one has all; None where all are zero."""
     squares = sum(share * share for share in shares)
     return sum(shares)**2 / (len(shares) * squares) if squares else None
-
-
-class Sample:
-    """Numbers not below 0, of which percentiles are asked for. `recent` takes them; `spill` puts them into a
-    file, so that no run is too long for the memory."""
-
-    def __init__(self, file):
-        self.recent, self._file, self._parts = array('q'), file, []
-
-    def spill(self):
-        if self.recent:
-            with output.named(tempfile.gettempdir()):
-                self._parts.append((self._file.seek(0, os.SEEK_END), len(self.recent)))
-                self.recent.tofile(self._file)
-            del self.recent[:]
-
-    def clear(self):
-        self._parts = []
-        del self.recent[:]
-
-    def least(self):
-        return min((min(portion) for portion in self._portions() if portion), default=None)
-
-    def percentile(self, percent):
-        """As `percentile` above. Where the numbers stand in a file, those that fall into each of 65,536
-        cells are counted, and then again within the cell that has the rank, until a cell is one number."""
-        if not self._parts:
-            return percentile(self.recent, percent)
-        rank = max(0, -(-percent * sum(map(len, self._portions())) // 100) - 1)
-        low, high, width = 0, 1 + max(max(portion, default=0) for portion in self._portions()), 2
-        while width > 1:
-            width, counts = -(-(high - low) // 65_536), Counter()
-            for portion in self._portions():
-                counts.update([(n - low) // width for n in portion if low <= n < high])
-            for cell in sorted(counts):
-                if rank < counts[cell]:
-                    break
-                rank -= counts[cell]
-            low, high = low + cell * width, min(high, low + (cell + 1) * width)
-        return low
-
-    def _portions(self):
-        for at, count in self._parts:
-            self._file.seek(at)
-            portion = array('q')
-            portion.fromfile(self._file, count)
-            yield portion
-        yield self.recent
 
 
 # ---- what is counted while a trace is read
@@ -101,37 +36,42 @@ class Sample:
 class FlowFigures(FlowState):
     """A flow's counts from the span's begin on."""
 
-    def __init__(self, flow, number):
+    def __init__(self, flow: Flow, number: int):
         super().__init__(flow, number)
         self.begin()
 
-    def begin(self):
+    def begin(self) -> None:
         """Counts from here on."""
         self.expected_before, self.high_before = self.expected, self.high
         self.by_fast_retransmit = self.by_timeout = self.timeouts = 0
         self.drops = Counter()          # of each reason, sort and link
         del self.round_trips[:]
 
-    def on_again(self, _time, _number, by_dups):
+    def on_again(self, _time: int, _number: int, by_dups: bool) -> None:
+        """Counts a segment that was sent again."""
         if by_dups:
             self.by_fast_retransmit += 1
         else:
             self.by_timeout += 1
 
-    def on_timeout(self, _time):
+    def on_timeout(self, _time: int) -> None:
+        """Counts a timeout."""
         self.timeouts += 1
 
-    def on_drop(self, _time, link, reason, sort, _number):
+    def on_drop(self, _time: int, link: int, reason: str, sort: int, _number: int) -> None:
+        """Counts a packet that was dropped."""
         self.drops[reason, sort, link] += 1
 
-    def delivered(self):
+    def delivered(self) -> int:
+        """Bytes that the receiver got in order in the span."""
         return self.expected - self.expected_before
 
-    def sent(self):
+    def sent(self) -> int:
+        """Segments sent in the span, again ones too."""
         first = (self.high - self.high_before) // self.flow.mss
         return first + self.by_fast_retransmit + self.by_timeout
 
-    def goodput(self, begin, end):
+    def goodput(self, begin: int, end: int) -> float | None:
         """Bits a second that came to the receiver in order, from the flow's start to its completion; None
         where it was not under way in the span."""
         since = max(begin, self.flow.start)
@@ -144,7 +84,8 @@ class FlowSeries(FlowFigures):
 
     cwnd = area = 0     # the area up to a moment t is `area + cwnd * t`
 
-    def on_window(self, time, cwnd, _ssthresh, _flight):
+    def on_window(self, time: int, cwnd: str, _ssthresh: str, _flight: int) -> None:
+        """Sums the window over the time."""
         now = int(cwnd) if self.completed is None else 0
         self.area += (self.cwnd - now) * time
         self.cwnd = now
@@ -153,13 +94,13 @@ class FlowSeries(FlowFigures):
 class LinkFigures(LinkState):
     """A link's counts from the span's begin on."""
 
-    def __init__(self, link, number, kind):
+    def __init__(self, link: Link, number: int, kind: str):
         super().__init__(link, number, kind)
         self.waits = array('q')
         self.began, self.last = 0, None     # when it began the last packet, and which
         self.begin(0)
 
-    def begin(self, time):
+    def begin(self, time: int) -> None:
         """Counts from this moment on."""
         self.overhang = 0 if self.last is None else max(0, self.began + self.duration(self.last) - time)
         self.count = defaultdict(int)       # packets sent of each stream
@@ -168,40 +109,47 @@ class LinkFigures(LinkState):
         self.last = None
         del self.waits[:]
 
-    def duration(self, stream):
+    def duration(self, stream: Stream) -> int:
+        """Nanoseconds that a packet takes to be sent."""
         return -(-stream.size * BITS_NS // self.link.rate)
 
-    def summed(self, time):
+    def summed(self, time: int) -> int:
         """How many packets waited, summed over the time up to this moment."""
         return self.waited + len(self.waiting) * time
 
-    def on_taken(self, time, stream, entered):
+    def on_taken(self, time: int, stream: Stream, entered: int) -> None:
+        """Counts a packet that it begins to send."""
         self.count[stream] += 1
         self.waits.append(time - entered)
         self.began, self.last = time, stream
 
-    def on_drop(self, *_):
+    def on_drop(self, *_) -> None:
+        """Counts a packet that was dropped."""
         self.drops += 1
 
-    def sent(self):
+    def sent(self) -> int:
+        """Packets that it began to send."""
         return sum(self.count.values())
 
-    def idle(self):
+    def idle(self) -> bool:
         """Whether it has carried and dropped nothing."""
         return not (self.count or self.overhang or self.drops)
 
-    def mean_queue(self, begin, end):
+    def mean_queue(self, begin: int, end: int) -> float:
+        """How many packets waited, in the mean over a span in ns."""
         return (self.summed(end) - self.before) / (end - begin)
 
-    def greatest_queue(self):
+    def greatest_queue(self) -> int:
+        """The most packets that waited at once."""
         return max(self.most, self.greatest)
 
-    def sending(self, end):
+    def sending(self, end: int) -> int:
         """Nanoseconds in which it was sending."""
         past = 0 if self.last is None else max(0, self.began + self.duration(self.last) - end)
         return self.overhang + sum(n * self.duration(stream) for stream, n in self.count.items()) - past
 
-    def bytes_of(self, number):
+    def bytes_of(self, number: int) -> int:
+        """Bytes of a flow that it sent."""
         return sum(n * stream.size for stream, n in self.count.items() if stream.flow == number)
 
 
@@ -209,7 +157,8 @@ class Figures(Reader):
     """A trace's figures from `begin` (else the first flow's start) to `end`, read as they come. With a
     `step`, the rows of a series."""
 
-    def __init__(self, scenario, lines, begin=None, end=None, step=None):
+    def __init__(self, scenario: Scenario, lines: Iterable[str], begin: int | None = None, end: int | None = None,
+                 step: int | None = None):
         super().__init__(scenario, FlowFigures if step is None else FlowSeries, LinkFigures)
         self._file, self.series = tempfile.TemporaryFile(), tempfile.TemporaryFile()
         self.trips = [Sample(self._file) for _ in self.flows]
@@ -251,7 +200,8 @@ class Figures(Reader):
 
     # Moments at which the span begins, a row ends, or the span ends.
 
-    def reached(self, time):
+    def reached(self, time: int) -> int | None:
+        """Begins the span, ends a row or the span; answers the next such moment in ns. Unreadable where rows are too many."""
         if self._step and (min(time, self._stop) - self._row_begin) // self._step + self.rows > ROWS:
             raise Unreadable(f'the series has more than {ROWS:,} rows: take a longer step')
         while self._due is not None and self._due <= time:
@@ -277,7 +227,7 @@ class Figures(Reader):
 
     # The rows of a series: in the file `series`, the two moments and then a number for each column.
 
-    def columns(self):
+    def columns(self) -> list[tuple]:
         """The titles of a row's numbers, and the link of each, if it is a link's."""
         return [('from s', None), ('to s', None)] + [
             (f'{flow.flow.name} {what}', None) for flow in self.flows
@@ -309,12 +259,12 @@ class Figures(Reader):
         self.rows, self._row_begin, self._before = self.rows + 1, end, now
 
 
-def part(count, of):
+def part(count: int, of: int) -> float | None:
     """The part that a count is of a whole; None of none."""
     return count / of if of else None
 
 
-def flow_figures(run, number, used):
+def flow_figures(run: Figures, number: int, used: Sequence[float]) -> list[tuple]:
     """The figures of a flow: (figure, unit, value), value None where there is none."""
     flow, trips = run.flows[number], run.trips[number]
     busiest = max(run.scenario.ways[number][0], key=lambda link: used[link])    # the first where equal
@@ -339,7 +289,7 @@ def flow_figures(run, number, used):
     return rows + [(f'{sort} dropped as {reason} at {at}', 'packets', n) for reason, sort, at, n in drops]
 
 
-def link_figures(run, number, used):
+def link_figures(run: Figures, number: int, used: Sequence[float]) -> list[tuple]:
     """The figures of a link, as those of a flow. Its loss is of the packets that it has sent or dropped."""
     link, waits = run.links[number], run.waits[number]
     return [('utilization', 'part', used[number]),
@@ -352,7 +302,7 @@ def link_figures(run, number, used):
             ('loss', 'part', part(link.drops, link.sent() + link.drops))]
 
 
-def figures(run, only_busy=False):
+def figures(run: Figures, only_busy: bool = False) -> list[tuple]:
     """All figures: (what, name, figure, unit, value), value None where there is none."""
     span = run.end - run.begin
     used = [link.sending(run.end) / span for link in run.links]
@@ -376,7 +326,7 @@ TIMED = (('least timed round trip', 'least round trip'), ('median timed round tr
          ('99th percentile of timed round trips', '99th percentile of round trips'))
 
 
-def engine_flow_figures(run, number, used):
+def engine_flow_figures(run: EngineRun, number: int, used: Sequence[float]) -> list[tuple]:
     """The figures of a flow, from the program's table."""
     values, way = run.flows[number], run.scenario.ways[number][0]
     busiest = max(way, key=lambda link: -1 if used[link] is None else used[link])       # the first where equal
@@ -390,7 +340,7 @@ def engine_flow_figures(run, number, used):
             ('completed', 'ns', values['completed', 'ns'])]
 
 
-def engine_link_figures(run, number, used):
+def engine_link_figures(run: EngineRun, number: int, used: Sequence[float]) -> list[tuple]:
     """The figures of a link, from the program's table."""
     values, drops = run.links[number], run.dropped(number)
     sent = values['sent', 'packets']
@@ -405,7 +355,7 @@ def engine_link_figures(run, number, used):
             ('loss', 'part', part(drops, sent + drops))]
 
 
-def engine_figures(run, only_busy=False):
+def engine_figures(run: EngineRun, only_busy: bool = False) -> list[tuple]:
     """As `figures`, from the program's table."""
     used = [run.over_span(number, BUSY) for number in range(len(run.links))]
     rows = [('flow', flow.name, *row) for number, flow in enumerate(run.scenario.flows)
@@ -416,136 +366,3 @@ def engine_figures(run, only_busy=False):
     rows.append(('run', '', 'Jain\'s index of goodput', 'part', jain([n for n in shares if n is not None])))
     rows.append(('run', '', 'span', 'ns', run.end - run.begin))
     return rows
-
-
-# ---- as text
-
-TRACE_COLUMNS = {
-    'flow': (('delivered', 'bytes', '{:,}', 1), ('goodput', 'Mbit/s', '{:.3f}', 1e6),
-             ('share of the bottleneck', 'share %', '{:.1f}', .01), ('bottleneck', 'of link', '{}', 0),
-             ('sent', 'sent', '{:,}', 1), ('loss', 'loss %', '{:.2f}', .01), ('timeouts', 'timeouts', '{:,}', 1),
-             ('sent again by fast retransmit', 'sent again: fast', '{:,}', 1),
-             ('sent again by timeout', 'after timeouts', '{:,}', 1),
-             ('least round trip', 'RTT ms: least', '{:.3f}', 1e6), ('median round trip', 'median', '{:.3f}', 1e6),
-             ('99th percentile of round trips', '99th', '{:.3f}', 1e6), ('completed', 'completed s', '{:.6f}', 1e9)),
-    'link': (('utilization', 'utilization %', '{:.1f}', .01), ('greatest queue', 'queue: greatest', '{:,}', 1),
-             ('mean queue', 'mean', '{:.2f}', 1), ('median delay in the queue', 'delay ms: median', '{:.3f}', 1e6),
-             ('99th percentile of delay in the queue', '99th', '{:.3f}', 1e6), ('dropped', 'dropped', '{:,}', 1),
-             ('loss', 'loss %', '{:.2f}', .01)),
-}
-ENGINE_COLUMNS = {
-    'flow': (*TRACE_COLUMNS['flow'][:2], ('bottleneck', 'bottleneck', '{}', 0), TRACE_COLUMNS['flow'][4],
-             *TRACE_COLUMNS['flow'][6:9], ('least timed round trip', 'timed RTT ms: least', '{:.3f}', 1e6),
-             ('median timed round trip', 'median', '{:.3f}', 1e6),
-             ('99th percentile of timed round trips', '99th', '{:.3f}', 1e6), TRACE_COLUMNS['flow'][-1]),
-    'link': (*TRACE_COLUMNS['link'][:-1], ('dropped as lost', 'as lost', '{:,}', 1), ('dropped as full', 'as full', '{:,}', 1),
-             ('dropped by CoDel', 'by CoDel', '{:,}', 1), TRACE_COLUMNS['link'][-1]),
-}
-
-
-def shown(form, scale, value):
-    if value is None:
-        return '-'
-    return form.format(value / scale if scale not in (0, 1) else value)
-
-
-def aligned(rows):
-    """Rows of words, the first column to the left and the others to the right."""
-    widths = [max(map(len, column)) for column in zip(*rows)]
-    return [row[0].ljust(widths[0]) + ''.join('  ' + word.rjust(width) for word, width in zip(row[1:], widths[1:]))
-            for row in rows]
-
-
-def table(rows, columns_of=TRACE_COLUMNS):
-    """The lines of the table of all figures."""
-    lines = []
-    for what, columns in columns_of.items():
-        of = {}
-        for kind, name, figure, _, value in rows:
-            if kind == what:
-                of.setdefault(name, {})[figure] = value
-        lines += aligned([[what] + [title for _, title, _, _ in columns]] + [
-            [name] + [shown(form, scale, values[figure]) for figure, _, form, scale in columns]
-            for name, values in of.items()]) + ['']
-    losses = [[name, figure, f'{value:,}'] for what, name, figure, _, value in rows
-              if what == 'flow' and ' dropped as ' in figure]
-    lines += (aligned([['flow', 'lost', 'packets']] + losses) + ['']) if losses else []
-    for what, _, figure, unit, value in rows:
-        if what == 'run':
-            lines.append(f'{figure}: {value / S:.6f} s' if unit == 'ns' else f'{figure}: {shown("{:.4f}", 1, value)}')
-    return lines
-
-
-def write_csv(rows, file):
-    out = csv.writer(file, lineterminator='\n')
-    out.writerow(('what', 'name', 'figure', 'unit', 'value'))
-    for *words, value in rows:
-        out.writerow((*words, '' if value is None else f'{value:.6f}' if isinstance(value, float) else value))
-
-
-def write_series(run, file, only_busy=False):
-    """A row for each step: the two moments, each flow's and each link's columns. What is not is empty."""
-    columns = run.columns()
-    kept = [at for at, (_, link) in enumerate(columns) if not (only_busy and link and link.idle())]
-    out = csv.writer(file, lineterminator='\n')
-    out.writerow([columns[at][0] for at in kept])
-    run.series.seek(0)
-    for _ in range(run.rows):
-        row = array('d')
-        row.fromfile(run.series, len(columns))
-        row[0], row[1] = row[0] / S, row[1] / S
-        out.writerow(['' if math.isnan(row[at]) else f'{row[at]:.9f}'.rstrip('0').rstrip('.') for at in kept])
-
-
-# ---- the command
-
-def words_of(given=None):
-    words, moment = Words(description='Figures of each flow and each link of a run.'), as_type(units.moment)
-    words.add_argument('scenario', metavar='SCENARIO', help='a text or an image; - is standard input')
-    words.add_trace()
-    words.add_argument('--csv', action='store_true', help='one figure a row: what,name,figure,unit,value')
-    words.add_argument('--series', metavar='STEP', type=moment,
-                       help='CSV of windows, goodput and queues, a row for each STEP, as 1s')
-    words.add_argument('--from', dest='begin', metavar='T', type=moment,
-                       help='count from here on, as 5s or 20ms; else from the first flow\'s start')
-    words.add_argument('--to', dest='end', metavar='T', type=moment, help='count up to here; else to the run\'s end')
-    words.add_argument('--busy', action='store_true', help='leave out links that carried and dropped nothing')
-    words.add_argument('--engine', action='store_true',
-                       help='from `tcpsim figures`, with no trace: of the whole run, percentiles at most 1/32 above the '
-                       'exact ones. It has no share of the bottleneck, no loss and no drops of a flow, and round trips '
-                       'of timed segments alone')
-    words.add_output('the table or the CSV')
-    given = words.parse_args(given)
-    if given.series == 0:
-        words.error('--series: a step of 0 has no rows')
-    if given.end is not None and given.end <= (given.begin or 0):
-        words.error('--to is not behind --from')
-    if given.engine and (given.trace is not None or given.partial):
-        words.error('--engine takes no TRACE, nor --partial: the program runs the scenario')
-    if given.engine and (given.begin, given.end, given.series) != (None, None, None):
-        words.error('--engine has figures of the whole run: it goes without --from, --to and --series')
-    return given
-
-
-def run_of(given):
-    """The figures that the words ask for."""
-    with opened_run(given.scenario, given.trace, given.program, given.partial) as (scenario, lines):
-        return Figures(scenario, lines, given.begin, given.end, given.series)
-
-
-def write(given, file):
-    if given.series is not None:
-        write_series(run_of(given), file, given.busy)
-        return
-    rows = (engine_figures(engine_run(given.scenario, given.program), given.busy) if given.engine else
-            figures(run_of(given), given.busy))
-    if given.csv:
-        write_csv(rows, file)
-    else:
-        print('\n'.join(table(rows, ENGINE_COLUMNS if given.engine else TRACE_COLUMNS)), file=file)
-
-
-def main():
-    given = words_of()
-    with output.opened(given.output, inputs_of(given)) as file:
-        write(given, file)

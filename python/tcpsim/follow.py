@@ -1,26 +1,20 @@
-"""The life of one segment and of the acknowledgements that carry its number, as a table or as CSV.
+"""The life of one segment and of the acknowledgements that carry its number: what happened to it, and where its time went.
 
-Usage: bin/tcpsim-follow SCENARIO [TRACE] --flow F --byte B [--csv] [--partial] [-o FILE] [--program FILE]
-
-The segment is the one that has byte B. The table says when it was offered, where it waited, for how long
-and behind how many, when each link began to send it, when it arrived or why it was dropped, why it was
-sent again, how it was answered and when it was acknowledged. Without TRACE the program is run.
-
-The sums at the end part the whole time, from the first offering to the acknowledgement (or to the end of
+The sums part the whole time, from the first offering to the acknowledgement (or to the end of
 the run). At each moment the acknowledgement above the segment that was sent first and is still in the net
 counts, or else the copy of the segment that was sent first and is still in the net: it waits in a queue,
 or a link is sending it (serialized), or it is under way. Where there is none the segment stands still.
+Times are nanoseconds.
 """
-import csv
+from __future__ import annotations
+
 from collections import namedtuple
+from collections.abc import Iterable
 
 from tcpsim.causes import counted, seconds
-from tcpsim.lives import ALARM, CAME, CODEL, DATA, FIRST, FULL, TIMEOUT, Walk, Watch, flow_named, opened
-from tcpsim.trace import Unreadable
-from tcpsim import output
-from tcpsim.command_line import Words, as_type
-from tcpsim.scenario.units import count
-from tcpsim.whole_trace import inputs_of
+from tcpsim.lives import ALARM, CAME, CODEL, DATA, FIRST, FULL, TIMEOUT, FlowState, Packet, Port, Watch
+from tcpsim.scenario.text import Scenario, Unreadable
+from tcpsim.walk import Walk
 
 WAITED, SERIALIZED, UNDER_WAY, STOOD = 'waited', 'serialized', 'under way', 'stood still'
 WHY_AGAIN = {'third duplicate': 'the third duplicate', 'timeout': 'the timeout',
@@ -28,7 +22,6 @@ WHY_AGAIN = {'third duplicate': 'the third duplicate', 'timeout': 'the timeout',
              'partial acknowledgement': 'a partial acknowledgement in recovery'}
 # Of the rows of one line: a packet arrives, then its end takes it, then packets are offered.
 RANKS = {'arrives': 0, 'held': 1, 'answer waits': 1, 'not new': 1, 'duplicate': 1, 'acknowledged': 1}
-
 # A state that a packet was in; `end` is None where it still is.
 State = namedtuple('State', 'name begin end')
 
@@ -36,7 +29,7 @@ State = namedtuple('State', 'name begin end')
 class Row:
     """One row of the table. `span` is the time that it tells of (a wait, a sending, a way) or None."""
 
-    def __init__(self, line, time, order, packet, event, at, words, span, behind):
+    def __init__(self, line: int, time: int, order, packet: Packet, event: str, at: str, words, span, behind):
         self.line, self.time, self.order, self.packet, self.event = line, time, order, packet, event
         self.at, self.words, self.span, self.behind = at, words, span, behind
 
@@ -44,10 +37,11 @@ class Row:
 class Life(Watch):
     """A followed packet: its name, its rows, and the states that it was in."""
 
-    def __init__(self, walk, name):
+    def __init__(self, walk: Walk, name):
         self.walk, self.name, self.rows, self.states, self.wait = walk, name, [], [], None
 
-    def row(self, event, at, words, span=None, behind=None):
+    def row(self, event: str, at: str, words, span=None, behind=None) -> Row:
+        """Keeps a moment of its life."""
         return self.walk.row(self.rows, self.name, event, at, words, span, behind)
 
     def turn(self, name):
@@ -60,7 +54,8 @@ class Life(Watch):
             self.states.append(State(name, time, None))
         return spent
 
-    def entered(self, packet, port):
+    def entered(self, packet: Packet, port: Port) -> None:
+        """It waits in a queue."""
         self.turn(WAITED)
         waiting = len(port.waiting)
         behind = waiting + (port.sending is not None)
@@ -70,21 +65,25 @@ class Life(Watch):
             words = f'behind {counted(behind, "packet")} ({waiting} in the queue, 1 being sent)'
         self.wait = self.row('waits', port.link.name, words, behind=behind)
 
-    def began(self, packet, port):
+    def began(self, packet: Packet, port: Port) -> None:
+        """A link begins to send it."""
         self.wait.span = self.turn(SERIALIZED)
         if self.wait.span:
             self.wait.words += f', for {seconds(self.wait.span)}'
         span = packet.hop.span
         self.row('tx', port.link.name, f'begins to be sent, for {seconds(span)}', span)
 
-    def left(self, packet, port):
+    def left(self, packet: Packet, port: Port) -> None:
+        """It is under way."""
         self.turn(UNDER_WAY)
 
-    def came(self, packet, port):
+    def came(self, packet: Packet, port: Port) -> None:
+        """It has arrived."""
         span = self.turn(None)
         self.row('arrives', self.walk.name_of(port.link.to), f'over {port.link.name}, under way for {seconds(span)}', span)
 
-    def dropped(self, packet, port):
+    def dropped(self, packet: Packet, port: Port) -> None:
+        """It was dropped."""
         waited = self.turn(None)
         if packet.fate == CODEL:
             self.wait.span = waited
@@ -99,10 +98,11 @@ class Life(Watch):
 class Request(Watch):
     """An acknowledgement that asks for a followed segment: that it was dropped can be why it was not sent again."""
 
-    def __init__(self, walk, segment):
+    def __init__(self, walk: Walk, segment):
         self.walk, self.segment = walk, segment
 
-    def dropped(self, packet, port):
+    def dropped(self, packet: Packet, port: Port) -> None:
+        """The acknowledgement was dropped."""
         self.walk.row(self.segment.rows, f'ack {packet.number}', 'dropped', port.link.name,
                       f'{packet.fate}: it would have asked for the segment')
 
@@ -111,7 +111,7 @@ class Segment:
     """What became of one segment: its copies, the acknowledgements above it in the order in which they
     were sent, rows of its own, and when it arrived, was in order, was answered, was acknowledged."""
 
-    def __init__(self, number):
+    def __init__(self, number: int):
         self.number, self.copies, self.acks, self.rows = number, [], [], []
         self.arrived = self.passed = self.answered = self.done = None
 
@@ -122,11 +122,12 @@ class Segment:
                 return self.acks[:at + 1]
         return self.acks
 
-    def table(self):
+    def table(self) -> list[Row]:
+        """Its rows, in the order of time."""
         rows = self.rows + [row for packet in self.copies + self.answers() for row in packet.watch.rows]
         return sorted(rows, key=lambda row: row.order)
 
-    def stands(self, time):
+    def stands(self, time: int):
         """Why the segment stands still from this moment on, when nothing of it is in the net."""
         if self.arrived is None or time < self.arrived:
             return 'it was dropped and not yet sent again'
@@ -140,16 +141,18 @@ class Segment:
 class Follow(Walk):
     """Follows a segment of a flow while a run is read, or all of the flow where `only` is None."""
 
-    def __init__(self, scenario, flow, only=None):
+    def __init__(self, scenario: Scenario, flow: FlowState, only=None):
         super().__init__(scenario)
         self.target, self.only = self.flows[flow], only
         self.segments, self.open = {}, {}       # by number: all, and those not yet acknowledged
         self.made = 0                           # how many rows were made
 
-    def name_of(self, node):
+    def name_of(self, node: int) -> str:
+        """The name of a node."""
         return self.scenario.nodes[node].name
 
-    def row(self, rows, packet, event, at, words, span=None, behind=None):
+    def row(self, rows, packet: Packet, event: str, at: str, words, span=None, behind=None) -> Row:
+        """Keeps a row."""
         self.made += 1
         rows.append(Row(self.line, self.time, (self.line, RANKS.get(event, 2), self.made), packet, event, at,
                         words, span, behind))
@@ -157,7 +160,8 @@ class Follow(Walk):
 
     # ---- hooks
 
-    def born(self, packet):
+    def born(self, packet: Packet) -> None:
+        """Watches a packet of the flow that is followed."""
         if packet.flow is not self.target:
             return
         if packet.sort != DATA:
@@ -197,7 +201,8 @@ class Follow(Walk):
         life = packet.watch = Life(self, f'ack {packet.number}')
         life.row('answered', self.name_of(self.target.flow.receiver), words, span)
 
-    def at_receiver(self, flow, packet, answer, before):
+    def at_receiver(self, flow: FlowState, packet: Packet, answer, before: int) -> None:
+        """What the receiver makes of it."""
         if flow is not self.target:
             return
         if packet is not None and packet.watch is not None:
@@ -218,7 +223,8 @@ class Follow(Walk):
         elif answer is None:
             life.row('answer waits', at, f'for the alarm in {seconds(flow.flow.delack)}, or for another segment')
 
-    def at_sender(self, flow, kind, packet, before):
+    def at_sender(self, flow: FlowState, kind: str, packet: Packet, before: int) -> None:
+        """What the sender makes of an acknowledgement."""
         if flow is not self.target or packet is None:
             return
         name, at = f'ack {packet.number}', self.name_of(flow.flow.sender)
@@ -257,7 +263,7 @@ class Follow(Walk):
         return end - begin, parts, list(reasons.items())
 
 
-def follow(scenario, lines, flow, byte):
+def follow(scenario: Scenario, lines: Iterable[str], flow: int, byte: int):
     """The walk that followed the segment of a byte of a flow (by the flow's number), and the segment."""
     declared = scenario.flows[flow]
     total = declared.mss * declared.segments
@@ -269,64 +275,3 @@ def follow(scenario, lines, flow, byte):
     if number not in walk.segments:
         raise Unreadable(f'the segment {number} of flow {declared.name} was never sent in this run')
     return walk, walk.segments[number]
-
-
-# ---- as text
-
-def write_table(walk, segment, file):
-    rows = [('line', 'time s', 'packet', 'what', 'at', '')]
-    rows += [(str(row.line), f'{row.time / 10**9:.9f}', row.packet, row.event, row.at, row.words) for row in segment.table()]
-    widths = [max(map(len, column)) for column in zip(*rows)]
-    for row in rows:
-        words = [row[0].rjust(widths[0]), row[1].rjust(widths[1])]
-        words += [word.ljust(width) for word, width in zip(row[2:], widths[2:])]
-        print('  '.join(words).rstrip(), file=file)
-    print(file=file)
-    write_sums(walk, segment, file)
-
-
-def write_sums(walk, segment, file):
-    whole, parts, reasons = walk.sums(segment)
-    width = max(len(f'{whole / 10**9:.9f}'), 12)
-    for name, time in parts.items():
-        print(f'{name.ljust(12)} {time / 10**9:>{width}.9f} s', file=file)
-    for reason, time in reasons:
-        print(f'{"".ljust(12)} {time / 10**9:>{width}.9f} s of it: {reason}', file=file)
-    until = 'its acknowledgement' if segment.done is not None else \
-        'the end of the run, never acknowledged' if walk.ended else \
-        'the last line of the trace, which has no end; not acknowledged so far'
-    print(f'{"whole".ljust(12)} {whole / 10**9:>{width}.9f} s, from the first offering to {until}', file=file)
-
-
-def write_csv(walk, segment, file):
-    out = csv.writer(file, lineterminator='\n')
-    out.writerow(('line', 'time', 'packet', 'event', 'at', 'ns', 'behind', 'words'))
-    for row in segment.table():
-        out.writerow((row.line, row.time, row.packet, row.event, row.at, row.span, row.behind, row.words))
-    whole, parts, reasons = walk.sums(segment)
-    name = f'segment {segment.number}'
-    for words, time in parts.items():
-        out.writerow((None, None, name, 'sum', None, time, None, words))
-    for words, time in reasons:
-        out.writerow((None, None, name, 'part of stood still', None, time, None, words))
-    out.writerow((None, None, name, 'sum', None, whole, None, 'whole'))
-
-
-def words_of():
-    words = Words(description='The life of one segment and of its acknowledgements.')
-    words.add_argument('scenario', metavar='SCENARIO', help='a text; - is standard input')
-    words.add_trace()
-    words.add_argument('--flow', metavar='F', required=True, help='the flow, by its name or number')
-    words.add_argument('--byte', metavar='B', type=as_type(count), required=True, help='a byte of the segment')
-    words.add_argument('--csv', action='store_true',
-                       help='line,time,packet,event,at,ns,behind,words; times in nanoseconds')
-    words.add_output('the table or the CSV')
-    return words.parse_args()
-
-
-def main():
-    given = words_of()
-    with output.opened(given.output, inputs_of(given)) as file:
-        with opened(given) as (scenario, lines):
-            walk, segment = follow(scenario, lines, flow_named(scenario, given.flow), given.byte)
-        (write_csv if given.csv else write_table)(walk, segment, file)

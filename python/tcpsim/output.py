@@ -4,6 +4,8 @@ A plain file is written beside its place, and put there when all is written: unt
 old one stays. It keeps its mode and its owner. What is no plain file (a device, a pipe, what a link points to) is
 written into. Nothing but Python's standard library.
 """
+from __future__ import annotations
+
 import contextlib
 import os
 import secrets
@@ -11,6 +13,7 @@ import signal
 import stat
 import sys
 import tempfile
+from collections.abc import Iterable, Iterator, Sequence
 
 from tcpsim.command_line import ENDS, OutputClosed, Wrong
 
@@ -22,23 +25,25 @@ STANDARD_OUTPUT = 'standard output'
 class Output:
     """What is written to a descriptor: text, as UTF-8, or bytes. An error has the file's name."""
 
-    def __init__(self, number, name):
+    def __init__(self, number, name: str):
         self._number, self._name, self._held = number, name, bytearray()
 
-    def write(self, text):
+    def write(self, text: str | bytes) -> int:
+        """Takes a text or bytes; answers its length."""
         self._held += text.encode('utf-8', 'surrogateescape') if isinstance(text, str) else text
         if len(self._held) >= BLOCK:
             self.flush()
         return len(text)
 
-    def flush(self):
+    def flush(self) -> None:
+        """Writes all that is held."""
         with named(self._name):
             while self._held:
                 del self._held[:os.write(self._number, self._held)]
 
 
 @contextlib.contextmanager
-def named(name):
+def named(name: str) -> Iterator[None]:
     """Errors of the operating system get the name of a file."""
     try:
         yield
@@ -47,7 +52,7 @@ def named(name):
 
 
 @contextlib.contextmanager
-def opened(path=None, inputs=()):
+def opened(path: str | None = None, inputs: Iterable[str | None] = ()) -> Iterator[Output]:
     """What a tool writes to: the file at `path`, which is none of `inputs`, or standard output."""
     if path is not None:
         with written(path, inputs) as file:
@@ -66,7 +71,7 @@ def opened(path=None, inputs=()):
 
 
 @contextlib.contextmanager
-def written(path, inputs=()):
+def written(path: str, inputs: Iterable[str | None] = ()) -> Iterator[Output]:
     """A file that is written whole or not at all."""
     for each in inputs:
         if is_same(path, each):
@@ -75,12 +80,12 @@ def written(path, inputs=()):
         yield file
 
 
-def printable(name):
+def printable(name: str) -> str:
     """A file's name where text is wanted; what in it is no text is a question mark."""
     return name.encode('utf-8', 'replace').decode('utf-8')
 
 
-def is_same(path, other):
+def is_same(path: str, other: str | None) -> bool:
     """Whether two names are of one file that can be lost. `-` is standard input, None is no file."""
     try:
         state = None if other is None else os.fstat(0) if other == '-' else os.stat(other)
@@ -188,10 +193,17 @@ def _copy(kept, number):
 
 
 @contextlib.contextmanager
-def held_back(signals):
+def held_back(signals: Iterable[int]) -> Iterator[None]:
     """Signals come when this is over."""
     before = signal.pthread_sigmask(signal.SIG_BLOCK, signals)
     try:
         yield
     finally:
         signal.pthread_sigmask(signal.SIG_SETMASK, before)
+
+
+def aligned(rows: Sequence[Sequence[str]]) -> list[str]:
+    """Rows of words, the first column to the left and the others to the right."""
+    widths = [max(map(len, column)) for column in zip(*rows)]
+    return [row[0].ljust(widths[0]) + ''.join('  ' + word.rjust(width) for word, width in zip(row[1:], widths[1:]))
+            for row in rows]

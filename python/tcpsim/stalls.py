@@ -1,20 +1,15 @@
-"""Why a flow stood still: each span without a new acknowledgement, its cause and how to see it.
-
-Usage: bin/tcpsim-stalls SCENARIO [TRACE] [--partial] [--longer 200ms] [--flow F] [--csv] [-o FILE] [--program FILE]
-       bin/tcpsim-stalls --causes
-
-A span begins at a flow's start or at a new acknowledgement and ends at the next one, or where the run
-ends. Without TRACE the built program is run. `--causes` prints the rule of each cause.
+"""Why a flow stood still: each span without a new acknowledgement, and its cause. A span begins at a flow's start or at a
+new acknowledgement and ends at the next one, or where the run ends. Times are nanoseconds.
 """
-import csv
-from collections import namedtuple
+from __future__ import annotations
 
-from tcpsim.causes import CAUSES, cause_of, name_of, rule_of, seconds
-from tcpsim.lives import ACK, CODEL, DATA, PARTIAL, Walk, Watch, flow_named, opened
-from tcpsim import output
-from tcpsim.command_line import Words, as_type
-from tcpsim.scenario.units import moment
-from tcpsim.whole_trace import inputs_of
+from collections import namedtuple
+from collections.abc import Iterable
+
+from tcpsim.causes import cause_of, name_of
+from tcpsim.lives import ACK, CODEL, DATA, PARTIAL, FlowState, Packet, Port, Watch
+from tcpsim.scenario.text import Scenario
+from tcpsim.walk import Walk
 
 LONGER = 200 * 10**6
 Timer = namedtuple('Timer', 'time line value doubled')
@@ -25,10 +20,10 @@ class Place:
     """How many packets of a flow are at a port: those that wait and the one that the link is sending."""
     __slots__ = ('flow', 'port', 'packets')
 
-    def __init__(self, flow, port):
+    def __init__(self, flow: FlowState, port: Port):
         self.flow, self.port, self.packets = flow, port, 0
 
-    def waits(self):
+    def waits(self) -> bool:
         """Whether one of them waits."""
         sending = self.port.sending
         return self.packets > 1 or self.packets == 1 and (sending is None or sending.flow is not self.flow)
@@ -40,7 +35,7 @@ class Watched(Watch):
     them waited `queued` has for how long they did in the present span, the longest time of that, and the
     line in which it began."""
 
-    def __init__(self, walk, flow):
+    def __init__(self, walk: Walk, flow: FlowState):
         self.walk, self.copies, self.acks_dropped, self.span = walk, {}, [], None
         places = {}
         for hop in flow.hops():
@@ -49,7 +44,8 @@ class Watched(Watch):
         self.at, self.since, self.line = None, 0, 0     # the place where all wait, since when
         self.queued = {}
 
-    def entered(self, packet, port):
+    def entered(self, packet: Packet, port: Port) -> None:
+        """A packet waits."""
         place = packet.hop.place
         place.packets += 1
         if place.packets == 1:
@@ -57,22 +53,26 @@ class Watched(Watch):
         if not self.flying:
             self.look()
 
-    def began(self, packet, port):
+    def began(self, packet: Packet, port: Port) -> None:
+        """A link begins to send a packet."""
         if self.at is not None:
             self.look()
 
-    def left(self, packet, port):
+    def left(self, packet: Packet, port: Port) -> None:
+        """A packet is on its way."""
         self.leave(packet.hop.place)
         self.flying += 1
         if self.at is not None:
             self.look()
 
-    def came(self, packet, port):
+    def came(self, packet: Packet, port: Port) -> None:
+        """A packet has arrived."""
         self.flying -= 1
         if not self.flying:
             self.look()
 
-    def dropped(self, packet, port):
+    def dropped(self, packet: Packet, port: Port) -> None:
+        """A packet was dropped."""
         if packet.fate == CODEL:
             self.leave(packet.hop.place)
         if packet.sort == ACK:
@@ -80,12 +80,13 @@ class Watched(Watch):
         if not self.flying:
             self.look()
 
-    def leave(self, place):
+    def leave(self, place) -> None:
+        """A packet has left a place."""
         place.packets -= 1
         if not place.packets:
             self.places.remove(place)
 
-    def look(self):
+    def look(self) -> None:
         """After packets moved: whether all are at one place now, and one of them waits."""
         at = None
         if not self.flying and len(self.places) == 1:
@@ -96,7 +97,7 @@ class Watched(Watch):
             self.settle()
             self.at = at
 
-    def settle(self):
+    def settle(self) -> None:
         """Adds what the present waiting came to."""
         walk = self.walk
         if self.at is not None:
@@ -105,11 +106,11 @@ class Watched(Watch):
             self.queued[port] = (total + waited, *max((longest, line), (waited, self.line)))
         self.since, self.line = walk.time, walk.line
 
-    def begin(self, span):
+    def begin(self, span) -> None:
         """A span begins, or none: what came before it doesn't count."""
         self.since, self.line, self.span, self.queued = self.walk.time, self.walk.line, span, {}
 
-    def forget(self, flow, before):
+    def forget(self, flow: FlowState, before: int) -> None:
         """What is acknowledged is no longer of interest."""
         for number in range(before, flow.una, flow.mss):
             self.copies.pop(number, None)
@@ -120,17 +121,18 @@ class Watched(Watch):
 class Span:
     """A span of a flow without a new acknowledgement, so far."""
 
-    def __init__(self, flow, begin, line):
+    def __init__(self, flow: FlowState, begin: int, line: int):
         self.begin, self.line, self.una, self.nxt = begin, line, flow.una, flow.nxt
         self.full, self.timers, self.duplicates, self.recover = is_full(flow), [], 0, flow.recover
 
 
-def is_again(packet, span):
+def is_again(packet: Packet, span) -> bool:
     """Whether a segment was sent in the span, or by the acknowledgement with which it began since that was partial."""
     return packet.line > span.line or packet.line == span.line and packet.why is PARTIAL
 
 
-def is_full(flow):
+def is_full(flow: FlowState) -> bool:
+    """Whether the receive window has no room for the next segment."""
     return flow.nxt < flow.total and flow.nxt + flow.mss > flow.una + flow.flow.rwnd
 
 
@@ -142,7 +144,7 @@ class Stall:
     `acks_dropped` are acknowledgements of una or above; `ack` is the one that ended the span, or None;
     `waits_since` says since when an answer waits that the run's end cut off; `queued` is that of `Watched`."""
 
-    def __init__(self, walk, flow, watched, ack):
+    def __init__(self, walk: Walk, flow: FlowState, watched, ack):
         span = watched.span
         self.flow, self.una, self.nxt, self.full = flow, span.una, span.nxt, span.full
         self.begin, self.begin_line, self.end, self.end_line = span.begin, span.line, walk.time, walk.line
@@ -165,12 +167,13 @@ class Stall:
 class Stalls(Walk):
     """Finds the stalls of a run while it is read; `rows` has them in the order in which they ended."""
 
-    def __init__(self, scenario, longer):
+    def __init__(self, scenario: Scenario, longer: int):
         super().__init__(scenario)
         self.longer, self.rows = longer, []
         self.watched = [Watched(self, flow) for flow in self.flows]
 
-    def born(self, packet):
+    def born(self, packet: Packet) -> None:
+        """Watches a packet."""
         packet.watch = watched = self.watched[packet.flow.number]
         if packet.sort == DATA:
             copies = watched.copies
@@ -179,7 +182,8 @@ class Stalls(Walk):
             else:
                 copies[packet.number] = [packet]
 
-    def at_sender(self, flow, kind, packet, before):
+    def at_sender(self, flow: FlowState, kind: str, packet: Packet, before: int) -> None:
+        """Ends a span at a new acknowledgement, and begins the next."""
         watched = self.watched[flow.number]
         span = watched.span
         if flow.una > before:
@@ -196,10 +200,12 @@ class Stalls(Walk):
             elif not span.timers:
                 span.duplicates = flow.dups
 
-    def open(self, flow):
+    def open(self, flow: FlowState) -> None:
+        """Begins a span, where not all is acknowledged."""
         self.watched[flow.number].begin(Span(flow, self.time, self.line) if flow.una < flow.total else None)
 
-    def close(self, flow, ack):
+    def close(self, flow: FlowState, ack) -> None:
+        """Ends a span, and keeps it where it was longer than asked for."""
         watched = self.watched[flow.number]
         if watched.span is not None and self.time - watched.span.begin > self.longer:
             watched.settle()
@@ -222,73 +228,8 @@ class Stalls(Walk):
         return sorted(self.rows, key=lambda row: (order[row.flow], row.begin))
 
 
-def stalls_of(scenario, lines, longer=LONGER):
+def stalls_of(scenario: Scenario, lines: Iterable[str], longer: int = LONGER) -> list[Row]:
     """The rows of all stalls of a run."""
     walk = Stalls(scenario, longer)
     walk.read(lines)
     return walk.finish()
-
-
-# ---- as text
-
-def commands(positions):
-    """The debugger's commands that go from its start to each position."""
-    return [f'step {to - since}' for since, to in zip([0, *positions], positions)]
-
-
-def write_csv(rows, file):
-    out = csv.writer(file, lineterminator='\n')
-    out.writerow(('flow', 'from', 'to', 'ns', 'cause', 'found', 'commands'))
-    for *words, positions in rows:
-        out.writerow((*words, '; '.join(commands(positions))))
-
-
-def write_table(rows, longer, file):
-    """Three lines a stall: its row, what was found, the commands of `tcpsim debug`."""
-    width = max([4, *(len(row.flow) for row in rows)])
-    print(f'{"flow".ljust(width)}  {"from s":>16}  {"to s":>16}  {"long s":>14}  cause', file=file)
-    for row in rows:
-        begin, end, length = (f'{time / 10**9:.9f}' for time in (row.begin, row.end, row.length))
-        print(f'{row.flow.ljust(width)}  {begin:>16}  {end:>16}  {length:>14}  {row.cause}', file=file)
-        print(f'{"".ljust(width)}    {row.found}', file=file)
-        print(f'{"".ljust(width)}    debug: {", ".join(commands(row.positions))}', file=file)
-    print(f'{len(rows)} {"stall" if len(rows) == 1 else "stalls"} longer than {seconds(longer)}', file=file)
-
-
-def write_causes(file):
-    for cause in CAUSES:
-        print(f'{name_of(cause)}\n    {rule_of(cause)}', file=file)
-
-
-def words_of():
-    words = Words(description='Each span of a flow without a new acknowledgement, and its cause.')
-    words.add_argument('scenario', metavar='SCENARIO', nargs='?', help='a text; - is standard input')
-    words.add_trace()
-    words.add_argument('--longer', metavar='TIME', type=as_type(moment), default=LONGER,
-                       help='spans longer than this (default 200ms)')
-    words.add_argument('--flow', metavar='F', help='only this flow, by its name or number')
-    words.add_argument('--csv', action='store_true', help='flow,from,to,ns,cause,found,commands; times in nanoseconds')
-    words.add_output('the table or the CSV')
-    words.add_argument('--causes', action='store_true', help='print the rule of each cause')
-    given = words.parse_args()
-    if given.scenario is None and not given.causes:
-        words.error('SCENARIO is missing')
-    return given
-
-
-def rows_of(given):
-    """The rows that the words ask for."""
-    with opened(given) as (scenario, lines):
-        only = None if given.flow is None else scenario.flows[flow_named(scenario, given.flow)].name
-        return [row for row in stalls_of(scenario, lines, given.longer) if only in (None, row.flow)]
-
-
-def main():
-    given = words_of()
-    with output.opened(given.output, inputs_of(given)) as file:
-        if given.causes:
-            write_causes(file)
-        elif given.csv:
-            write_csv(rows_of(given), file)
-        else:
-            write_table(rows_of(given), given.longer, file)

@@ -1,110 +1,27 @@
-"""Reads a scenario and its trace (docs/FORMATS.md) and finds what became of each packet.
+"""Reads a trace (docs/FORMATS.md) line by line and finds what became of each packet.
 
 The trace says what a link begins to send and what is dropped; what only enters a queue it leaves to
 its reader. Every packet that a node offers follows from the states on the lines ("What a trace leaves
 to its reader" in docs/FORMATS.md), and a queue gives its packets in their order. `Reader` goes through
-a trace line by line and keeps only the present state; `Run` keeps all curves. Used by the modules beside
-it; nothing but Python's standard library. All times are nanoseconds, all sizes bytes.
+a trace line by line and keeps only the present state; `Run` of run.py keeps all curves. Nothing but Python's
+standard library. All times are nanoseconds, all sizes bytes.
 """
+from __future__ import annotations
+
 from array import array
-from collections import Counter, deque, namedtuple
+from collections import deque
+from collections.abc import Iterable
 
-from tcpsim.command_line import Refused
+from tcpsim.scenario.text import Flow, Link, Scenario, Unreadable
+from tcpsim.scenario.units import BITS_NS, HEADER_BYTES
 
-HEADER_BYTES = 40
-BITS_NS = 8 * 10**9
 DATA, ACK = 0, 1
 NEVER = 1 << 62         # past every moment of a run
-
-Node = namedtuple('Node', 'name kind')
-Link = namedtuple('Link', 'name source to rate delay queue capacity target interval')
-Flow = namedtuple('Flow', 'name sender receiver mss segments start rwnd delack newreno iw10', defaults=(False, False))
-VARIANTS = {'reno': False, 'newreno': True}, {'iw3': False, 'iw10': True}      # a flow's last two words: both or neither
-
-
-class Unreadable(Refused):
-    """A scenario or trace that cannot be read, or a trace of another scenario."""
-
-
-# ---- the scenario
-
-class Scenario:
-    """A scenario that the program has taken: names and numbers, and each flow's two ways."""
-
-    def __init__(self, text):
-        self.text = text
-        self.end, self.nodes, self.links, self.flows, self.routes = None, [], [], [], {}
-        self.lost = {}                  # of each link that loses packets, which of those that are offered to it
-        self._numbers = {}
-        statements = {'sim': self._sim, 'node': self._node, 'link': self._link, 'flow': self._flow,
-                      'route': self._route, 'lose': self._lose}
-        for number, line in enumerate(text.split('\n'), 1):
-            words = line.partition('#')[0].split()
-            try:
-                if words:
-                    statements[words[0]](*words[1:])
-            except (KeyError, TypeError, ValueError) as wrong:
-                raise Unreadable(f'the scenario, line {number}: {line.strip()[:100]}') from wrong
-        if self.end is None or not self.flows:
-            raise Unreadable('the scenario has no `sim` or no flow')
-        self.leaves = [[n for n, link in enumerate(self.links) if link.source == node]
-                       for node in range(len(self.nodes))]
-        self.ways = [(self._way(f.sender, f.receiver), self._way(f.receiver, f.sender))
-                     for f in self.flows]
-
-    def _declare(self, name, entries, entry):
-        self._numbers[name] = len(entries)
-        entries.append(entry)
-
-    def _sim(self, end):
-        self.end = int(end)
-
-    def _node(self, name, kind):
-        if kind not in ('sender', 'receiver', 'router'):
-            raise ValueError(kind)
-        self._declare(name, self.nodes, Node(name, kind))
-
-    def _link(self, name, source, to, rate, delay, queue, capacity, target=0, interval=0, _maxpacket=0):
-        if queue not in ('droptail', 'codel') or int(rate) < 1:
-            raise ValueError(queue)
-        self._declare(name, self.links, Link(
-            name, self._numbers[source], self._numbers[to], int(rate), int(delay), queue, int(capacity),
-            int(target), int(interval)))
-
-    def _flow(self, name, sender, receiver, mss, segments, start, rwnd, delack, *variant):
-        if len(variant) not in (0, 2):
-            raise ValueError(variant)
-        self._declare(name, self.flows, Flow(
-            name, self._numbers[sender], self._numbers[receiver], *map(int, (mss, segments, start, rwnd, delack)),
-            *(words[word] for words, word in zip(VARIANTS, variant))))
-
-    def _route(self, router, to, link):
-        self.routes[self._numbers[router], self._numbers[to]] = self._numbers[link]
-
-    def _lose(self, link, number):
-        self.lost.setdefault(self._numbers[link], set()).add(int(number))
-
-    def hop(self, node, to):
-        """The link over which a node sends what is for `to`."""
-        if self.nodes[node].kind == 'router':
-            return self.routes.get((node, to))
-        return self.leaves[node][0] if self.leaves[node] else None
-
-    def _way(self, node, to):
-        """The links of a way, in order."""
-        way = []
-        while node != to:
-            link = self.hop(node, to) if node < len(self.nodes) else None
-            if link is None or link in way:
-                raise Unreadable('the scenario has a flow whose way does not come to its end')
-            way.append(link)
-            node = self.links[link].to
-        return way
 
 
 # ---- a trace, line by line
 
-def first_window(flow):
+def first_window(flow: Flow) -> int:
     """The initial cwnd in bytes, of RFC 5681 section 3.1 or of RFC 6928 section 2."""
     if flow.iw10:
         return min(10 * flow.mss, max(2 * flow.mss, 14_600))
@@ -115,7 +32,7 @@ class Stream:
     """The packets of one sort that a flow sends."""
     __slots__ = 'flow', 'sort', 'size'
 
-    def __init__(self, flow, sort, size):
+    def __init__(self, flow: Flow, sort: int, size: int):
         self.flow, self.sort, self.size = flow, sort, size
 
 
@@ -133,7 +50,7 @@ class FlowState:
     on_timeout = None       # (time)
     on_drop = None          # (time, link, reason, DATA or ACK, number)
 
-    def __init__(self, flow, number):
+    def __init__(self, flow: Flow, number: int):
         self.flow, self.number, self.text = flow, number, f'{number}:'
         self.data = Stream(number, DATA, HEADER_BYTES + flow.mss)
         self.acks = Stream(number, ACK, HEADER_BYTES)
@@ -147,11 +64,11 @@ class FlowState:
         self.answer_waits, self.answer_due = False, 0
         self.hops = {}                  # of each router, as a word, its links for data and for acknowledgements
 
-    def delivered(self):
+    def delivered(self) -> int:
         """Bytes that the receiver has in order."""
         return self.expected
 
-    def sends(self, kind, words, time):
+    def sends(self, kind: str, words: list[str], time: int) -> tuple[Iterable[int], int]:
         """What a sender's line says: the numbers of the segments that it sends, in order, and the place of
         its first act."""
         at = 7
@@ -218,7 +135,7 @@ class FlowState:
             if self.on_sent:
                 self.on_sent(time, number)
 
-    def answers(self, seq, expected, time):
+    def answers(self, seq: int | None, expected: int, time: int) -> bool:
         """Whether a receiver's line offers an acknowledgement, or waits for its delay."""
         before = self.expected
         if expected > before:
@@ -240,7 +157,7 @@ class LinkState:
     on_queue = None         # (time): how many packets wait may have changed
     on_drop = None          # (time, reason, flow, DATA or ACK, number)
 
-    def __init__(self, link, number, kind):
+    def __init__(self, link: Link, number: int, kind: str):
         self.link, self.number, self.sends = link, number, f'tx={number}:'
         self.node, self.first = str(link.source), 7 + {'sender': 5, 'receiver': 1, 'router': 0}[kind]
         self.to, self.lost = str(link.to), ()       # the node at its end; which of those offered to it are lost
@@ -251,7 +168,7 @@ class LinkState:
         self.greatest = 0               # the most packets that waited at once
         self.waited = 0                 # moments of leaving the queue less moments of entering it, summed
 
-    def on_taken(self, time, stream, entered):
+    def on_taken(self, time: int, stream: Stream, entered: int) -> None:
         """Told that it begins to send a packet."""
 
 
@@ -259,7 +176,8 @@ class Reader:
     """Goes through a trace. `flows` and `links` are what was found of each; `last` is the last line's time,
     `lines` how many were read, `whole` that the trace has its line `end N`."""
 
-    def __init__(self, scenario, flow_kind=FlowState, link_kind=LinkState):
+    def __init__(self, scenario: Scenario, flow_kind: type[FlowState] = FlowState,
+                 link_kind: type[LinkState] = LinkState):
         self.scenario = scenario
         self.flows = [flow_kind(flow, number) for number, flow in enumerate(scenario.flows)]
         self.links = [link_kind(link, number, scenario.nodes[link.source].kind)
@@ -281,12 +199,12 @@ class Reader:
                     flow.hops[str(node)] = (None if forth is None else self.links[forth],
                                             None if back is None else self.links[back])
 
-    def reached(self, time):
+    def reached(self, time: int) -> int | None:
         """Told before the first line that is not before the moment that it answered last; answers the next
         such moment, or None where no further line is to be read."""
         return NEVER
 
-    def read(self, lines, moment=NEVER):
+    def read(self, lines: Iterable[str], moment: int = NEVER) -> None:
         """Reads lines to `end N`, to their end, or until `reached` answers None."""
         count, words = self.lines, []
         try:
@@ -426,105 +344,3 @@ class Reader:
             flow.on_drop(time, link.number, reason, stream.sort, number)
         if link.on_drop:
             link.on_drop(time, reason, stream.flow, stream.sort, number)
-
-
-# ---- a whole run, kept
-
-class FlowRun(FlowState):
-    """What a run did with one flow. Columns that belong together have one entry a line."""
-
-    def __init__(self, flow, number=0):
-        super().__init__(flow, number)
-        self.times, self.cwnd, self.ssthresh, self.flight = (array('q') for _ in range(4))
-        self.una_times, self.una = array('q'), array('q')       # where una rose
-        self.next_times, self.next = array('q'), array('q')     # where the receiver's next byte rose
-        self.sent_times, self.sent = array('q'), array('q')     # segments sent for the first time
-        self.again_times, self.again = array('q'), array('q')   # segments sent again
-        self.by_fast_retransmit = self.by_timeout = 0
-        self.timeouts = array('q')
-        self.recoveries = []            # [begin, end or None]
-        self.drops = []                 # (time, link, reason, DATA or ACK, number)
-
-    def on_window(self, time, cwnd, ssthresh, flight):
-        self.times.append(time)
-        self.cwnd.append(int(cwnd))
-        self.ssthresh.append(int(ssthresh))
-        self.flight.append(flight)
-
-    def on_sent(self, time, number):
-        self.sent_times.append(time)
-        self.sent.append(number)
-
-    def on_again(self, time, number, by_dups):
-        self.again_times.append(time)
-        self.again.append(number)
-        if by_dups:
-            self.by_fast_retransmit += 1
-        else:
-            self.by_timeout += 1
-
-    def on_acknowledged(self, time):
-        self.una_times.append(time)
-        self.una.append(self.last_una)
-
-    def on_received(self, time):
-        self.next_times.append(time)
-        self.next.append(self.expected)
-
-    def on_timeout(self, time):
-        self.timeouts.append(time)
-
-    def on_turn(self, time, recovering):
-        if recovering:
-            self.recoveries.append([time, None])
-        else:
-            self.recoveries[-1][1] = time
-
-    def on_drop(self, *drop):
-        self.drops.append(drop)
-
-
-class LinkRun(LinkState):
-    """What a run did at one link."""
-
-    def __init__(self, link, number=0, kind='router'):
-        super().__init__(link, number, kind)
-        self.queue_times, self.queue = array('q'), array('q')   # packets that wait, where that changed
-        self.wait_times, self.waits = array('q'), array('q')    # of each packet sent: when it began, its wait
-        self.busy_from, self.busy_to = array('q'), array('q')
-        self.drops = []                 # (time, reason, flow, DATA or ACK, number)
-        self.bytes_of = Counter()       # bytes sent of each flow
-
-    def on_taken(self, time, stream, entered):
-        self.wait_times.append(time)
-        self.waits.append(time - entered)
-        self.busy_from.append(time)
-        self.busy_to.append(time - -stream.size * BITS_NS // self.link.rate)
-        self.bytes_of[stream.flow] += stream.size
-
-    def on_queue(self, time):
-        length = len(self.waiting)
-        if length != (self.queue[-1] if self.queue else 0):
-            self.queue_times.append(time)
-            self.queue.append(length)
-
-    def on_drop(self, *drop):
-        self.drops.append(drop)
-
-
-class Run(Reader):
-    """A scenario's run as its trace tells it, with all its curves: `flows`, `links`, `last` (the last line's
-    time), `whole` (the trace has its line `end N`) and `lines`."""
-
-    def __init__(self, scenario, lines):
-        super().__init__(scenario, FlowRun, LinkRun)
-        self.read(lines)
-
-    def begin(self):
-        return min(flow.start for flow in self.scenario.flows)
-
-    def end(self):
-        """Where the figures' span ends: the last line where every flow is complete or the trace is
-        cut short, else the scenario's end."""
-        done = all(flow.completed is not None for flow in self.flows)
-        return self.last if done or not self.whole else self.scenario.end

@@ -4,16 +4,22 @@ A trace is whole where its last line is `end N` and N events stand before it. Wh
 part would pass for those of the run; with `partial` it is taken as far as it goes. Nothing but Python's standard
 library.
 """
+from __future__ import annotations
+
+import argparse
 import codecs
 import contextlib
 import itertools
 import subprocess
 import sys
 import tempfile
+from collections.abc import Callable, Iterator
+from typing import BinaryIO
 
+from tcpsim.command_line import MODEL
 from tcpsim.output import named
 from tcpsim.program import find_program, found
-from tcpsim.trace import Run, Scenario, Unreadable
+from tcpsim.scenario.text import Scenario, Unreadable
 
 BLOCK = 1 << 18                 # bytes of a trace that are read at once
 LONGEST_LINE = 1 << 27          # characters
@@ -25,23 +31,18 @@ PROGRAMS = []                   # those that run
 SOON = 0.5                      # seconds in which a program ends whose output is refused, if it ends by itself
 
 
-def read_run(scenario_path, trace_path=None, program=None, partial=False):
-    """The run of a scenario's file: from its trace's file, or else by running the program."""
-    with opened_run(scenario_path, trace_path, program, partial) as (scenario, lines):
-        return Run(scenario, lines)
-
-
 @contextlib.contextmanager
-def opened_run(scenario_path, trace_path=None, program=None, partial=False):
+def opened_run(scenario_path: str, trace_path: str | None = None, program: str | None = None, partial: bool = False,
+               until: int | None = None) -> Iterator[tuple[Scenario, Iterator[str]]]:
     """A scenario's file, a text or an image (`-`: standard input), and its trace's lines, one by one: of the
-    trace's file, or else as the program prints them."""
+    trace's file, or else as the program prints them. No line is wanted of events past the moment `until`."""
     source = scenario_bytes(scenario_path)
     if trace_path is not None:
         scenario = Scenario(scenario_text(source, scenario_path, program))
         with open(trace_path, 'rb') as file:
             yield scenario, itertools.chain.from_iterable(blocks(file.read, trace_path, scenario, partial))
         return
-    path = find_program(program)
+    path = find_program(program, lambda: [scenario_text(source, scenario_path, MODEL)], until)
     with running([path, 'run'], source) as process:
         first = process.read(BLOCK)
         if not first:
@@ -54,22 +55,23 @@ def opened_run(scenario_path, trace_path=None, program=None, partial=False):
 class Rest:
     """Gives again the block that was read, and then further ones."""
 
-    def __init__(self, first, read):
+    def __init__(self, first: bytes, read: Callable[[int], bytes]):
         self._first, self._read = first, read
 
-    def read(self, size):
+    def read(self, size: int) -> bytes:
+        """The next block; empty at the end."""
         block, self._first = self._first, b''
         return block or self._read(size)
 
 
-def inputs_of(given):
+def inputs_of(given: argparse.Namespace) -> tuple[str, str | None, str]:
     """The files that a command line has a tool read, and the program that it may run."""
     return given.scenario, getattr(given, 'trace', None), given.program or found()
 
 
 # ---- scenarios
 
-def scenario_bytes(path):
+def scenario_bytes(path: str) -> bytes:
     """What stands in a scenario's file."""
     if path == '-':
         if sys.stdin is None:
@@ -83,7 +85,7 @@ def scenario_bytes(path):
     return source
 
 
-def scenario_text(source, name, program=None):
+def scenario_text(source: bytes, name: str, program: str | None = None) -> str:
     """The text of a scenario: itself, or of an image what `tcpsim dis` writes."""
     if source.startswith(IMAGE_BEGINS):
         done = subprocess.run([find_program(program), 'dis'], input=source, capture_output=True, check=False)
@@ -98,7 +100,8 @@ def scenario_text(source, name, program=None):
 
 # ---- lines
 
-def blocks(read, name, scenario, partial=False, ended=lambda: None):
+def blocks(read: Callable[[int], bytes], name: str, scenario: Scenario, partial: bool = False,
+           ended: Callable[[], None] = lambda: None) -> Iterator[list[str]]:
     """The lines of each block of a trace, its `end N` among them. `ended` raises where what wrote the trace failed; it is
     asked before the last lines are given."""
     count, last, rest = 0, '', ''
@@ -124,7 +127,7 @@ def blocks(read, name, scenario, partial=False, ended=lambda: None):
         raise Unreadable(cut(name, count, last, scenario, rest))
 
 
-def texts(read, name):
+def texts(read: Callable[[int], bytes], name: str) -> Iterator[list[str]]:
     """The text of each block, from the beginning of the line that the block before it ended in."""
     decoder, held, size, line = codecs.getincrementaldecoder('ascii')(), [], 0, 1
     while block := read(BLOCK):
@@ -146,7 +149,7 @@ def texts(read, name):
         yield ''.join(held)
 
 
-def cut(name, count, last, scenario, rest):
+def cut(name: str, count: int, last: str, scenario: Scenario, rest: str) -> str:
     """Says where a trace is cut."""
     where = f'line {count + 1} is cut short' if rest else f'cut behind event {count}'
     time = last.split()[1:2]
@@ -154,7 +157,8 @@ def cut(name, count, last, scenario, rest):
     return f'{name} has no "end": {where}{until} (--partial takes it)'
 
 
-def seconds(time):
+def seconds(time: int) -> str:
+    """Nanoseconds as seconds, in words."""
     return f'{time / S:.3f}'.rstrip('0').rstrip('.')
 
 
@@ -163,17 +167,17 @@ def seconds(time):
 class Running:
     """A program that runs: what it writes, and how it ended."""
 
-    def __init__(self, process, note):
+    def __init__(self, process: subprocess.Popen, note: BinaryIO):
         self._process, self._note, self.read = process, note, process.stdout.read
 
-    def check(self):
+    def check(self) -> None:
         """Raises where the program that has closed its output did not end well."""
         try:
             self.check_status(PATIENCE)
         except subprocess.TimeoutExpired:
             raise Unreadable(f'the program closed its output, and did not end in {PATIENCE} s') from None
 
-    def check_status(self, patience):
+    def check_status(self, patience: float) -> None:
         """Raises where the program does not end so soon, or not well."""
         status = self._process.wait(patience)
         if status:
@@ -182,7 +186,7 @@ class Running:
 
 
 @contextlib.contextmanager
-def running(words, source):
+def running(words: list[str], source: bytes) -> Iterator[Running]:
     """Runs a program on the bytes of a scenario, and ends it where not all that it writes is wanted. Its input and its
     notes are files, so that neither of us waits for the other."""
     with tempfile.TemporaryFile() as given, tempfile.TemporaryFile() as note:
@@ -207,7 +211,7 @@ def running(words, source):
 class ProgramFailed(Unreadable):
     """The program did not end with status 0; `note` is what it said of that."""
 
-    def __init__(self, status, note):
+    def __init__(self, status: int, note: bytes):
         self.ended = status
         self.note = ' '.join(note.decode('utf-8', 'replace').split())
         how = f'was ended by signal {-status}' if status < 0 else f'ended with status {status}'

@@ -1,13 +1,21 @@
-"""tcpsim's model: reads standard input, writes standard output, a note on standard error, a status.
+"""tcpsim's model: reads a scenario, writes standard output, a note on standard error, a status.
 
-Usage: tcpsim-model run|asm|dis|figures|debug [--workers N] [--groups G]
+Usage: tcpsim-model run|debug [--workers N] [--groups G] [FILE]
+       tcpsim-model asm|dis|figures [FILE]
        tcpsim-model debug [--workers N] [--groups G] [--steps N] FILE
 
-With a file the scenario is the file's and standard input has lines typed at a prompt. --steps N takes the prompt's
-grammar after the first N steps in which it was made; 0 is that of the other form.
+The scenario is the file's, or where none is named standard input's. Where `debug` has a file, standard input has lines
+typed at a prompt.
+
+  --workers N  from 1 to 64; it changes nothing
+  --groups G   one, each, auto, or a number for each node, with commas between them; it changes nothing
+  --steps N    at a prompt: the grammar after the first N steps in which it was made; 0 is that of the other form
+  --help       show this
 """
 import io
+import os
 import re
+import signal
 import sys
 from collections import namedtuple
 
@@ -41,7 +49,7 @@ def options_of(words):
     command, rest, given, file = words[0], list(words[1:]), {}, None
     while rest:
         word = rest.pop(0)
-        if command == 'debug' and file is None and (word == '-' or not word.startswith('-')):
+        if file is None and (word == '-' or not word.startswith('-')):
             file = word
             continue
         name, _, value = word.partition('=')
@@ -86,7 +94,7 @@ def scenario_of(asked, data):
 
 
 def output(asked, data):
-    """The bytes that the command writes, piece by piece."""
+    """The bytes that the command writes, piece by piece; of `debug` those of a text with commands behind it."""
     scenario = scenario_of(asked, data)
     if asked.command == 'asm':
         yield save(scenario)
@@ -119,8 +127,8 @@ def main(words, keys, write, tell=lambda note: None, contents=contents):
     try:
         asked = options_of(words)
         keys = io.BytesIO(keys) if isinstance(keys, bytes) else keys
-        if asked.file is None:
-            for piece in output(asked, keys.read()):
+        if asked.file is None or asked.command != 'debug':
+            for piece in output(asked, keys.read() if asked.file is None else contents(asked.file)):
                 write(piece)
         else:
             for piece, note in prompt.typed(scenario_of(asked, contents(asked.file)), lines_typed(keys), asked.steps):
@@ -143,13 +151,19 @@ def at_once(file):
 
 
 def command():
-    """The words, standard input and the outputs of this process; answers the status."""
+    """The words, standard input and the outputs of this process; answers the status. A signal ends it as it ends the
+    program, and what cannot be written is told as the program does."""
+    signal.signal(signal.SIGINT, signal.SIG_DFL)
     out, err = sys.stdout.buffer, sys.stderr.buffer
-    # Not a byte more of standard input is read than a line is long.
-    with open(0, 'rb', buffering=0, closefd=False) as standard_input:
-        write = at_once(out) if sys.argv[1:2] == ['debug'] else out.write
-        status, note = main(sys.argv[1:], standard_input, write, at_once(err))
-    out.flush()
+    try:
+        # Not a byte more of standard input is read than a line is long.
+        with open(0, 'rb', buffering=0, closefd=False) as standard_input:
+            write = at_once(out) if sys.argv[1:2] == ['debug'] else out.write
+            status, note = main(sys.argv[1:], standard_input, write, at_once(err))
+        out.flush()
+    except OSError:
+        os.dup2(os.open(os.devnull, os.O_WRONLY), out.fileno())     # what is held is not tried again
+        status, note = 3, 'write failed'
     if note:
         print(note, file=sys.stderr)
     return status

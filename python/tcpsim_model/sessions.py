@@ -1,7 +1,7 @@
 """Random lines that are typed at a prompt: valid ones, names cut short, times in each unit, refused ones, empty
 lines, long ones, and spaces of all kinds."""
 from tcpsim_model.debugger import KINDS, MOST, MOST_BREAKS
-from tcpsim_model.prompt import MOST_LINE, NAMES, PLACES, TOPICS
+from tcpsim_model.grammar import MOST_LINE, NAMES, PLACES, TOPICS
 
 # Numbers and times of a wrong form or out of range, and some at a bound.
 WRONG_NUMBERS = (b'01', b'00', b'-1', b'+1', b'1.0', b'1_0', b'x', b'1x', b'0x1', b'\xd9\xa3', b'%d' % (MOST + 1), b'9' * 25,

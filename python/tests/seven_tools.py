@@ -17,8 +17,7 @@ PROGRAM = BUILT if os.path.exists(BUILT) else MODEL
 EXAMPLE = pathlib.Path(TOP, 'examples', 'two_timeouts_in_a_row')
 OLD = 'what stood here before\n'
 PATIENCE = 60               # seconds in which a tool that is not waited for ends
-MODULES = {'plot': 'tcpsim.plot', 'flows': 'tcpsim.figures', 'net': 'tcpsim.scenario.shapes', 'sweep': 'tcpsim.sweep',
-           'replay': 'tcpsim.replay.recording', 'stalls': 'tcpsim.stalls', 'follow': 'tcpsim.follow'}
+MODULES = {name: f'tcpsim.cli.{name}' for name in ('plot', 'flows', 'net', 'sweep', 'follow', 'stalls', 'replay')}
 TOOLS = tuple(MODULES)
 READERS = 'plot', 'flows', 'replay', 'stalls', 'follow'
 ENDINGS = {'plot': '.svg', 'replay': '.html', 'sweep': '.csv'}

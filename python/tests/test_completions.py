@@ -22,7 +22,7 @@ from paths import BIN, TOP
 COMPLETIONS = os.path.join(TOP, 'completions')
 PROGRAM = os.path.join(TOP, 'crates', 'tcpsim', 'out', 'tcpsim')
 SUBCOMMANDS = ('asm', 'debug', 'dis', 'explain', 'figures', 'run')
-TOOLS = ('flows', 'plot', 'net', 'sweep', 'follow', 'stalls', 'replay')
+TOOLS = ('run', 'model', 'flows', 'plot', 'net', 'sweep', 'follow', 'stalls', 'replay')
 MARK = '@ready@'
 PATIENCE = 60           # seconds for one answer, on a machine that is busy
 # A line up to the cursor, and what it becomes, its last word completed. `scenario one.txt`, `scenario_two.txt`

@@ -25,8 +25,8 @@ from paths import TOP
 from seven_tools import (ENDINGS, EXAMPLE, MODULES, OLD, PATIENCE, PROGRAM, READERS, TOOLS, call, is_told, place, run, target,
                          to_old, to_private, whole, words)
 
-from tcpsim.scenario import shapes
-from tcpsim.trace import Scenario
+from tcpsim.cli import net as command
+from tcpsim.scenario.text import Scenario
 
 __all__ = ['place']
 NOBODY = 65534
@@ -516,9 +516,9 @@ def test_times_have_a_unit(given, place):
     assert os.listdir(place / 'out') == []
 
 
-@pytest.mark.parametrize('shape', shapes.SHAPES)
+@pytest.mark.parametrize('shape', command.SHAPES)
 def test_flows_are_named_by_their_numbers(shape):
-    flows = Scenario(shapes.scenario([shape])).flows
+    flows = Scenario(command.scenario([shape])).flows
     assert [flow.name for flow in flows] == [f'f{number}' for number in range(len(flows))]
 
 

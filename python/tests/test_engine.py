@@ -20,7 +20,7 @@ from tcpsim import engine
 from tcpsim.figures import Figures, engine_figures
 from tcpsim.figures import figures as trace_figures
 from tcpsim.program import BUILT, is_program, knows
-from tcpsim.trace import Scenario, Unreadable
+from tcpsim.scenario.text import Scenario, Unreadable
 from tcpsim_model import image, nets, simulate
 from tcpsim_model.figures import figures
 from tcpsim_model.text import assemble, disassemble

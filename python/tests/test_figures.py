@@ -18,9 +18,11 @@ import unittest
 from array import array
 
 from paths import TOP
-from tcpsim.figures import Figures, percentile
+from tcpsim.figures import Figures
+from tcpsim.samples import percentile
 from tcpsim.program import BUILT, is_program, knows
-from tcpsim.trace import FlowState, Reader, Scenario
+from tcpsim.scenario.text import Scenario
+from tcpsim.trace import FlowState, Reader
 from tcpsim_model import command_line, image, nets, simulate
 from tcpsim_model.figures import HEADING, figures
 from tcpsim_model.text import assemble, disassemble

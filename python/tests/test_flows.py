@@ -20,7 +20,9 @@ import unittest
 from paths import BIN, MODEL, TOP
 from tcpsim import figures
 from tcpsim.program import BUILT, NoProgram, find_program, found, is_program
-from tcpsim.trace import Run, Scenario, Unreadable
+from tcpsim.run import Run
+from tcpsim.samples import Sample, percentile
+from tcpsim.scenario.text import Scenario, Unreadable
 
 PROGRAM = MODEL
 MS = 10**6
@@ -169,8 +171,8 @@ class Whole(unittest.TestCase):
                         ('delivered', flow.delivered()), ('sent', len(flow.sent) + len(flow.again)),
                         ('timeouts', len(flow.timeouts)), ('sent again by timeout', flow.by_timeout),
                         ('sent again by fast retransmit', flow.by_fast_retransmit), ('completed', flow.completed),
-                        ('median round trip', figures.percentile(flow.round_trips, 50)),
-                        ('99th percentile of round trips', figures.percentile(flow.round_trips, 99))):
+                        ('median round trip', percentile(flow.round_trips, 50)),
+                        ('99th percentile of round trips', percentile(flow.round_trips, 99))):
                     self.assertEqual(got[flow.flow.name, figure], value, (name, figure))
             for link in run.links:
                 sending = sum(min(b, end) - max(a, begin) for a, b in zip(link.busy_from, link.busy_to) if a < end)
@@ -179,14 +181,14 @@ class Whole(unittest.TestCase):
                 for figure, value in (
                         ('utilization', sending / (end - begin)), ('mean queue', waited / (end - begin)),
                         ('greatest queue', max(queue)), ('dropped', len(link.drops)), ('sent', len(link.waits)),
-                        ('median delay in the queue', figures.percentile(link.waits, 50))):
+                        ('median delay in the queue', percentile(link.waits, 50))):
                     self.assertEqual(got[link.link.name, figure], value, (name, figure))
 
     def test_percentiles_of_what_stands_in_a_file(self):
         chance = random.Random(7)
         for greatest in (3, 1000, 10**6, 10**13):
             with tempfile.TemporaryFile() as file:
-                samples, kept = [figures.Sample(file), figures.Sample(file)], [[], []]
+                samples, kept = [Sample(file), Sample(file)], [[], []]
                 for n in range(20_000):
                     number = chance.randrange(greatest)
                     samples[n % 2].recent.append(number)
@@ -197,7 +199,7 @@ class Whole(unittest.TestCase):
                 for sample, numbers in zip(samples, kept):
                     self.assertEqual(sample.least(), min(numbers))
                     for percent in (0, 1, 50, 99, 100):
-                        self.assertEqual(sample.percentile(percent), figures.percentile(numbers, percent))
+                        self.assertEqual(sample.percentile(percent), percentile(numbers, percent))
 
     def test_a_run_that_is_spilled_has_the_same_figures(self):
         before = figures.HELD, figures.PORTION

@@ -19,8 +19,12 @@ from functools import cache
 
 from paths import BIN, MODEL, TOP
 from tcpsim import follow, lives
+from tcpsim.cli import follow as command
 from tcpsim.program import found, is_program
-from tcpsim.trace import ACK, DATA, HEADER_BYTES, LinkState, Reader, Run, Scenario, Unreadable
+from tcpsim.run import Run
+from tcpsim.scenario.text import Scenario, Unreadable
+from tcpsim.scenario.units import HEADER_BYTES
+from tcpsim.trace import ACK, DATA, LinkState, Reader
 
 EXAMPLES = os.path.join(TOP, 'examples')
 PROGRAM = MODEL
@@ -494,7 +498,7 @@ class Refusals(Files):
                     try:
                         walk, segment = follow.follow(scenario, iter(self.lines[:number - 1] + [changed] + self.lines[number:]),
                                                       0, 4000)
-                        follow.write_table(walk, segment, io.StringIO())
+                        command.write_table(walk, segment, io.StringIO())
                     except Unreadable as wrong:
                         refused += 1
                         self.assertRegex(str(wrong), r'^line \d+ is no line of this scenario')

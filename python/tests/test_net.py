@@ -13,8 +13,10 @@ import unittest
 
 import paths
 from paths import BIN, TOP
-from tcpsim.scenario import shapes, units
-from tcpsim.trace import Run, Scenario
+from tcpsim.cli import net as command
+from tcpsim.scenario import net, units
+from tcpsim.run import Run
+from tcpsim.scenario.text import Scenario
 
 BUILT = os.path.join(TOP, 'crates', 'tcpsim', 'out', 'tcpsim')
 MODEL = [sys.executable, paths.MODEL]
@@ -157,13 +159,13 @@ class Texts(unittest.TestCase):
     def test_by_hand(self):
         words = ('dumbbell --rate 8M --rtt 40ms,80ms --queue droptail:BDP --mss 1000 --segments 5,6 --start 0,0.5s --rwnd '
                  '64k --delack 0 --access 100M --access-queue codel:1ms:10ms:77 --end 3s')
-        self.assertEqual(shapes.scenario(words.split()), DUMBBELL)
+        self.assertEqual(command.scenario(words.split()), DUMBBELL)
         done = tool(*words.split())
         self.assertEqual((done.stdout.decode(), done.stderr, done.returncode), (DUMBBELL, b'', 0))
 
     def test_odd_round_trips(self):
         for trip in (8, 9, 15, 81, 40 * MS + 1):
-            read = Scenario(shapes.scenario(['dumbbell', '--flows', '1', '--rtt', f'{trip}ns']))
+            read = Scenario(command.scenario(['dumbbell', '--flows', '1', '--rtt', f'{trip}ns']))
             self.assertEqual(sum(read.links[link].delay for way in read.ways[0] for link in way), trip)
 
     def test_round_trips_and_ways(self):
@@ -174,19 +176,19 @@ class Texts(unittest.TestCase):
                 ('tree --leaves 2 --flows 3 --rtt 64ms,96ms', (64, 96, 64), 5),
                 # 3 hops of 10 ms and two cables of 1 ms, each way
                 ('chain --hops 3 --delay 10ms --access-delay 1ms', (64,), 5)):
-            read = Scenario(shapes.scenario(words.split()))
+            read = Scenario(command.scenario(words.split()))
             for (there, back), trip in zip(read.ways, trips):
                 with self.subTest(words):
                     self.assertEqual(sum(read.links[link].delay for link in there + back), trip * MS)
                     self.assertEqual((len(there), len(back)), (hops, hops))
-        read = Scenario(shapes.scenario('parking-lot --hops 3 --cross 2'.split()))
+        read = Scenario(command.scenario('parking-lot --hops 3 --cross 2'.split()))
         names = [[read.links[link].name for link in there[1:-1]] for there, _ in read.ways]
         self.assertEqual(names, [['p0p1', 'p1p2', 'p2p3'], ['p0p1'], ['p0p1'], ['p1p2'], ['p1p2'], ['p2p3'], ['p2p3']])
-        read = Scenario(shapes.scenario('islands --islands 3 --flows 2 --crossing 1'.split()))
+        read = Scenario(command.scenario('islands --islands 3 --flows 2 --crossing 1'.split()))
         names = [[read.links[link].name for link in there[1:-1]] for there, _ in read.ways]
         self.assertEqual(names, [['p1q1'], ['p2q2'], ['p3q3'], ['p1q1', 'q1p2', 'p2q2'],
                                  ['p2q2', 'q2p3', 'p3q3'], ['p3q3', 'q3p1', 'p1q1']])
-        read = Scenario(shapes.scenario('asymmetric --uploads 1'.split()))
+        read = Scenario(command.scenario('asymmetric --uploads 1'.split()))
         names = [[read.links[link].name for link in there[1:-1]] for there, _ in read.ways]
         self.assertEqual(names, [['down'], ['up']])
 
@@ -194,8 +196,8 @@ class Texts(unittest.TestCase):
         """Nets that are built by `Net` and by the model's own have the same text."""
         from tcpsim_model import nets, text
         from tcpsim_model.scenario import Flow
-        mine, other = shapes.Net(), nets.Net()
-        for kind in (shapes.ROUTER,) * 5 + (shapes.SENDER, shapes.RECEIVER) * 2:
+        mine, other = net.Net(), nets.Net()
+        for kind in (net.ROUTER,) * 5 + (net.SENDER, net.RECEIVER) * 2:
             mine.node(kind)
             other.node(('sender', 'receiver', 'router').index(kind))
         for a, b in ((0, 1), (1, 2), (0, 3), (3, 4), (4, 2), (2, 0), (5, 0), (2, 6), (7, 4), (8, 1)):
@@ -212,7 +214,7 @@ class Texts(unittest.TestCase):
 
     def test_groups_of_islands(self):
         """The groups that the comment names are accepted and change nothing."""
-        text = shapes.scenario('islands --islands 3 --flows 2 --segments 20'.split())
+        text = command.scenario('islands --islands 3 --flows 2 --segments 20'.split())
         options = next(line for line in text.splitlines() if '--groups' in line).partition('--')[2].split()
         shared = subprocess.run([*RUNS, 'run', '--' + options[0], *options[1:]], input=text.encode(), capture_output=True,
                                 check=False)
@@ -226,7 +228,7 @@ class Texts(unittest.TestCase):
                     self._runs(words)
 
     def _runs(self, words):
-        text = shapes.scenario(words)
+        text = command.scenario(words)
         self.assertIn(f'# Written by: tcpsim-net {" ".join(words)}\n', text)
         done = run(text)
         self.assertEqual((done.returncode, done.stderr), (0, b''))
@@ -297,7 +299,7 @@ class WrongWords(unittest.TestCase):
         self.assertEqual((done.returncode, done.stderr), (1, b'tcpsim-net: standard output: No space left on device\n'))
 
     def test_help(self):
-        for words in (['--help'], *([shape, '--help'] for shape in shapes.SHAPES)):
+        for words in (['--help'], *([shape, '--help'] for shape in command.SHAPES)):
             done = tool(*words)
             self.assertEqual((done.returncode, done.stderr), (0, b''))
             self.assertTrue(done.stdout)

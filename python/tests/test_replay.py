@@ -24,18 +24,16 @@ import time
 import unittest
 
 from paths import BIN, MODEL, TOP
-from tcpsim.replay import recording
+from tcpsim.replay import page, recording
 from tcpsim.program import NoProgram, find_program
 from tcpsim.scenario import units
-from tcpsim.trace import Scenario, Unreadable
-from tcpsim.whole_trace import read_run
+from tcpsim.scenario.text import Scenario, Unreadable
+from tcpsim.run import read_run
 
 EXAMPLES = os.path.join(TOP, 'examples')
 PICTURES = os.path.join(TOP, 'docs', 'pictures')
 CHROMIUM = next((path for path in map(shutil.which, ('chromium', 'chromium-browser', 'google-chrome')) if path), None)
-HAS_D3 = os.path.exists(recording.LIBRARY)
-WITH_D3 = unittest.skipUnless(HAS_D3, 'no d3: apt-get install libjs-d3')
-IN_BROWSER = unittest.skipUnless(CHROMIUM and HAS_D3, 'no Chromium or no d3: apt-get install chromium libjs-d3')
+IN_BROWSER = unittest.skipUnless(CHROMIUM, 'no Chromium: apt-get install chromium')
 # A queue that overflows, a timeout, CoDel, three routers; of each the events that its pictures show.
 COMPARED = {'slow_start_into_a_full_queue': 20, 'two_timeouts_in_a_row': 27, 'four_flows_share_codel': 2467,
             'parking_lot_of_three_routers': 1657}
@@ -344,7 +342,6 @@ class Parts(unittest.TestCase):
             self.assertEqual(lines[:-1], part.lines, name)
 
 
-@WITH_D3
 class Refusals(Folder):
     def refused(self, trace, *says, scenario=BY_HAND, words=()):
         given, lines, out = self.path('a.txt', scenario), self.path('a.trace', trace), self.path('a.html')
@@ -428,7 +425,6 @@ class Refusals(Folder):
             recording.MOST_EVENTS = most
 
 
-@WITH_D3
 class Pages(Folder):
     def test_size(self):
         for name in COMPARED:
@@ -480,14 +476,17 @@ class Pages(Folder):
         self.assertEqual((done.returncode, done.stderr.count('\n')), (1, 1), done.stderr)
         self.assertIn('line 6', done.stderr)
 
-    def test_without_d3(self):
-        known, recording.LIBRARY = recording.LIBRARY, '/no/d3.js'
-        try:
-            with self.assertRaises(Unreadable) as refused:
-                recording.read_d3()
-            self.assertIn('apt-get install libjs-d3', str(refused.exception))
-        finally:
-            recording.LIBRARY = known
+    def test_d3_is_brought_along(self):
+        """Each page has the clone's d3 whole, and its license lies beside it."""
+        with open(page.LIBRARY, encoding='utf-8') as file:
+            library = file.read()
+        self.assertIn('version:"3.', library[:200])
+        with open(os.path.join(os.path.dirname(page.LIBRARY), 'LICENSE'), encoding='utf-8') as file:
+            self.assertIn('Michael Bostock', file.read())
+        out = self.path('a.html')
+        self.assertEqual(self.run_script(*example('one_segment'), '-o', out).returncode, 0)
+        with open(out, encoding='utf-8') as file:
+            self.assertIn(library, file.read())
 
 
 # ---- the page in a browser
@@ -921,13 +920,13 @@ def draw_pictures():
 
 def main():
     if '--pictures' in sys.argv:
-        if not (CHROMIUM and HAS_D3):
-            print('test_replay.py: no Chromium or no d3: apt-get install chromium libjs-d3', file=sys.stderr)
+        if not CHROMIUM:
+            print('test_replay.py: no Chromium: apt-get install chromium', file=sys.stderr)
             return 1
         draw_pictures()
         return 0
-    if not (CHROMIUM and HAS_D3):
-        print('LEFT OUT, not passed: the tests of the replay page in a browser (apt-get install chromium libjs-d3)')
+    if not CHROMIUM:
+        print('LEFT OUT, not passed: the tests of the replay page in a browser (apt-get install chromium)')
     result = unittest.main(argv=sys.argv, exit=False, verbosity=0).result
     failed = len({getattr(test, 'test_case', test).id() for test, _ in result.failures + result.errors})
     print(f'{result.testsRun - failed - len(result.skipped)} passed, {failed} failed')

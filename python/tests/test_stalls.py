@@ -16,9 +16,11 @@ import unittest
 
 from paths import BIN, MODEL, TOP
 from tcpsim import causes, stalls
+from tcpsim.cli import stalls as cli_stalls
 from tcpsim.program import found, is_program
 from test_follow import moments_of, run_of
-from tcpsim.trace import ACK, DATA, Scenario, Unreadable
+from tcpsim.scenario.text import Scenario, Unreadable
+from tcpsim.trace import ACK, DATA
 
 EXAMPLES = os.path.join(TOP, 'examples')
 PROGRAM = MODEL
@@ -289,7 +291,7 @@ class Examples(unittest.TestCase):
             text, lines = example(name)
             first = {span[1]: span[3] for span in spans(text, lines)}
             for row in rows_of(text, lines):
-                session = text + '---\n' + ''.join(f'{command}\n' for command in stalls.commands(row.positions))
+                session = text + '---\n' + ''.join(f'{command}\n' for command in cli_stalls.commands(row.positions))
                 done = subprocess.run([PROGRAM, 'debug'], input=session.encode(), capture_output=True, check=True)
                 at, una = (list(map(int, re.findall(words, done.stdout.decode(), re.MULTILINE)))
                            for words in (r'^at (\d+)$', r'^node \d+ sender 0 una=(\d+) '))

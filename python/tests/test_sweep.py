@@ -20,9 +20,9 @@ import time
 import unittest
 
 from paths import BIN, TOP
+from tcpsim.cli import net as command
 from tcpsim import sweep
 from tcpsim.program import knows
-from tcpsim.scenario import shapes
 from test_net import MODEL
 
 BUILT = os.path.join(TOP, 'crates', 'tcpsim', 'out', 'tcpsim')
@@ -74,7 +74,7 @@ def flows_figures(text, *options):
     return {(row['what'], row['name'], row['figure']): row['value'] for row in rows_of(done.stdout)}
 
 
-FOUR = shapes.scenario(['dumbbell', '--flows', '4', '--rate', '2M', '--rtt', '40ms,70ms', '--start', '0,300ms', '--segments',
+FOUR = command.scenario(['dumbbell', '--flows', '4', '--rate', '2M', '--rtt', '40ms,70ms', '--start', '0,300ms', '--segments',
                      '1000', '--rwnd', '60000', '--end', '4s'])
 
 
@@ -148,7 +148,7 @@ class Rows(unittest.TestCase):
         self.assertIn('nothing of it is at or after 1 s', rows_of(done.stdout)[0]['status'])
 
     def test_busiest_link_and_links_by_name(self):
-        text = shapes.scenario(['chain', '--hops', '3', '--rate', '4M,1M,2M', '--segments', '30', '--rwnd', '30000'])
+        text = command.scenario(['chain', '--hops', '3', '--rate', '4M,1M,2M', '--segments', '30', '--rwnd', '30000'])
         self.assertEqual(rows_of(tool(path('chain.txt', text), '--csv').stdout)[0]['link'], 'p1p2')
         done = tool(path('chain.txt', text), '--csv', '--set', 'p1p2.rate=1M', '--link', 'p0p1')
         self.assertEqual(rows_of(done.stdout)[0]['link'], 'p0p1')
@@ -294,6 +294,12 @@ class Document(unittest.TestCase):
             self.assertEqual((done.returncode, done.stdout), (0, output))
         if has_matplotlib():
             self.assertEqual(description(path('sweep.svg')), description(os.path.join(TOP, 'docs', 'pictures', 'sweep.svg')))
+
+
+def plot_sweep():
+    """What draws a sweep, where matplotlib is there."""
+    from tcpsim.plot import sweep as drawn
+    return drawn
 
 
 def has_matplotlib():
@@ -449,18 +455,18 @@ class Pictures(unittest.TestCase):
         rows = [{'status': 'done', 'link': 'pq', 'wait_median_ns': str(number * 10**6), 'wait_p99_ns': str(number * 2 * 10**6),
                  'utilization': f'{number / 10}'} for number in range(1, 9)]
         rows[2] = {'status': 'refused E5 line 1'}
-        panels = sweep.panels_of(grid, rows)
+        panels = plot_sweep().panels_of(grid, rows)
         self.assertEqual(panels, {
             ('end = 1s',): {'droptail': [('5', 1, 2, 10)], 'codel': [('1ms', 7, 14, 70), ('5ms', 5, 10, 50)]},
             ('end = 2s',): {'droptail': [('5', 2, 4, 20), ('BDP', 4, 8, 40)],
                             'codel': [('1ms', 8, 16, 80), ('5ms', 6, 12, 60)]}})
-        plt = sweep.drawing()
-        axes = sweep.draw(plt, grid, rows).axes
+        drawn = plot_sweep()
+        axes = drawn.draw(grid, rows).axes
         self.assertEqual([each.get_title() for each in axes], ['end = 1s', 'end = 2s'])
         lines = [list(zip(*line.get_data())) for line in axes[1].lines]
         self.assertEqual(lines[0], [(2, 20), (4, 40)])          # the medians
         self.assertEqual(lines[1], [(4, 20), (8, 40)])          # the 99th percentiles
-        plt.close('all')
+        drawn.plt.close('all')
 
     def test_points_of_a_line_rise(self):
         """2 Mbit/s times 55 ms, the mean of 40 and 70, are 13,750 bytes: nine packets of 1,500."""
@@ -469,14 +475,14 @@ class Pictures(unittest.TestCase):
         grid = sweep.Grid(pattern, settings, 'pq', 0)
         rows = [{'status': 'done', 'link': 'pq', 'wait_median_ns': str(10**7 + number), 'wait_p99_ns': '20000000',
                  'utilization': '.5'} for number in range(len(grid.points))]
-        for lines in sweep.panels_of(grid, rows).values():
+        for lines in plot_sweep().panels_of(grid, rows).values():
             self.assertEqual([point[0] for point in lines['droptail']], ['5', 'BDP', '80'])
             self.assertEqual([point[0] for point in lines['codel']], ['1ms', '5ms'])
-        plt = sweep.drawing()
-        axes = sweep.draw(plt, grid, rows).axes         # three above, one below
+        drawn = plot_sweep()
+        axes = drawn.draw(grid, rows).axes         # three above, one below
         self.assertEqual([any(label.get_visible() for label in each.get_xticklabels()) for each in axes],
                          [False, True, True, True])
-        plt.close('all')
+        drawn.plt.close('all')
 
     def test_labels_do_not_collide(self):
         """Six points in nearly one place."""
@@ -485,12 +491,12 @@ class Pictures(unittest.TestCase):
         grid = sweep.Grid(pattern, settings, 'pq', 0)
         rows = [{'status': 'done', 'link': 'pq', 'wait_median_ns': str(10**7 + number * 10**6), 'wait_p99_ns': str(10**9),
                  'utilization': f'{.5 + number / 20}'} for number in range(6)]
-        plt = sweep.drawing()
-        figure = sweep.draw(plt, grid, rows)
+        drawn = plot_sweep()
+        figure = drawn.draw(grid, rows)
         boxes = [text.get_window_extent(figure.canvas.get_renderer()) for text in figure.axes[0].texts]
         self.assertEqual(len(boxes), 6)
         self.assertFalse([(a, b) for n, a in enumerate(boxes) for b in boxes[:n] if a.overlaps(b)])
-        plt.close('all')
+        drawn.plt.close('all')
 
     def test_file(self):
         for name, begins in (('s.svg', b'<?xml'), ('s.png', b'\x89PNG'), ('s.pdf', b'%PDF')):

@@ -45,10 +45,13 @@ except ImportError as missing:
           'apt-get install python3-matplotlib and run them with Debian\'s python3')
     print('0 passed, 0 failed')
     sys.exit(0)
-from tcpsim.figures import Figures, jain, percentile, table
+from tcpsim.cli.flows import table
+from tcpsim.figures import Figures, jain
+from tcpsim.samples import percentile
 from tcpsim.figures import figures as trace_figures
-from tcpsim.trace import Run, Scenario, Unreadable
-from tcpsim.whole_trace import read_run
+from tcpsim.run import Run
+from tcpsim.scenario.text import Scenario, Unreadable
+from tcpsim.run import read_run
 
 MS = 10**6
 BY_HAND = '''sim 12000000

@@ -2,10 +2,10 @@
 from tcpsim.command_line import refuse, run
 
 
-def main():
+def main() -> int:
     """Draws what the words ask for; answers the status, 1 where matplotlib is not there."""
     try:
-        return run('tcpsim.plot')
+        return run('tcpsim.cli.plot')
     except ImportError as wrong:
         if (wrong.name or 'matplotlib').partition('.')[0] not in ('matplotlib', 'numpy'):
             raise

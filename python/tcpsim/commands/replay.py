@@ -2,6 +2,6 @@
 from tcpsim.command_line import run
 
 
-def main():
+def main() -> int:
     """Answers the status."""
-    return run('tcpsim.replay.recording')
+    return run('tcpsim.cli.replay')

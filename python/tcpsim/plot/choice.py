@@ -1,4 +1,6 @@
 """The words of the command line, and what of the runs they choose."""
+from __future__ import annotations
+
 import argparse
 import os
 from collections import namedtuple
@@ -8,8 +10,9 @@ import numpy as np
 from tcpsim.command_line import Words, as_type
 from tcpsim.output import printable
 from tcpsim.scenario import units
-from tcpsim.trace import Unreadable
-from tcpsim.whole_trace import inputs_of, read_run
+from tcpsim.scenario.text import Unreadable
+from tcpsim.run import Run, read_run
+from tcpsim.whole_trace import inputs_of
 
 from .clock import Clock, idle_spans, length_text
 from .layout import FIRST_CHOICE, PANELS
@@ -22,7 +25,8 @@ Named = namedtuple('Named', 'name run')
 
 # ---- words
 
-def panel_names(text):
+def panel_names(text: str) -> list[str]:
+    """A type of option: names of panels."""
     names = text.split(',')
     wrong = [name for name in names if name not in PANELS]
     if wrong:
@@ -30,7 +34,8 @@ def panel_names(text):
     return names
 
 
-def list_of_names(text):
+def list_of_names(text: str) -> list[str]:
+    """A type of option: names, with commas."""
     names = text.split(',')
     twice = [name for name in names if names.count(name) > 1]
     if twice:
@@ -38,13 +43,15 @@ def list_of_names(text):
     return names
 
 
-def picture_file(text):
+def picture_file(text: str) -> str:
+    """A type of option: a picture's file, by its ending."""
     if os.path.splitext(text)[1] not in ('.png', '.svg', '.pdf'):
         raise argparse.ArgumentTypeError('the file ends in .png, .svg or .pdf')
     return text
 
 
-def words_of(given=None):
+def words_of(given: list[str] | None = None) -> argparse.Namespace:
+    """What the words ask for."""
     words, moment = Words(description='Draws a run of a scenario.'), as_type(units.moment)
     words.add_argument('scenario', metavar='SCENARIO')
     words.add_trace()
@@ -80,17 +87,18 @@ def words_of(given=None):
 
 # ---- names
 
-def name_of(path):
+def name_of(path: str) -> str:
     """A file's name as a picture has it."""
     return drawable(os.path.splitext(os.path.basename(path))[0])
 
 
-def drawable(text):
+def drawable(text: str):
     """A text as it is drawn: nothing in it is mathematics."""
     return printable(text).replace('$', r'\$')
 
 
-def title_of(name, run):
+def title_of(name: str, run: Run) -> str:
+    """A run's name, and how many flows and events it has."""
     count = len(run.flows)
     return f'{name}: {count} flow{"" if count == 1 else "s"}, {run.lines:,} events'
 
@@ -118,12 +126,12 @@ def named(names, entries, what):
 
 # ---- what is shown
 
-def known_until(run):
+def known_until(run: Run):
     """Up to when nothing more can happen that the trace does not tell."""
     return run.scenario.end if run.whole else run.last
 
 
-def window_of(given, runs):
+def window_of(given: argparse.Namespace, runs):
     """The picture's begin and end, and the idle spans that its axis leaves out."""
     if not all(run.lines for run in runs):
         raise Unreadable('the trace has no line: there is nothing to draw')
@@ -146,7 +154,7 @@ def window_of(given, runs):
     return (begin, end), cuts
 
 
-def stall_of(given, window):
+def stall_of(given: argparse.Namespace, window: tuple[int, int]):
     """How long a span without a new acknowledgement is at least to be marked: as asked for, else 200 ms or a
     20th of the window, in a number of one digit."""
     if given.longer is not None:
@@ -167,7 +175,7 @@ def moments(runs):
     return np.concatenate([np.asarray(times, dtype=np.int64) for times in found_times])
 
 
-def worst_links(run, window, among):
+def worst_links(run: Run, window: tuple[int, int], among):
     """Of these links those at which packets waited longest in all within the window, if a tenth as long as
     at the worst; where none waited the busiest. In the scenario's order."""
     waited = {number: within(run.links[number].wait_times, run.links[number].waits, window) for number in among}
@@ -178,17 +186,18 @@ def worst_links(run, window, among):
     return sorted(number for number in ranked if waited[number] * 10 >= waited[ranked[0]])
 
 
-def within(times, lengths, window):
+def within(times, lengths, window: tuple[int, int]) -> int:
+    """The sum of the lengths of what lies in a span."""
     times, lengths = np.asarray(times, dtype=np.int64), np.asarray(lengths, dtype=np.int64)
     return int(lengths[(times >= window[0]) & (times <= window[1])].sum())
 
 
-def ways_of(run, flows):
+def ways_of(run: Run, flows):
     """The links over which these flows go."""
     return sorted({link for flow in flows for way in run.scenario.ways[flow] for link in way})
 
 
-def shown_of(given, run, window, most_links=None):
+def shown_of(given: argparse.Namespace, run: Run, window: tuple[int, int], most_links=None):
     """The flows and links of a run that are shown."""
     flows = list(range(len(run.flows))) if given.flows is None else named(given.flows, run.scenario.flows, 'flow')
     if given.links is not None:
@@ -200,7 +209,8 @@ def shown_of(given, run, window, most_links=None):
     return flows, links
 
 
-def picture_of(given, run):
+def picture_of(given: argparse.Namespace, run: Run) -> Picture:
+    """What is drawn of one run."""
     window, cuts = window_of(given, (run,))
     flows, links = shown_of(given, run, window)
     until = known_until(run)
@@ -209,7 +219,7 @@ def picture_of(given, run):
                    Clock(window, cuts), longer=stall_of(given, window), log=given.log)
 
 
-def beside(given, runs):
+def beside(given: argparse.Namespace, runs) -> Picture:
     """Several runs: the flows of each, and of each the link at which packets waited longest, or those asked
     for, under the names of their scenarios."""
     window, cuts = window_of(given, [run for _, run in runs])
@@ -225,13 +235,13 @@ def beside(given, runs):
                    Clock(window, cuts), True, stall_of(given, window), given.log)
 
 
-def runs_of(given):
+def runs_of(given: argparse.Namespace) -> list:
     """The runs that the words name: (name, run)."""
     wanted = [(given.scenario, given.trace)] + [(other[0], (other[1:] or [None])[0]) for other in given.beside]
     names = [drawable(name) for name in given.names or ()] or distinct([path for path, _ in wanted])
     return [(name, read_run(path, trace, given.program, given.partial)) for name, (path, trace) in zip(names, wanted)]
 
 
-def all_inputs(given):
+def all_inputs(given: argparse.Namespace):
     """The files that the words have it read."""
     return (*inputs_of(given), *(path for other in given.beside for path in other))

@@ -1,5 +1,8 @@
 """The axis of time of a picture: its window, its unit, and the idle spans that it leaves out."""
+from __future__ import annotations
+
 import numpy as np
+from matplotlib.axes import Axes
 from matplotlib.ticker import FixedFormatter, FixedLocator, MaxNLocator
 
 from .style import STEPS
@@ -11,7 +14,8 @@ CUT_WIDTH = .09         # how wide a gap that is left out is drawn, as a part of
 MARGIN = .1            # what stays of a gap at either side, as a part of what stays beside it
 
 
-def unit_of(width):
+def unit_of(width: float) -> tuple[int, str]:
+    """How many nanoseconds the unit of an axis has, and its name."""
     return (S, 's') if width >= S else (10**6, 'ms') if width >= 10**7 else (10**3, 'µs')
 
 
@@ -58,14 +62,14 @@ class Clock:
             return np.asarray(times, dtype=float) / self.scale
         return np.interp(np.asarray(times, dtype=float), self._knots, self._places)
 
-    def edges(self, count):
+    def edges(self, count: int):
         """The moments at the edges of so many columns of the same width."""
         if not self.cuts:
             return np.linspace(self.window[0], self.window[1], count + 1)
         places = np.linspace(self._places[0], self._places[-1], count + 1)
         return np.interp(places, self._places, self._knots)
 
-    def set(self, axes, most=7):
+    def set(self, axes: Axes, most=7) -> None:
         """Limits and ticks of an axis; a span that is left out is hatched, with its length."""
         axes.set_xlim(self._places[0], self._places[-1])
         if not self.cuts:
@@ -75,7 +79,8 @@ class Clock:
         axes.xaxis.set_major_locator(FixedLocator(ticks))
         axes.xaxis.set_major_formatter(FixedFormatter(labels))
 
-    def mark_cuts(self, axes):
+    def mark_cuts(self, axes: Axes) -> None:
+        """Marks the spans that the axis leaves out."""
         for begin, end in self.cuts:
             left, right = self.x((begin, end))
             axes.axvspan(left, right, facecolor='#F4F4F4', edgecolor='#C8C8C8', hatch='////', lw=0, zorder=3)
@@ -84,7 +89,7 @@ class Clock:
                           fontsize=6.5, color='#333333', zorder=4,
                           bbox={'boxstyle': 'square,pad=.15', 'fc': '#F4F4F4', 'ec': 'none'})
 
-    def cut_boxes(self, axes):
+    def cut_boxes(self, axes: Axes):
         """Where the spans that are left out are drawn: left, below, right, top in pixels."""
         return [(*axes.transData.transform((left, 0))[:1], axes.bbox.y0,
                  *axes.transData.transform((right, 0))[:1], axes.bbox.y1)
@@ -108,7 +113,7 @@ class Clock:
         return ticks, labels
 
 
-def length_text(ns):
+def length_text(ns: int) -> str:
     """A length of time in three digits."""
     for scale, unit in ((S, 's'), (10**6, 'ms'), (10**3, 'µs')):
         if ns >= scale:

@@ -2,16 +2,19 @@
 
 The lines are those of the data, not of the pixels: another matplotlib or another font gives the same ones.
 """
+from __future__ import annotations
+
 import hashlib
 
 import numpy as np
 from matplotlib.collections import LineCollection, PolyCollection
+from matplotlib.figure import Figure
 from matplotlib.lines import Line2D
 from matplotlib.patches import Polygon, StepPatch
 from matplotlib.text import Annotation
 
 
-def drawn(figure):
+def drawn(figure: Figure):
     """The lines, panel by panel in the order of drawing."""
     lines = []
     for axes in figure.get_axes():

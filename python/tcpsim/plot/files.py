@@ -1,22 +1,25 @@
 """Writes a picture. The same run gives the same SVG to the byte, with the same matplotlib."""
+from __future__ import annotations
+
 import io
 import os
 import re
 
 import matplotlib.pyplot as plt
+from matplotlib.figure import Figure
 
 from tcpsim import output
 
 from .drawn import drawn
 
 
-def save(figure, path):
+def save(figure: Figure, path) -> None:
     """Writes the picture."""
     with output.opened(path) as file:
         file.write(content_of(figure, path))
 
 
-def content_of(figure, path):
+def content_of(figure: Figure, path) -> bytes:
     """The picture's bytes, of the sort that the path's ending names; an SVG says in its description what it shows."""
     ending = os.path.splitext(path)[1]
     plain = {'.svg': {'Date': None, 'Creator': None}, '.pdf': {'CreationDate': None}, '.png': {}}[ending]

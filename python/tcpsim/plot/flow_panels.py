@@ -1,7 +1,10 @@
 """Panels of flows: the window, sequence numbers, and the progress of several flows."""
+from __future__ import annotations
+
 import math
 
 import numpy as np
+from matplotlib.axes import Axes
 from matplotlib.lines import Line2D
 from matplotlib.patches import Patch
 from matplotlib.ticker import MaxNLocator
@@ -21,7 +24,7 @@ ROOM = 1.12             # how much higher than the greatest value an axis goes
 
 # ---- marks that window and sequence panels share
 
-def mark_spans(picture, axes, view):
+def mark_spans(picture, axes: Axes, view) -> None:
     """Shades stalls and recoveries and draws timeouts."""
     for begin, end in picture.in_sight(stalls(view.run, picture.longer, view.until)):
         axes.axvspan(*picture.clock.x((begin, end)), color='#000000', alpha=.13, lw=0, zorder=1.2)
@@ -45,6 +48,7 @@ def span_key(picture):
 
 
 def loss_key(picture):
+    """The marks of the losses that a picture shows."""
     reasons = {reason for view in picture.flows for _, reason, _ in lost_data(picture, view)}
     return [sign_of(reason) for reason in SIGNS if reason in reasons]
 
@@ -63,7 +67,8 @@ def sharing(tops):
     return [max(tops) if top >= OWN_AXIS * max(tops) else top for top in tops]
 
 
-def note_own_axis(tops, number):
+def note_own_axis(tops, number: int):
+    """What is said of a panel whose axis of values is its own; None where it is shared."""
     return OWN if sharing(tops)[number] < max(tops) else None
 
 
@@ -80,7 +85,8 @@ def window_tops(picture):
     return tops
 
 
-def window_panel(picture, axes, view, title, width, in_full=True):
+def window_panel(picture, axes: Axes, view, title: str, width: float, in_full: bool = True) -> None:
+    """Windows and what is in flight."""
     flow, tops = view.run, window_tops(picture)
     greatest = sharing(tops)[view.number]
     scale, unit = byte_unit(greatest)
@@ -101,7 +107,7 @@ def window_panel(picture, axes, view, title, width, in_full=True):
     key_above(axes, title, [], width, right=note_own_axis(tops, view.number))
 
 
-def loss_row(picture, axes, view, greatest, scale, in_full):
+def loss_row(picture, axes: Axes, view, greatest, scale, in_full: bool) -> None:
     """Lost segments as a row below the curves, which would hide them."""
     lost = lost_data(picture, view)
     for reason, (marker, color, _) in SIGNS.items():
@@ -156,7 +162,8 @@ def sequence_limits(picture):
             for its, common in zip(ranges, shared)]
 
 
-def sequence_panel(picture, axes, view, title, width, in_full=True):
+def sequence_panel(picture, axes: Axes, view, title: str, width: float, in_full: bool = True) -> None:
+    """Bytes sent, received and acknowledged."""
     flow = view.run
     least, greatest, note = sequence_limits(picture)[view.number]
     scale, unit = byte_unit(greatest)
@@ -182,6 +189,7 @@ def sequence_panel(picture, axes, view, title, width, in_full=True):
 
 
 def sequence_key(picture):
+    """The key of the marks of sequence panels."""
     key = [Line2D([], [], color=BLUE, marker='.', ls='none', label='sent'),
            Line2D([], [], color=GREEN, label='received in order'),
            Line2D([], [], color='#555555', label='acknowledged')]
@@ -190,7 +198,7 @@ def sequence_key(picture):
     return key + loss_key(picture) + span_key(picture)
 
 
-def name_lost(picture, axes, lost, scale):
+def name_lost(picture, axes: Axes, lost, scale) -> None:
     """Writes beside each lost segment which it is, and whether it was lost before. The layout finds the place."""
     seen = set()
     for time, _, number in lost:
@@ -203,7 +211,7 @@ def name_lost(picture, axes, lost, scale):
 
 # ---- progress
 
-def progress_panel(picture, axes, views, width, title='bytes acknowledged of each flow'):
+def progress_panel(picture, axes: Axes, views, width: float, title: str = 'bytes acknowledged of each flow') -> None:
     """All flows' acknowledged bytes in one panel: who gets how much, and who is done when."""
     seen = [picture.seen([view.run.flow.start, *view.run.una_times], [0, *view.run.una]) for view in views]
     least = min((int(una[0]) for una in seen if len(una)), default=0)
@@ -225,5 +233,6 @@ def progress_panel(picture, axes, views, width, title='bytes acknowledged of eac
     key_above(axes, title, key, width)
 
 
-def columns_of(count):
+def columns_of(count: int) -> int:
+    """How many columns a number of panels gets."""
     return math.ceil(math.sqrt(count))

@@ -1,5 +1,8 @@
 """Labels beside points, each at the place where it covers least."""
+from __future__ import annotations
+
 import numpy as np
+from matplotlib.axes import Axes
 
 STEP = 3                # pixels from one point of a curve to the next that a label can cover
 FAR = 10_000            # pixels beyond which nothing is looked at
@@ -9,7 +12,7 @@ PLACES = ((5, -11), (5, 5), (-5, -11), (-5, 5), (0, 9), (0, -16), (9, 14), (9, -
           (0, -26), (16, 22), (-16, 24), (16, -32), (-16, -34))
 
 
-def place_labels(axes, labels, boxes=(), first=PLACES[0]):
+def place_labels(axes: Axes, labels, boxes=(), first=PLACES[0]):
     """Moves `labels`, annotations of points, off each other, off the marks of all of them, off `boxes` (left, below,
     right, top, in pixels) and off curves and dots as far as can be. `first` is the place that is preferred. The
     figure has been laid out."""
@@ -41,7 +44,7 @@ def away(box, mark):
     return sum(max(low - at, at - high, 0)**2 for low, high, at in zip(box[:2], box[2:], mark))
 
 
-def drawn_points(axes):
+def drawn_points(axes: Axes):
     """Points of all curves, close to each other, and all dots, in pixels."""
     found = [np.empty((0, 2))]
     for line in axes.lines:

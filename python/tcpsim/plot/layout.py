@@ -1,10 +1,14 @@
 """The whole picture: flows to the left, links to the right, titled."""
+from __future__ import annotations
+
 import math
 
 import matplotlib.pyplot as plt
 import numpy as np
+from matplotlib.axes import Axes
+from matplotlib.figure import Figure
 
-from tcpsim.trace import Unreadable
+from tcpsim.scenario.text import Unreadable
 
 from .flow_panels import (columns_of, progress_panel, sequence_key, sequence_panel, window_key, window_panel)
 from .labels import place_labels
@@ -23,7 +27,7 @@ ABOVE_LEFT = -5, 5      # of a curve that rises what is free
 POINTS = 72
 
 
-def draw(picture, panels, title):
+def draw(picture, panels, title: str) -> Figure:
     """The figure with these panels."""
     flow_panels = [panel for panel in FLOW_PANELS if panel in panels and picture.flows]
     link_panels = [panel for panel in LINK_PANELS if panel in panels and picture.links]
@@ -45,7 +49,7 @@ def draw(picture, panels, title):
     return figure
 
 
-def put_labels(picture, figure):
+def put_labels(picture, figure: Figure) -> None:
     """Gives labels their places, once it is known where the panels are."""
     if picture.labels:
         figure.draw_without_rendering()
@@ -57,7 +61,7 @@ def put_labels(picture, figure):
 
 # ---- flows
 
-def draw_flows(picture, figure, panels, width):
+def draw_flows(picture, figure: Figure, panels, width: float) -> None:
     """Few flows: window and sequence numbers each. Many: a window each, and one panel of all."""
     views = picture.flows
     in_full = len(views) <= MOST_IN_FULL
@@ -81,7 +85,7 @@ def draw_flows(picture, figure, panels, width):
                 finish(picture, axes, lowest, small=across > 2)
 
 
-def flow_rows(panels, in_full, down):
+def flow_rows(panels, in_full: bool, down):
     """Each row's panel, its row among those of its kind (of a key whose key it is), and its height."""
     rows = []
     if 'window' in panels:
@@ -93,14 +97,16 @@ def flow_rows(panels, in_full, down):
     return rows
 
 
-def flow_panel(picture, axes, panel, view, width, in_full):
+def flow_panel(picture, axes: Axes, panel, view, width: float, in_full: bool) -> None:
+    """Draws a panel of a flow: its window or its sequence numbers."""
     drawing, what = {'window': (window_panel, 'congestion window'),
                      'sequence': (sequence_panel, 'sequence numbers')}[panel]
     name = f'{view.name}' if picture.beside else f'flow {view.name}'
     drawing(picture, axes, view, f'{name}: {what}' if in_full else name, width, in_full)
 
 
-def draw_key(axes, handles, width):
+def draw_key(axes: Axes, handles, width: float) -> None:
+    """Draws the key."""
     axes.axis('off')
     columns = columns_that_fit([handle.get_label() for handle in handles], width)
     axes.legend(handles=handles, loc='center', ncol=columns, **KEY)
@@ -108,7 +114,8 @@ def draw_key(axes, handles, width):
 
 # ---- links
 
-def draw_links(picture, figure, panels, width):
+def draw_links(picture, figure: Figure, panels, width: float) -> None:
+    """Draws the panels of links."""
     all_axes = np.atleast_1d(figure.subplots(len(panels), 1))
     timed = [axes for panel, axes in zip(panels, all_axes) if panel != 'delay-cdf']
     many = len(picture.links) > 1
@@ -129,7 +136,7 @@ def draw_links(picture, figure, panels, width):
 
 # ---- what all panels have
 
-def finish(picture, axes, lowest, small=False):
+def finish(picture, axes: Axes, lowest, small: bool = False) -> None:
     """The axis of time; named and numbered at the lowest panel."""
     common_look(axes, small)
     picture.clock.set(axes, 4 if small else 7)
@@ -139,7 +146,8 @@ def finish(picture, axes, lowest, small=False):
         axes.set_xlabel(f'time, {picture.clock.unit}', fontsize=9)
 
 
-def common_look(axes, small=False):
+def common_look(axes: Axes, small: bool = False) -> None:
+    """Sets what all panels have."""
     axes.grid(True, color='#DDDDDD', lw=.6)
     axes.set_axisbelow(True)
     axes.tick_params(labelsize=7 if small else 8)

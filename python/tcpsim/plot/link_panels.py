@@ -1,5 +1,8 @@
 """Panels of links: the queue, the delay of packets and its distribution, the utilization."""
+from __future__ import annotations
+
 import numpy as np
+from matplotlib.axes import Axes
 from matplotlib.lines import Line2D
 from matplotlib.ticker import FixedLocator, FuncFormatter, MaxNLocator, NullLocator
 
@@ -8,12 +11,14 @@ from .style import SIGNS, STEPS, delay_unit, key_above, series, sign_of
 
 
 def link_lines(links):
+    """The key's lines, one a link."""
     return [Line2D([], [], label=view.name, **series(view.number)) for view in links]
 
 
 # ---- the queue
 
-def queue_panel(picture, axes, links, width, named):
+def queue_panel(picture, axes: Axes, links, width: float, named) -> None:
+    """How many packets wait."""
     greatest, key = 1, link_lines(links) if named else []
     dense = False
     for view in links:
@@ -32,7 +37,7 @@ def queue_panel(picture, axes, links, width, named):
               right='mean, and from the least to the greatest' if dense else None)
 
 
-def draw_envelope(picture, axes, view):
+def draw_envelope(picture, axes: Axes, view) -> None:
     """A queue that changes too often for a curve: a band from the least to the greatest, and the mean."""
     begin, end = picture.until(view)
     edges = [edge for edge in picture.clock.edges(BANDS) if edge <= end]
@@ -44,7 +49,7 @@ def draw_envelope(picture, axes, view):
     axes.stairs(mean, x, baseline=None, color=color, lw=1.2)
 
 
-def mark_drops(picture, axes, links):
+def mark_drops(picture, axes: Axes, links):
     """A sign for each packet that was dropped in sight; answers the key's entries."""
     seen = set()
     for view in links:
@@ -58,7 +63,7 @@ def mark_drops(picture, axes, links):
     return [sign_of(reason) for reason in SIGNS if reason in seen]
 
 
-def drop_heights(link, times, reason):
+def drop_heights(link, times, reason: str):
     """A drop for want of room is drawn at the capacity, another at the queue's length then."""
     if reason == 'full':
         return np.full(len(times), link.link.capacity)
@@ -77,7 +82,8 @@ def delays(picture, view):
     return entered[seen], waits[seen]
 
 
-def delay_panel(picture, axes, links, width, named):
+def delay_panel(picture, axes: Axes, links, width: float, named) -> None:
+    """How long packets waited."""
     found = [delays(picture, view) for view in links]
     greatest = max([0, *(int(waits.max()) for _, waits in found if len(waits))])
     scale, unit = delay_unit(greatest)
@@ -102,7 +108,7 @@ def delay_panel(picture, axes, links, width, named):
               right='at the moment when it entered')
 
 
-def log_axis(set_scale, axis, greatest):
+def log_axis(set_scale, axis, greatest) -> None:
     """A logarithmic axis that has 0 too, below 1."""
     set_scale('symlog', linthresh=1, linscale=.4)
     axis.set_major_locator(FixedLocator([0] + [10**n for n in range(7) if 10**n <= greatest]))
@@ -110,7 +116,7 @@ def log_axis(set_scale, axis, greatest):
     axis.set_major_formatter(FuncFormatter(lambda value, _: f'{value:,g}'))
 
 
-def delay_cdf_panel(picture, axes, links, width, _named):
+def delay_cdf_panel(picture, axes: Axes, links, width: float, _named) -> None:
     """How many percent of the packets waited at most so long: an axis of its own, and no time."""
     found = [np.sort(delays(picture, view)[1]) for view in links]
     greatest = max([0, *(int(waits[-1]) for waits in found if len(waits))])
@@ -139,7 +145,8 @@ def delay_cdf_panel(picture, axes, links, width, _named):
 
 # ---- the utilization
 
-def utilization_panel(picture, axes, links, width, named):
+def utilization_panel(picture, axes: Axes, links, width: float, named) -> None:
+    """Which part of the time a link is busy."""
     count = max(bins(view.run) for view in links)
     edges = picture.clock.edges(count)
     for view in links:

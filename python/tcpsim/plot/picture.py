@@ -1,7 +1,10 @@
 """What every panel needs: the runs' flows and links that are shown, the axis of time, the choices."""
+from __future__ import annotations
+
 from collections import namedtuple
 
 import numpy as np
+from matplotlib.axes import Axes
 
 from .points import dots, steps
 
@@ -14,6 +17,8 @@ LinkView = namedtuple('LinkView', 'run name number until')
 
 
 class Picture:
+    """What is drawn: flows, links and the span."""
+
     def __init__(self, flows, links, clock, beside=False, longer=2 * 10**8, log=False):
         self.flows, self.links, self.clock = flows, links, clock
         self.beside, self.longer, self.log = beside, longer, log
@@ -24,7 +29,7 @@ class Picture:
         """The part of the window in which the view's run is known."""
         return self.window[0], max(self.window[0], min(self.window[1], view.until))
 
-    def curve(self, axes, view, times, values, scale, hidden=(), **style):
+    def curve(self, axes: Axes, view, times, values, scale, hidden=(), **style) -> None:
         """A curve of steps, with nothing drawn in the spans that are hidden."""
         times, values = steps(times, values, self.until(view))
         shown = values / scale
@@ -32,12 +37,14 @@ class Picture:
             shown = np.where((times >= begin) & (times < end), np.nan, shown)
         axes.step(self.clock.x(times), shown, where='post', **{'lw': 1.1, **style})
 
-    def points(self, axes, times, values, scale, **style):
+    def points(self, axes: Axes, times, values, scale, **style) -> None:
+        """Draws points of a curve; `scale` divides its values."""
         times, values = dots(times, values, self.window)
         if len(times):
             axes.plot(self.clock.x(times), values / scale, ls='none', rasterized=len(times) > 400, clip_on=False, **style)
 
-    def sees(self, time):
+    def sees(self, time: int) -> bool:
+        """Whether a moment (ns) is in the span."""
         return self.window[0] <= time <= self.window[1]
 
     def in_sight(self, spans):
@@ -54,4 +61,5 @@ class Picture:
 
 
 def recoveries(view):
+    """The spans of a flow's recoveries, in ns."""
     return [(begin, view.until if end is None else end) for begin, end in view.run.recoveries]

@@ -1,4 +1,6 @@
 """Fewer points, the same picture: curves of steps, clouds of dots, envelopes, busy parts."""
+from __future__ import annotations
+
 import numpy as np
 
 COLUMNS = 1000          # a curve keeps the first, least, greatest and last value of each of so many times
@@ -86,6 +88,7 @@ def busy_parts(link, window, edges=None):
 
 
 def bins(link):
+    """How many parts of the time the utilization of a link is told for."""
     return 100 if len(link.busy_from) > 200 else 50
 
 

@@ -1,6 +1,9 @@
 """Colours, signs, names of units, and the key above a panel."""
+from __future__ import annotations
+
 import math
 
+from matplotlib.axes import Axes
 from matplotlib.lines import Line2D
 from matplotlib.patches import Patch
 
@@ -19,28 +22,33 @@ LETTER, HANDLE, LINE = 4.7, 26, 9.4       # the key's sizes, in points
 STEPS = [1, 2, 2.5, 5, 10]                # between two ticks, in a power of ten
 
 
-def series(number):
+def series(number: int) -> dict:
+    """The look of a link's curve, by its number."""
     return {'color': SERIES[number % len(SERIES)], 'ls': '-' if number < len(SERIES) else '--'}
 
 
-def sign_of(reason):
+def sign_of(reason: str) -> Line2D:
+    """The key's mark of a reason for which packets are dropped."""
     marker, color, text = SIGNS[reason]
     return Line2D([], [], color=color, marker=marker, ls='none', label=text)
 
 
-def recovery_mark():
+def recovery_mark() -> Patch:
+    """The key's mark of a recovery."""
     return Patch(color=SKY, alpha=.3, lw=0, label='recovery')
 
 
-def stall_mark(longer):
+def stall_mark(longer) -> Patch:
+    """The key's mark of a span without a new acknowledgement."""
     return Patch(color='#000000', alpha=.13, lw=0, label=f'no new acknowledgement for over {longer}')
 
 
-def timeout_mark():
+def timeout_mark() -> Line2D:
+    """The key's mark of a timeout."""
     return Line2D([], [], color=RED, lw=1, ls='--', label='timeout')
 
 
-def key_above(axes, title, handles, width, right=None):
+def key_above(axes: Axes, title: str, handles, width: float, right=None) -> None:
     """The title, and below it, above the panel, the key: it covers nothing. The width is in points."""
     rows = 0
     if handles:
@@ -53,7 +61,7 @@ def key_above(axes, title, handles, width, right=None):
         axes.set_title(right, loc='right', fontsize=7.5, color='#555555', pad=pad)
 
 
-def columns_that_fit(labels, width):
+def columns_that_fit(labels, width: float) -> int:
     """In how many columns a key of these labels is at most so wide: the first ones have one entry more."""
     for columns in range(len(labels), 1, -1):
         rows, longer = divmod(len(labels), columns)
@@ -67,31 +75,37 @@ def columns_that_fit(labels, width):
 
 # ---- units
 
-def byte_unit(greatest):
+def byte_unit(greatest) -> tuple[int, str]:
+    """How many bytes a unit has, and its name, by the greatest value."""
     return (10**6, 'MB') if greatest >= 2 * 10**6 else (10**3, 'kB') if greatest >= 2000 else (1, 'bytes')
 
 
-def bytes_text(count):
+def bytes_text(count: int) -> str:
+    """Bytes in words, as 1.5 MB."""
     scale, unit = (10**9, 'GB') if count >= 10**9 else byte_unit(count)
     return f'{count / scale:,.4g} {unit}'
 
 
-def delay_unit(greatest):
+def delay_unit(greatest) -> tuple[int, str]:
+    """How many nanoseconds a unit has, and its name, by the greatest value."""
     return (10**6, 'ms') if greatest >= 10**6 or greatest == 0 else (10**3, 'µs')
 
 
-def rate_text(rate):
+def rate_text(rate: int) -> str:
+    """A rate in bit/s, in words."""
     for scale, unit in ((10**9, 'Gbit/s'), (10**6, 'Mbit/s'), (10**3, 'kbit/s')):
         if rate >= scale:
             return f'{rate / scale:g} {unit}'
     return f'{rate} bit/s'
 
 
-def ms_text(ns):
+def ms_text(ns: int) -> str:
+    """Nanoseconds as milliseconds, in words."""
     return f'{ns / 10**6:g} ms'
 
 
-def link_text(link, name):
+def link_text(link, name: str) -> str:
+    """What a link is, in words."""
     kind = {'droptail': 'drop-tail', 'codel': 'CoDel'}[link.queue]
     more = f', target {ms_text(link.target)}, interval {ms_text(link.interval)}' if link.queue == 'codel' else ''
     return f'{name}: {rate_text(link.rate)}, {ms_text(link.delay)}, {kind}, {link.capacity:,} packets{more}'

@@ -1,32 +1,15 @@
-"""Writes one page on which a run moves: packets on their links, queues, drops, windows.
-
-Usage: bin/tcpsim-replay SCENARIO [TRACE] [-o PAGE.html] [--from T] [--to T] [--partial]
-                         [--program FILE]
-
-Without TRACE the program is run. T is a time with its unit, as `1.5s`, `20ms`, `7us` or `9ns`. The page shows
-the events from --from on (that moment's own too) and before --to. It needs no network and no server; d3 is put
-into it whole: apt-get install libjs-d3.
+"""The part of a run that a page shows: the events from one moment to another, and the state before the first of them.
+Each line is held against the scenario.
 """
-import base64
-import html
-import json
-import os
-import re
-import zlib
+from __future__ import annotations
+
 from collections import deque
+from collections.abc import Iterable
 
-from tcpsim import output
-from tcpsim.command_line import Words, as_type
-from tcpsim.output import printable
-from tcpsim.scenario import units
-from tcpsim.scenario.units import spelled_time
-from tcpsim.trace import ACK, BITS_NS, DATA, HEADER_BYTES, Unreadable, first_window
-from tcpsim.whole_trace import inputs_of, opened_run
+from tcpsim.scenario.text import Scenario, Unreadable
+from tcpsim.scenario.units import BITS_NS, HEADER_BYTES, spelled_time
+from tcpsim.trace import ACK, DATA, first_window
 
-HERE = os.path.dirname(os.path.realpath(__file__))
-PARTS = os.path.join(HERE, 'web')
-SCRIPTS = ('record.js', 'words.js', 'layout.js', 'net.js', 'charts.js', 'page.js')
-LIBRARY = '/usr/share/javascript/d3/d3.min.js'       # version 3, as Debian has it
 MOST_EVENTS = 200_000
 IN_A_TRACE = b'abcdefghijklmnopqrstuvwxyz0123456789 =:'
 
@@ -45,7 +28,8 @@ class LinkNow:
         self.waiting = deque()          # (flow, DATA or ACK, number, entered, again)
         self.under_way = deque()        # (flow, DATA or ACK, number, begun, arrives, again, entered)
 
-    def kept(self):
+    def kept(self) -> dict:
+        """Its state as the page takes it."""
         return {'offered': self.offered, 'sent': self.sent, 'arrived': self.arrived,
                 'busy': self.free_at is not None,
                 'waiting': [list(packet) for packet in self.waiting],
@@ -66,7 +50,8 @@ class FlowNow:
         self.delack, self.start, self.newreno = flow.delack, flow.start, flow.newreno
         self.since = None               # when it started, or when una last rose
 
-    def kept(self):
+    def kept(self) -> dict:
+        """Its state as the page takes it."""
         return {'una': self.una, 'nxt': self.nxt, 'high': self.high, 'cwnd': self.cwnd,
                 'ssthresh': self.ssthresh, 'dups': self.dups, 'recovering': self.recovering,
                 'next': self.expected, 'above': sorted(self.above), 'answer_waits': self.answer_waits,
@@ -76,7 +61,7 @@ class FlowNow:
 class Reader:
     """Follows a trace event by event and refuses a line that this scenario's run cannot have there."""
 
-    def __init__(self, scenario):
+    def __init__(self, scenario: Scenario):
         self.scenario = scenario
         self.flows = [FlowNow(flow) for flow in scenario.flows]
         self.links = [LinkNow(number, link, scenario.leaves[link.source].index(number),
@@ -93,7 +78,7 @@ class Reader:
         self.ends = [(flow.sender, flow.receiver) for flow in scenario.flows]
         self.count, self.key = 0, (-1, 0, 0, 0)
 
-    def line(self, words, time):
+    def line(self, words: list[str], time: int) -> None:
         """Takes one event's line. Raises ValueError, KeyError or IndexError where it does not fit."""
         node, source, number, kind, name = int(words[2]), int(words[3]), int(words[4]), words[5], int(words[6])
         key = time, node, source, number
@@ -272,7 +257,7 @@ class Reader:
 class Part:
     """The lines from one moment up to another, and the state before the first of them."""
 
-    def __init__(self, scenario, lines, begin=0, end=None):
+    def __init__(self, scenario: Scenario, lines: Iterable[str], begin: int = 0, end: int | None = None):
         self.lines, self.first, self.base = [], 0, None
         self.begin, self.whole = begin, False
         reader = Reader(scenario)
@@ -328,86 +313,3 @@ class Part:
         until = int(self.lines[MOST_EVENTS].split(' ', 2)[1])
         return (f'there are more than {MOST_EVENTS:,} events; those that fit: '
                 f'--from {spelled_time(self.begin)} --to {spelled_time(until)}, and then --from {spelled_time(until)}')
-
-
-# ---- the page
-
-def about(scenario):
-    """What the page has to know of the scenario."""
-    return {
-        'end': scenario.end, 'remark': [line[1:].strip() for line in scenario.text.split('\n') if line.startswith('#')],
-        'nodes': [{'name': node.name, 'kind': node.kind} for node in scenario.nodes],
-        'links': [{'name': link.name, 'from': link.source, 'to': link.to, 'rate': link.rate, 'delay': link.delay,
-                   'queue': link.queue, 'limit': link.capacity, 'port': scenario.leaves[link.source].index(number)}
-                  for number, link in enumerate(scenario.links)],
-        'flows': [{'name': flow.name, 'sender': flow.sender, 'receiver': flow.receiver, 'mss': flow.mss,
-                   'segments': flow.segments, 'start': flow.start, 'rwnd': flow.rwnd, 'delack': flow.delack}
-                  for flow in scenario.flows],
-        'ways': [[list(there), list(back)] for there, back in scenario.ways]}
-
-
-def for_script(value):
-    """JSON that may stand in a page's script."""
-    return json.dumps(value, separators=(',', ':')).replace('<', '\\u003c')
-
-
-def read_d3():
-    if not os.path.exists(LIBRARY):
-        raise Unreadable('d3 is not installed: apt-get install libjs-d3')
-    text = read_part(LIBRARY)
-    if 'version:"3.' not in text[:200]:
-        raise Unreadable(f'{LIBRARY} is not version 3 of d3: apt-get install libjs-d3')
-    return text
-
-
-def read_part(name):
-    with open(name, encoding='utf-8') as file:
-        return file.read()
-
-
-def page(title, scenario, part):
-    """The whole page's text."""
-    packed = base64.b64encode(zlib.compress('\n'.join(part.lines).encode('ascii'), 3)).decode('ascii')
-    facts = about(scenario)
-    facts.update(title=title, first=part.first, events=len(part.lines), base=part.base, whole=part.whole)
-    holes = {
-        'TITLE': html.escape(title),
-        'STYLE': read_part(os.path.join(PARTS, 'page.css')),
-        'LIBRARY': read_d3().replace('</script', '<\\/script'),
-        'FACTS': for_script(facts),
-        'TRACE': packed,
-        'SCRIPT': '\n'.join(read_part(os.path.join(PARTS, name)) for name in SCRIPTS)}
-    return re.sub(r'@@([A-Z0-9]+)@@', lambda found: holes[found.group(1)],
-                  read_part(os.path.join(PARTS, 'page.html')))
-
-
-# ---- the command
-
-def make(given, file):
-    """Reads the run and writes its page; answers what is said of it."""
-    read_d3()
-    with opened_run(given.scenario, given.trace, given.program, given.partial) as (scenario, lines):
-        part = Part(scenario, lines, given.begin or 0, given.end)
-    whole = page(title_of(given.scenario), scenario, part)
-    file.write(whole)
-    return f'{len(part.lines):,} events from event {part.first + 1:,} on, {len(whole):,} bytes'
-
-
-def title_of(path):
-    """A page's title, of its scenario's name."""
-    return printable(os.path.splitext(os.path.basename(path))[0].replace('_', ' '))
-
-
-def main():
-    words, moment = Words(description='One page on which a run moves.'), as_type(units.moment)
-    words.add_argument('scenario', metavar='SCENARIO', help='a text or an image; - is standard input')
-    words.add_trace()
-    words.add_argument('-o', '--output', metavar='PAGE.html', help='else the scenario\'s name with .html, here')
-    words.add_argument('--from', dest='begin', type=moment, metavar='T', help='a time, as 5s or 20ms; else the run\'s begin')
-    words.add_argument('--to', dest='end', type=moment, metavar='T', help='events before this moment are shown')
-    given = words.parse_args()
-    path = given.output or os.path.splitext(os.path.basename(given.scenario))[0] + '.html'
-    with output.written(path, inputs_of(given)) as file:
-        said = make(given, file)
-    with output.opened() as out:
-        out.write(f'{path}: {said}\n')

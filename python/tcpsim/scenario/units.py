@@ -4,8 +4,11 @@ Each reader takes a word and answers a number in the scenario's own unit (bit/s,
 raises `Wrong` with what is wrong with the word. Used by the commands; nothing but Python's
 standard library.
 """
+from __future__ import annotations
+
 import re
 from collections import namedtuple
+from collections.abc import Sequence
 from fractions import Fraction
 
 from tcpsim.command_line import Wrong
@@ -38,12 +41,12 @@ def _amount(word, units, what, example):
     return int(amount)
 
 
-def rate(word):
+def rate(word: str) -> int:
     """Bits a second: 10M, 1.5M, 800k, 1G; a number alone is bit/s."""
     return _amount(word, RATE_UNITS, 'rate', '10M (units k, M, G of bit/s)')
 
 
-def time(word):
+def time(word: str) -> int:
     """Nanoseconds: 20ms, 0.5s, 100us, 1ns; of the numbers alone only 0."""
     if word == '0':
         return 0
@@ -53,7 +56,7 @@ def time(word):
     return _amount(word, TIME_UNITS, 'time', '20ms (units ns, us, ms, s)')
 
 
-def moment(word):
+def moment(word: str) -> int:
     """A time that a run can have, in nanoseconds."""
     read = time(word)
     if read > RANGES['end'][1]:
@@ -61,19 +64,19 @@ def moment(word):
     return read
 
 
-def size(word):
+def size(word: str) -> int:
     """Bytes: 64000, 64k, 1M, units of a thousand."""
     return _amount(word, SIZE_UNITS, 'size', '64k (bytes; units k, M, G)')
 
 
-def count(word):
+def count(word: str) -> int:
     """A whole number."""
     if not re.fullmatch('[0-9]{1,20}', word):
         raise Wrong(f'{word!r} is no whole number')
     return int(word)
 
 
-def within(name, value, shown=None):
+def within(name: str, value: int, shown: str | None = None) -> int:
     """The value, where the program's range of `name` has it."""
     least, greatest = RANGES[name]
     if not least <= value <= greatest:
@@ -82,7 +85,7 @@ def within(name, value, shown=None):
     return value
 
 
-def number(name, word):
+def number(name: str, word: str) -> int:
     """The number that a scenario's field `name` has by this word, in its range."""
     return within(name, READERS[name](word), repr(word))
 
@@ -97,11 +100,13 @@ def _spelled(value, units):
     return f'{whole}{"." + digits if digits else ""}{unit}'
 
 
-def spelled_rate(bits):
+def spelled_rate(bits: int) -> str:
+    """A rate in bit/s as `rate` reads it: 1.5M."""
     return _spelled(bits, RATE_UNITS)
 
 
-def spelled_time(ns):
+def spelled_time(ns: int) -> str:
+    """Nanoseconds as `time` reads them: 20ms."""
     return _spelled(ns, TIME_UNITS) if ns else '0'
 
 
@@ -125,7 +130,7 @@ class Queue(namedtuple('Queue', 'kind capacity target interval maxpacket', defau
             return f'{times}:{self.capacity}:{self.maxpacket}'
         return times if self.capacity == CODEL_LIMIT else f'{times}:{self.capacity}'
 
-    def words(self, packet, product):
+    def words(self, packet: int, product: int) -> str:
         """The words of a link's statement from the kind of queue on. `packet` is the greatest in bytes, `product`
         the bandwidth-delay product in packets."""
         capacity = product if self.capacity is None else self.capacity
@@ -135,7 +140,7 @@ class Queue(namedtuple('Queue', 'kind capacity target interval maxpacket', defau
         return f'codel {capacity} {self.target} {self.interval} {maxpacket}'
 
 
-def queue(word, default_kind=None):
+def queue(word: str, default_kind: str | None = None) -> Queue:
     """The queue of a word: droptail:N, droptail:BDP or codel:TARGET:INTERVAL[:LIMIT[:MAXPACKET]]. With
     `default_kind` the kind may be left out."""
     kind, *numbers = word.split(':')
@@ -155,7 +160,7 @@ def _limit(word, packets):
     return int(packets)
 
 
-def queue_in_range(word):
+def queue_in_range(word: str) -> Queue:
     """The queue of a word, each of its numbers in its range."""
     read = queue(word)
     if read.capacity is not None:
@@ -168,7 +173,7 @@ def queue_in_range(word):
     return read
 
 
-def queues(words):
+def queues(words: str) -> list[Queue]:
     """The queues of a list; where a kind is left out, it is that of the queue before:
     droptail:10,50,codel:5ms:100ms has three."""
     read = []
@@ -177,12 +182,12 @@ def queues(words):
     return read
 
 
-def product(bits, round_trip_of, packet):
+def product(bits: int, round_trip_of: int, packet: int) -> int:
     """The bandwidth-delay product in whole packets, at least one: what is under way in a round trip."""
     return max(1, bits * round_trip_of // (packet * BITS_NS))
 
 
-def round_trip(link, ways, delays):
+def round_trip(link: int, ways: Sequence[tuple[Sequence[int], Sequence[int]]], delays: Sequence[int]) -> int:
     """The mean round trip, of delays alone, of the flows whose data goes over a link, or of those whose
     acknowledgements do where no data does; 0 where nothing does. `ways` are each flow's links there and back."""
     for sort in (0, 1):

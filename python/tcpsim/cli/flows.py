@@ -1,0 +1,154 @@
+"""tcpsim-flows: figures of each flow and each link of a run, as a table or as CSV.
+
+Usage: bin/tcpsim-flows SCENARIO [TRACE] [--csv | --series STEP] [--from T] [--to T] [--busy] [--partial] [-o FILE]
+                        [--program PATH | --model]
+       bin/tcpsim-flows SCENARIO --engine [--csv] [--busy] [-o FILE] [--program PATH | --model]
+
+SCENARIO is a text or an image, `-` is standard input. Without TRACE the program is run. The trace is read as it comes
+and is not kept; with --engine there is none, and the figures are from `tcpsim figures`. --from and --to (times, as 5s
+or 20ms) choose a part of the span, to which what happens at --to itself does not belong. A trace that is cut is
+refused, or with --partial taken as far as it goes. --series writes as CSV each flow's mean window and goodput and each
+link's mean and greatest queue, a row for each STEP. --busy leaves out the links that carried and dropped nothing.
+"""
+from __future__ import annotations
+
+import argparse
+import csv
+import math
+from array import array
+
+from tcpsim import output
+from tcpsim.command_line import Words, as_type
+from tcpsim.engine import engine_run
+from tcpsim.figures import S, Figures, engine_figures, figures
+from tcpsim.output import Output, aligned
+from tcpsim.scenario import units
+from tcpsim.whole_trace import inputs_of, opened_run
+
+TRACE_COLUMNS = {
+    'flow': (('delivered', 'bytes', '{:,}', 1), ('goodput', 'Mbit/s', '{:.3f}', 1e6),
+             ('share of the bottleneck', 'share %', '{:.1f}', .01), ('bottleneck', 'of link', '{}', 0),
+             ('sent', 'sent', '{:,}', 1), ('loss', 'loss %', '{:.2f}', .01), ('timeouts', 'timeouts', '{:,}', 1),
+             ('sent again by fast retransmit', 'sent again: fast', '{:,}', 1),
+             ('sent again by timeout', 'after timeouts', '{:,}', 1),
+             ('least round trip', 'RTT ms: least', '{:.3f}', 1e6), ('median round trip', 'median', '{:.3f}', 1e6),
+             ('99th percentile of round trips', '99th', '{:.3f}', 1e6), ('completed', 'completed s', '{:.6f}', 1e9)),
+    'link': (('utilization', 'utilization %', '{:.1f}', .01), ('greatest queue', 'queue: greatest', '{:,}', 1),
+             ('mean queue', 'mean', '{:.2f}', 1), ('median delay in the queue', 'delay ms: median', '{:.3f}', 1e6),
+             ('99th percentile of delay in the queue', '99th', '{:.3f}', 1e6), ('dropped', 'dropped', '{:,}', 1),
+             ('loss', 'loss %', '{:.2f}', .01)),
+}
+ENGINE_COLUMNS = {
+    'flow': (*TRACE_COLUMNS['flow'][:2], ('bottleneck', 'bottleneck', '{}', 0), TRACE_COLUMNS['flow'][4],
+             *TRACE_COLUMNS['flow'][6:9], ('least timed round trip', 'timed RTT ms: least', '{:.3f}', 1e6),
+             ('median timed round trip', 'median', '{:.3f}', 1e6),
+             ('99th percentile of timed round trips', '99th', '{:.3f}', 1e6), TRACE_COLUMNS['flow'][-1]),
+    'link': (*TRACE_COLUMNS['link'][:-1], ('dropped as lost', 'as lost', '{:,}', 1), ('dropped as full', 'as full', '{:,}', 1),
+             ('dropped by CoDel', 'by CoDel', '{:,}', 1), TRACE_COLUMNS['link'][-1]),
+}
+
+
+def shown(form, scale, value) -> str:
+    """A figure in words, `-` where there is none."""
+    if value is None:
+        return '-'
+    return form.format(value / scale if scale not in (0, 1) else value)
+
+
+def table(rows: list, columns_of=TRACE_COLUMNS) -> list[str]:
+    """The lines of the table of all figures."""
+    lines = []
+    for what, columns in columns_of.items():
+        of = {}
+        for kind, name, figure, _, value in rows:
+            if kind == what:
+                of.setdefault(name, {})[figure] = value
+        lines += aligned([[what] + [title for _, title, _, _ in columns]] + [
+            [name] + [shown(form, scale, values[figure]) for figure, _, form, scale in columns]
+            for name, values in of.items()]) + ['']
+    losses = [[name, figure, f'{value:,}'] for what, name, figure, _, value in rows
+              if what == 'flow' and ' dropped as ' in figure]
+    lines += (aligned([['flow', 'lost', 'packets']] + losses) + ['']) if losses else []
+    for what, _, figure, unit, value in rows:
+        if what == 'run':
+            lines.append(f'{figure}: {value / S:.6f} s' if unit == 'ns' else f'{figure}: {shown("{:.4f}", 1, value)}')
+    return lines
+
+
+def write_csv(rows: list, file: Output) -> None:
+    """Writes figures, one a row."""
+    out = csv.writer(file, lineterminator='\n')
+    out.writerow(('what', 'name', 'figure', 'unit', 'value'))
+    for *words, value in rows:
+        out.writerow((*words, '' if value is None else f'{value:.6f}' if isinstance(value, float) else value))
+
+
+def write_series(run, file: Output, only_busy=False) -> None:
+    """A row for each step: the two moments, each flow's and each link's columns. What is not is empty."""
+    columns = run.columns()
+    kept = [at for at, (_, link) in enumerate(columns) if not (only_busy and link and link.idle())]
+    out = csv.writer(file, lineterminator='\n')
+    out.writerow([columns[at][0] for at in kept])
+    run.series.seek(0)
+    for _ in range(run.rows):
+        row = array('d')
+        row.fromfile(run.series, len(columns))
+        row[0], row[1] = row[0] / S, row[1] / S
+        out.writerow(['' if math.isnan(row[at]) else f'{row[at]:.9f}'.rstrip('0').rstrip('.') for at in kept])
+
+
+# ---- the command
+
+def words_of(given: list[str] | None = None) -> argparse.Namespace:
+    """What the words ask for."""
+    words, moment = Words(description='Figures of each flow and each link of a run.'), as_type(units.moment)
+    words.add_argument('scenario', metavar='SCENARIO', help='a text or an image; - is standard input')
+    words.add_trace()
+    words.add_argument('--csv', action='store_true', help='one figure a row: what,name,figure,unit,value')
+    words.add_argument('--series', metavar='STEP', type=moment,
+                       help='CSV of windows, goodput and queues, a row for each STEP, as 1s')
+    words.add_argument('--from', dest='begin', metavar='T', type=moment,
+                       help='count from here on, as 5s or 20ms; else from the first flow\'s start')
+    words.add_argument('--to', dest='end', metavar='T', type=moment, help='count up to here; else to the run\'s end')
+    words.add_argument('--busy', action='store_true', help='leave out links that carried and dropped nothing')
+    words.add_argument('--engine', action='store_true',
+                       help='from `tcpsim figures`, with no trace: of the whole run, percentiles at most 1/32 above the '
+                       'exact ones. It has no share of the bottleneck, no loss and no drops of a flow, and round trips '
+                       'of timed segments alone')
+    words.add_output('the table or the CSV')
+    given = words.parse_args(given)
+    if given.series == 0:
+        words.error('--series: a step of 0 has no rows')
+    if given.end is not None and given.end <= (given.begin or 0):
+        words.error('--to is not behind --from')
+    if given.engine and (given.trace is not None or given.partial):
+        words.error('--engine takes no TRACE, nor --partial: the program runs the scenario')
+    if given.engine and (given.begin, given.end, given.series) != (None, None, None):
+        words.error('--engine has figures of the whole run: it goes without --from, --to and --series')
+    return given
+
+
+def run_of(given: argparse.Namespace) -> Figures:
+    """The figures that the words ask for."""
+    with opened_run(given.scenario, given.trace, given.program, given.partial, given.end) as (scenario, lines):
+        return Figures(scenario, lines, given.begin, given.end, given.series)
+
+
+def write(given: argparse.Namespace, file: Output) -> None:
+    """Writes what is asked for."""
+    if given.series is not None:
+        write_series(run_of(given), file, given.busy)
+        return
+    rows = (engine_figures(engine_run(given.scenario, given.program), given.busy) if given.engine else
+            figures(run_of(given), given.busy))
+    if given.csv:
+        write_csv(rows, file)
+    else:
+        print('\n'.join(table(rows, ENGINE_COLUMNS if given.engine else TRACE_COLUMNS)), file=file)
+
+
+def main() -> None:
+    """Does what the words ask for."""
+    given = words_of()
+    with output.opened(given.output, inputs_of(given)) as file:
+        write(given, file)

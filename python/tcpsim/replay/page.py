@@ -1,0 +1,62 @@
+"""The text of a page on which a run moves: packets on their links, queues, drops, windows. It needs no network and no
+server; script, style and d3 are put into it whole, from web/.
+"""
+from __future__ import annotations
+
+import base64
+import html
+import json
+import os
+import re
+import zlib
+
+from tcpsim.replay.recording import Part
+from tcpsim.scenario.text import Scenario
+
+HERE = os.path.dirname(os.path.realpath(__file__))
+PARTS = os.path.join(HERE, 'web')
+SCRIPTS = ('record.js', 'words.js', 'layout.js', 'net.js', 'charts.js', 'page.js')
+LIBRARY = os.path.join(PARTS, 'vendor', 'd3.v3.min.js')
+
+
+# ---- the page
+
+def about(scenario: Scenario) -> dict:
+    """What the page has to know of the scenario."""
+    return {
+        'end': scenario.end, 'remark': [line[1:].strip() for line in scenario.text.split('\n') if line.startswith('#')],
+        'nodes': [{'name': node.name, 'kind': node.kind} for node in scenario.nodes],
+        'links': [{'name': link.name, 'from': link.source, 'to': link.to, 'rate': link.rate, 'delay': link.delay,
+                   'queue': link.queue, 'limit': link.capacity, 'port': scenario.leaves[link.source].index(number)}
+                  for number, link in enumerate(scenario.links)],
+        'flows': [{'name': flow.name, 'sender': flow.sender, 'receiver': flow.receiver, 'mss': flow.mss,
+                   'segments': flow.segments, 'start': flow.start, 'rwnd': flow.rwnd, 'delack': flow.delack}
+                  for flow in scenario.flows],
+        'ways': [[list(there), list(back)] for there, back in scenario.ways]}
+
+
+def for_script(value) -> str:
+    """JSON that may stand in a page's script."""
+    return json.dumps(value, separators=(',', ':')).replace('<', '\\u003c')
+
+
+def read_part(name: str) -> str:
+    """A file of web/."""
+    with open(name, encoding='utf-8') as file:
+        return file.read()
+
+
+def page(title: str, scenario: Scenario, part: Part) -> str:
+    """The whole page's text."""
+    packed = base64.b64encode(zlib.compress('\n'.join(part.lines).encode('ascii'), 3)).decode('ascii')
+    facts = about(scenario)
+    facts.update(title=title, first=part.first, events=len(part.lines), base=part.base, whole=part.whole)
+    holes = {
+        'TITLE': html.escape(title),
+        'STYLE': read_part(os.path.join(PARTS, 'page.css')),
+        'LIBRARY': read_part(LIBRARY).replace('</script', '<\\/script'),
+        'FACTS': for_script(facts),
+        'TRACE': packed,
+        'SCRIPT': '\n'.join(read_part(os.path.join(PARTS, name)) for name in SCRIPTS)}
+    return re.sub(r'@@([A-Z0-9]+)@@', lambda found: holes[found.group(1)],
+                  read_part(os.path.join(PARTS, 'page.html')))

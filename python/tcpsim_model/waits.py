@@ -1,0 +1,66 @@
+"""What a flow waits for: first how it stands, then where its packets are, then its alarms."""
+from tcpsim_model.simulate import DELACK, RTO, START
+
+
+def why(net, flow):
+    """What `why` answers of a flow of the net."""
+    lines = [f'flow {flow} {standing(net, flow)}']
+    lines += [f'{head}: {", ".join(found)}' for head, found in (
+        ('waits', waiting(net, flow)), ('under way', under_way(net, flow)), ('alarms', alarms(net, flow))) if found]
+    return ''.join(line + '\n' for line in lines)
+
+
+def standing(net, flow):
+    """How a flow stands: the first of these that holds."""
+    sender = net.flows[flow].sender
+    end = net.ends[sender]
+    if START in net.alarms[sender]:
+        return f'is not started: it starts at {net.alarms[sender][START]} ns'
+    if end.una == end.total:
+        return f'is complete: all {end.total} bytes are acknowledged'
+    if net.is_stalled(flow):
+        return f'is stalled: {end.dups} duplicate acknowledgements, and {awaited(net, flow)}'
+    if end.nxt == end.total:
+        return f'has sent all {end.total} bytes: {end.una} are acknowledged'
+    flight = end.nxt - end.una
+    if flight + end.mss > min(end.cwnd, end.rwnd):
+        window, size = ('cwnd', end.cwnd) if end.cwnd <= end.rwnd else ('rwnd', end.rwnd)
+        return f'sends no more: {flight} bytes in flight, a segment of {end.mss}, {window} {size}'
+    return f'may send at its next acknowledgement: {flight} bytes in flight, a segment of {end.mss}, cwnd {end.cwnd}'
+
+
+def awaited(net, flow):
+    """What goes on with a flow that is stalled: the first of its alarms."""
+    found = own_alarms(net, flow)
+    if not found:
+        return 'nothing goes on with it'
+    time, number = found[0]
+    return f'its {"retransmission timer" if number == RTO else "delayed acknowledgement"} is due at {time} ns'
+
+
+def own_alarms(net, flow):
+    """A flow's alarms, of its sender and its receiver, in the order of their keys: time and number of each."""
+    ends = net.flows[flow]
+    found = [(net.alarms[node][number], node, number) for node, numbers in ((ends.sender, (START, RTO)), (ends.receiver, (DELACK,)))
+             for number in numbers if number in net.alarms[node]]
+    return [(time, number) for time, _, number in sorted(found)]
+
+
+def alarms(net, flow):
+    return [f'{("start", "rto", "delack")[number]} at {time} ns' for time, number in own_alarms(net, flow)]
+
+
+def waiting(net, flow):
+    """The packets of a flow that wait, queue by queue, each with its place there from 1."""
+    return [f'{sort_of(packet)} at place {place} of link {port.number}' for port in net.ports
+            for place, (packet, _) in enumerate(port.queue.entries, 1) if packet[0] == flow]
+
+
+def under_way(net, flow):
+    """The packets of a flow on their way over a link, in the order in which they arrive."""
+    return [f'{sort_of(packet)} to node {node} at {time} ns' for time, node, source, _, packet in sorted(net.pending, key=lambda it: it[:4])
+            if source != 0 and packet[0] == flow]
+
+
+def sort_of(packet):
+    return f'{"ack" if packet[1] else "data"} {packet[2]}'

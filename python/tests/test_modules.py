@@ -1,0 +1,72 @@
+#!/usr/bin/env python3
+"""Tests of what python/ promises of its modules: how long they are, what they say, what they import. Usage:
+python/tests/test_modules.py, or pytest."""
+import ast
+import os
+import sys
+
+import pytest
+
+from paths import BIN, TOP
+
+PYTHON = os.path.join(TOP, 'python')
+MOST_LINES = 400
+MODULES = sorted(os.path.relpath(os.path.join(folder, name), PYTHON) for package in ('tcpsim', 'tcpsim_model')
+                 for folder, _, names in os.walk(os.path.join(PYTHON, package)) for name in names if name.endswith('.py'))
+
+
+def read(path):
+    with open(os.path.join(PYTHON, path), encoding='utf-8') as file:
+        return file.read()
+
+
+def public(body, before=''):
+    """The names of a module, or of a class, that others may use."""
+    for node in body:
+        if isinstance(node, (ast.FunctionDef, ast.ClassDef)) and not node.name.startswith('_'):
+            yield before + node.name, node
+            if isinstance(node, ast.ClassDef):
+                yield from public(node.body, f'{before}{node.name}.')
+
+
+def imported(tree):
+    """The packages of which a module imports something, wherever in it."""
+    for node in ast.walk(tree):
+        names = [it.name for it in node.names] if isinstance(node, ast.Import) else \
+            [node.module or ''] if isinstance(node, ast.ImportFrom) else []
+        yield from (name.partition('.')[0] for name in names)
+
+
+@pytest.mark.parametrize('path', MODULES)
+def test_no_module_is_long(path):
+    assert read(path).count('\n') <= MOST_LINES
+
+
+@pytest.mark.parametrize('path', MODULES)
+def test_modules_say_what_they_are(path):
+    tree = ast.parse(read(path))
+    assert ast.get_docstring(tree)
+    if path.startswith('tcpsim' + os.sep):
+        assert [name for name, node in public(tree.body) if not ast.get_docstring(node)] == []
+
+
+@pytest.mark.parametrize('path', MODULES)
+def test_the_model_is_independent(path):
+    """It imports nothing of the tools; of the tools its own command alone imports it."""
+    wanted = set(imported(ast.parse(read(path))))
+    if path.startswith('tcpsim_model'):
+        assert 'tcpsim' not in wanted
+    elif path != os.path.join('tcpsim', 'commands', 'model.py'):
+        assert 'tcpsim_model' not in wanted
+
+
+def test_each_command_has_its_modules():
+    names = [name.removeprefix('tcpsim-') for name in os.listdir(BIN)]
+    assert len(names) >= 9
+    for name in names:
+        assert os.path.join('tcpsim', 'commands', f'{name}.py') in MODULES
+        assert name == 'model' or os.path.join('tcpsim', 'cli', f'{name}.py') in MODULES
+
+
+if __name__ == '__main__':
+    sys.exit(pytest.main([__file__, '-q', *sys.argv[1:]]))
