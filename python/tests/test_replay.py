@@ -236,7 +236,7 @@ def signs(words):
 
 # ---- the data, without a browser
 
-BY_HAND = """sim 12000000
+BY_HAND = """sim 3100000
 node s sender
 node r receiver
 link a s r 8000000 1000000 droptail 2
@@ -250,7 +250,8 @@ TRACE = """1 0 0 0 0 start 0 una=0 nxt=4000 cwnd=4000 ssthresh=64000 phase=ss tx
 4 2080000 0 0 3 free 0 una=0 nxt=4000 cwnd=4000 ssthresh=64000 phase=ss tx=0:0:2000
 5 2080000 1 0 3 free 1 next=1000
 6 3080000 0 2 1 ack 0 1000 una=1000 nxt=6000 cwnd=5000 ssthresh=64000 phase=ss
-end 6
+7 3080000 1 1 2 data 0 1000 next=2000 tx=1:0:2000
+end 7
 """
 
 
@@ -286,7 +287,7 @@ class Parts(unittest.TestCase):
     def test_state_before_a_moment_by_hand(self):
         part = part_of(BY_HAND, TRACE, begin=2040000)
         self.assertEqual(part.first, 2)
-        self.assertEqual([line.split()[0] for line in part.lines], ['3', '4', '5', '6'])
+        self.assertEqual([line.split()[0] for line in part.lines], ['3', '4', '5', '6', '7'])
         link = part.base['links'][0]
         self.assertEqual((link['offered'], link['sent'], link['arrived'], link['busy']), (4, 2, 0, True))
         self.assertEqual(link['waiting'], [[0, 0, 2000, 0, False]])
@@ -370,15 +371,15 @@ class Refusals(Folder):
                 (3, 'next=1000', 'next=0'), (3, 'next=1000', 'next='), (3, 'data 0 0', 'data 0 x'), (3, 'data', 'date'),
                 (4, '2080000', '2000000'), (5, 'free 1', 'free -1'), (5, 'next=1000', 'next=2000'),
                 (6, 'una=1000', 'una=2000'), (6, 'nxt=6000', 'nxt=7000'), (6, 'ack 0 1000', 'ack 0'),
-                (6, '6 3080000', '7 3080000'), (7, 'end 6', 'end 7'), (7, 'end 6', 'end')):
+                (6, '6 3080000', '7 3080000'), (7, 'data 0 1000', 'data 0 2000'), (8, 'end 7', 'end 8'), (8, 'end 7', 'end')):
             with self.subTest(f'{number}: {old} to {new}'):
                 self.refused(self.change(number, old, new), f'line {number} ')
 
     def test_cut_lines(self):
         whole = TRACE[:TRACE.index('end')]
-        for cut in (1, 2, 9, 30, 70):
+        for cut in (1, 2, 9, 30, 45):
             with self.subTest(cut):
-                self.refused(whole[:-cut], 'line 6 ')
+                self.refused(whole[:-cut], 'line 7 ')
 
     def test_empty_and_not_a_trace(self):
         self.refused('', 'line 1 ')
@@ -420,7 +421,7 @@ class Refusals(Folder):
             spans = [units.moment(words[n + 1]) for n, word in enumerate(words) if word in ('--from', '--to')]
             self.assertEqual(spans, [0, 2080000, 2080000])
             self.assertEqual(len(part_of(BY_HAND, TRACE, spans[0], spans[1]).lines), 3)
-            self.assertEqual(len(part_of(BY_HAND, TRACE, spans[2]).lines), 3)
+            self.assertEqual(len(part_of(BY_HAND, TRACE, spans[2]).lines), 4)
         finally:
             recording.MOST_EVENTS = most
 
