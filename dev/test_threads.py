@@ -69,17 +69,18 @@ class Threads(unittest.TestCase):
     def text_of(self, shape):
         return subprocess.run([sys.executable, NET, *shape], check=True, capture_output=True, text=True).stdout
 
-    def ran(self, text, *words):
+    def ran(self, text, *words, late=None):
         """What the program writes, and what beside it, and how many threads it started; `at_once` is then how many of
-        them there were at a time at most."""
+        them there were at a time at most, `writes` how often it wrote."""
         counts = os.path.join(self.folder.name, 'counts')
         with open(counts, 'wb'):
             pass
-        env = {**os.environ, 'LD_PRELOAD': self.library, 'THREADS': counts}
+        env = {**os.environ, 'LD_PRELOAD': self.library, 'THREADS': counts, **({'THREADS_LATE': late} if late else {})}
         done = subprocess.run([PROGRAM, *words], input=text, capture_output=True, text=True, env=env, check=True)
         with open(counts, 'rb') as file:
             marks = file.read()
-        self.at_once = max(accumulate((1 if mark == ord('t') else -1 for mark in marks), initial=0))
+        self.at_once = max(accumulate(({ord('t'): 1, ord('j'): -1}.get(mark, 0) for mark in marks), initial=0))
+        self.writes = marks.count(b'w')
         return done.stdout, done.stderr, marks.count(b't')
 
     def counted(self, text, *words):
@@ -218,6 +219,18 @@ class Threads(unittest.TestCase):
         self.assertTrue(lines + last == plain)
         self.assertLess(early, 3)
         self.assertGreaterEqual(late, 3)
+
+    def test_lateness_is_seen(self):
+        """Where threads start 3 s late, events are run one after another after a few windows, and written by a page of text
+        each, as without options. By windows alone, each is written in parts: 981 writes, where 640 are made so and 544
+        without options."""
+        text = self.text_of(WIDE)
+        plain, _, _ = self.ran(text, 'run')
+        least = self.writes
+        late, _, threads = self.ran(text, 'run', '--workers', '4', '--groups', self.parts(), late='3000000')
+        self.assertGreater(threads, 0)
+        self.assertTrue(late == plain)
+        self.assertLess(self.writes, 1.4 * least)
 
     def test_the_debugger_goes_by_the_same_rule(self):
         text = self.text_of(SMALL) + '---\nuntil 19000000000\n'

@@ -1,7 +1,7 @@
-/* Tells of the threads that a program starts: a library for LD_PRELOAD. Each that is started adds a t to the
-   file that THREADS names, and each that is waited for a j. With THREADS_LATE each waits for so many
-   microseconds before it works, as on a machine whose processors have other work. dev/test_threads.py
-   builds it. */
+/* Counts the threads that a program starts, and its writes: a library for LD_PRELOAD. Each thread that is started
+   adds a t to the file that THREADS names, each that is waited for a j, and each write to standard output a w.
+   With THREADS_LATE a thread waits for that many microseconds before it works, as on a machine whose processors
+   have other work. dev/test_threads.py builds it. */
 #define _GNU_SOURCE
 #include <dlfcn.h>
 #include <fcntl.h>
@@ -11,6 +11,7 @@
 
 typedef int create(pthread_t *, const pthread_attr_t *, void *(*)(void *), void *);
 typedef int join(pthread_t, void **);
+typedef ssize_t put(int, const void *, size_t);
 
 static void tell(const char *mark) {
   int file = open(getenv("THREADS"), O_WRONLY | O_APPEND | O_CREAT, 0600);
@@ -49,4 +50,10 @@ int pthread_join(pthread_t thread, void **back) {
   int status = real(thread, back);
   if (!status) tell("j");
   return status;
+}
+
+ssize_t write(int file, const void *bytes, size_t count) {
+  put *real = (put *)dlsym(RTLD_NEXT, "write");
+  if (file == STDOUT_FILENO) tell("w");
+  return real(file, bytes, count);
 }
