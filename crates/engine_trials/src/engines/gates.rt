@@ -1,15 +1,16 @@
 //! A gate is told of each piece of each window, once before it runs and once behind, and the workers are at
 //! their pieces at once, also while the text of a window before is written.
 
-use super::nets::two_flows;
+use super::nets::{four_flows, two_flows};
 use super::{engine_of, run_to, whole_text, window};
 use crate::crowd::Crowd;
+use std::hint::spin_loop;
 use std::process::Abort;
 use std::sync::Wait;
 use std::sync::atomic::AtomicU64;
 use std::sync::atomic::Ordering::SeqCst;
-use std::thread::Threads;
-use window_engine::{Engine, Gate, Sink, SinkFail, Stop};
+use std::thread::{Threads, available_parallelism};
+use window_engine::{Engine, Gate, Sink, SinkFail, Stop, WORTH};
 
 // Four groups, so that each window has four pieces, of the numbers 0 to 3.
 const GROUPS: [u8; 4] = [0, 1, 2, 3];
@@ -101,6 +102,92 @@ fn a_text_is_written_while_threads_run_a_window(rt: HostRuntime) {
         drop(engine);
         assert!(rt; stop == Ok(Stop::End));
         assert!(rt; sink.came, "{workers}");
+    }
+}
+
+// Holds each worker for some turns, until so many are at their pieces at once; then it holds nobody. A thread is worth it
+// for as many events as to users.
+#[derive(Drop)]
+struct Many {
+    // How many have to be at their pieces at once.
+    size: u64,
+    // For how many turns a worker is held.
+    turns: u64,
+    // How many are at their pieces.
+    inside: AtomicU64,
+    // Whether so many were, once: 1.
+    met: AtomicU64,
+}
+
+impl Many {
+    fn of(size: u64, turns: u64) -> Many {
+        Many {
+            size,
+            turns,
+            inside: AtomicU64::new(0),
+            met: AtomicU64::new(0),
+        }
+    }
+
+    // Whether so many were at their pieces at once.
+    fn has_met(&self) -> bool {
+        self.met.load(SeqCst) == 1
+    }
+}
+
+impl Gate for Many {
+    fn enter(&self, _piece: u64) {
+        if self.inside.fetch_add(1, SeqCst).saturating_add(1) >= self.size {
+            self.met.store(1, SeqCst);
+        }
+        for _turn in 0..self.turns {
+            if self.has_met() {
+                return;
+            }
+            spin_loop();
+        }
+    }
+
+    fn leave(&self, _piece: u64) {
+        self.inside.fetch_sub(1, SeqCst);
+    }
+
+    fn worth(&self) -> usize {
+        WORTH
+    }
+}
+
+// Whether so many of the workers are at their pieces at once in one of some runs: on a busy machine threads come late. In
+// each a worker is held for longer, up to half a million turns. A turn gives no processor away, so that all of them together
+// take seconds.
+fn have_met<R: Threads + Wait + Abort + AllocGlobal + Sync>(
+    rt: &R,
+    workers: usize,
+    size: u64,
+) -> bool {
+    let scenario = four_flows(rt);
+    for run in 0..64u32 {
+        let gate = Many::of(size, 2_000u64 << run.min(8));
+        let mut engine = engine_of(rt, &scenario, &[0, 0, 1, 1, 2, 2, 3, 3]);
+        let _text = whole_text(rt, &mut engine, workers, &gate);
+        drop(engine);
+        if gate.has_met() {
+            return true;
+        }
+    }
+    false
+}
+
+// Where windows hold thousands of events of each of four groups, as many workers run them as there are, up to four and to
+// the processors.
+#[test]
+fn as_many_workers_as_pay_are_at_their_pieces_at_once(rt: HostRuntime) {
+    let processors = match available_parallelism(&rt) {
+        Ok(processors) => processors.get() as u64,
+        Err(_) => 1,
+    };
+    for (workers, size) in [(2, 2u64), (3, 3), (4, 4), (8, 4)] {
+        assert!(rt; have_met(&rt, workers, size.min(processors)), "{workers}");
     }
 }
 

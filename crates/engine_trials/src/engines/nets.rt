@@ -61,6 +61,35 @@ pub(super) fn long_flows(rt: &(impl Abort + AllocGlobal)) -> Scenario {
     flows_within(rt, 4 * SECOND, 10_000, 8_000)
 }
 
+// Four senders, each with a receiver of its own, and a link each way of 800 Mbit/s and a tenth of a millisecond.
+const FOUR_PAIRS: &str = "sim 10000000000
+node a sender
+node b receiver
+node c sender
+node d receiver
+node e sender
+node f receiver
+node g sender
+node h receiver
+link ab a b 800000000 100000 droptail 100
+link ba b a 800000000 100000 droptail 100
+link cd c d 800000000 100000 droptail 100
+link dc d c 800000000 100000 droptail 100
+link ef e f 800000000 100000 droptail 100
+link fe f e 800000000 100000 droptail 100
+link gh g h 800000000 100000 droptail 100
+link hg h g 800000000 100000 droptail 100
+flow i a b 1000 5000 0 64000 0
+flow j c d 1000 5000 0 64000 0
+flow k e f 1000 5000 0 64000 0
+flow l g h 1000 5000 0 64000 0
+";
+
+/// Four flows of 5,000 segments that hear nothing of each other, so that a window may hold all of their events.
+pub(super) fn four_flows(rt: &(impl Abort + AllocGlobal)) -> Scenario {
+    scenario(rt, FOUR_PAIRS.as_bytes())
+}
+
 /// The text of the run in which one sender gives one receiver one segment.
 pub(super) const ONE_SEGMENT: &str =
     "1 0 0 0 0 start 0 una=0 nxt=1000 cwnd=4000 ssthresh=64000 phase=ss tx=0:0:0
