@@ -109,11 +109,6 @@ def test_the_formats_table_has_each_number():
         assert f'\n| {name} | {number} | ' in table
 
 
-@pytest.mark.parametrize('name', sorted(os.listdir(os.path.join(TOP, 'bin'))))
-def test_tools_say_it(name):
-    assert said(sys.executable, os.path.join(TOP, 'bin', name), '--version') == f'{name} {VERSIONS}\n'
-
-
 @pytest.mark.skipif(not os.path.exists(PROGRAM), reason='the program is not built')
 def test_the_program_says_what_its_source_has():
     assert said(PROGRAM, '--version') == said(PROGRAM, '-V') == f'tcpsim {in_source()}\n'

@@ -133,9 +133,10 @@ def run(module: str) -> int:
         status = status_of(module)
     except Ended as wrong:
         status = 128 + wrong.number
-    signal.setitimer(signal.ITIMER_REAL, 0)
-    for number in heard:
-        signal.signal(number, nothing)
+    finally:                # also where a module is not there: an alarm would end Python's own end
+        signal.setitimer(signal.ITIMER_REAL, 0)
+        for number in heard:
+            signal.signal(number, nothing)
     return status
 
 
