@@ -61,10 +61,19 @@ def main():
         os.remove(KEPT)
     facts = {'commit': said('git', 'rev-parse', 'HEAD') or 'none', 'toolchain': said('rt', 'version') or 'none',
              'crates': sum_of_crates()}
-    last = ''
-    gate = subprocess.Popen(['rt', 'ci'], cwd=TOP, stdout=subprocess.PIPE)
+    last, gates, asked = '', [], []
+
+    def end(number, _):
+        asked.append(number)
+        for it in gates:
+            it.send_signal(number)
+
     for number in (signal.SIGTERM, signal.SIGHUP):
-        signal.signal(number, lambda number, _: gate.send_signal(number))
+        signal.signal(number, end)
+    gate = subprocess.Popen(['rt', 'ci'], cwd=TOP, stdout=subprocess.PIPE)
+    gates.append(gate)
+    for number in asked:
+        gate.send_signal(number)
     signal.signal(signal.SIGINT, signal.SIG_IGN)        # of a terminal it comes to the gate too
     for line in gate.stdout:
         sys.stdout.buffer.write(line)
