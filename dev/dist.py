@@ -23,10 +23,12 @@ import tarfile
 import tempfile
 import time
 
-import build
-import pass_gate
-from paths import TOP
-from tcpsim import VERSIONS, __version__
+TOP = os.path.dirname(os.path.dirname(os.path.abspath(__file__)))
+sys.path[1:1] = [os.path.join(TOP, 'dev'), os.path.join(TOP, 'python')]
+
+import build  # noqa: E402
+import pass_gate  # noqa: E402
+from tcpsim import VERSIONS, __version__  # noqa: E402
 
 NAME = 'tcpsim'
 PROGRAM = os.path.join(TOP, 'crates', NAME, 'out', NAME)

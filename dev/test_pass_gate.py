@@ -11,8 +11,7 @@ import time
 
 import pytest
 
-from paths import TOP
-
+TOP = os.path.dirname(os.path.dirname(os.path.abspath(__file__)))
 RT = '''#!/bin/sh
 [ "$1" = ci ] || { echo 'kit-1 logic abc'; exit 0; }
 echo first; echo "$SAID"; echo told >&2

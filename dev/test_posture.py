@@ -12,8 +12,8 @@ import sys
 
 import pytest
 
-from paths import BIN, TOP
-
+TOP = os.path.dirname(os.path.dirname(os.path.abspath(__file__)))
+BIN = os.path.join(TOP, 'bin')
 PROGRAM = os.path.join(TOP, 'crates', 'tcpsim', 'out', 'tcpsim')
 ONE_SEGMENT = os.path.join(TOP, 'examples', 'one_segment.txt')
 WIDE = 'islands', '--islands', '4', '--flows', '10', '--rate', '200M', '--between', '40ms', '--end', '600ms'

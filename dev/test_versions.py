@@ -13,12 +13,14 @@ import sys
 
 import pytest
 
-from paths import TOP
-from build import declared, toolchain
-from tcpsim import FORMATS, VERSIONS, __version__
-from tcpsim_model import grammar, image, prompt
-from tcpsim_model.text import assemble
-from whole.tables import ONE_SEGMENT
+TOP = os.path.dirname(os.path.dirname(os.path.abspath(__file__)))
+sys.path[1:1] = [os.path.join(TOP, 'dev'), os.path.join(TOP, 'python')]
+
+from build import declared, toolchain  # noqa: E402
+from tcpsim import FORMATS, VERSIONS, __version__  # noqa: E402
+from tcpsim_model import grammar, image, prompt  # noqa: E402
+from tcpsim_model.text import assemble  # noqa: E402
+from whole.tables import ONE_SEGMENT  # noqa: E402
 
 PROGRAM = os.path.join(TOP, 'crates', 'tcpsim', 'out', 'tcpsim')
 # What the program says until its crate `sessions` is proved with the version of all.
@@ -117,6 +119,17 @@ def test_the_program_says_what_its_source_has():
 @pytest.mark.xfail(in_source() == BEHIND, strict=True, reason=f'the program says {BEHIND}: a proof run has to change it')
 def test_the_program_has_the_version_of_all():
     assert in_source() == VERSIONS
+
+
+@pytest.mark.parametrize('page', ['CHANGELOG.md', 'SECURITY.md'])
+def test_links_and_files_that_a_page_names_are_there(page):
+    text = read(page)
+    for target in re.findall(r'\]\(([^)\s]+)\)', text):
+        path, _, place = target.partition('#')
+        heads = re.findall(r'^#+ (.*)', read(path), re.M)
+        assert not place or place in {head.lower().replace(' ', '-') for head in heads}, target
+    for path in re.findall(r'`((?:dev|python|docs)/[\w/.]+)`', text):
+        assert os.path.exists(os.path.join(TOP, path)), path
 
 
 # ---- licenses

@@ -25,8 +25,10 @@ import subprocess
 import sys
 import tempfile
 
-from paths import TOP
-from tcpsim import VERSIONS, __version__
+TOP = os.path.dirname(os.path.dirname(os.path.abspath(__file__)))
+sys.path[1:1] = [os.path.join(TOP, 'dev'), os.path.join(TOP, 'python')]
+
+from tcpsim import VERSIONS, __version__  # noqa: E402
 
 SUITE, ARCHIVE = 'bookworm', 'http://deb.debian.org/debian'
 PATIENCE = 3600
