@@ -92,7 +92,9 @@ def test_the_manifest_says_what_they_are_made_from(made):
     facts = dict(line.split(': ', 1) for line in (made / 'MANIFEST').read_text().splitlines())
     assert facts['tcpsim'] == VERSIONS
     assert facts['commit'].split(',')[0] == pass_gate.said('git', 'rev-parse', 'HEAD')
-    assert facts['toolchain'] == pass_gate.said('rt', 'version') and facts['toolchain'].endswith(f' logic {facts["logic"]}')
+    toolchain = pass_gate.said('rt', 'version')
+    assert facts['toolchain'] == (toolchain or 'none on this machine')
+    assert facts['logic'] == (toolchain.rpartition(' logic ')[2] if toolchain else 'not known')
     program = hashlib.sha256(open(dist.PROGRAM, 'rb').read()).hexdigest()
     assert facts['program'] == f'sha256 {program}, {ran(dist.PROGRAM, "--version").stdout.strip()}'
     assert facts['crates'] == f'sha256 {pass_gate.sum_of_crates()}'

@@ -119,6 +119,7 @@ def debian(base, keep):
             if done.returncode:
                 raise Failed(f'debootstrap: {done.stdout[-2000:]}{done.stderr}')
         shutil.copyfile('/etc/resolv.conf', root.path('etc/resolv.conf'))
+        os.chmod(root.path('dev/shm'), 0o1777)          # as a Debian that runs has it: semaphores are there
         # No service starts in a root that only a test has.
         with open(root.path('usr/sbin/policy-rc.d'), 'w', encoding='ascii') as file:
             file.write('#!/bin/sh\nexit 101\n')
