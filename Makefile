@@ -8,8 +8,11 @@
 # `make pages` writes the replay of every example and a list of them into pages/;
 # `make install PREFIX=DIR` puts the program, the tools tcpsim-NAME, their man pages, the documents with
 # the examples, and completions for bash, zsh and fish below DIR, /usr/local if none is given, and
-# `make uninstall PREFIX=DIR` takes them away.
-.PHONY: run test test-tools setup wrong-bodies bench pictures pages install uninstall
+# `make uninstall PREFIX=DIR` takes them away;
+# `make dist` writes what is installed elsewhere, from the built program, into out/dist: a tarball, a .deb, a wheel, the
+# page where out/page has it, a MANIFEST and SHA256SUMS;
+# `make test-dist` tries each of them, the .deb in a Debian 12 of its own (root, debootstrap, and a network).
+.PHONY: run test test-tools setup wrong-bodies bench pictures pages install uninstall dist test-dist
 
 # A python3 that has matplotlib: the one that is found first, or Debian's own.
 PYTHON = $(shell for python in python3 /usr/bin/python3; do \
@@ -30,7 +33,7 @@ PACKAGES = tcpsim tcpsim_model
 test: setup
 	@python3 dev/build.py --ready
 	@python3 dev/wrong_bodies.py --check
-	rt ci
+	@python3 dev/pass_gate.py
 	@python3 dev/run_tests.py --python '$(PYTHON)'
 
 setup:
@@ -57,6 +60,12 @@ pictures:
 pages:
 	@python3 dev/pages.py -o pages
 
+dist:
+	@python3 dev/dist.py
+
+test-dist: dist
+	@python3 dev/try_dist.py
+
 # Below DIR: bin/tcpsim and bin/tcpsim-NAME, the packages in lib/tcpsim, and share/. Recipes have DIR as $$ROOT, so that
 # whatever it has in it, quotes too, is its name.
 install uninstall: export ROOT = $(DESTDIR)$(PREFIX)
@@ -69,8 +78,8 @@ install:
 	install -D -m 644 "$$it" "$$ROOT/lib/tcpsim/$${it#python/}" || exit 1; done
 	install -m 755 $(TOOLS:%=bin/tcpsim-%) "$$ROOT/bin"
 	install -m 644 man/*.1 "$$ROOT/share/man/man1"
-	@for it in README.md docs/*.md docs/pictures/* bench/*.md examples/* dev/README.md python/README.md \
-	python/tcpsim_model/README.md $$(find editors -type f); do \
+	@for it in README.md CHANGELOG.md SECURITY.md THIRD-PARTY LICENSE-MIT LICENSE-APACHE docs/*.md docs/pictures/* \
+	bench/*.md examples/* dev/README.md python/README.md python/tcpsim_model/README.md $$(find editors -type f); do \
 	install -D -m 644 "$$it" "$$ROOT/$(DOCUMENTS)/$$it" || exit 1; done
 	install -m 644 completions/tcpsim.bash "$$ROOT/$(BASH_COMPLETIONS)/tcpsim"
 	install -D -m 644 completions/_tcpsim "$$ROOT/$(ZSH_COMPLETION)"

@@ -254,13 +254,27 @@ def link(kit):
     return linked.returncode
 
 
-def build(asked):
-    """Proves and builds the program; answers the status to end with."""
-    kit, libraries = toolchain(), declared()
+def crates_of(kit, libraries):
+    """The program's crates, each behind those that it stands on."""
     names, sums = [*below(PROGRAM, libraries), PROGRAM], {}
     for name in names:
         sums[name] = sum_of(name, kit, sums, libraries)
-    crates = [Crate(name, libraries, sums[name]) for name in names]
+    return [Crate(name, libraries, sums[name]) for name in names]
+
+
+def is_built():
+    """Whether the program was built here of the crates as they stand, all proved, by this toolchain."""
+    try:
+        crates = crates_of(toolchain(), declared())
+    except Refused:
+        return False
+    return os.path.isfile(MADE) and all(it.is_kept() for it in crates)
+
+
+def build(asked):
+    """Proves and builds the program; answers the status to end with."""
+    kit, libraries = toolchain(), declared()
+    crates = crates_of(kit, libraries)
     # First those on which most others stand.
     crates.sort(key=lambda it: -it.above)
     left = sum(not it.is_kept() for it in crates)

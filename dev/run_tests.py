@@ -30,7 +30,7 @@ DRAWING = ('python/tests/test_trace.py', 'python/tests/test_plot.py')
 # Those that take longest, which are begun first.
 LONG = ('python/tests/test_ends.py', 'python/tests/test_inputs.py', 'dev/try_shell.sh', 'dev/test_systematic.py',
         'python/tests/test_sweep.py', 'python/tests/test_trace.py', 'python/tests/test_plot.py', 'dev/test_bounds.py',
-        'dev/refuse_tests.sh', 'dev/test_helgrind.py')
+        'dev/refuse_tests.sh', 'dev/test_helgrind.py', 'dev/test_dist.py')
 PYTEST = '-m', 'pytest', '-q', '-rs', '--no-header', '-p', 'no:cacheprovider'
 LEFT_OUT = 'LEFT OUT', 'SKIPPED'            # how a line begins that says so: ours, and pytest's
 # How long what was ended may take to end, in seconds.

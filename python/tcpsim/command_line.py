@@ -11,8 +11,9 @@ import importlib
 import os
 import signal
 import sys
+from collections.abc import Callable
 
-from tcpsim import __version__
+from tcpsim import VERSIONS
 
 ENDS = signal.SIGINT, signal.SIGTERM, signal.SIGHUP     # the signals that ask a tool to end
 MODEL = '--model'       # as a program's name: the model, wherever it is
@@ -58,12 +59,20 @@ def as_type(read):
     return read_word
 
 
+class SayVersions(argparse.Action):
+    """The option --version: one line, however narrow the terminal is."""
+
+    def __call__(self, parser, namespace, values, option_string=None):
+        write(f'{tool()} {VERSIONS}\n')
+        parser.exit()
+
+
 class Words(argparse.ArgumentParser):
     """A command line whose every fault is one sentence and status 2."""
 
     def __init__(self, **given):
         super().__init__(allow_abbrev=False, **{'prog': tool(), **given})
-        self.add_argument('--version', action='version', version=f'{tool()} {__version__}', help='the version of the tools')
+        self.add_argument('--version', action=SayVersions, nargs=0, help='the version of the tools, and those of the formats')
 
     def error(self, message: str) -> None:
         """Raises what is wrong as `Wrong`."""
@@ -71,9 +80,7 @@ class Words(argparse.ArgumentParser):
 
     def print_help(self, file=None) -> None:
         """Writes the help to standard output."""
-        from tcpsim import output
-        with output.opened() as out:
-            out.write(self.format_help())
+        write(self.format_help())
 
     def add_output(self, what: str) -> None:
         """The option -o; `what` says what is written."""
@@ -97,6 +104,19 @@ def tool() -> str:
     return os.path.basename(sys.argv[0])
 
 
+def write(text: str) -> None:
+    """Writes a text to standard output."""
+    from tcpsim import output
+    with output.opened() as out:
+        out.write(text)
+
+
+def say(text: str) -> int:
+    """Writes a text to standard output, which is all that a command does; answers the status."""
+    open_standard_files()
+    return status_after(lambda: write(text))
+
+
 # ---- ends
 
 def run(module: str) -> int:
@@ -113,9 +133,10 @@ def run(module: str) -> int:
         status = status_of(module)
     except Ended as wrong:
         status = 128 + wrong.number
-    signal.setitimer(signal.ITIMER_REAL, 0)
-    for number in heard:
-        signal.signal(number, nothing)
+    finally:                # also where a module is not there: an alarm would end Python's own end
+        signal.setitimer(signal.ITIMER_REAL, 0)
+        for number in heard:
+            signal.signal(number, nothing)
     return status
 
 
@@ -147,8 +168,13 @@ def end_later(unraisable) -> None:
 
 def status_of(module: str) -> int:
     """The status of a tool; where it is refused, standard error has the sentence."""
+    return status_after(lambda: importlib.import_module(module).main())
+
+
+def status_after(main: Callable[[], object]) -> int:
+    """The status once `main` was called; where it is refused, standard error has the sentence."""
     try:
-        importlib.import_module(module).main()
+        main()
     except Ended as wrong:
         return 128 + wrong.number
     except SystemExit as done:          # of --help and --version

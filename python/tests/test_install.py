@@ -14,7 +14,7 @@ import sys
 import pytest
 
 from paths import BIN, TOP
-from tcpsim import __version__
+from tcpsim import VERSIONS
 
 NAMES = sorted(os.listdir(BIN))
 ONE_SEGMENT = os.path.join(TOP, 'examples', 'one_segment.txt')
@@ -50,7 +50,7 @@ def test_each_command_has_its_version(installed, name):
     if name == 'tcpsim-plot' and not MATPLOTLIB:
         pytest.skip('matplotlib is not there')
     done = installed(name, '--version')
-    assert (done.returncode, done.stdout, done.stderr) == (0, f'{name} {__version__}\n', '')
+    assert (done.returncode, done.stdout, done.stderr) == (0, f'{name} {VERSIONS}\n', '')
 
 
 def test_commands_are_those_of_the_clone():

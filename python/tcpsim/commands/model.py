@@ -1,16 +1,15 @@
 """The command tcpsim-model: the model in the program's place."""
 import sys
 
-from tcpsim import __version__
+from tcpsim import VERSIONS
+from tcpsim.command_line import say
 from tcpsim_model import command_line
 
 
 def main() -> int:
     """Answers the status."""
     if sys.argv[1:] == ['--version']:
-        print(f'tcpsim-model {__version__}')
-        return 0
+        return say(f'tcpsim-model {VERSIONS}\n')
     if sys.argv[1:] in (['--help'], ['-h']):
-        print(command_line.__doc__.strip(), '  --version    the version of the tools', sep='\n')
-        return 0
+        return say(f'{command_line.__doc__.strip()}\n  --version    the version of the tools, and those of the formats\n')
     return command_line.command()

@@ -1,0 +1,90 @@
+#!/usr/bin/env python3
+"""Passes the merge gate, `rt ci`, and keeps what it came to in out/gate.txt, for the manifest of `make dist`.
+
+    dev/pass_gate.py
+
+What `rt ci` writes goes on to standard output as it comes, and its status is the status. out/gate.txt is taken away first,
+and written where the gate has ended by itself: the commit, the toolchain's line, a sum of all that the gate reads, and the
+gate's last line, 'N passed, M failed'.
+"""
+import contextlib
+import hashlib
+import os
+import signal
+import subprocess
+import sys
+
+TOP = os.path.dirname(os.path.dirname(os.path.abspath(__file__)))
+KEPT = os.path.join(TOP, 'out', 'gate.txt')
+READ = 'crates', 'crates.txt', 'HANDLES'
+
+
+def said(*words):
+    """What a command writes, without the line feed at its end, or None where it is not there or fails."""
+    with contextlib.suppress(OSError):
+        done = subprocess.run(words, cwd=TOP, capture_output=True, text=True, check=False, stdin=subprocess.DEVNULL)
+        return done.stdout.rstrip('\n') if done.returncode == 0 else None
+    return None
+
+
+def files():
+    """All files of the crates but what is built: their paths from the top."""
+    for name in READ:
+        if os.path.isfile(os.path.join(TOP, name)):
+            yield name
+        for folder, below, names in os.walk(os.path.join(TOP, name)):
+            below[:] = [it for it in below if it != 'out']
+            yield from (os.path.relpath(os.path.join(folder, it), TOP) for it in names)
+
+
+def sum_of_crates():
+    """A sum of all that the gate reads of the tree."""
+    taken = hashlib.sha256()
+    for path in sorted(files()):
+        with open(os.path.join(TOP, path), 'rb') as file:
+            data = file.read()
+        taken.update(b'%s %d\n' % (os.fsencode(path), len(data)) + data)
+    return taken.hexdigest()
+
+
+def kept():
+    """What is kept of the last gate, by its name, or {} where none has ended here."""
+    with contextlib.suppress(OSError), open(KEPT, encoding='utf-8') as file:
+        return dict(line.rstrip('\n').split(': ', 1) for line in file if ': ' in line)
+    return {}
+
+
+def main():
+    """Answers the gate's status."""
+    os.makedirs(os.path.dirname(KEPT), exist_ok=True)
+    with contextlib.suppress(FileNotFoundError):
+        os.remove(KEPT)
+    facts = {'commit': said('git', 'rev-parse', 'HEAD') or 'none', 'toolchain': said('rt', 'version') or 'none',
+             'crates': sum_of_crates()}
+    last, gates, asked = '', [], []
+
+    def end(number, _):
+        asked.append(number)
+        for it in gates:
+            it.send_signal(number)
+
+    for number in (signal.SIGTERM, signal.SIGHUP):
+        signal.signal(number, end)
+    gate = subprocess.Popen(['rt', 'ci'], cwd=TOP, stdout=subprocess.PIPE)
+    gates.append(gate)
+    for number in asked:
+        gate.send_signal(number)
+    signal.signal(signal.SIGINT, signal.SIG_IGN)        # of a terminal it comes to the gate too
+    for line in gate.stdout:
+        sys.stdout.buffer.write(line)
+        sys.stdout.buffer.flush()
+        last = line.decode('utf-8', 'replace').strip() or last
+    status = gate.wait()
+    if status >= 0 and 'passed' in last:
+        with open(KEPT, 'w', encoding='utf-8') as file:
+            file.write(''.join(f'{name}: {value}\n' for name, value in {**facts, 'last line': last}.items()))
+    return 128 - status if status < 0 else status
+
+
+if __name__ == '__main__':
+    sys.exit(main())
