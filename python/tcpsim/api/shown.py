@@ -11,6 +11,8 @@ if TYPE_CHECKING:
     from matplotlib.figure import Figure
 
 MOST_IN_A_NOTEBOOK = 20 * 10**6     # bytes of a page that a notebook takes into itself
+# A frame in a notebook has no address of its own in which the page could note where it is.
+WITHOUT_ADDRESS = '<script>History.prototype.replaceState = function () {};</script>'
 
 
 def notebook():
@@ -78,7 +80,7 @@ class ReplayPage(Shown):
         if len(self.text) > MOST_IN_A_NOTEBOOK and self.path:
             frame = f'src="{html.escape(self.path)}"'
         else:
-            frame = f'srcdoc="{html.escape(self.text)}"'
+            frame = f'srcdoc="{html.escape(self.text.replace("<head>", "<head>" + WITHOUT_ADDRESS, 1))}"'
         return {'text/html': f'<iframe {frame} style="width: 100%; height: 760px; border: 1px solid #ccc"></iframe>',
                 'text/plain': repr(self)}
 
