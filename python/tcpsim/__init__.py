@@ -1,9 +1,38 @@
-"""Tools around tcpsim: scenarios, runs of the program, its traces, figures, pictures and pages.
+"""tcpsim: scenarios, runs of the program, its traces, figures, pictures and pages. docs/PYTHON.md shows its use.
 
+What is public is in `api`, which is imported when it is first asked for, as the commands want little of it.
 `__version__` is that of the whole: program, tools, packages. `FORMATS` has the number of each format, which rises when the
 format changes; docs/FORMATS.md, "Versions", has what stays and what may be added.
 """
+from __future__ import annotations
+
+import importlib
+from typing import TYPE_CHECKING
+
+if TYPE_CHECKING:
+    from tcpsim.api import *  # noqa: F403
 
 __version__ = '0.2.0'
 FORMATS = {'trace': 1, 'image': 2, 'figures': 1, 'prompt': 8}
 VERSIONS = f'{__version__} ({", ".join(f"{name} {number}" for name, number in FORMATS.items())})'   # of --version
+
+# Of each public name the module of `api` that has it.
+PUBLIC = {
+    'dumbbell': 'scenarios', 'chain': 'scenarios', 'parking_lot': 'scenarios', 'tree': 'scenarios', 'access_line': 'scenarios',
+    'asymmetric': 'scenarios', 'islands': 'scenarios', 'read': 'scenarios', 'from_text': 'scenarios', 'ScenarioText': 'scenarios',
+    'run': 'simulation', 'Simulation': 'simulation', 'debug': 'session', 'DebugSession': 'session', 'Event': 'events',
+    'Sent': 'events', 'Drop': 'events', 'Trace': 'events', 'TimeSeries': 'series', 'Results': 'results', 'FlowResult': 'results',
+    'LinkResult': 'results', 'Error': 'errors', 'Refused': 'errors', 'Wrong': 'errors', 'WrongQueue': 'errors',
+    'NotInstalled': 'errors', 'NoProgram': 'errors',
+}
+__all__ = ['__version__', *PUBLIC]
+
+
+def __getattr__(name: str) -> object:
+    if name not in PUBLIC:
+        raise AttributeError(f'module {__name__!r} has no attribute {name!r}')
+    return getattr(importlib.import_module(f'tcpsim.api.{PUBLIC[name]}'), name)
+
+
+def __dir__() -> list[str]:
+    return sorted(__all__)

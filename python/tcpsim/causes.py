@@ -8,7 +8,7 @@ from __future__ import annotations
 
 from collections import namedtuple
 
-from tcpsim.lives import DROPPED, PARTIAL, THIRD_DUPLICATE
+from tcpsim.lives import CAME, PARTIAL, THIRD_DUPLICATE
 
 Found = namedtuple('Found', 'words lines')
 
@@ -32,7 +32,7 @@ def counted(count: int, noun: str) -> str:
 
 def is_dropped(packet) -> bool:
     """Whether a packet was dropped."""
-    return packet.fate in DROPPED
+    return packet.fate not in (None, CAME)
 
 
 def is_lost(stall) -> bool:

@@ -112,7 +112,7 @@ class EngineRun:
 
     def dropped(self, number: int) -> int:
         """Packets that a link dropped."""
-        return sum(self.links[number][reason, 'packets'] for reason in REASONS)
+        return sum(value for (figure, _), value in self.links[number].items() if figure.startswith('dropped '))
 
     def data_dropped(self) -> int | None:
         """Segments that were dropped at any link; None where a link dropped something to which acknowledgements come too."""

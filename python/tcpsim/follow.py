@@ -90,9 +90,11 @@ class Life(Watch):
             why = f'codel: dropped at the head of the queue, after {seconds(waited)}'
         elif packet.fate == FULL:
             why = f'full: {counted(len(port.waiting), "packet")} in the queue'
+        elif packet.waited:
+            why = f'{packet.fate}: dropped by the queue, after {seconds(waited)}'
         else:
             why = 'lost: the scenario says so'
-        self.row('dropped', port.link.name, why, waited if packet.fate == CODEL else None)
+        self.row('dropped', port.link.name, why, waited if packet.waited else None)
 
 
 class Request(Watch):

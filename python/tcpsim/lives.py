@@ -19,9 +19,8 @@ FIRST, THIRD_DUPLICATE, TIMEOUT, AFTER_TIMEOUT = 'first', 'third duplicate', 'ti
 PARTIAL = 'partial acknowledgement'
 # How an acknowledgement came to be.
 AT_ONCE, ALARM = 'at once', 'by the alarm'
-# What became of a packet.
+# What became of a packet; a queue that is a class of Python's has words of its own.
 CAME, LOST, FULL, CODEL = 'came', 'lost', 'full', 'codel'
-DROPPED = LOST, FULL, CODEL
 
 
 class Watch:
@@ -40,13 +39,13 @@ class Watch:
         """It arrives over the port's link, at a router or at its end."""
 
     def dropped(self, packet: Packet, port: Port) -> None:
-        """It was dropped; `packet.fate` says why. Where that is `CODEL` it had waited."""
+        """It was dropped; `packet.fate` says why, and `packet.waited` whether out of a queue."""
 
 
 class Packet:
     """A segment or an acknowledgement on its way."""
     __slots__ = ('flow', 'sort', 'number', 'word', 'text', 'offered', 'line', 'why', 'of', 'since', 'hop',
-                 'due', 'count', 'fate', 'ended', 'ended_line', 'asked', 'watch')
+                 'due', 'count', 'fate', 'ended', 'ended_line', 'waited', 'asked', 'watch')
 
     def __init__(self, flow: FlowState, sort: int, number: int, offered: int, line: int, why: str | None):
         self.flow, self.sort, self.number = flow, sort, number  # the flow's state; DATA or ACK
@@ -56,6 +55,7 @@ class Packet:
         self.of = self.since = None     # an acknowledgement's: the segment answered, since when it waits
         self.hop = flow.ways[sort]      # where it is; None at its end
         self.fate = None                # `CAME` to its end or why it was dropped; None in the net
+        self.waited = False             # whether it was dropped out of a queue
         self.asked = None               # a segment's: what the receiver asked for when it came, its next byte
         self.watch = None
 

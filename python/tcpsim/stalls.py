@@ -7,7 +7,7 @@ from collections import namedtuple
 from collections.abc import Iterable
 
 from tcpsim.causes import cause_of, name_of
-from tcpsim.lives import ACK, CODEL, DATA, PARTIAL, FlowState, Packet, Port, Watch
+from tcpsim.lives import ACK, DATA, PARTIAL, FlowState, Packet, Port, Watch
 from tcpsim.scenario.text import Scenario
 from tcpsim.walk import Walk
 
@@ -73,7 +73,7 @@ class Watched(Watch):
 
     def dropped(self, packet: Packet, port: Port) -> None:
         """A packet was dropped."""
-        if packet.fate == CODEL:
+        if packet.waited:
             self.leave(packet.hop.place)
         if packet.sort == ACK:
             self.acks_dropped.append(packet)

@@ -3,7 +3,7 @@
 The trace says what a link begins to send and what is dropped; what only enters a queue it leaves to
 its reader. Every packet that a node offers follows from the states on the lines ("What a trace leaves
 to its reader" in docs/FORMATS.md), and a queue gives its packets in their order. `Reader` goes through
-a trace line by line and keeps only the present state; `Run` of run.py keeps all curves. Nothing but Python's
+a trace line by line and keeps only the present state; `Run` of curves.py keeps all curves. Nothing but Python's
 standard library. All times are nanoseconds, all sizes bytes.
 """
 from __future__ import annotations
@@ -12,6 +12,7 @@ from array import array
 from collections import deque
 from collections.abc import Iterable
 
+from tcpsim.own_queues import OwnQueues
 from tcpsim.scenario.text import Flow, Link, Scenario, Unreadable
 from tcpsim.scenario.units import BITS_NS, HEADER_BYTES
 
@@ -94,7 +95,7 @@ class FlowState:
         else:
             numbers = range(max(self.nxt, low), nxt, self.flow.mss)
             # what finds no room has an act each
-            if len(numbers) > 100 and len(numbers) > self.first_link.link.capacity + len(words):
+            if len(numbers) > 100 and len(numbers) > self.first_link.link.capacity + len(words) and not self.first_link.own:
                 raise ValueError('more is sent than there is room for')
         if recovering is not self.recovering:
             if not recovering and self.flow.newreno and kind == 'ack' and una < self.recover:
@@ -161,6 +162,7 @@ class LinkState:
         self.link, self.number, self.sends = link, number, f'tx={number}:'
         self.node, self.first = str(link.source), 7 + {'sender': 5, 'receiver': 1, 'router': 0}[kind]
         self.to, self.lost = str(link.to), ()       # the node at its end; which of those offered to it are lost
+        self.own = False                # whether its queue is a class of Python's
         self.waiting = deque()          # (text, stream, when it entered)
         self.flight = deque()           # (text, stream, when it arrives), the one that it is sending among them
         self.busy, self.free_at = False, 0
@@ -172,7 +174,7 @@ class LinkState:
         """Told that it begins to send a packet."""
 
 
-class Reader:
+class Reader(OwnQueues):
     """Goes through a trace. `flows` and `links` are what was found of each; `last` is the last line's time,
     `lines` how many were read, `whole` that the trace has its line `end N`."""
 
@@ -188,6 +190,8 @@ class Reader:
         self._sources = {str(link.number + 1): link for link in self.links}
         for number, lost in scenario.lost.items():
             self.links[number].lost = lost
+        for number in scenario.own:
+            self.links[number].own = True
         for flow in self.flows:
             sender, receiver = flow.flow.sender, flow.flow.receiver
             flow.sender, flow.receiver = str(sender), str(receiver)
@@ -295,6 +299,8 @@ class Reader:
     def _offer(self, link, text, stream, words, at, time):
         act = words[at] if at < len(words) else None
         link.offered += 1
+        if link.own and link.offered not in link.lost:
+            return self._offer_own(link, text, stream, words, at, time)
         if link.offered in link.lost or len(link.waiting) >= link.link.capacity:
             reason = 'lost' if link.offered in link.lost else 'full'
             if act != f'drop={reason}:{text}':
@@ -322,6 +328,8 @@ class Reader:
 
     def _take(self, link, words, at, time):
         """A link that became free takes from its queue: first what CoDel drops, then what it sends."""
+        if link.own:
+            return self._take_own(link, words, at, time)
         while at < len(words) and link.link.queue == 'codel' and words[at].startswith('drop=codel:'):
             text, stream, _ = link.waiting.popleft()
             link.waited += time

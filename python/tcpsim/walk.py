@@ -15,6 +15,7 @@ from contextlib import contextmanager
 
 from tcpsim.lives import (AFTER_TIMEOUT, ALARM, AT_ONCE, CAME, CODEL, FIRST, PARTIAL, PHASES, THIRD_DUPLICATE, TIMEOUT,
                           FlowState, Packet, Port)
+from tcpsim.own_queues import LOST, dropped_by
 from tcpsim.scenario.text import Scenario, Unreadable
 from tcpsim.trace import ACK, DATA
 from tcpsim.whole_trace import IMAGE_BEGINS, opened_run
@@ -140,6 +141,8 @@ class Walk:
 
     def _offer(self, packet, words, at):
         port = packet.hop.port
+        if port.number in self.scenario.own:
+            return self._offer_own(port, packet, words, at)
         idle = port.sending is None
         if idle and at < len(words) and words[at] == port.tx + packet.text:
             if packet.watch is not None:
@@ -155,6 +158,17 @@ class Walk:
         port.waiting.append(packet)
         return at
 
+    def _offer_own(self, port, packet, words, at):
+        """To a class of Python's, which can drop this packet or others."""
+        if at < len(words) and words[at] == f'drop={LOST}:{packet.text}':
+            self._drop(port, packet, LOST)
+            return at + 1
+        if packet.watch is not None:
+            packet.watch.entered(packet, port)
+        port.waiting.append(packet)
+        at = self._drop_own(port, words, at)
+        return self._take_own(port, words, at) if port.sending is None and port.waiting else at
+
     def _refuses(self, port, packet, act):
         """Whether the act says that the packet does not enter the queue."""
         if act != 'drop=lost:' + packet.text and act != 'drop=full:' + packet.text:
@@ -166,6 +180,8 @@ class Walk:
 
     def _take(self, port, words, at):
         """The link that became free takes from its queue, which is not empty."""
+        if port.number in self.scenario.own:
+            return self._take_own(port, words, at)
         packet = port.waiting[0]
         if words[at] != port.tx + packet.text:
             at = self._codel(port, words, at)
@@ -187,16 +203,40 @@ class Walk:
         if packet.watch is not None:
             packet.watch.began(packet, port)
 
+    def _drop_own(self, port, words, at):
+        """What a class of Python's drops of the packets that wait."""
+        while at < len(words) and (found := dropped_by(words[at])):
+            packet = next((packet for packet in port.waiting if packet.text == found[1]), None)
+            if packet is None:
+                break
+            port.waiting.remove(packet)
+            self._drop(port, packet, found[0], True)
+            at += 1
+        return at
+
+    def _take_own(self, port, words, at):
+        """What a class of Python's drops and gives."""
+        at = self._drop_own(port, words, at)
+        if not port.waiting:
+            return at
+        packet = next((packet for packet in port.waiting if words[at] == port.tx + packet.text), None)
+        if packet is None:
+            raise ValueError('a packet is sent that does not wait')
+        port.waiting.remove(packet)
+        self._begin(port, packet)
+        return at + 1
+
     def _codel(self, port, words, at):
         """What CoDel drops at the head of the queue."""
         while at < len(words) and words[at].startswith('drop=codel:'):
             if port.link.queue != CODEL or not port.waiting or words[at][11:] != port.waiting[0].text:
                 raise ValueError('another packet is at the head of the queue')
-            self._drop(port, port.waiting.popleft(), CODEL)
+            self._drop(port, port.waiting.popleft(), CODEL, True)
             at += 1
         return at
 
-    def _drop(self, port, packet, fate):
+    def _drop(self, port, packet, fate, waited=False):
+        packet.waited = waited
         packet.end(fate, self.time, self.line)
         if packet.watch is not None:
             packet.watch.dropped(packet, port)

@@ -186,14 +186,14 @@ class Running:
 
 
 @contextlib.contextmanager
-def running(words: list[str], source: bytes) -> Iterator[Running]:
+def running(words: list[str], source: bytes, first: Callable[[], None] | None = None) -> Iterator[Running]:
     """Runs a program on the bytes of a scenario, and ends it where not all that it writes is wanted. Its input and its
-    notes are files, so that neither of us waits for the other."""
+    notes are files, so that neither of us waits for the other. The process does `first` before it is the program."""
     with tempfile.TemporaryFile() as given, tempfile.TemporaryFile() as note:
         with named(tempfile.gettempdir()):
             given.write(source)
             given.seek(0)
-        with subprocess.Popen(words, stdin=given, stdout=subprocess.PIPE, stderr=note, bufsize=0) as process:
+        with subprocess.Popen(words, stdin=given, stdout=subprocess.PIPE, stderr=note, bufsize=0, preexec_fn=first) as process:
             PROGRAMS.append(process)
             program = Running(process, note)
             try:

@@ -2,12 +2,14 @@
 
 A run is counted state by state; all numbers of which a percentile is asked for are kept."""
 from array import array
-from collections import deque
+from collections import Counter
 
 from tcpsim_model.scenario import SENDER
 from tcpsim_model.simulate import BITS_NS, Network
 
 HEADING = 'what,number,figure,unit,value'
+# Those that each link has; a queue of another's making can have more.
+REASONS = {'lost': 'dropped as lost', 'full': 'dropped as full', 'codel': 'dropped by CoDel'}
 
 
 # Percentiles, of numbers that are counted in classes.
@@ -52,14 +54,14 @@ class FlowCount:
 
 
 class LinkCount:
-    __slots__ = ('lost', 'full', 'codel', 'sent', 'bytes', 'busy', 'length', 'since', 'longest', 'waited', 'entries',
-                 'delays')
+    __slots__ = ('dropped', 'sent', 'bytes', 'busy', 'length', 'since', 'longest', 'waited', 'entered', 'delays')
 
     def __init__(self):
-        self.lost = self.full = self.codel = self.sent = self.bytes = self.busy = 0
+        self.dropped = Counter()        # of each reason
+        self.sent = self.bytes = self.busy = 0
         self.length = self.since = 0    # of the queue, and from when on
         self.longest = self.waited = 0
-        self.entries = deque()          # of the packets that wait: when offered, bytes
+        self.entered = {}               # when a packet was offered that waits, by its identity
         self.delays = array('q')        # of those sent: from the offering to the sending
 
     def state(self, now, length):
@@ -84,29 +86,27 @@ class Counted(Network):
         return super().at_sender(node, now, numbers)
 
     def offer(self, port, packet, now, acts):
-        count, before = self.of_links[port.number], len(acts)
         self.used = (port,)
-        count.entries.append((now, packet[3]))
+        self.of_links[port.number].entered[id(packet)] = now
         super().offer(port, packet, now, acts)
-        for act in acts[before:]:
-            if act.startswith((' drop=lost', ' drop=full')):
-                count.entries.pop()
-                count.lost += act.startswith(' drop=lost')
-                count.full += act.startswith(' drop=full')
+
+    def drop(self, reason, port, packet, acts):
+        count = self.of_links[port.number]
+        del count.entered[id(packet)]
+        count.dropped[reason] += 1
+        super().drop(reason, port, packet, acts)
 
     def take(self, port, now, acts):
-        count, before = self.of_links[port.number], len(acts)
         self.used = (port,)
         super().take(port, now, acts)
-        for act in acts[before:]:
-            entered, size = count.entries.popleft()
-            if act.startswith(' drop=codel'):
-                count.codel += 1
-            else:
-                count.sent += 1
-                count.bytes += size
-                count.busy += min(-(-size * BITS_NS // port.rate), self.end - now)
-                count.delays.append(now - entered)
+
+    def send(self, port, packet, now, acts):
+        count = self.of_links[port.number]
+        count.sent += 1
+        count.bytes += packet.bytes
+        count.busy += min(-(-packet.bytes * BITS_NS // port.rate), self.end - now)
+        count.delays.append(now - count.entered.pop(id(packet)))
+        super().send(port, packet, now, acts)
 
     def step(self):
         event = self.due()
@@ -174,9 +174,8 @@ def link_rows(net, number):
     """A link's figures, as those of a flow."""
     count = net.of_links[number]
     return [('offered', 'packets', net.ports[number].offered),
-            ('dropped as lost', 'packets', count.lost),
-            ('dropped as full', 'packets', count.full),
-            ('dropped by CoDel', 'packets', count.codel),
+            *((name, 'packets', count.dropped[reason]) for reason, name in REASONS.items()),
+            *((f'dropped as {reason}', 'packets', n) for reason, n in sorted(count.dropped.items()) if reason not in REASONS),
             ('sent', 'packets', count.sent),
             ('sent', 'bytes', count.bytes),
             ('busy', 'ns', count.busy),

@@ -1,9 +1,12 @@
-"""The two queues of a link's sending side. An entry is (packet, entry time); a packet is
-(flow, is an acknowledgement, byte or acknowledgement number, bytes)."""
-from collections import deque
+"""The two queues of a link's sending side, and queues of others' making. An entry is (packet, entry time)."""
+import re
+from collections import deque, namedtuple
 from math import isqrt
 
 COUNT_STOPS = 4_294_967_295
+WORD = re.compile('[a-z][a-z0-9]{0,14}')
+# A flow's number, whether it is an acknowledgement, its byte or acknowledgement number, and how many bytes it has.
+Packet = namedtuple('Packet', 'flow is_ack number bytes')
 
 
 def gap(interval, count):
@@ -96,6 +99,67 @@ class Codel(DropTail):
         first = '-' if self.first_above is None else self.first_above
         return (f' first={first} next={self.drop_next} count={self.count} last={self.lastcount}'
                 f' drop={int(self.dropping)}')
+
+
+class WrongQueue(Exception):
+    """A queue of another's making does what no queue can."""
+
+
+class Own:
+    """A queue of another's making: an object that has `offer(packet, now, drop)` and `take(now, drop)`. Each calls
+    `drop(packet)`, or `drop(packet, word)`, for what it drops; `take` answers the packet that the link sends next, or
+    None where none waits. The word of a drop is the object's `word`, else its class's name. `entries` has the packets
+    that wait in the order in which they were offered, whatever the order in which the object gives them."""
+
+    def __init__(self, queue):
+        self.queue = queue
+        self.word = word_of(queue)
+        self.waiting = {}           # of a packet's identity its entry
+        self.dropped = []           # (word, packet) of the present call
+
+    @property
+    def entries(self):
+        return self.waiting.values()
+
+    def offer(self, packet, now):
+        """What is dropped, in order: (word, packet)."""
+        self.dropped = []
+        self.waiting[id(packet)] = packet, now
+        self.queue.offer(packet, now, self.drop)
+        return self.dropped
+
+    def take(self, now):
+        """What is dropped, in order, and the packet given (or None)."""
+        self.dropped = []
+        packet = self.queue.take(now, self.drop)
+        if packet is not None:
+            self.leave(packet, 'gave')
+        elif self.waiting:
+            raise WrongQueue(f'{self.name()} gave no packet, and {len(self.waiting)} wait: a queue gives one as long as it has any')
+        return self.dropped, packet
+
+    def drop(self, packet, word=None):
+        word = self.word if word is None else word
+        if not isinstance(word, str) or not WORD.fullmatch(word) or word == 'lost':
+            raise WrongQueue(f'{self.name()} drops by the word {word!r}: it is a small letter and up to 14 small letters or '
+                             'digits, and `lost` is the scenario\'s own')
+        self.leave(packet, 'drops')
+        self.dropped.append((word, packet))
+
+    def leave(self, packet, does):
+        if self.waiting.pop(id(packet), (None,))[0] is not packet:
+            raise WrongQueue(f'{self.name()} {does} {packet!r}, which does not wait in it')
+
+    def name(self):
+        return type(self.queue).__name__
+
+    def dump(self):
+        return ''
+
+
+def word_of(queue):
+    """The word by which a queue of another's making drops."""
+    return getattr(queue, 'word', re.sub('[^a-z0-9]', '', type(queue).__name__.lower())[:15])
 
 
 def queue_of(link):

@@ -81,6 +81,8 @@ class Scenario:
     links: list
     flows: list
     routes: list            # (router, destination, link), rising by router and destination
+    # Of a link what makes its queue, given the link, in the place of the queue that the text has (queues.Own).
+    queues: dict = field(default_factory=dict)
 
     def outgoing(self):
         """For each node its outgoing links in rising number: its ports."""

@@ -2,7 +2,7 @@
 from collections import namedtuple
 from heapq import heappop, heappush
 
-from tcpsim_model.queues import queue_of
+from tcpsim_model.queues import Own, Packet, queue_of
 from tcpsim_model.receiver import Receiver
 from tcpsim_model.scenario import ROUTER, SENDER
 from tcpsim_model.sender import Sender
@@ -25,10 +25,10 @@ class Port:
     """The sending side of a link."""
     __slots__ = ('number', 'to', 'rate', 'delay', 'lose', 'queue', 'alarm', 'busy', 'offered', 'sent')
 
-    def __init__(self, number, link, place):
+    def __init__(self, number, link, place, own=None):
         self.number, self.to, self.rate, self.delay = number, link.to, link.rate, link.delay
         self.lose = frozenset(link.lose)
-        self.queue = queue_of(link)
+        self.queue = Own(own(link)) if own else queue_of(link)
         self.alarm = FIRST_FREE + place     # the node's alarm for "this port is free"
         self.busy = False
         self.offered = self.sent = 0
@@ -52,7 +52,7 @@ class Network:
         self.own_ports = [[] for _ in range(count)]
         for node, numbers in enumerate(scenario.outgoing()):
             for place, number in enumerate(numbers):
-                self.ports[number] = Port(number, scenario.links[number], place)
+                self.ports[number] = Port(number, scenario.links[number], place, scenario.queues.get(number))
                 self.own_ports[node].append(self.ports[number])
         self.routes = {(router, to): self.ports[link] for router, to, link in scenario.routes}
         self.inside = [0] * len(scenario.flows)     # of each flow: its packets that wait or are under way
@@ -93,34 +93,43 @@ class Network:
 
     def offer(self, port, packet, now, acts):
         port.offered += 1
-        self.inside[packet[0]] += 1
+        self.inside[packet.flow] += 1
         if port.offered in port.lose:
             self.drop('lost', port, packet, acts)
+        elif isinstance(port.queue, Own):
+            for word, lost in port.queue.offer(packet, now):
+                self.drop(word, port, lost, acts)
+            if not port.busy and port.queue.waiting:
+                self.take(port, now, acts)
         elif not port.queue.offer(packet, now):
             self.drop('full', port, packet, acts)
         elif not port.busy:
             self.take(port, now, acts)
 
     def drop(self, reason, port, packet, acts):
-        self.inside[packet[0]] -= 1
+        self.inside[packet.flow] -= 1
         self.touched.add(port.number)
-        acts.append(f' drop={reason}:{packet[0]}:{packet[2]}')
+        acts.append(f' drop={reason}:{packet.flow}:{packet.number}')
 
     def take(self, port, now, acts):
         dropped, packet = port.queue.take(now)
+        own = isinstance(port.queue, Own)
         for lost in dropped:
-            self.drop('codel', port, lost, acts)
+            self.drop(lost[0] if own else 'codel', port, lost[1] if own else lost, acts)
         if packet is None:
             port.busy = False
-            return
-        free = now - -packet[3] * BITS_NS // port.rate      # rounded up
+        else:
+            self.send(port, packet, now, acts)
+
+    def send(self, port, packet, now, acts):
+        free = now - -packet.bytes * BITS_NS // port.rate      # rounded up
         port.busy = True
         port.sent += 1
         node = self.scenario.links[port.number].source
         self.set_alarm(node, port.alarm, free)
         heappush(self.pending, (free + port.delay, port.to, port.number + 1, port.sent, packet))
         self.touched.add(port.number)
-        acts.append(f' tx={port.number}:{packet[0]}:{packet[2]}')
+        acts.append(f' tx={port.number}:{packet.flow}:{packet.number}')
 
     # The rows: what each event does. Each answers the acts in their order.
 
@@ -129,7 +138,7 @@ class Network:
         acts, flow, port = [], self.flow_at[node], self.own_ports[node][0]
         size = self.flows[flow].mss + HEADER_BYTES
         for seq in numbers:
-            self.offer(port, (flow, False, seq, size), now, acts)
+            self.offer(port, Packet(flow, False, seq, size), now, acts)
         self.set_alarm(node, RTO, self.ends[node].deadline)
         return acts
 
@@ -137,7 +146,7 @@ class Network:
         """An acknowledgement is offered at once, or (None) the answer waits."""
         acts, receiver = [], self.ends[node]
         if number is not None:
-            self.offer(self.own_ports[node][0], (self.flow_at[node], True, number, HEADER_BYTES), now, acts)
+            self.offer(self.own_ports[node][0], Packet(self.flow_at[node], True, number, HEADER_BYTES), now, acts)
         self.set_alarm(node, DELACK, receiver.alarm)
         return acts
 

@@ -20,7 +20,7 @@ import unittest
 from paths import BIN, MODEL, TOP
 from tcpsim import figures
 from tcpsim.program import BUILT, NoProgram, find_program, found, is_program
-from tcpsim.run import Run
+from tcpsim.curves import Run
 from tcpsim.samples import Sample, percentile
 from tcpsim.scenario.text import Scenario, Unreadable
 

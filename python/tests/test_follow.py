@@ -21,7 +21,7 @@ from paths import BIN, MODEL, TOP
 from tcpsim import follow, lives
 from tcpsim.cli import follow as command
 from tcpsim.program import found, is_program
-from tcpsim.run import Run
+from tcpsim.curves import Run
 from tcpsim.scenario.text import Scenario, Unreadable
 from tcpsim.scenario.units import HEADER_BYTES
 from tcpsim.trace import ACK, DATA, LinkState, Reader

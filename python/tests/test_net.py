@@ -15,7 +15,7 @@ import paths
 from paths import BIN, TOP
 from tcpsim.cli import net as command
 from tcpsim.scenario import net, units
-from tcpsim.run import Run
+from tcpsim.curves import Run
 from tcpsim.scenario.text import Scenario
 
 BUILT = os.path.join(TOP, 'crates', 'tcpsim', 'out', 'tcpsim')

@@ -30,7 +30,7 @@ except ImportError as missing:
 import numpy as np
 from tcpsim.plot import choice, clock, points, style
 from test_trace import BY_HAND, TRACE
-from tcpsim.run import read_run
+from tcpsim.curves import read_run
 
 MS, S = 10**6, 10**9
 

@@ -28,7 +28,7 @@ from tcpsim.replay import page, recording
 from tcpsim.program import NoProgram, find_program
 from tcpsim.scenario import units
 from tcpsim.scenario.text import Scenario, Unreadable
-from tcpsim.run import read_run
+from tcpsim.curves import read_run
 
 EXAMPLES = os.path.join(TOP, 'examples')
 PICTURES = os.path.join(TOP, 'docs', 'pictures')

@@ -49,9 +49,9 @@ from tcpsim.cli.flows import table
 from tcpsim.figures import Figures, jain
 from tcpsim.samples import percentile
 from tcpsim.figures import figures as trace_figures
-from tcpsim.run import Run
+from tcpsim.curves import Run
 from tcpsim.scenario.text import Scenario, Unreadable
-from tcpsim.run import read_run
+from tcpsim.curves import read_run
 
 MS = 10**6
 BY_HAND = '''sim 12000000

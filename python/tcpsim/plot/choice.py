@@ -11,7 +11,7 @@ from tcpsim.command_line import Words, as_type
 from tcpsim.output import printable
 from tcpsim.scenario import units
 from tcpsim.scenario.text import Unreadable
-from tcpsim.run import Run, read_run
+from tcpsim.curves import Run, read_run
 from tcpsim.whole_trace import inputs_of
 
 from .clock import Clock, idle_spans, length_text

@@ -2,6 +2,7 @@
 from __future__ import annotations
 
 import math
+from collections.abc import Iterable
 
 from matplotlib.axes import Axes
 from matplotlib.lines import Line2D
@@ -106,6 +107,17 @@ def ms_text(ns: int) -> str:
 
 def link_text(link, name: str) -> str:
     """What a link is, in words."""
-    kind = {'droptail': 'drop-tail', 'codel': 'CoDel'}[link.queue]
+    kind = {'droptail': 'drop-tail', 'codel': 'CoDel'}.get(link.queue, link.queue)
     more = f', target {ms_text(link.target)}, interval {ms_text(link.interval)}' if link.queue == 'codel' else ''
     return f'{name}: {rate_text(link.rate)}, {ms_text(link.delay)}, {kind}, {link.capacity:,} packets{more}'
+
+
+# Signs of words by which queues drop that are classes of Python's.
+OWN_SIGNS = [('D', GREEN), ('^', SKY), ('s', BLUE), ('*', '#7F7F7F')]
+
+
+def add_signs(words: Iterable[str]) -> None:
+    """Gives a sign to each word by which a queue drops that is a class of Python's."""
+    for word in sorted(set(words) - set(SIGNS)):
+        marker, color = OWN_SIGNS[(len(SIGNS) - 3) % len(OWN_SIGNS)]
+        SIGNS[word] = marker, color, f'dropped: {word}'

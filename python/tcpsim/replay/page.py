@@ -27,7 +27,7 @@ def about(scenario: Scenario) -> dict:
         'end': scenario.end, 'remark': [line[1:].strip() for line in scenario.text.split('\n') if line.startswith('#')],
         'nodes': [{'name': node.name, 'kind': node.kind} for node in scenario.nodes],
         'links': [{'name': link.name, 'from': link.source, 'to': link.to, 'rate': link.rate, 'delay': link.delay,
-                   'queue': link.queue, 'limit': link.capacity, 'port': scenario.leaves[link.source].index(number)}
+                   'queue': link.queue, 'own': number in scenario.own, 'limit': link.capacity, 'port': scenario.leaves[link.source].index(number)}
                   for number, link in enumerate(scenario.links)],
         'flows': [{'name': flow.name, 'sender': flow.sender, 'receiver': flow.receiver, 'mss': flow.mss,
                    'segments': flow.segments, 'start': flow.start, 'rwnd': flow.rwnd, 'delack': flow.delack}

@@ -6,6 +6,7 @@ from __future__ import annotations
 from collections import deque
 from collections.abc import Iterable
 
+from tcpsim.own_queues import dropped_by
 from tcpsim.scenario.text import Scenario, Unreadable
 from tcpsim.scenario.units import BITS_NS, HEADER_BYTES, spelled_time
 from tcpsim.trace import ACK, DATA, first_window
@@ -22,7 +23,7 @@ class LinkNow:
     def __init__(self, number, link, port, lost):
         self.number, self.port, self.node, self.to = number, port, link.source, link.to
         self.rate, self.delay, self.capacity, self.lost = link.rate, link.delay, link.capacity, lost
-        self.codel = link.queue == 'codel'
+        self.codel, self.own = link.queue == 'codel', False
         self.offered = self.sent = self.arrived = 0
         self.free_at = None             # when it becomes free; None where it is idle
         self.waiting = deque()          # (flow, DATA or ACK, number, entered, again)
@@ -66,6 +67,8 @@ class Reader:
         self.flows = [FlowNow(flow) for flow in scenario.flows]
         self.links = [LinkNow(number, link, scenario.leaves[link.source].index(number),
                               scenario.lost.get(number, ())) for number, link in enumerate(scenario.links)]
+        for number in scenario.own:
+            self.links[number].own = True
         self.kinds = [node.kind for node in scenario.nodes]
         self.at_node = {}               # the flow that ends at a node
         for number, flow in enumerate(scenario.flows):
@@ -224,6 +227,8 @@ class Reader:
 
     def _offer(self, link, packet, again, words, at, time):
         link.offered += 1
+        if link.own and link.offered not in link.lost:
+            return self._offer_own(link, packet, again, words, at, time)
         reason = 'lost' if link.offered in link.lost else 'full' if len(link.waiting) >= link.capacity else None
         if reason:
             if words[at] != f'drop={reason}:{packet[0]}:{packet[2]}':
@@ -232,9 +237,36 @@ class Reader:
         link.waiting.append((*packet, time, again))
         return self._take(link, words, at, time) if link.free_at is None else at
 
+    def _offer_own(self, link, packet, again, words, at, time):
+        """To a class of Python's, which drops what comes, or what is at the queue's head."""
+        found = dropped_by(words[at]) if at < len(words) else None
+        if found and found[1] == f'{packet[0]}:{packet[2]}':
+            return at + 1
+        link.waiting.append((*packet, time, again))
+        at = self._drop_heads(link, words, at)
+        return self._take(link, words, at, time) if link.free_at is None and link.waiting else at
+
+    def _drop_heads(self, link, words, at):
+        """What a class of Python's drops at its head."""
+        while at < len(words) and (found := dropped_by(words[at])):
+            names = [f'{flow}:{number}' for flow, _, number, _, _ in link.waiting]
+            if found[1] not in names:
+                break
+            if found[1] != names[0]:
+                raise Unreadable(self._unordered(link))
+            link.waiting.popleft()
+            at += 1
+        return at
+
+    def _unordered(self, link):
+        return (f'a page shows queues whose packets leave in the order in which they came, and that of link '
+                f'{self.scenario.links[link.number].name} has another order')
+
     def _take(self, link, words, at, time):
         """Takes from the queue as the line's acts say; answers the first act that is not used."""
         waiting = link.waiting
+        if link.own:
+            at = self._drop_heads(link, words, at)
         while link.codel and at < len(words) and words[at][:11] == 'drop=codel:':
             flow, _, number, _, _ = waiting.popleft()
             if words[at][11:] != f'{flow}:{number}':
@@ -244,6 +276,8 @@ class Reader:
             return at
         flow, sort, number, entered, again = waiting.popleft()
         if words[at] != f'tx={link.number}:{flow}:{number}':
+            if link.own:
+                raise Unreadable(self._unordered(link))
             raise ValueError('another packet is at the head of the queue')
         size = self.flows[flow].size if sort == DATA else HEADER_BYTES
         link.sent += 1

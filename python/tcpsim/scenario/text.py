@@ -26,6 +26,7 @@ class Scenario:
         self.text = text
         self.end, self.nodes, self.links, self.flows, self.routes = None, [], [], [], {}
         self.lost = {}                  # of each link that loses packets, which of those that are offered to it
+        self.own = {}                   # of each link whose queue is a class of Python's, the class's name
         self._numbers = {}
         statements = {'sim': self._sim, 'node': self._node, 'link': self._link, 'flow': self._flow,
                       'route': self._route, 'lose': self._lose}
@@ -74,6 +75,13 @@ class Scenario:
 
     def _lose(self, link, number):
         self.lost.setdefault(self._numbers[link], set()).add(int(number))
+
+    def replace_queues(self, names: dict[int, str]) -> None:
+        """Says of these links, by their numbers, that a class of this name is their queue, which can drop any packet at
+        any time, by words of its own, and give its packets in any order."""
+        self.own = dict(names)
+        for number, name in names.items():
+            self.links[number] = self.links[number]._replace(queue=name)
 
     def hop(self, node: int, to: int) -> int | None:
         """The link over which a node sends what is for `to`."""

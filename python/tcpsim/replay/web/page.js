@@ -204,7 +204,7 @@ class Page {
   linkRows(l) {
     const link = this.facts.links[l], now = this.record.link(l);
     const words = d3.range(now.head, Math.min(now.tail, now.head + 8)).map(k => packetName(this.facts, this.record.packet(l, k)));
-    return [['queue', `of link ${link.name}, ${link.queue === 'codel' ? 'CoDel' : 'drop-tail'}`, link.queue === 'codel' ? 'RFC 8289' : ''],
+    return [['queue', `of link ${link.name}, ${{codel: 'CoDel', droptail: 'drop-tail'}[link.queue] || link.queue}`, link.queue === 'codel' ? 'RFC 8289' : ''],
       ['waiting', `${number(now.length)} of at most ${number(link.limit)}`, ''],
       ['from the head', words.join('; ') + (now.length > 8 ? '; ..' : ''), ''],
       ['offered', number(now.offered), ''], ['sent', number(now.sent), '']];

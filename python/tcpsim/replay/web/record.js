@@ -159,28 +159,40 @@ class Record {
     for (const number of numbers) {
       const packet = {flow, sort, number, again: again === null ? number < high : again};
       this.set(this.ofLink(link, OFFERED), this.row[this.ofLink(link, OFFERED)] + 1);
-      const act = words[at] || '';
-      if (act.startsWith('drop=') && !act.startsWith('drop=codel') &&
+      const act = words[at] || '', own = this.facts.links[link].own, [reason, ...whose] = act.slice(5).split(':');
+      if (own && act.startsWith('drop=') && whose.join(':') === `${flow}:${number}`) {
+        this.dropped(link, packet, reason);
+        at += 1;
+      } else if (!own && act.startsWith('drop=') && !act.startsWith('drop=codel') &&
           act.slice(9) === `:${flow}:${number}`) {
         this.dropped(link, packet, act.slice(5, 9));
         at += 1;
       } else {
         this.set(this.ofLink(link, ENTERED), this.tracks[link].enter(packet, this.now.time));
+        if (own) at = this.dropHeads(link, words, at);
         if (!this.row[this.ofLink(link, BUSY)]) at = this.take(link, words, at);
       }
     }
   }
 
-  take(link, words, at) {
-    const track = this.tracks[link], taken = this.ofLink(link, TAKEN);
-    const packet = entry => ({flow: track.flow[entry], sort: track.sort[entry], number: track.number[entry],
-      again: track.again[entry]});
-    while (at < words.length && words[at].startsWith('drop=codel')) {
-      this.dropped(link, packet(this.row[taken]), 'codel');
-      this.set(taken, this.row[taken] + 1);
+  // What is dropped at the head of a queue: by CoDel, or by a class of Python's with words of its own.
+  dropHeads(link, words, at) {
+    const track = this.tracks[link], taken = this.ofLink(link, TAKEN), {own} = this.facts.links[link];
+    while (at < words.length && words[at].startsWith(own ? 'drop=' : 'drop=codel:')) {
+      const entry = this.row[taken], [reason, flow, number] = words[at].slice(5).split(':');
+      if (own && (entry >= this.row[this.ofLink(link, ENTERED)] || track.flow[entry] !== +flow || track.number[entry] !== +number)) break;
+      this.dropped(link, {flow: track.flow[entry], sort: track.sort[entry], number: track.number[entry],
+        again: track.again[entry]}, reason);
+      this.set(taken, entry + 1);
       at += 1;
     }
-    if (at >= words.length) return at;
+    return at;
+  }
+
+  take(link, words, at) {
+    const track = this.tracks[link], taken = this.ofLink(link, TAKEN);
+    at = this.dropHeads(link, words, at);
+    if (at >= words.length || this.row[taken] >= this.row[this.ofLink(link, ENTERED)]) return at;
     const entry = this.row[taken];
     const size = HEADER_BYTES + (track.sort[entry] === DATA ? this.facts.flows[track.flow[entry]].mss : 0);
     const {rate, delay} = this.facts.links[link];

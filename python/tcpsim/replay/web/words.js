@@ -73,6 +73,6 @@ function explainWord(facts, word) {
   const parts = value.split(':');
   if (key === 'tx') return [word, `link ${facts.links[parts[0]].name} begins to send number ${number(+parts[2])} of flow ` +
     facts.flows[parts[1]].name, ''];
-  return [word, `number ${number(+parts[2])} of flow ${facts.flows[parts[1]].name} is dropped${REASONS[parts[0]][0]}`,
-    REASONS[parts[0]][1]];
+  return [word, `number ${number(+parts[2])} of flow ${facts.flows[parts[1]].name} is dropped${(REASONS[parts[0]] || [`: ${parts[0]}`])[0]}`,
+    (REASONS[parts[0]] || [])[1] || ''];
 }

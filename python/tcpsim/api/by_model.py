@@ -1,0 +1,81 @@
+"""Runs by the model, in this process, of scenarios with queues that are classes of Python's (docs/PYTHON.md)."""
+from __future__ import annotations
+
+import inspect
+from collections.abc import Callable, Iterator, Mapping
+
+from tcpsim.api.errors import Refused, WrongQueue
+from tcpsim.command_line import Wrong
+from tcpsim.scenario.text import Scenario
+from tcpsim_model import queues as model_queues
+from tcpsim_model.figures import figures
+from tcpsim_model.prompt import Prompt
+from tcpsim_model.scenario import Refused as ModelRefused
+from tcpsim_model.simulate import trace
+from tcpsim_model.text import assemble
+
+METHODS = 'offer', 'take'
+Maker = Callable[..., object]           # a class, or a function that gives a queue: of the link, or of nothing
+
+
+class OwnQueueRun:
+    """A run of a scenario's text with a class for the queue of each link that is named."""
+
+    def __init__(self, text: str, queues: Mapping[str, Maker]):
+        try:
+            self._scenario = assemble(text.encode())
+        except ModelRefused as wrong:
+            raise Refused(wrong.code, wrong.line) from None
+        numbers = {link.name: number for number, link in enumerate(Scenario(text).links)}
+        self.names: dict[int, str] = {}         # of each of these links, by its number, its class's name
+        for name, maker in queues.items():
+            if name not in numbers:
+                raise Wrong(f'queues names the link {name!r}, and the scenario has {", ".join(numbers)}')
+            number = numbers[name]
+            make = makes(maker)
+            queue = make(self._scenario.links[number])
+            for method in METHODS:
+                if not callable(getattr(queue, method, None)):
+                    raise Wrong(f'the queue of link {name}, {type(queue).__name__}, has no method {method}: it wants '
+                                'offer(packet, now, drop) and take(now, drop)')
+            self._scenario.queues[number] = make
+            self.names[number] = type(queue).__name__
+
+    def pieces(self) -> Iterator[str]:
+        """The trace, line by line, each with its line feed."""
+        try:
+            yield from trace(self._scenario)
+        except model_queues.WrongQueue as wrong:
+            raise WrongQueue(str(wrong)) from None
+
+    def table(self) -> str:
+        """The table of figures; of these links it has rows for their own words too."""
+        try:
+            return figures(self._scenario)
+        except model_queues.WrongQueue as wrong:
+            raise WrongQueue(str(wrong)) from None
+
+    def answers(self) -> Callable[[str], str]:
+        """A debugger's prompt over the run: gives each line's answer, or raises Refused with the prompt's words."""
+        prompt = Prompt(self._scenario)
+
+        def answer(line: str) -> str:
+            try:
+                return prompt.answer(line.encode())
+            except ModelRefused as wrong:
+                explained = prompt.noted(line.encode(), wrong).partition('\n')[2].strip()
+                raise Refused(wrong.code, wrong.line, explained) from None
+            except model_queues.WrongQueue as wrong:
+                raise WrongQueue(str(wrong)) from None
+        return answer
+
+
+def makes(maker: Maker) -> Callable[[object], object]:
+    """What makes a queue of a link, by a class or a function that takes the link, or nothing."""
+    try:
+        inspect.signature(maker).bind(None)
+    except TypeError:
+        return lambda link: maker()
+    except ValueError:          # of what Python cannot tell the parameters
+        pass
+    return maker

@@ -1,0 +1,113 @@
+"""Chooses what runs a scenario: the program, or else the model; and starts it so that it ends with this process."""
+from __future__ import annotations
+
+import contextlib
+import ctypes
+import os
+import signal
+import subprocess
+import threading
+from collections.abc import Callable, Iterator
+from dataclasses import dataclass
+
+from tcpsim.api.errors import Error, as_raised, refusal
+from tcpsim.command_line import MODEL, Wrong
+from tcpsim.engine import written_table
+from tcpsim.program import NoProgram, check_time, find_program, found, is_model, is_program
+from tcpsim.scenario.text import Scenario
+from tcpsim.whole_trace import BLOCK, ProgramFailed, blocks, running
+
+SET_PARENT_DEATH_SIGNAL = 1     # prctl(2)
+LIBRARY = ctypes.CDLL(None)
+
+
+@dataclass(frozen=True)
+class Engine:
+    """What runs a scenario: `name` is 'program' or 'model', `path` its file."""
+
+    name: str
+    path: str
+
+    def check(self, text: str) -> None:
+        """Raises Refused where the scenario's text is refused."""
+        explained = [] if self.name == 'model' else ['--explain']
+        done = subprocess.run([self.path, 'asm', *explained], input=text.encode(), capture_output=True, check=False)
+        if done.returncode:
+            raise refusal(done.stderr.decode('utf-8', 'replace')) or ProgramFailed(done.returncode, done.stderr)
+
+    def table(self, text: str) -> str:
+        """The table of figures of a scenario's run (docs/FORMATS.md)."""
+        try:
+            with running([self.path, 'figures'], text.encode(), ends_with_parent()) as process:
+                return written_table(process)
+        except ProgramFailed as wrong:
+            raise as_raised(wrong) from None
+
+    @contextlib.contextmanager
+    def trace(self, text: str, scenario: Scenario, keep: Callable = lambda read: read) -> Iterator[Iterator[list[str]]]:
+        """The lines of a scenario's trace, block by block, as they are written. `keep` wraps what reads them."""
+        try:
+            with running([self.path, 'run'], text.encode(), ends_with_parent()) as process:
+                yield blocks(keep(process.read), f'the trace of {self.path}', scenario, ended=process.check)
+        except ProgramFailed as wrong:
+            raise as_raised(wrong) from None
+
+
+def engine_of(name: str | None, text: str | None) -> Engine:
+    """The engine of this name, 'program' or 'model', or with this path; of None the program where it is found, else the
+    model, which standard error says once. NoProgram where it is not there, or where the model would take longer than a
+    minute unasked for the run of a text; of None it is not asked how long that takes."""
+    try:
+        if name == 'program':
+            path = found()
+            if not is_program(path):
+                raise NoProgram('the program tcpsim is neither on PATH nor built: build it with `make run`')
+        else:
+            path = find_program({'model': MODEL}.get(name, name), lambda: [] if text is None else [text])
+    except NoProgram as wrong:
+        raise NoProgram(in_python(str(wrong))) from None
+    return Engine('model' if is_model(path) else 'program', path)
+
+
+def check_own(name: str | None, text: str) -> None:
+    """Raises where queues that are classes of Python's cannot run by the engine that is asked for."""
+    if name not in (None, 'model'):
+        raise Wrong('the program has no queues but drop-tail and CoDel: a run with `queues` is the model\'s, '
+                    f'and not that of engine={name!r}')
+    if name is None:
+        try:
+            check_time([text])
+        except NoProgram as wrong:
+            long = str(wrong).partition(':')[0]
+            raise Error(f'{long}, and queues of one\'s own run by the model alone: say engine="model", or take a shorter run') from None
+
+
+def in_python(sentence: str) -> str:
+    """A sentence of the tools with the words of the API in the place of their options."""
+    return sentence.replace('say --model', 'say engine="model"').replace('name it with --program, or give a trace', 'say engine="model"')
+
+
+def ends_with_parent() -> Callable[[], None] | None:
+    """What a process does before it becomes the program: it asks to be killed when this process ends, however that ends.
+    None in a thread, with which it would end, and where
+    the system has no such request."""
+    parent, prctl = os.getpid(), getattr(LIBRARY, 'prctl', None)
+    if prctl is None or threading.current_thread() is not threading.main_thread():
+        return None
+
+    def ask():
+        prctl(SET_PARENT_DEATH_SIGNAL, signal.SIGKILL)
+        if os.getppid() != parent:
+            os.kill(os.getpid(), signal.SIGKILL)
+    return ask
+
+
+def reads_of(pieces: Iterator[str]) -> Callable[[int], bytes]:
+    """A reader of the blocks that texts make up."""
+    def read(size):
+        held, length = [], 0
+        while length < min(size, BLOCK) and (piece := next(pieces, None)):
+            held.append(piece)
+            length += len(piece)
+        return ''.join(held).encode()
+    return read

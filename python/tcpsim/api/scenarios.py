@@ -1,0 +1,187 @@
+"""Scenarios: builders of nets, by the shapes and options of tcpsim-net, and reading of a scenario's text or file."""
+from __future__ import annotations
+
+import functools
+import inspect
+import os
+import re
+from collections.abc import Callable, Mapping, Sequence
+from typing import Union
+
+from tcpsim import output
+from tcpsim.api.errors import as_raised
+from tcpsim.cli import net
+from tcpsim.command_line import Wrong
+from tcpsim.scenario.text import Flow, Link, Node, Scenario
+from tcpsim.scenario.units import spelled_time
+from tcpsim.whole_trace import ProgramFailed, scenario_bytes, scenario_text
+
+Value = Union[str, int, Sequence[Union[str, int]], None]     # of an option: a word, a number, a list of them
+SHAPES_RATES = {'--rates': '--rate'}
+
+
+class ScenarioText:
+    """A scenario: its `text` (docs/FORMATS.md), and `name`, by which pictures and pages call it.
+
+    `nodes`, `links` and `flows` are read from the text, by name: rates are bit/s, times ns, sizes bytes, queues packets. The
+    text is judged when it is run.
+    """
+
+    def __init__(self, text: str, name: str = 'scenario'):
+        self.text, self.name = text, name
+
+    @functools.cached_property
+    def parsed(self) -> Scenario:
+        """The scenario that the text means."""
+        return Scenario(self.text)
+
+    @property
+    def end_ns(self) -> int:
+        """The run's end."""
+        return self.parsed.end
+
+    @property
+    def nodes(self) -> Mapping[str, Node]:
+        """The nodes by name, in the text's order."""
+        return {node.name: node for node in self.parsed.nodes}
+
+    @property
+    def links(self) -> Mapping[str, Link]:
+        """The links by name, in the text's order; `source` and `to` are numbers of nodes."""
+        return {link.name: link for link in self.parsed.links}
+
+    @property
+    def flows(self) -> Mapping[str, Flow]:
+        """The flows by name, in the text's order; `sender` and `receiver` are numbers of nodes."""
+        return {flow.name: flow for flow in self.parsed.flows}
+
+    def save(self, path: str | os.PathLike) -> None:
+        """Writes the text to a file, whole or not at all."""
+        with output.written(os.fspath(path)) as file:
+            file.write(self.text)
+
+    def __repr__(self) -> str:
+        head = re.findall(r'^# (.*)', self.text, re.M)[:1]
+        return f'<{self.name}: {many(self.flows, "flow")} over {many(self.links, "link")}, {spelled_time(self.end_ns)}' + ''.join(
+            f'; {line}' for line in head) + '>'
+
+
+def many(things: Mapping, what: str) -> str:
+    """A count with its noun."""
+    return f'{len(things)} {what}{"s" * (len(things) != 1)}'
+
+
+# ---- reading
+
+def from_text(text: str, name: str = 'scenario') -> ScenarioText:
+    """The scenario of a text."""
+    return ScenarioText(text, name)
+
+
+def read(path: str | os.PathLike) -> ScenarioText:
+    """The scenario of a file, a text or an image. OSError where it cannot be read, Refused where it is an image that is
+    refused."""
+    path = os.fspath(path)
+    try:
+        text = scenario_text(scenario_bytes(path), path)
+    except ProgramFailed as wrong:
+        raise as_raised(wrong) from None
+    return ScenarioText(text, os.path.splitext(os.path.basename(path))[0])
+
+
+def scenario_of(given: ScenarioText | str | os.PathLike) -> ScenarioText:
+    """The scenario that is given: itself, a file, or a text, which has lines."""
+    if isinstance(given, ScenarioText):
+        return given
+    if isinstance(given, str) and '\n' in given:
+        return ScenarioText(given)
+    if isinstance(given, (str, os.PathLike)):
+        return read(given)
+    raise TypeError(f'a scenario, its file or its text is wanted, and not {given!r}')
+
+
+# ---- building
+
+def option_names(shape: str) -> dict[str, str]:
+    """The options of a shape as Python has them, and as the command line does."""
+    given = (SHAPES_RATES.get(option, option) for option in net.SHAPES[shape][1])
+    return {option[2:].replace('-', '_'): option for option in given}
+
+
+def as_word(value: Value) -> str:
+    """A value as a command line has it: a list has commas."""
+    return ','.join(map(str, value)) if isinstance(value, (list, tuple)) else str(value)
+
+
+def built(shape: str, options: Mapping[str, Value]) -> ScenarioText:
+    """The scenario of a shape with these options."""
+    names = option_names(shape)
+    words = [shape]
+    for name, value in options.items():
+        if name not in names:
+            raise TypeError(f'{shape.replace("-", "_")}() has no option {name!r}; it has {", ".join(names)}')
+        if value is True:
+            words.append(names[name])
+        elif value is not None and value is not False:
+            words.append(f'{names[name]}={as_word(value)}')
+    try:
+        return ScenarioText(net.scenario(words), shape)
+    except Wrong as wrong:
+        raise Wrong(re.sub(r'^argument --([\w-]+): ', lambda found: f'{found[1].replace("-", "_")}: ', str(wrong))) from None
+
+
+def shaped(function: Callable[..., ScenarioText]) -> Callable[..., ScenarioText]:
+    """Gives a builder the signature and the documentation of its shape's options."""
+    shape = function.__name__.replace('_', '-')
+    shape = {'access-line': 'asymmetric'}.get(shape, shape)
+    options = {SHAPES_RATES.get(option, option): given for option, given in net.OPTIONS.items() if option in net.SHAPES[shape][1]}
+    lines = [f'    {name}: {options[option]["help"]}' for name, option in option_names(shape).items()]
+    function.__doc__ = '\n'.join([function.__doc__ or '', '', 'Options, those of tcpsim-net:', *lines, '',
+                                  'A list gives each flow, or hop, its own value, as rtt=["40ms", "80ms"]. Wrong where a word '
+                                  'cannot be read or is out of range.'])
+    function.__signature__ = inspect.Signature(
+        [inspect.Parameter(name, inspect.Parameter.KEYWORD_ONLY, default=None) for name in option_names(shape)],
+        return_annotation='ScenarioText')
+    return function
+
+
+@shaped
+def dumbbell(**options: Value) -> ScenarioText:
+    """Flows over one bottleneck, pq, between two routers."""
+    return built('dumbbell', options)
+
+
+@shaped
+def chain(**options: Value) -> ScenarioText:
+    """Flows from one end of a row of routers to the other."""
+    return built('chain', options)
+
+
+@shaped
+def parking_lot(**options: Value) -> ScenarioText:
+    """One flow over every hop of a row of routers, and others over one hop each."""
+    return built('parking-lot', options)
+
+
+@shaped
+def tree(**options: Value) -> ScenarioText:
+    """On each side of one bottleneck, pq, a router with leaves below it, and the ends at the leaves."""
+    return built('tree', options)
+
+
+@shaped
+def asymmetric(**options: Value) -> ScenarioText:
+    """Downloads over a fast link, their acknowledgements over a slow one, and uploads against them."""
+    return built('asymmetric', options)
+
+
+@shaped
+def access_line(**options: Value) -> ScenarioText:
+    """A home's access line, as `asymmetric`: downloads over a fast link, uploads over a slow one."""
+    return built('asymmetric', options)
+
+
+@shaped
+def islands(**options: Value) -> ScenarioText:
+    """Parts with a bottleneck each, joined in a ring by long cables."""
+    return built('islands', options)

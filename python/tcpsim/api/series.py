@@ -1,0 +1,62 @@
+"""A run by time: of each flow its mean window and goodput, of each link its mean and greatest queue, step by step."""
+from __future__ import annotations
+
+from array import array
+from dataclasses import dataclass, field
+
+from tcpsim.api.errors import wanted
+from tcpsim.figures import S, Figures
+
+
+@dataclass
+class FlowCurve:
+    """A flow step by step; nan where it is not under way."""
+
+    cwnd: array = field(default_factory=lambda: array('d'))         # bytes, the mean
+    goodput: array = field(default_factory=lambda: array('d'))      # bit/s
+
+
+@dataclass
+class LinkCurve:
+    """A link's queue step by step."""
+
+    queue_mean: array = field(default_factory=lambda: array('d'))   # packets
+    queue_max: array = field(default_factory=lambda: array('d'))    # packets
+
+
+class TimeSeries:
+    """Rows for steps of time: `begin_s` and `end_s` of each, in seconds, and by name `flows` and `links`. The last step can be
+    shorter."""
+
+    def __init__(self, run: Figures):
+        self.begin_s, self.end_s = array('d'), array('d')
+        self.flows: dict[str, FlowCurve] = {flow.flow.name: FlowCurve() for flow in run.flows}
+        self.links: dict[str, LinkCurve] = {link.link.name: LinkCurve() for link in run.links}
+        columns = [self.begin_s, self.end_s]
+        for flow in self.flows.values():
+            columns += [flow.cwnd, flow.goodput]
+        for link in self.links.values():
+            columns += [link.queue_mean, link.queue_max]
+        run.series.seek(0)
+        for _ in range(run.rows):
+            row = array('d')
+            row.fromfile(run.series, len(columns))
+            row[0], row[1] = row[0] / S, row[1] / S
+            for column, value in zip(columns, row):
+                column.append(value)
+
+    def __len__(self) -> int:
+        return len(self.begin_s)
+
+    def to_pandas(self):
+        """A pandas DataFrame with a row for each step, by its begin in seconds, and columns as `f0 cwnd` and `pq queue_mean`."""
+        columns = {f'{name} {figure}': values for table in (self.flows, self.links) for name, of in table.items()
+                   for figure, values in vars(of).items()}
+        pandas = wanted('pandas')
+        return pandas.DataFrame(columns, index=pandas.Index(self.begin_s, name='begin_s'))
+
+    def __repr__(self) -> str:
+        if not self:
+            return '<no steps>'
+        return (f'<{len(self)} steps from {self.begin_s[0]:g} s to {self.end_s[-1]:g} s; flows {", ".join(self.flows)}; '
+                f'links {", ".join(self.links)}>')

@@ -1,0 +1,234 @@
+"""`debug`: the debugger's prompt over a scenario, from Python. Answers are objects, refusals are raised."""
+from __future__ import annotations
+
+import contextlib
+import os
+import selectors
+import subprocess
+import tempfile
+from collections.abc import Callable, Mapping
+from dataclasses import replace
+
+from tcpsim.api.answers import Move, NetNow, Why, move_of, state_of, why_of
+from tcpsim.api.engines import check_own, ends_with_parent, engine_of
+from tcpsim.api.errors import Error, refusal
+from tcpsim.api.events import Event, Names, events_of
+from tcpsim.api.scenarios import ScenarioText, scenario_of
+from tcpsim.command_line import Wrong
+from tcpsim.whole_trace import PATIENCE, ProgramFailed
+
+PROMPT = b'(tcpsim) '
+BLOCK = 1 << 16
+
+
+def debug(scenario: ScenarioText | str | os.PathLike, engine: str | None = None,
+          queues: Mapping[str, Callable[..., object]] | None = None) -> DebugSession:
+    """A debugger's session over a scenario, at its beginning: `with tcpsim.debug(net) as at: at.run_to(drop=True)`.
+
+    Its process ends at the end of `with`, and with this process. `engine` and `queues` are those of `run`. Refused where the
+    scenario is refused.
+    """
+    return DebugSession(scenario_of(scenario), engine, queues)
+
+
+class ProcessPrompt:
+    """The prompt of a process, of the program or the model."""
+
+    def __init__(self, path: str, text: str):
+        with tempfile.TemporaryFile() as scenario:
+            scenario.write(text.encode())
+            scenario.flush()
+            self._process = subprocess.Popen(
+                [path, 'debug', f'/proc/self/fd/{scenario.fileno()}'], stdin=subprocess.PIPE, stdout=subprocess.PIPE,
+                stderr=subprocess.PIPE, bufsize=0, pass_fds=(scenario.fileno(),), preexec_fn=ends_with_parent())
+            self._out, self._err = self._process.stdout, self._process.stderr
+            os.set_blocking(self._out.fileno(), False)
+            os.set_blocking(self._err.fileno(), False)
+            self._selector = selectors.DefaultSelector()
+            self._selector.register(self._out, selectors.EVENT_READ)
+            self._selector.register(self._err, selectors.EVENT_READ)
+            try:
+                self._read()
+            except BaseException:
+                self.end()
+                raise
+
+    def __call__(self, line: str) -> str:
+        """The answer to a line; Refused where it is refused."""
+        if self._process is None:
+            raise Error('the session has ended')
+        try:
+            self._process.stdin.write(line.encode() + b'\n')
+            return self._read()
+        except Error:
+            raise
+        except BaseException:           # an interruption, after which nobody knows what the prompt is answering
+            self.end()
+            raise
+
+    def _read(self) -> str:
+        """What is written up to the next prompt."""
+        out, err = bytearray(), bytearray()
+        while not err.endswith(PROMPT):
+            for key, _ in self._selector.select():
+                block = key.fileobj.read(BLOCK)
+                if block == b'' and key.fileobj is self._err:
+                    self._ended(bytes(err))
+                if block:
+                    (out if key.fileobj is self._out else err).extend(block)
+        while block := self._out.read(BLOCK):       # the answer was written before the prompt
+            out += block
+        note = bytes(err[:-len(PROMPT)]).decode('utf-8', 'replace').strip()
+        if note and (wrong := refusal(note)):
+            raise wrong
+        return out.decode()
+
+    def _ended(self, note):
+        status, text = self._process.wait(PATIENCE), note.decode('utf-8', 'replace')
+        self.end()
+        raise refusal(text) or ProgramFailed(status, note)
+
+    def end(self) -> None:
+        """Ends the process."""
+        if self._process is None:
+            return
+        process, self._process = self._process, None
+        with contextlib.suppress(OSError):
+            process.stdin.close()
+        process.kill()
+        process.wait()
+        self._selector.close()
+        self._out.close()
+        self._err.close()
+
+
+class DebugSession:
+    """A session of the debugger. Nodes, links and flows go by the scenario's names. `position` is how many events were run,
+    `time_ns` when the last of them was."""
+
+    def __init__(self, scenario: ScenarioText, engine: str | None = None,
+                 queues: Mapping[str, Callable[..., object]] | None = None):
+        self.scenario, self.names = scenario, None
+        self._end: Callable[[], None] = lambda: None
+        if queues:
+            from tcpsim.api.by_model import OwnQueueRun
+            check_own(engine or 'model', scenario.text)
+            self.engine, self._ask = 'model', OwnQueueRun(scenario.text, queues).answers()
+        else:
+            found = engine_of(engine, None)
+            found.check(scenario.text)
+            self.engine, self._ask = found.name, ProcessPrompt(found.path, scenario.text)
+            self._end = self._ask.end
+        self.names = Names(scenario.parsed)
+        self.position, self.time_ns, self.at_end = 0, 0, False
+        self._conditions: dict[str, object] = {}
+
+    def __enter__(self) -> DebugSession:
+        return self
+
+    def __exit__(self, *_) -> None:
+        self.close()
+
+    def close(self) -> None:
+        """Ends the session."""
+        self._end()
+
+    def ask(self, line: str) -> str:
+        """The prompt's own answer to a line, whose grammar docs/FORMATS.md has; what a move changed here is not noticed."""
+        return self._ask(line)
+
+    # ---- moves
+
+    def step(self, count: int = 1) -> Move:
+        """So many events on."""
+        return self._moved(f'step {count}')
+
+    def back(self, count: int = 1) -> Move:
+        """So many events back."""
+        return self._moved(f'back {count}')
+
+    def until(self, time: str | int) -> Move:
+        """All events before a moment, as '1.5s' or nanoseconds. It only goes forwards."""
+        return self._moved(f'until {time}')
+
+    def run_to(self, time: str | int | None = None, **conditions: str | int | bool) -> Move:
+        """On to the next event that meets all conditions, or to the run's end: `kind` (start, rto, delack, free, data, ack),
+        `flow`, `node` and `link` (names or numbers), `drop=True`, `byte`, or `stall=True` or a flow's name. With `time` it
+        first goes there; without conditions to that moment, or to the end. `drop` with a flow is for packets of the flow that
+        are dropped, wherever."""
+        moved = None if time is None else self.until(time)
+        if moved and not conditions:
+            return moved
+        return self._to('run', conditions)
+
+    def reverse(self, **conditions: str | int | bool) -> Move:
+        """Back to the last event before this one that meets the conditions of `run_to`, or else to the beginning; where none are
+        given, those of the last call."""
+        return self._to('reverse', conditions or self._conditions)
+
+    def _to(self, move, conditions):
+        flow = conditions.get('flow') if conditions.get('drop') else None
+        dropped = None if flow is None else self.names.flows.get(self._number('flow', flow))
+        line = self._break_line({**conditions, 'flow': None} if dropped else conditions)
+        self.ask('clear')
+        if line:
+            self.ask(line)
+        self._conditions, begin = conditions, self.position
+        try:
+            moved = self._moved(move)
+            while dropped and moved.matched and all(drop.flow != dropped for drop in moved.event.drops):
+                moved = self._moved(move)
+            return replace(moved, passed=self.position - begin)
+        finally:
+            self.ask('clear')
+
+    def _moved(self, line):
+        answer = self.ask(line)
+        moved = move_of(answer, self.position, self.ask('lines 1').rstrip('\n'), self.names)
+        self.position, self.time_ns, self.at_end = moved.position, moved.time_ns, moved.at_end
+        return moved
+
+    def _break_line(self, conditions):
+        words = []
+        for name, value in conditions.items():
+            if value is False or value is None:
+                continue
+            if name in ('node', 'link', 'flow'):
+                words += [name, self._number(name, value)]
+            elif name in ('kind', 'byte'):
+                words += [name, str(value)]
+            elif name == 'drop' and value is True:
+                words.append('drop')
+            elif name == 'stall':
+                words += ['stall'] if value is True else ['stall', self._number('flow', value)]
+            else:
+                raise Wrong(f'{name}={value!r} is no condition: they are kind, flow, node, link, byte, drop=True, stall, time')
+        return ' '.join(['break', *words]) if words else ''
+
+    def _number(self, sort, value):
+        """The number of a node, a link or a flow, by its name."""
+        names = {'node': self.names.nodes, 'link': self.names.links, 'flow': self.names.flows}[sort]
+        if isinstance(value, int):
+            return str(value)
+        found = next((number for number, name in names.items() if name == value), None)
+        if found is None:
+            raise Wrong(f'the scenario has no {sort} {value}; it has {", ".join(names.values())}')
+        return found
+
+    # ---- what there is to see
+
+    def why(self, flow: str | int) -> Why:
+        """What a flow waits for."""
+        return why_of(self.ask(f'why {self._number("flow", flow)}'), self.names)
+
+    @property
+    def state(self) -> NetNow:
+        """All that the net keeps here."""
+        return state_of(self.ask('state'), self.names)
+
+    def lines(self, count: int = 10) -> list[Event]:
+        """The last events up to here, 1,000 at most."""
+        return list(events_of([self.ask(f'lines {count}').splitlines()], self.names))
+
+    def __repr__(self) -> str:
+        return f'<at {self.position} of the run by the {self.engine}, {self.time_ns / 1e9:.9f} s{", the end" if self.at_end else ""}>'

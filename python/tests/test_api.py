@@ -1,0 +1,326 @@
+#!/usr/bin/env python3
+"""Tests of `import tcpsim` beyond the examples of docs/PYTHON.md: figures beside those of tcpsim-flows, records beside the
+trace's lines, the debugger beside its prompt, what is refused, and that processes end. Usage: python/tests/test_api.py, or
+pytest."""
+import csv
+import io
+import os
+import signal
+import subprocess
+import sys
+import time
+
+import pytest
+
+from paths import BIN, TOP
+
+import tcpsim
+from tcpsim.api.answers import WaitingPacket
+from tcpsim.program import BUILT
+
+EXAMPLES = os.path.join(TOP, 'examples')
+ENGINES = ['model', pytest.param('program', marks=pytest.mark.skipif(
+    not os.path.exists(BUILT) and not os.environ.get('CI'), reason='the program is not built: make run'))]
+MISTAKEN = 'sim 1000\nnode s sendr\n'
+
+
+def example(name):
+    return os.path.join(EXAMPLES, f'{name}.txt')
+
+
+def trace_of(name):
+    with open(os.path.join(EXAMPLES, f'{name}.trace'), encoding='ascii') as file:
+        return file.read().splitlines()
+
+
+def ran(*words, **more):
+    return subprocess.run([sys.executable, *words], capture_output=True, text=True, check=True, timeout=600, **more).stdout
+
+
+@pytest.fixture(params=ENGINES)
+def engine(request):
+    return request.param
+
+
+# ---- nets
+
+def test_builders_write_the_texts_of_tcpsim_net():
+    for build, words in ((tcpsim.dumbbell(flows=3, rate='2M', rtt=['20ms', '40ms']), 'dumbbell --flows=3 --rate=2M --rtt=20ms,40ms'),
+                         (tcpsim.chain(hops=2, rate='1M,2M'), 'chain --hops=2 --rate=1M,2M'),
+                         (tcpsim.parking_lot(cross=2, back_queue='droptail:9'), 'parking-lot --cross=2 --back-queue=droptail:9'),
+                         (tcpsim.access_line(uploads=1, start=[0, '1s']), 'asymmetric --uploads=1 --start=0,1s'),
+                         (tcpsim.tree(leaves=2), 'tree --leaves=2'), (tcpsim.islands(islands=3, flows=2), 'islands --islands=3 --flows=2')):
+        assert build.text == ran(os.path.join(BIN, 'tcpsim-net'), *words.split())
+
+
+def test_a_scenario_is_read_from_a_file_an_image_or_a_text(tmp_path, engine):
+    net = tcpsim.read(example('one_segment'))
+    assert (net.name, net.end_ns, list(net.links)) == ('one_segment', 10**9, ['a', 'b'])
+    net.save(tmp_path / 'again.txt')
+    assert tcpsim.read(tmp_path / 'again.txt').text == net.text
+    image = subprocess.run([os.path.join(BIN, 'tcpsim-model'), 'asm', example('one_segment')], capture_output=True, check=True).stdout
+    (tmp_path / 'one.tcb').write_bytes(image)
+    for given in (net, example('one_segment'), net.text, str(tmp_path / 'one.tcb')):
+        assert list(tcpsim.run(given, engine=engine).trace.lines()) == trace_of('one_segment')
+
+
+@pytest.mark.parametrize('call, error, words', [
+    (lambda: tcpsim.dumbbell(rate='10Q'), tcpsim.Wrong, "rate: '10Q' is no rate: write a number and a unit"),
+    (lambda: tcpsim.dumbbell(rtt='40'), tcpsim.Wrong, 'has no unit: write 40s'),
+    (lambda: tcpsim.dumbbell(flow=2), TypeError, "dumbbell() has no option 'flow'; it has flows, rate"),
+    (lambda: tcpsim.run(example('one_segment'), engine='/bin/none'), tcpsim.NoProgram, '/bin/none is no program'),
+    (lambda: tcpsim.run(3), TypeError, 'a scenario, its file or its text is wanted'),
+    (lambda: tcpsim.read('/none/such.txt'), OSError, 'No such file'),
+    (lambda: tcpsim.run(example('one_segment'), engine='model').stalls(flow='zz'), tcpsim.Error, 'no flow zz'),
+    (lambda: tcpsim.run(example('one_segment'), engine='model').figures.links['zz'], KeyError, 'there are a, b'),
+    (lambda: tcpsim.run(example('one_segment'), engine='model').series('0.5'), tcpsim.Error, 'has no unit'),
+    (lambda: tcpsim.nothing, AttributeError, "no attribute 'nothing'"),
+])
+def test_what_is_wrong_is_said_in_a_sentence(call, error, words):
+    with pytest.raises(error) as wrong:
+        call()
+    assert words in str(wrong.value)
+
+
+def test_a_scenario_that_is_refused(engine):
+    for call in (tcpsim.run, tcpsim.debug):
+        with pytest.raises(tcpsim.Refused) as wrong:
+            call(MISTAKEN, engine=engine)
+        assert (wrong.value.code, wrong.value.line) == ('E4', 2)
+        assert str(wrong.value).splitlines()[0] == 'E4 line 2'
+        assert ('^^^^^' in str(wrong.value)) == (engine == 'program')
+
+
+def test_a_long_run_is_not_left_to_the_model_unasked(monkeypatch):
+    monkeypatch.setattr('tcpsim.program.BUILT', '/none')
+    monkeypatch.setenv('PATH', '/none')
+    with pytest.raises(tcpsim.NoProgram, match='or say engine="model"'):
+        tcpsim.run(tcpsim.dumbbell(rate='10G', end='1000s'))
+
+
+# ---- what is asked of a run
+
+@pytest.mark.parametrize('name', ['fast_recovery', 'four_flows_before_codel', 'two_stalls_of_different_causes'])
+def test_figures_are_those_of_tcpsim_flows(name, engine):
+    figures = tcpsim.run(example(name), engine=engine).figures
+    table = ran(os.path.join(BIN, 'tcpsim-flows'), example(name), '--engine', '--csv', *(['--model'] if engine == 'model' else []))
+    wanted = {(what, of, figure): value for what, of, figure, _, value in csv.reader(io.StringIO(table))}
+    names = {'delivered': 'delivered_bytes', 'goodput': 'goodput', 'bottleneck': 'bottleneck', 'timeouts': 'timeouts',
+             'sent again by fast retransmit': 'fast_retransmits', 'sent again by timeout': 'timeout_retransmits',
+             'least timed round trip': 'rtt_min_ns', 'median timed round trip': 'rtt_median_ns',
+             '99th percentile of timed round trips': 'rtt_p99_ns', 'completed': 'completed_ns', 'utilization': 'utilization',
+             'greatest queue': 'queue_max', 'mean queue': 'queue_mean', 'median delay in the queue': 'delay_median_ns',
+             '99th percentile of delay in the queue': 'delay_p99_ns', 'dropped': 'packets_dropped', 'loss': 'loss'}
+    compared = 0
+    for (what, of, figure), value in wanted.items():
+        if what in ('flow', 'link') and figure in names:
+            found = getattr((figures.flows if what == 'flow' else figures.links)[of], names[figure])
+            assert ('' if found is None else f'{found:.6f}' if isinstance(found, float) else str(found)) == value, (of, figure)
+            compared += 1
+    assert compared > 20
+    assert f'{figures.jain:.6f}' == wanted['run', '', "Jain's index of goodput"]
+
+
+def test_records_say_what_the_lines_say(engine):
+    run = tcpsim.run(example('fast_recovery'), engine=engine)
+    lines, drops = trace_of('fast_recovery'), 0
+    assert list(run.trace.lines()) == lines
+    events = list(run.trace)
+    assert len(events) == len(lines) - 1
+    for event, line in zip(events, lines):
+        words = line.split()
+        assert [str(event.n), str(event.time_ns), event.kind] == [words[0], words[1], words[5]]
+        if event.cwnd is not None:
+            assert f'una={event.una} nxt={event.nxt} cwnd={event.cwnd} ssthresh={event.ssthresh} phase={event.phase}' in line
+        assert (event.next is None) == (' next=' not in line)
+        assert [f'{sent.number}' for sent in event.sent] == [word.split(':')[2] for word in words if word.startswith('tx=')]
+        drops += len(event.drops)
+    assert drops == sum(line.count('drop=') for line in lines) > 0
+    assert next(run.trace.drops())[1] == tcpsim.Drop('lost', 'a', 'f', 19000)
+
+
+def test_drops_name_the_link_before_which_they_are():
+    run = tcpsim.run(example('four_flows_before_a_full_queue'), engine='model')
+    by_link = {}
+    for _, drop in run.trace.drops():
+        by_link[drop.link] = by_link.get(drop.link, 0) + 1
+    assert by_link == {name: link.packets_dropped for name, link in run.figures.links.items() if link.packets_dropped}
+
+
+def test_a_trace_is_read_as_far_as_is_wanted(engine):
+    run = tcpsim.run(tcpsim.dumbbell(flows=1, rate='1M', end='10s'), engine=engine)
+    first = next(iter(run.trace))
+    assert (first.n, first.kind, first.flow) == (1, 'start', 'f0')
+    assert sum(1 for _ in run.trace) == run.figures.events
+    assert sum(1 for _ in run.trace) == run.figures.events
+
+
+def test_series_are_those_of_tcpsim_flows(engine):
+    series = tcpsim.run(example('bufferbloat_with_codel'), engine=engine).series('2s')
+    rows = list(csv.reader(io.StringIO(ran(os.path.join(BIN, 'tcpsim-flows'), example('bufferbloat_with_codel'), '--series', '2s'))))
+    assert len(series) == len(rows) - 1
+    for title, column in (('f mean cwnd bytes', series.flows['f'].cwnd), ('g goodput bit/s', series.flows['g'].goodput),
+                          ('a mean queue packets', series.links['a'].queue_mean), ('a greatest queue packets', series.links['a'].queue_max)):
+        at = rows[0].index(title)
+        assert [row[at] for row in rows[1:]] == ['' if value != value else f'{value:.9f}'.rstrip('0').rstrip('.') for value in column]
+
+
+def test_stalls_are_those_of_tcpsim_stalls():
+    stalls = tcpsim.run(example('two_stalls_of_different_causes'), engine='model').stalls('100ms')
+    table = ran(os.path.join(BIN, 'tcpsim-stalls'), example('two_stalls_of_different_causes'), '--longer', '100ms', '--csv', '--model')
+    assert [(stall.flow, str(stall.begin), stall.cause) for stall in stalls] == [
+        (row[0], row[1], row[4]) for row in list(csv.reader(io.StringIO(table)))[1:]]
+
+
+def test_frames():
+    pandas = pytest.importorskip('pandas', reason='pandas is not there: apt-get install python3-pandas')
+    run = tcpsim.run(example('four_flows_before_codel'), engine='model')
+    frame = run.figures.to_pandas()
+    assert frame[(frame.what == 'link') & (frame.name == 'pq') & (frame.figure == 'dropped_codel')].value.item() == 4
+    assert list(run.figures.flows.to_pandas().index) == list(run.figures.flows)
+    assert run.figures.links.to_pandas().dropped_codel['pq'] == 4
+    assert len(run.trace.to_pandas()) == run.figures.events
+    assert isinstance(run.series('100ms').to_pandas(), pandas.DataFrame)
+
+
+def test_tables_are_shown():
+    figures = tcpsim.run(example('one_segment'), engine='model').figures
+    assert repr(figures).splitlines()[-1] == "5 events, span 0.003080 s, Jain's index 1.0000"
+    assert figures._repr_html_().count('<tr>') == 5
+
+
+def test_pictures_and_pages(tmp_path):
+    pytest.importorskip('matplotlib', reason='matplotlib is not there: apt-get install python3-matplotlib')
+    import matplotlib.pyplot
+    run = tcpsim.run(example('one_segment'), engine='model')
+    run.plot('window', title='$x$').save(tmp_path / 'one.svg')
+    assert (tmp_path / 'one.svg').read_text().startswith('<?xml')
+    assert matplotlib.pyplot.get_fignums() == []
+    page = run.replay(tmp_path / 'one.html')
+    assert (page.events, (tmp_path / 'one.html').read_text()) == (5, page.text)
+    assert sorted(os.listdir(tmp_path)) == ['one.html', 'one.svg']
+    with pytest.raises(TypeError, match='no option'):
+        run.plot(colour='red')
+    with pytest.raises(tcpsim.Wrong, match="no panel 'windo'"):
+        run.plot('windo')
+
+
+# ---- debugging
+
+def test_a_hunt(engine):
+    """That of docs/DEBUGGING.md."""
+    with tcpsim.debug(example('two_timeouts_in_a_row'), engine=engine) as at:
+        moved = at.run_to(stall=True)
+        assert (moved.position, at.time_ns, moved.matched, moved.at_end) == (25, 9280000, True, False)
+        why = at.why('f')
+        assert why.stalled and why.stands == ('is stalled: 2 duplicate acknowledgements, and its retransmission timer is due at '
+                                              '1006200000 ns')
+        assert [(alarm.kind, alarm.time_ns) for alarm in why.alarms] == [('rto', 1006200000)]
+        lost = at.reverse(drop=True)
+        assert (lost.position, [drop.number for drop in lost.event.drops], lost.passed) == (10, [6000, 7000], -15)
+        assert at.reverse().position == 6
+        assert at.until('2s').position == 26
+        assert [event.kind for event in at.lines(2)] == ['ack', 'rto']
+        assert at.reverse(byte=4000, drop=True).event.drops == (tcpsim.Drop('lost', 'a', 'f', 4000),)
+        assert at.reverse(kind='rto').position == 0
+        assert (at.step(3).position, at.back(2).position, at.step().event.n) == (3, 1, 2)
+
+
+def test_the_state_as_objects(engine):
+    with tcpsim.debug(example('codel_enters_drop_state'), engine=engine) as at:
+        at.run_to(drop=True, link='a')
+        state = at.state
+        codel = state.links['a'].codel
+        assert (codel.first_above_ns, codel.drop_next_ns, codel.count, codel.last_count, codel.dropping) == (
+            108320000, 216480000, 1, 1, True)
+        assert [packet.number for packet in state.links['a'].queue] == [16000, 17000, 18000, 19000, 20000]
+        assert (state.senders['f'].una, state.senders['f'].cwnd, state.receivers['f'].held) == (13000, 9059, ())
+        assert at.why('f').waits[0] == WaitingPacket('data', 16000, 1, 'a')
+        assert {event.kind for event in state.pending} >= {'free', 'rto'}
+        assert str(state) == at.ask('state').rstrip('\n')
+
+
+def test_a_dropped_packet_of_a_flow_is_found_wherever_it_is_dropped(engine):
+    net = tcpsim.dumbbell(flows=2, rate='2M', rtt='40ms', queue='codel:5ms:100ms', end='5s')
+    wanted = [(time, drop.number) for time, drop in tcpsim.run(net, engine=engine).trace.drops() if drop.flow == 'f1'][:3]
+    assert len(wanted) == 3
+    with tcpsim.debug(net, engine=engine) as at:
+        found = [at.run_to(drop=True, flow='f1') for _ in wanted]
+        assert [(move.time_ns, next(drop.number for drop in move.event.drops if drop.flow == 'f1')) for move in found] == wanted
+        assert at.reverse().time_ns == wanted[1][0]
+        assert at.run_to(time=f'{wanted[2][0]}ns').matched is False and at.time_ns < wanted[2][0]
+
+
+@pytest.mark.parametrize('call, error, words', [
+    (lambda at: at.why('zz'), tcpsim.Wrong, 'the scenario has no flow zz; it has f'),
+    (lambda at: at.run_to(drops=True), tcpsim.Wrong, 'drops=True is no condition: they are kind, flow'),
+    (lambda at: at.run_to(kind='acks'), tcpsim.Refused, 'B3\nB3: a word is no number, or out of its range'),
+    (lambda at: at.until('1.5'), tcpsim.Refused, 'B3'), (lambda at: at.why(7), tcpsim.Refused, 'there are nodes 0 to 1'),
+    (lambda at: at.ask('stpe'), tcpsim.Refused, 'the nearest is step'),
+])
+def test_refusals_have_the_words_of_the_prompt(engine, call, error, words):
+    with tcpsim.debug(example('one_segment'), engine=engine) as at:
+        at.step(2)
+        with pytest.raises(error) as wrong:
+            call(at)
+        assert words in str(wrong.value)
+        assert at.step().position == 3
+
+
+def test_a_session_ends_with_its_block(engine):
+    with tcpsim.debug(example('one_segment'), engine=engine) as at:
+        process = at._ask._process
+        assert process.poll() is None
+    assert process.poll() is not None
+    with pytest.raises(tcpsim.Error, match='the session has ended'):
+        at.step()
+
+
+LEFT = """
+import os, sys, time
+import tcpsim
+net = tcpsim.dumbbell(flows=4, rate='1G', end='100000s')
+if sys.argv[1] == 'debug':
+    at = tcpsim.debug(net, engine=sys.argv[2])
+    print(at._ask._process.pid, flush=True)
+elif sys.argv[1] == 'trace':
+    lines = tcpsim.run(net, engine=sys.argv[2]).trace.lines()
+    next(lines)
+    from tcpsim.whole_trace import PROGRAMS
+    print(PROGRAMS[0].pid, flush=True)
+else:
+    import threading
+    from tcpsim.whole_trace import PROGRAMS
+    run = tcpsim.run(net, engine=sys.argv[2])
+    threading.Thread(target=lambda: (time.sleep(2), print(PROGRAMS[0].pid, flush=True)), daemon=True).start()
+    run.figures
+time.sleep(600)
+"""
+
+
+def is_there(pid):
+    try:
+        with open(f'/proc/{pid}/stat', encoding='utf-8') as file:
+            return file.read().rpartition(')')[2].split()[0] != 'Z'
+    except OSError:
+        return False
+
+
+@pytest.mark.parametrize('what', ['debug', 'trace', 'figures'])
+def test_processes_end_with_the_python_that_started_them(engine, what, tmp_path):
+    process = subprocess.Popen([sys.executable, '-c', LEFT, what, engine], stdout=subprocess.PIPE, cwd=tmp_path,
+                               env={**os.environ, 'PYTHONPATH': os.path.join(TOP, 'python')})
+    with process:
+        pid = int(process.stdout.readline())
+        assert is_there(pid)
+        process.send_signal(signal.SIGKILL)
+        process.wait()
+        until = time.monotonic() + 30
+        while is_there(pid) and time.monotonic() < until:
+            time.sleep(.05)
+        assert not is_there(pid)
+    assert os.listdir(tmp_path) == []
+
+
+if __name__ == '__main__':
+    sys.exit(pytest.main([__file__, '-q', '-rs', *sys.argv[1:]]))

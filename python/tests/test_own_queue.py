@@ -1,0 +1,225 @@
+#!/usr/bin/env python3
+"""Tests of queues that are classes of Python's (docs/PYTHON.md): that page's CoDel beside the program's, byte for byte, drops
+by a class's own word in figures, pictures, stalls and pages, and what no queue can do. Usage: python/tests/test_own_queue.py,
+or pytest."""
+import glob
+import os
+import random
+import re
+import sys
+from collections import Counter, deque
+
+import pytest
+
+from paths import TOP
+
+import tcpsim
+from tcpsim.program import BUILT
+
+EXAMPLES = os.path.join(TOP, 'examples')
+built = pytest.mark.skipif(not os.path.exists(BUILT) and not os.environ.get('CI'), reason='the program is not built: make run')
+NET = tcpsim.dumbbell(flows=2, rate='2M', rtt=['40ms', '80ms'], queue='droptail:20', end='6s')
+
+
+def codel_of_the_page():
+    with open(os.path.join(TOP, 'docs', 'PYTHON.md'), encoding='utf-8') as file:
+        code, = re.findall(r'^(from collections import deque\n.*?)^mine = ', file.read(), re.M | re.S)
+    names = {}
+    exec(code, names)
+    return names['CoDel']
+
+
+CODEL = codel_of_the_page()
+WITH_CODEL = sorted(path for path in glob.glob(f'{EXAMPLES}/*.txt') if ' codel ' in open(path, encoding='ascii').read())
+
+
+class Red:
+    """Drops every seventh packet that comes where more than eight wait, and what finds it full, by two words."""
+
+    word = 'early'
+
+    def __init__(self, link):
+        self.packets, self.limit, self.count = deque(), link.capacity, 0
+
+    def offer(self, packet, now, drop):
+        self.count += 1
+        if len(self.packets) >= self.limit:
+            drop(packet, 'full')
+        elif len(self.packets) > 8 and self.count % 7 == 0:
+            drop(packet)
+        else:
+            self.packets.append(packet)
+
+    def take(self, now, drop):
+        return self.packets.popleft() if self.packets else None
+
+
+class DropHead(Red):
+    """Drops at the head where it is full, and what waited too long as it takes."""
+
+    word = 'head'
+
+    def offer(self, packet, now, drop):
+        self.packets.append((packet, now))
+        if len(self.packets) > self.limit:
+            drop(self.packets.popleft()[0])
+
+    def take(self, now, drop):
+        while len(self.packets) > 1 and now - self.packets[0][1] > 10**8:
+            drop(self.packets.popleft()[0], 'late')
+        return self.packets.popleft()[0] if self.packets else None
+
+
+class Fair:
+    """A list for each flow, from which it takes in turn; drops from the longest."""
+
+    def __init__(self):
+        self.lists = {}
+
+    def offer(self, packet, now, drop):
+        self.lists.setdefault(packet.flow, deque()).append(packet)
+        if sum(map(len, self.lists.values())) > 20:
+            drop(max(self.lists.values(), key=len).pop())
+
+    def take(self, now, drop):
+        for flow in list(self.lists):
+            packets = self.lists.pop(flow)
+            if packets:
+                self.lists[flow] = packets
+                return packets.popleft()
+        return None
+
+
+# ---- CoDel
+
+@pytest.mark.parametrize('path', WITH_CODEL)
+def test_codel_of_the_page_gives_the_trace_of_the_examples(path):
+    net = tcpsim.read(path)
+    run = tcpsim.run(net, queues={name: CODEL for name, link in net.links.items() if link.queue == 'codel'})
+    with open(path[:-3] + 'trace', encoding='ascii') as file:
+        assert list(run.trace.lines()) == file.read().splitlines()
+
+
+@built
+@pytest.mark.parametrize('seed', range(6))
+def test_codel_of_the_page_gives_the_bytes_of_the_program(seed):
+    pick = random.Random(seed)
+    net = tcpsim.dumbbell(flows=pick.randint(1, 4), rate=pick.choice(['1M', '2M', '5M']), rtt=f'{pick.randint(10, 150)}ms',
+                          queue=f'codel:{pick.randint(5, 30)}ms:{pick.randint(40, 300)}ms:{pick.choice([8, 20, 1000])}',
+                          delack=pick.choice(['0', '40ms']), end='6s')
+    mine, program = tcpsim.run(net, queues={'pq': CODEL}), tcpsim.run(net, engine='program')
+    assert '\n'.join(mine.trace.lines()) == '\n'.join(program.trace.lines())
+    assert repr(mine.figures) == repr(program.figures)
+    assert mine.figures.links['pq'] == program.figures.links['pq']
+
+
+# ---- words of one's own
+
+@pytest.mark.parametrize('queue, words', [(Red, {'early', 'full'}), (DropHead, {'head', 'late'}), (Fair, {'fair'})])
+def test_drops_bear_the_words_of_the_class(queue, words):
+    run = tcpsim.run(NET, queues={'pq': queue})
+    link = run.figures.links['pq']
+    counted = Counter((drop.link, drop.reason) for _, drop in run.trace.drops())
+    assert set(link.drops) == {'lost', 'full', 'codel', *words}
+    assert {('pq', word): count for word, count in link.drops.items() if count} == counted
+    assert link.packets_offered - link.packets_sent - link.packets_dropped in range(22)
+    assert sum(run.series('1s').links['pq'].queue_mean) > 5
+    own = [stall for stall in run.stalls('100ms') if any(f'({word})' in stall.found for word in words)]
+    assert own
+
+
+@pytest.mark.parametrize('queue', [Red, DropHead, Fair])
+def test_readers_of_the_trace_agree_with_the_model(queue):
+    """What is read from the trace, by two readers, is what the model counts."""
+    run = tcpsim.run(NET, queues={'pq': queue})
+    figures = run.figures
+    from tcpsim.figures import Figures, figures as rows_of
+    with run._lines() as lines:
+        rows = {(name, figure): value for what, name, figure, _, value in rows_of(Figures(run._parsed(), lines))}
+    for name, link in figures.links.items():
+        for figure, value in (('sent', link.packets_sent), ('dropped', link.packets_dropped), ('greatest queue', link.queue_max),
+                              ('utilization', link.utilization), ('mean queue', link.queue_mean)):
+            assert rows[name, figure] == value, (name, figure)
+        exact = rows[name, '99th percentile of delay in the queue']
+        assert exact is link.delay_p99_ns is None or exact <= link.delay_p99_ns <= exact * 33 / 32
+    for name, flow in figures.flows.items():
+        assert (rows[name, 'delivered'], rows[name, 'sent'], rows[name, 'timeouts']) == (
+            flow.delivered_bytes, flow.segments_sent, flow.timeouts)
+
+
+def test_pictures_have_a_sign_for_the_word():
+    pytest.importorskip('matplotlib', reason='matplotlib is not there: apt-get install python3-matplotlib')
+    from tcpsim.plot import drawn
+    lines = drawn(tcpsim.run(NET, queues={'pq': Red}).plot('queue', 'window').figure)
+    assert any('key: ' in line and 'dropped: early' in line for line in lines)
+
+
+def test_pages_have_the_word(tmp_path):
+    run = tcpsim.run(NET, queues={'pq': DropHead})
+    text = run.replay(tmp_path / 'page.html').text
+    assert '"queue":"DropHead","own":true' in text
+    with pytest.raises(tcpsim.Error, match='whose packets leave in the order in which they came, and that of link pq has another'):
+        tcpsim.run(NET, queues={'pq': Fair}).replay(tmp_path / 'fair.html')
+    assert os.listdir(tmp_path) == ['page.html']
+
+
+def test_the_debugger_goes_backwards_over_it():
+    with tcpsim.debug(NET, queues={'pq': DropHead}) as at:
+        first = at.run_to(drop=True, flow='f0')
+        assert first.event.drops[0].reason in ('head', 'late')
+        state = str(at.state)
+        at.back(200)
+        assert at.reverse().position == 0
+        assert at.run_to(drop=True, flow='f0').position == first.position
+        assert str(at.state) == state
+
+
+# ---- what is refused
+
+def queue_that(offers=lambda self, packet, drop: self.packets.append(packet), takes=lambda self, drop: self.packets.popleft()
+               if self.packets else None):
+    class Queue:
+        def __init__(self):
+            self.packets = deque()
+
+        def offer(self, packet, now, drop):
+            offers(self, packet, drop)
+
+        def take(self, now, drop):
+            return takes(self, drop)
+    return Queue
+
+
+@pytest.mark.parametrize('queue, words', [
+    (queue_that(takes=lambda self, drop: None), 'Queue gave no packet, and 1 wait'),
+    (queue_that(offers=lambda self, packet, drop: (drop(packet), drop(packet))), 'which does not wait in it'),
+    (queue_that(takes=lambda self, drop: self.packets[0] if self.packets else None), 'which does not wait in it'),
+    (queue_that(offers=lambda self, packet, drop: drop(packet, 'Full!')), "by the word 'Full!'"),
+    (queue_that(offers=lambda self, packet, drop: drop(packet, 'lost')), "by the word 'lost'"),
+    (queue_that(takes=lambda self, drop: self.packets.popleft()._replace(bytes=1) if self.packets else None), 'which does not wait'),
+])
+def test_what_no_queue_can_do(queue, words):
+    with pytest.raises(tcpsim.WrongQueue) as wrong:
+        list(tcpsim.run(NET, queues={'pq': queue}).trace)
+    assert words in str(wrong.value)
+    with pytest.raises(tcpsim.WrongQueue):
+        tcpsim.run(NET, queues={'pq': queue}).figures
+    with pytest.raises(tcpsim.WrongQueue), tcpsim.debug(NET, queues={'pq': queue}) as at:
+        at.run_to()
+
+
+@pytest.mark.parametrize('call, error, words', [
+    (lambda: tcpsim.run(NET, engine='program', queues={'pq': Red}), tcpsim.Wrong, 'the program has no queues but drop-tail and CoDel'),
+    (lambda: tcpsim.run(NET, queues={'zz': Red}), tcpsim.Wrong, "names the link 'zz', and the scenario has pq, qp"),
+    (lambda: tcpsim.run(NET, queues={'pq': deque}), tcpsim.Wrong, 'the queue of link pq, deque, has no method offer'),
+    (lambda: tcpsim.run('sim 1\n', queues={'pq': Red}), tcpsim.Refused, 'L3 line 0'),
+    (lambda: tcpsim.run(tcpsim.dumbbell(rate='10G', end='1000s'), queues={'pq': Red}), tcpsim.Error, 'say engine="model"'),
+])
+def test_what_cannot_run_is_said(call, error, words):
+    with pytest.raises(error) as wrong:
+        call()
+    assert words in str(wrong.value)
+
+
+if __name__ == '__main__':
+    sys.exit(pytest.main([__file__, '-q', '-rs', *sys.argv[1:]]))
