@@ -14,9 +14,11 @@
 # `make test-dist` tries each of them, the .deb in a Debian 12 of its own (root, debootstrap, and a network).
 .PHONY: run test test-tools setup wrong-bodies bench pictures pages install uninstall dist test-dist
 
-# A python3 that has matplotlib: the one that is found first, or Debian's own.
-PYTHON = $(shell for python in python3 /usr/bin/python3; do \
-	$$python -c 'import matplotlib' 2>/dev/null && { echo $$python; break; }; done)
+# A python3 that has these modules: the one that is found first, or Debian's own.
+python_with = $(shell for python in python3 /usr/bin/python3; do \
+	$$python -c 'import $(1)' 2>/dev/null && { echo $$python; break; }; done)
+PYTHON = $(call python_with,matplotlib)
+PYTEST = $(or $(call python_with,pytest; import matplotlib),$(call python_with,pytest))
 PROGRAM = crates/tcpsim/out/tcpsim
 PREFIX = /usr/local
 # The crates of `make wrong-bodies`, all where none is named.
@@ -34,13 +36,13 @@ test: setup
 	@python3 dev/build.py --ready
 	@python3 dev/wrong_bodies.py --check
 	@python3 dev/pass_gate.py
-	@python3 dev/run_tests.py --python '$(PYTHON)'
+	@python3 dev/run_tests.py --python '$(PYTEST)'
 
 setup:
 	@[ "$$CI" != true ] || dev/setup
 
 test-tools: setup
-	@python3 dev/run_tests.py --python '$(PYTHON)' $(wildcard dev/test_*.py python/tests/test_*.py)
+	@python3 dev/run_tests.py --python '$(PYTEST)' $(wildcard dev/test_*.py python/tests/test_*.py)
 
 wrong-bodies:
 	@python3 dev/wrong_bodies.py $(NAME)
@@ -55,7 +57,7 @@ bench:
 pictures:
 	@[ -n '$(PYTHON)' ] || { echo 'no python3 with matplotlib: apt-get install python3-matplotlib'; exit 1; }
 	@'$(PYTHON)' dev/pictures.py
-	@'$(PYTHON)' python/tests/test_replay.py --pictures
+	@'$(PYTHON)' python/tests/test_replay.py
 
 pages:
 	@python3 dev/pages.py -o pages

@@ -33,7 +33,7 @@ import sys
 import threading
 import time
 
-from paths import TOP
+from clone import TOP
 from tcpsim_model import command_line, debugger, image, nets, prompt, sessions, simulate, spelling
 from tcpsim_model.smaller import smaller
 from tcpsim_model.text import assemble, disassemble, lines_of

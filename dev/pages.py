@@ -10,7 +10,7 @@ import html
 import os
 import sys
 
-from paths import TOP
+from clone import TOP
 from tcpsim.command_line import Words, run
 from tcpsim.output import opened, written
 from tcpsim.replay.page import page

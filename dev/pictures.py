@@ -6,7 +6,7 @@ Usage: dev/pictures.py [NAME...]
 import os
 import sys
 
-from paths import TOP
+from clone import TOP
 from tcpsim import plot
 
 EXAMPLES, FOLDER = os.path.join(TOP, 'examples'), os.path.join(TOP, 'docs', 'pictures')

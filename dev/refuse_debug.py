@@ -13,7 +13,7 @@ and by two. What is typed and refused is noted behind the line's prompt. It says
 compiler, `cc`, and goes after `make run`. Usage: dev/refuse_debug.py [SESSION [OPTION..]]
 """
 import collections, concurrent.futures, os, subprocess, sys, tempfile
-from paths import TOP as top
+from clone import TOP as top
 from tcpsim_model import command_line, prompt
 program = os.path.join(top, 'crates/tcpsim/out/tcpsim')
 COMMANDS = b'break kind data\nrun\nrun\nback 1\nuntil 2040000\nbak 1\n'

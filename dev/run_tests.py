@@ -3,19 +3,17 @@
 
     dev/run_tests.py [--jobs N] [--python PATH] [TEST ..]
 
-Without names these are dev/refuse_tests.sh, each test_*.py of the two folders, and dev/try_shell.sh. It goes after
-`rt ci`: without that dev/refuse_tests.sh has the crates of its tests proved first, which takes a quarter of an
-hour and more. After `make run` alone leave it out, by naming the others. Each
-test has a folder of its own for what it makes; all are ended, and the folders taken away, where this script is
-interrupted. What wants matplotlib or pytest is run by the python of --python, and left out where that is empty. What
-all of them cost is kept for the table of bench/gate.py. The last line is 'N tests passed, N failed', and the status is
-1 where one failed; where CI=true also where something was left out.
+Without names these are dev/refuse_tests.sh and each test_*.py of the two folders, by pytest. It goes after `rt ci`:
+without that dev/refuse_tests.sh has the crates of its tests proved first, which takes a quarter of an hour and more.
+After `make run` alone leave it out, by naming the others. Each test has a folder of its own for what it makes; all are
+ended, and the folders taken away, where this script is interrupted. --python has pytest; where it is empty what wants
+that is left out. What all of them cost is kept for the table of bench/gate.py. The last line is 'N tests passed, N
+failed', and the status is 1 where one failed; where CI=true also where something was left out.
 """
 import argparse
 import contextlib
 import glob
 import os
-import re
 import shutil
 import signal
 import subprocess
@@ -26,12 +24,10 @@ import time
 import build
 
 TOP = os.path.dirname(os.path.dirname(os.path.abspath(__file__)))
-DRAWING = ('python/tests/test_trace.py', 'python/tests/test_plot.py')
 # Those that take longest, which are begun first.
-LONG = ('python/tests/test_ends.py', 'python/tests/test_inputs.py', 'dev/try_shell.sh', 'dev/test_systematic.py',
+LONG = ('python/tests/test_ends.py', 'python/tests/test_inputs.py', 'dev/try_shell.sh', 'dev/test_systematic.py', 'dev/test_compare.py',
         'python/tests/test_sweep.py', 'python/tests/test_trace.py', 'python/tests/test_plot.py', 'dev/test_bounds.py',
         'dev/refuse_tests.sh', 'dev/test_helgrind.py', 'dev/test_dist.py')
-PYTEST = '-m', 'pytest', '-q', '-rs', '--no-header', '-p', 'no:cacheprovider'
 LEFT_OUT = 'LEFT OUT', 'SKIPPED'            # how a line begins that says so: ours, and pytest's
 # How long what was ended may take to end, in seconds.
 GRACE = 5
@@ -43,17 +39,12 @@ def all_tests():
     return ['dev/refuse_tests.sh', *found, 'dev/try_shell.sh']
 
 
-def is_for_pytest(name):
-    with open(f'{TOP}/{name}', encoding='utf-8') as file:
-        return re.search('^import pytest$', file.read(), re.M) is not None
-
-
 class Test:
     """One test, its process while it runs, and what it said."""
 
     def __init__(self, name, python, folder):
         self.name, self.folder = name, f'{folder}/{os.path.basename(name)}'
-        self.words = [f'./{name}'] if name.endswith('.sh') else [python, *PYTEST, name] if is_for_pytest(name) else [python, name]
+        self.words = [f'./{name}'] if name.endswith('.sh') else [python, '-m', 'pytest', name]
         self.process, self.seconds, self.begun, self.usage = None, 0, 0, None
 
     def start(self):
@@ -142,19 +133,19 @@ def run(tests, jobs):
 def main():
     reader = argparse.ArgumentParser(description="Runs the tests of dev/ and python/tests side by side.")
     reader.add_argument('--jobs', type=int, default=len(os.sched_getaffinity(0)), help='how many at once (left out: one a processor)')
-    reader.add_argument('--python', metavar='PATH', help='a python3 that has matplotlib, or nothing where there is none')
+    reader.add_argument('--python', metavar='PATH', help='a python3 that has pytest, or nothing where there is none')
     reader.add_argument('names', nargs='*', metavar='TEST', help='left out: all')
     words = reader.parse_args()
     python = sys.executable if words.python is None else words.python
     names = words.names or all_tests()
-    gone = [it for it in names if not python and (it in DRAWING or it.endswith('.py') and is_for_pytest(it))]
+    gone = [it for it in names if not python and it.endswith('.py')]
     with room() as folder:
         tests = [Test(it, python or sys.executable, folder) for it in names if it not in gone]
         failed, out = run(tests, max(1, words.jobs))
     if not words.names and not failed:
         build.keep_cost('tools', 'tests', sum(it.spent() for it in tests), 0)
     if gone:
-        out.append(f'LEFT OUT, not passed: {" ".join(gone)} (no python3 with matplotlib)')
+        out.append(f'LEFT OUT, not passed: {" ".join(gone)} (no pytest: apt-get install python3-pytest)')
     print(''.join(f'{it}\n' for it in out), end='')
     print(f'{len(tests) - failed} tests passed, {failed} failed')
     sys.exit(1 if failed or (out and os.environ.get('CI') == 'true') else 0)

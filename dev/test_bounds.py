@@ -1,36 +1,30 @@
-#!/usr/bin/env python3
 """Tries the built program at the bounds of what it takes: texts and images cut at each byte, every number
 at its least and greatest and one past each, as many records as there may be and one more, great inputs that
 are refused, and a reader and a writer that fail at each call.
 
 What is expected stands in the tables below, worked out by hand from docs/FORMATS.md, or in the tables of
 that page. The model of python/tcpsim_model answers every input besides, where its table is by hand, or says alone
-what is expected. It goes after `make run`, and wants a C compiler, `cc`, for the ends that fail.
-
-Usage: dev/test_bounds.py [--program PATH] [TEST..]. The last line is 'N passed, N failed'.
+what is expected.
 """
-import argparse
-import concurrent.futures
 import itertools
 import os
 import re
 import resource
-import shutil
 import signal
 import struct
 import subprocess
-import sys
-import tempfile
 import time
-import unittest
+import typing
 
-from paths import TOP
+import pytest
+
+import clone
+from clone import PROGRAM, read, read_text, side_by_side
 from tcpsim_model import command_line
 from tcpsim_model.image import places
 from whole import tables
 
-PROGRAM = os.path.join(TOP, 'crates', 'tcpsim', 'out', 'tcpsim')
-LONGEST = 60                # seconds that a run may take
+pytestmark = pytest.mark.built
 MOST_INPUT = 16_777_216     # bytes
 RIGHT = 'right'
 
@@ -75,23 +69,16 @@ lose b 3
 COMMANDS = b'---\nbreak kind data\nstate\nstep 1\nbak\n'
 
 
-class Answer:
+class Answer(typing.NamedTuple):
     """What a run came to."""
-
-    def __init__(self, status, out, note):
-        self.status, self.out, self.note = status, out, note
-
-    def __eq__(self, other):
-        return (self.status, self.note, self.out) == (other.status, other.note, other.out)
-
-    def __repr__(self):
-        return f'status {self.status}, note {self.note!r}, {len(self.out)} bytes: {self.out[:300]!r}'
+    status: int
+    out: bytes
+    note: str
 
 
 def run(words, data, before=None, **more):
-    done = subprocess.run([PROGRAM, *words], input=data, capture_output=True, timeout=LONGEST, preexec_fn=before,
-                          env={'PATH': '/usr/bin:/bin', 'LC_ALL': 'C', **more})
-    return Answer(done.returncode, done.stdout, done.stderr.decode(errors='replace'))
+    status, note, out = clone.outcome(words, data, preexec_fn=before, env={'PATH': '/usr/bin:/bin', 'LC_ALL': 'C', **more})
+    return Answer(status, out, note.decode(errors='replace'))
 
 
 def model(words, data):
@@ -104,11 +91,6 @@ def refused(fault):
     return Answer(1, b'', f'refused {fault}\n')
 
 
-def read(*path):
-    with open(os.path.join(TOP, *path), 'rb') as file:
-        return file.read()
-
-
 def replaced(text, number, line):
     """The text with another line of this number, counted from 1, or with one more."""
     lines = text.splitlines(keepends=True)
@@ -116,29 +98,24 @@ def replaced(text, number, line):
     return b''.join(lines)
 
 
-class Case(unittest.TestCase):
-    def all_expected(self, cases):
-        """Each case, a name, words, input and answer: the program comes to it, and the model."""
-        cases = list(cases)
-        self.assertTrue(cases)
-        with concurrent.futures.ThreadPoolExecutor(os.cpu_count()) as pool:
-            answers = list(pool.map(lambda case: run(*case[1:3]), cases))
-        for (name, words, data, wanted), found in zip(cases, answers):
-            with self.subTest(name=name, words=words):
-                self.assertEqual(found, wanted)
-                if len(data) < 1_000_000:
-                    self.assertEqual(model(words, data), wanted, 'the model')
+def all_expected(cases):
+    """Each case, a name, words, input and answer: the program comes to it, and the model."""
+    cases = list(cases)
+    assert cases
+    for (name, words, data, wanted), found in zip(cases, side_by_side(run, [case[1:3] for case in cases])):
+        assert found == wanted, (name, words)
+        if len(data) < 1_000_000:
+            assert model(words, data) == wanted, (name, words, 'the model')
 
-    def like_the_model(self, cases):
-        """Each case, a name, words and input: the program comes to what the model comes to. Answers all the
-        model's."""
-        cases = list(cases)
-        wanted = [model(*case[1:]) for case in cases]
-        with concurrent.futures.ThreadPoolExecutor(os.cpu_count()) as pool:
-            for (name, words, _), model_s, found in zip(cases, wanted, pool.map(lambda case: run(*case[1:]), cases)):
-                with self.subTest(name=name, words=words):
-                    self.assertEqual(found, model_s)
-        return wanted
+
+def like_the_model(cases):
+    """Each case, a name, words and input: the program comes to what the model comes to. Answers all the
+    model's."""
+    cases = list(cases)
+    wanted = [model(*case[1:]) for case in cases]
+    for (name, words, _), of_model, found in zip(cases, wanted, side_by_side(run, [case[1:] for case in cases])):
+        assert found == of_model, (name, words)
+    return wanted
 
 
 # ---- cut
@@ -154,30 +131,32 @@ CUT = (
 )
 
 
-class Cut(Case):
-    def test_a_cut_text_has_its_fault_or_runs(self):
-        trace = Answer(0, read('examples', 'one_segment.trace'), '')
-        cases = [(size, ('run',), FIRST[:size], trace if code == RIGHT else refused(code))
-                 for least, most, code in CUT for size in range(least, most + 1)]
-        self.assertEqual([case[0] for case in cases], list(range(len(FIRST) + 1)))
-        self.all_expected(cases)
+def test_a_cut_text_has_its_fault_or_runs():
+    trace = Answer(0, read('examples', 'one_segment.trace'), '')
+    cases = [(size, ('run',), FIRST[:size], trace if code == RIGHT else refused(code))
+             for least, most, code in CUT for size in range(least, most + 1)]
+    assert [case[0] for case in cases] == list(range(len(FIRST) + 1))
+    all_expected(cases)
 
-    def test_a_byte_out_of_range_is_told_by_its_line(self):
-        self.all_expected(
-            ((at, byte), ('run',), FIRST[:at] + byte + FIRST[at + 1:], refused(f'E1 line {1 + FIRST[:at].count(10)}'))
-            for at in range(len(FIRST)) for byte in (b'\0', b'\t', b'\r', b'\x7f', b'\x80', b'\xff'))
 
-    def test_a_cut_image_has_too_few_bytes(self):
-        for data in (IMAGE, OLD_IMAGE, image_of(FULL)):
-            self.all_expected(
-                (size, ('run',), data[:size],
-                 refused('E10 line 0' if size == 0 else 'E2 line 1' if size < 3 else 'L1'))
-                for size in range(len(data)))
+def test_a_byte_out_of_range_is_told_by_its_line():
+    all_expected(
+        ((at, byte), ('run',), FIRST[:at] + byte + FIRST[at + 1:], refused(f'E1 line {1 + FIRST[:at].count(10)}'))
+        for at in range(len(FIRST)) for byte in (b'\0', b'\t', b'\r', b'\x7f', b'\x80', b'\xff'))
 
-    def test_bytes_left_over(self):
-        for data in (IMAGE, OLD_IMAGE, image_of(FULL)):
-            self.all_expected((more, (words,), data + more, refused('L4'))
-                              for more in (b'\0', b'\n', data) for words in ('asm', 'dis', 'run'))
+
+def test_a_cut_image_has_too_few_bytes():
+    for data in (IMAGE, OLD_IMAGE, image_of(FULL)):
+        all_expected(
+            (size, ('run',), data[:size],
+             refused('E10 line 0' if size == 0 else 'E2 line 1' if size < 3 else 'L1'))
+            for size in range(len(data)))
+
+
+def test_bytes_left_over():
+    for data in (IMAGE, OLD_IMAGE, image_of(FULL)):
+        all_expected((more, (words,), data + more, refused('L4'))
+                     for more in (b'\0', b'\n', data) for words in ('asm', 'dis', 'run'))
 
 
 def image_of(text):
@@ -215,7 +194,7 @@ LATEST = replaced(CANONICAL, 1, 'sim 1000000000000000')
 def number_table():
     """The least and the greatest of each number, as docs/FORMATS.md has them; RWND's least is the MSS of the
     texts here."""
-    page = read('docs', 'FORMATS.md').decode()
+    page = read_text('docs', 'FORMATS.md')
     table = page.partition('| Number | Least | Greatest |\n')[2].partition('\n\n')[0]
     rows = re.findall(r'^\| ([A-Z, ]+)[^|]*\| ([\dMS,]+)[^|]*\| ([\d,]+)[^|]*\|$', table, re.M)
     for names, least, greatest in rows:
@@ -230,84 +209,91 @@ def placed(name, value):
     return replaced(text, line, statement.format(value)), line
 
 
-class Numbers(Case):
-    def test_the_page_has_every_number(self):
-        self.assertEqual([name for name, _, _ in number_table()], list(PLACES))
+def test_the_page_has_every_number():
+    assert [name for name, _, _ in number_table()] == list(PLACES)
 
-    def test_numbers_of_texts(self):
-        cases = []
-        for name, least, greatest in number_table():
-            for value in {least - 1, least, greatest, greatest + 1} - {-1}:
-                text, line = placed(name, value)
-                wanted = Answer(0, text, '') if least <= value <= greatest else refused(f'E5 line {line}')
-                cases.append(((name, value), ('dis',), text, wanted))
-        self.assertEqual(len(cases), 4 * len(PLACES) - 2)
-        self.all_expected(cases)
 
-    def test_numbers_of_images(self):
-        cases, image = [], {True: image_of(CODEL), False: image_of(LATEST)}
-        for name, least, greatest in number_table():
-            at, size = FIELDS.get(name, (0, 0))
-            for value in {least - 1, least, greatest, greatest + 1} - {-1} if size else ():
-                if value < 256**size:
-                    data = image[name != 'START']
-                    data = data[:at] + value.to_bytes(size, 'big') + data[at + size:]
-                    cases.append(((name, value), ('asm',), data,
-                                  Answer(0, data, '') if least <= value <= greatest else refused('L3')))
-        # START and DELACK are 0 at least, and no more than CAP and MAXPACKET may be is spelt in their two bytes.
-        self.assertEqual(len(cases), 4 * len(FIELDS) - 4)
-        self.all_expected(cases)
+def test_numbers_of_texts():
+    cases = []
+    for name, least, greatest in number_table():
+        for value in {least - 1, least, greatest, greatest + 1} - {-1}:
+            text, line = placed(name, value)
+            wanted = Answer(0, text, '') if least <= value <= greatest else refused(f'E5 line {line}')
+            cases.append(((name, value), ('dis',), text, wanted))
+    assert len(cases) == 4 * len(PLACES) - 2
+    all_expected(cases)
 
-    def test_each_number_of_an_image_stretched(self):
-        """Each number, the counts too, at the ends of its bytes, one beside what it was, and doubled."""
-        cases = []
-        for data in (IMAGE, OLD_IMAGE, image_of(FULL)):
-            self.assertEqual(sum(size for _, size in places(data)), len(data) - len(b'TCB1'))
-            for at, size in places(data):
-                was = int.from_bytes(data[at:at + size], 'big')
-                most = 256**size - 1
-                values = {0, 1, 2, was - 1, was + 1, 2 * was, most, most - 1, (most + 1) // 2, (most - 1) // 2} - {was}
-                for value in sorted(values):
-                    if 0 <= value <= most:
-                        other = data[:at] + value.to_bytes(size, 'big') + data[at + size:]
-                        cases.append(((at, value), ('dis',), other))
-        notes = {answer.note for answer in self.like_the_model(cases)}
-        self.assertLessEqual({'', *(f'refused L{n}\n' for n in (1, 3, 4, 5, 6, 7))}, notes)
 
-    def test_lines_have_their_faults(self):
-        self.all_expected(((number, line), ('asm',), replaced(FIRST, number, line),
-                           Answer(0, model(('asm',), replaced(FIRST, number, line)).out, '') if code == RIGHT
-                           else refused(code)) for number, line, code in LINES)
+def test_numbers_of_images():
+    cases, image = [], {True: image_of(CODEL), False: image_of(LATEST)}
+    for name, least, greatest in number_table():
+        at, size = FIELDS.get(name, (0, 0))
+        for value in {least - 1, least, greatest, greatest + 1} - {-1} if size else ():
+            if value < 256**size:
+                data = image[name != 'START']
+                data = data[:at] + value.to_bytes(size, 'big') + data[at + size:]
+                cases.append(((name, value), ('asm',), data,
+                              Answer(0, data, '') if least <= value <= greatest else refused('L3')))
+    # START and DELACK are 0 at least, and no more than CAP and MAXPACKET may be is spelt in their two bytes.
+    assert len(cases) == 4 * len(FIELDS) - 4
+    all_expected(cases)
 
-    def test_images_have_their_faults(self):
-        cases = []
-        for at, spelt, code in CHANGED:
-            new = bytes.fromhex(spelt)
-            data = IMAGE[:at] + new + IMAGE[at + len(new):]
-            cases.append(((at, spelt), ('asm',), data, Answer(0, data, '') if code == RIGHT else refused(code)))
-        self.all_expected(cases)
 
-    def test_versions_of_images(self):
-        cases = []
-        for fourth, more, code in VERSIONS:
-            data = OLD_IMAGE[:3] + fourth + OLD_IMAGE[4:] + more
-            wanted = Answer(0, IMAGE[:-1] + code, '') if isinstance(code, bytes) else refused(code)
-            cases.append(((fourth, more), ('asm',), data, wanted))
-        self.all_expected(cases)
+def test_each_number_of_an_image_stretched():
+    """Each number, the counts too, at the ends of its bytes, one beside what it was, and doubled."""
+    cases = []
+    for data in (IMAGE, OLD_IMAGE, image_of(FULL)):
+        assert sum(size for _, size in places(data)) == len(data) - len(b'TCB1')
+        for at, size in places(data):
+            was = int.from_bytes(data[at:at + size], 'big')
+            most = 256**size - 1
+            values = {0, 1, 2, was - 1, was + 1, 2 * was, most, most - 1, (most + 1) // 2, (most - 1) // 2} - {was}
+            for value in sorted(values):
+                if 0 <= value <= most:
+                    other = data[:at] + value.to_bytes(size, 'big') + data[at + size:]
+                    cases.append(((at, value), ('dis',), other))
+    notes = {answer.note for answer in like_the_model(cases)}
+    assert {'', *(f'refused L{n}\n' for n in (1, 3, 4, 5, 6, 7))} <= notes
 
-    def test_variants_of_texts(self):
-        for bits, words in enumerate(('reno iw3', 'newreno iw3', 'reno iw10', 'newreno iw10')):
-            text = CANONICAL.replace(b'reno iw3', words.encode())
-            data = IMAGE[:-1] + bytes((bits,))
-            self.all_expected((((words, 'asm'), ('asm',), text, Answer(0, data, '')),
-                               ((words, 'dis'), ('dis',), data, Answer(0, text, ''))))
 
-    def test_lost_packets_of_images(self):
-        cases = []
-        for numbers, code in LOST:
-            data = IMAGE[:65] + struct.pack(f'>B{len(numbers)}I', len(numbers), *numbers) + IMAGE[66:]
-            cases.append((numbers, ('asm',), data, Answer(0, data, '') if code == RIGHT else refused(code)))
-        self.all_expected(cases)
+def test_lines_have_their_faults():
+    all_expected(((number, line), ('asm',), replaced(FIRST, number, line),
+                  Answer(0, model(('asm',), replaced(FIRST, number, line)).out, '') if code == RIGHT
+                  else refused(code)) for number, line, code in LINES)
+
+
+def test_images_have_their_faults():
+    cases = []
+    for at, spelt, code in CHANGED:
+        new = bytes.fromhex(spelt)
+        data = IMAGE[:at] + new + IMAGE[at + len(new):]
+        cases.append(((at, spelt), ('asm',), data, Answer(0, data, '') if code == RIGHT else refused(code)))
+    all_expected(cases)
+
+
+def test_versions_of_images():
+    cases = []
+    for fourth, more, code in VERSIONS:
+        data = OLD_IMAGE[:3] + fourth + OLD_IMAGE[4:] + more
+        wanted = Answer(0, IMAGE[:-1] + code, '') if isinstance(code, bytes) else refused(code)
+        cases.append(((fourth, more), ('asm',), data, wanted))
+    all_expected(cases)
+
+
+def test_variants_of_texts():
+    for bits, words in enumerate(('reno iw3', 'newreno iw3', 'reno iw10', 'newreno iw10')):
+        text = CANONICAL.replace(b'reno iw3', words.encode())
+        data = IMAGE[:-1] + bytes((bits,))
+        all_expected((((words, 'asm'), ('asm',), text, Answer(0, data, '')),
+                      ((words, 'dis'), ('dis',), data, Answer(0, text, ''))))
+
+
+def test_lost_packets_of_images():
+    cases = []
+    for numbers, code in LOST:
+        data = IMAGE[:65] + struct.pack(f'>B{len(numbers)}I', len(numbers), *numbers) + IMAGE[66:]
+        cases.append((numbers, ('asm',), data, Answer(0, data, '') if code == RIGHT else refused(code)))
+    all_expected(cases)
 
 
 # A line's number, a line in its place in FIRST or behind it, and what the text then comes to.
@@ -413,6 +399,7 @@ LOST = (
 
 # ---- counts
 
+
 def image_with(nodes, links, flows, routes=(), end=10**9):
     """An image of these records: kinds of nodes, ends of links with their lost packets, ends of flows, routes."""
     parts = [struct.pack('>4sQHHHI', b'TCB2', end, len(nodes), len(links), len(flows), len(routes)), bytes(nodes)]
@@ -444,70 +431,72 @@ def greatest_without_routers():
     return image_with([0, 1] * 128, links, [(node, node + 1) for node in range(0, 256, 2)])
 
 
-class Counts(Case):
-    def test_counts_of_images(self):
-        pair, links, flow = [0, 1], [(0, 1), (1, 0)], [(0, 1)]
-        every = list(itertools.product(range(256), range(256), (0,)))
-        self.all_expected((name, ('dis',), data, refused(code)) for name, data, code in (
-            ('256 nodes', image_with([0, 1] + [0] * 254, links, flow), 'L5'),
-            ('257 nodes', image_with([0, 1] + [0] * 255, links, flow), 'L3'),
-            ('65,535 nodes', image_with([0, 1] + [0] * 65533, links, flow), 'L3'),
-            ('one node', image_with([0], [(0, 0)], [(0, 0)]), 'L3'),
-            ('1,024 links', image_with(pair, [(0, 1)] * 1024, flow), 'L5'),
-            ('1,025 links', image_with(pair, [(0, 1)] * 1025, flow), 'L3'),
-            ('no link', image_with(pair, [], flow), 'L3'),
-            ('128 flows', image_with(pair, links, flow * 128), 'L5'),
-            ('129 flows', image_with(pair, links, flow * 129), 'L3'),
-            ('no flow', image_with(pair, links, []), 'L3'),
-            ('65,536 routes', image_with([2] * 256, links, flow, every), 'L5'),
-            ('one route more', image_with([2] * 256, links, flow, every + [(256, 0, 0)]), 'L3'),
-            ('routes that do not rise', image_with([2] * 256, links, flow, [(0, 1, 0), (0, 1, 1)]), 'L3'),
-            ('16 links of a router', image_with([0, 1, 2], links + [(2, 0)] * 16, flow, [(2, 2, 2)]), 'L6'),
-            ('17 links of a router', image_with([0, 1, 2], links + [(2, 0)] * 17, flow), 'L5'),
-        ))
+def test_counts_of_images():
+    pair, links, flow = [0, 1], [(0, 1), (1, 0)], [(0, 1)]
+    every = list(itertools.product(range(256), range(256), (0,)))
+    all_expected((name, ('dis',), data, refused(code)) for name, data, code in (
+        ('256 nodes', image_with([0, 1] + [0] * 254, links, flow), 'L5'),
+        ('257 nodes', image_with([0, 1] + [0] * 255, links, flow), 'L3'),
+        ('65,535 nodes', image_with([0, 1] + [0] * 65533, links, flow), 'L3'),
+        ('one node', image_with([0], [(0, 0)], [(0, 0)]), 'L3'),
+        ('1,024 links', image_with(pair, [(0, 1)] * 1024, flow), 'L5'),
+        ('1,025 links', image_with(pair, [(0, 1)] * 1025, flow), 'L3'),
+        ('no link', image_with(pair, [], flow), 'L3'),
+        ('128 flows', image_with(pair, links, flow * 128), 'L5'),
+        ('129 flows', image_with(pair, links, flow * 129), 'L3'),
+        ('no flow', image_with(pair, links, []), 'L3'),
+        ('65,536 routes', image_with([2] * 256, links, flow, every), 'L5'),
+        ('one route more', image_with([2] * 256, links, flow, every + [(256, 0, 0)]), 'L3'),
+        ('routes that do not rise', image_with([2] * 256, links, flow, [(0, 1, 0), (0, 1, 1)]), 'L3'),
+        ('16 links of a router', image_with([0, 1, 2], links + [(2, 0)] * 16, flow, [(2, 2, 2)]), 'L6'),
+        ('17 links of a router', image_with([0, 1, 2], links + [(2, 0)] * 17, flow), 'L5'),
+    ))
 
-    def test_the_greatest_scenarios(self):
-        for data in (greatest_with_routers(), greatest_without_routers()):
-            self.all_expected([('image', ('asm',), data, Answer(0, data, ''))])
-            text = model(('dis',), data)
-            self.all_expected([('image', ('dis',), data, text), ('text', ('dis',), text.out, text),
-                               ('text', ('asm',), text.out, Answer(0, data, ''))])
-            trace = model(('run',), data)
-            self.assertEqual(trace.status, 0)
-            self.all_expected((groups, ('run', '--groups', groups, '--workers', '2'), data, trace) for groups in ('one', 'each'))
 
-    def test_counts_of_texts(self):
-        def several(form, count):
-            return b''.join(form(n).encode() + b'\n' for n in range(count))
+def test_the_greatest_scenarios():
+    for data in (greatest_with_routers(), greatest_without_routers()):
+        all_expected([('image', ('asm',), data, Answer(0, data, ''))])
+        text = model(('dis',), data)
+        all_expected([('image', ('dis',), data, text), ('text', ('dis',), text.out, text),
+                      ('text', ('asm',), text.out, Answer(0, data, ''))])
+        trace = model(('run',), data)
+        assert trace.status == 0
+        all_expected((groups, ('run', '--groups', groups, '--workers', '2'), data, trace) for groups in ('one', 'each'))
 
-        def nodes(count):
-            return b'sim 5\n' + several(lambda n: f'node x{n} router', count)
 
-        def links(count):
-            return nodes(256) + several(lambda n: f'link l{n} x{n // 16} x255 1000 1 droptail 1', count)
+def test_counts_of_texts():
+    def several(form, count):
+        return b''.join(form(n).encode() + b'\n' for n in range(count))
 
-        def flows(count):
-            return b''.join(FIRST.splitlines(keepends=True)[:5]) + several(lambda n: f'flow f{n} s r 1 1 0 1 0', count)
+    def nodes(count):
+        return b'sim 5\n' + several(lambda n: f'node x{n} router', count)
 
-        def exits(count):
-            hub = b'sim 5\nnode h router\nnode t router\n'
-            return hub + several(lambda n: f'link l{n} h t 1000 1 droptail 1', count)
+    def links(count):
+        return nodes(256) + several(lambda n: f'link l{n} x{n // 16} x255 1000 1 droptail 1', count)
 
-        def losses(count):
-            return FIRST + several(lambda n: f'lose a {n + 1}', count)
-        self.all_expected((name, ('asm',), data, refused(code)) for name, data, code in (
-            ('256 nodes', nodes(256), 'L3 line 0'), ('257 nodes', nodes(257), 'E9 line 258'),
-            ('1,024 links', links(1024), 'L3 line 0'), ('1,025 links', links(1025), 'E9 line 1282'),
-            ('128 flows', flows(128), 'L5 line 0'), ('129 flows', flows(129), 'E9 line 134'),
-            ('129 flows, with a variant', flows(128) + b'flow g s r 1 1 0 1 0 reno iw10\n', 'E9 line 134'),
-            ('129 flows, with none that there is', flows(128) + b'flow g s r 1 1 0 1 0 reno iw5\n', 'E4 line 134'),
-            ('16 links of a router', exits(16), 'L3 line 0'), ('17 links of a router', exits(17), 'E9 line 20'),
-            ('65 losses', losses(65), 'E9 line 71')))
-        self.all_expected([('64 losses', ('asm',), losses(64), model(('asm',), losses(64)))])
-        self.assertEqual(model(('asm',), losses(64)).status, 0)
+    def flows(count):
+        return b''.join(FIRST.splitlines(keepends=True)[:5]) + several(lambda n: f'flow f{n} s r 1 1 0 1 0', count)
+
+    def exits(count):
+        hub = b'sim 5\nnode h router\nnode t router\n'
+        return hub + several(lambda n: f'link l{n} h t 1000 1 droptail 1', count)
+
+    def losses(count):
+        return FIRST + several(lambda n: f'lose a {n + 1}', count)
+    all_expected((name, ('asm',), data, refused(code)) for name, data, code in (
+        ('256 nodes', nodes(256), 'L3 line 0'), ('257 nodes', nodes(257), 'E9 line 258'),
+        ('1,024 links', links(1024), 'L3 line 0'), ('1,025 links', links(1025), 'E9 line 1282'),
+        ('128 flows', flows(128), 'L5 line 0'), ('129 flows', flows(129), 'E9 line 134'),
+        ('129 flows, with a variant', flows(128) + b'flow g s r 1 1 0 1 0 reno iw10\n', 'E9 line 134'),
+        ('129 flows, with none that there is', flows(128) + b'flow g s r 1 1 0 1 0 reno iw5\n', 'E4 line 134'),
+        ('16 links of a router', exits(16), 'L3 line 0'), ('17 links of a router', exits(17), 'E9 line 20'),
+        ('65 losses', losses(65), 'E9 line 71')))
+    all_expected([('64 losses', ('asm',), losses(64), model(('asm',), losses(64)))])
+    assert model(('asm',), losses(64)).status == 0
 
 
 # ---- great sessions
+
 
 def flow_of(segments, *commands):
     """A session over a flow of so many segments of 1,000 bytes."""
@@ -515,41 +504,45 @@ def flow_of(segments, *commands):
         b'sim 1000000000', b'sim 1000000000000000') + b'---\n' + b''.join(it.encode() + b'\n' for it in commands)
 
 
-class Sessions(Case):
-    """Debugging sessions at the greatest of what may be asked: nothing is refused for want of memory."""
+# Debugging sessions at the greatest of what may be asked: nothing is refused for want of memory.
 
-    def test_as_many_breakpoints_as_there_may_be(self):
-        text = model(('dis',), greatest_without_routers()).out
-        commands = b''.join(b'break node %d\n' % n for n in range(192, 257)) + b'run\nrun\n'
-        self.like_the_model([('breakpoints', ('debug',), text + b'---\n' + commands)])
-        found = run(('debug',), text + b'---\n' + commands).out
-        self.assertEqual([line for line in found.splitlines() if line.startswith((b'break', b'refused'))],
-                         [b'break %d' % n for n in range(1, 65)] + [b'refused B3'])
 
-    def test_a_dump_at_each_position(self):
-        forwards, backwards = ['step 1'] * 1000, ['back 1'] * 1000
-        self.like_the_model([('forwards', ('debug',), flow_of(300, *forwards)),
-                             ('backwards', ('debug',), flow_of(300, 'step 1000', *backwards))])
+def test_as_many_breakpoints_as_there_may_be():
+    text = model(('dis',), greatest_without_routers()).out
+    commands = b''.join(b'break node %d\n' % n for n in range(192, 257)) + b'run\nrun\n'
+    like_the_model([('breakpoints', ('debug',), text + b'---\n' + commands)])
+    found = run(('debug',), text + b'---\n' + commands).out
+    assert [line for line in found.splitlines() if line.startswith((b'break', b'refused'))] == \
+        [b'break %d' % n for n in range(1, 65)] + [b'refused B3']
 
-    def test_moves_of_many_sizes(self):
-        sizes = (99, 100, 101, 777, 1000, 1001, 9999, 10000, 10001)
-        self.like_the_model([('moves', ('debug',), flow_of(4000, *itertools.chain.from_iterable(
-            (f'step {n}', f'back {n}') for n in sizes)))])
 
-    def test_moves_of_a_million_events(self):
-        moves = ('step 1000000', 'back 1', 'back 999998', 'step 999999', 'back 1000000', 'until 999999999999999',
-                 'back 1000000')
-        for words in (('debug',), ('debug', '--groups', 'each', '--workers', '2')):
-            found = run(words, flow_of(260_000, *moves))
-            self.assertEqual((found.status, found.note), (0, ''))
-            places = [int(line[3:]) for line in found.out.splitlines() if line.startswith(b'at ')]
-            end = places[5]
-            self.assertGreater(end, 1_000_000)
-            self.assertEqual(places, [1_000_000, 999_999, 1, 1_000_000, 0, end, end - 1_000_000])
-            self.assertNotIn(b'refused', found.out)
+def test_a_dump_at_each_position():
+    forwards, backwards = ['step 1'] * 1000, ['back 1'] * 1000
+    like_the_model([('forwards', ('debug',), flow_of(300, *forwards)),
+                    ('backwards', ('debug',), flow_of(300, 'step 1000', *backwards))])
+
+
+def test_moves_of_many_sizes():
+    sizes = (99, 100, 101, 777, 1000, 1001, 9999, 10000, 10001)
+    like_the_model([('moves', ('debug',), flow_of(4000, *itertools.chain.from_iterable(
+        (f'step {n}', f'back {n}') for n in sizes)))])
+
+
+def test_moves_of_a_million_events():
+    moves = ('step 1000000', 'back 1', 'back 999998', 'step 999999', 'back 1000000', 'until 999999999999999',
+             'back 1000000')
+    for words in (('debug',), ('debug', '--groups', 'each', '--workers', '2')):
+        found = run(words, flow_of(260_000, *moves))
+        assert (found.status, found.note) == (0, '')
+        places = [int(line[3:]) for line in found.out.splitlines() if line.startswith(b'at ')]
+        end = places[5]
+        assert end > 1_000_000
+        assert places == [1_000_000, 999_999, 1, 1_000_000, 0, end, end - 1_000_000]
+        assert b'refused' not in found.out
 
 
 # ---- great inputs
+
 
 def filled(before, piece):
     """As many bytes as an input may have: these, and the piece again and again."""
@@ -599,20 +592,18 @@ def hostile():
     yield 'a byte too many', b'\n' * (MOST_INPUT + 1), 'I1'
 
 
-class Hostile(Case):
-    def test_hostile_inputs_are_cheap_to_refuse(self):
-        """Each ends within a second of the processor in 128 MiB of addresses."""
-        def before():
-            resource.setrlimit(resource.RLIMIT_AS, (2**27, 2**27))
-        trace = Answer(0, read('examples', 'one_segment.trace'), '')
-        for name, data, code in hostile():
-            with self.subTest(name=name):
-                start = resource.getrusage(resource.RUSAGE_CHILDREN)
-                found = run(('run',), data, before)
-                end = resource.getrusage(resource.RUSAGE_CHILDREN)
-                self.assertEqual(found, trace if code == RIGHT else refused(code))
-                seconds = end.ru_utime + end.ru_stime - start.ru_utime - start.ru_stime
-                self.assertLess(seconds, 1)
+def test_hostile_inputs_are_cheap_to_refuse():
+    """Each ends within a second of the processor in 128 MiB of addresses."""
+    def before():
+        resource.setrlimit(resource.RLIMIT_AS, (2**27, 2**27))
+    trace = Answer(0, read('examples', 'one_segment.trace'), '')
+    for name, data, code in hostile():
+        start = resource.getrusage(resource.RUSAGE_CHILDREN)
+        found = run(('run',), data, before)
+        end = resource.getrusage(resource.RUSAGE_CHILDREN)
+        assert found == (trace if code == RIGHT else refused(code))
+        seconds = end.ru_utime + end.ru_stime - start.ru_utime - start.ru_stime
+        assert seconds < 1
 
 
 # ---- ends that fail
@@ -627,23 +618,15 @@ def calls_for(size):
     return -(-size // MOST_A_CALL)
 
 
-class Ends(Case):
+class Ends:
     """A reader and a writer that take three bytes a call, and fail at one of them; asked again they would go on."""
 
-    @classmethod
-    def setUpClass(cls):
-        if not shutil.which('cc'):
-            print('LEFT OUT, not passed: a reader and a writer that fail (no C compiler, cc)')
-            raise unittest.SkipTest('no C compiler')
-        cls.work = tempfile.TemporaryDirectory()
-        cls.addClassCleanup(cls.work.cleanup)
-        cls.library = os.path.join(cls.work.name, 'refuse_ends.so')
-        subprocess.run(['cc', '-O1', '-shared', '-fPIC', os.path.join(TOP, 'dev', 'refuse_ends.c'), '-o', cls.library],
-                       check=True)
-        trace = read('examples', 'one_segment.trace')
-        text = run(('dis',), IMAGE).out
-        assert text == CANONICAL
-        cls.sessions = [
+    def __init__(self, library, folder):
+        self.library, self.folder = library, folder
+        trace, commands = read('examples', 'one_segment.trace'), FIRST + COMMANDS
+        answers = model(('debug',), commands).out
+        assert run(('dis',), IMAGE).out == CANONICAL
+        self.sessions = [
             (('run',), FIRST, trace),
             (('run', '--groups', 'each', '--workers', '1'), FIRST, trace),
             (('run', '--groups', 'each', '--workers', '2'), FIRST, trace),
@@ -653,99 +636,107 @@ class Ends(Case):
             (('dis',), FIRST, CANONICAL),
             (('dis',), IMAGE, CANONICAL),
             (('figures',), FIRST, tables.ONE_SEGMENT.encode()),
-            (('debug',), FIRST + COMMANDS, model(('debug',), FIRST + COMMANDS).out),
-            (('debug', '--groups', 'each', '--workers', '2'), FIRST + COMMANDS,
-             model(('debug',), FIRST + COMMANDS).out),
+            (('debug',), commands, answers),
+            (('debug', '--groups', 'each', '--workers', '2'), commands, answers),
         ]
-        cls.texts = [(('--version',), b'', b'tcpsim 0.1.0\n')]
-        for words in (('--help',), ('run', '--help')):
-            cls.texts.append((words, b'', run(words, b'').out))
+        self.texts = [(('--version',), b'', b'tcpsim 0.1.0\n'),
+                      *((words, b'', run(words, b'').out) for words in (('--help',), ('run', '--help')))]
 
     def ended(self, number, words, data, **more):
         """The answer, how many calls read, and how many bytes each call took that wrote."""
-        path = os.path.join(self.work.name, f'calls.{number}')
+        path = os.path.join(self.folder, f'calls.{number}')
         found = run(words, data, LD_PRELOAD=self.library, CALLS=path, **more)
-        with open(path) as file:
-            reads, *took = map(int, file.read().split())
+        reads, *took = map(int, read(path).split())
         return found, reads, took
 
     def all_ended(self, cases):
         """Each case, words, input, variables and what it comes to."""
         cases = list(cases)
-        self.assertTrue(cases)
-        with concurrent.futures.ThreadPoolExecutor(os.cpu_count()) as pool:
-            found = pool.map(lambda at: self.ended(at, *cases[at][:2], **cases[at][2]), range(len(cases)))
-            for (words, _, more, wanted), came in zip(cases, found):
-                with self.subTest(words=words, **more):
-                    self.assertEqual(came, wanted)
+        assert cases
+        found = side_by_side(lambda at: self.ended(at, *cases[at][:2], **cases[at][2]), [(at,) for at in range(len(cases))])
+        for (words, _, more, wanted), came in zip(cases, found):
+            assert came == wanted, (words, more)
 
     def whole(self, words, data, out):
         """How many calls a session reads with, and how many bytes each call takes that writes, where none
         fails. What goes out at once takes as few calls as it can."""
         found, reads, took = self.ended('whole', words, data)
-        self.assertEqual(found, Answer(0, out, ''))
-        self.assertEqual(sum(took), len(out))
+        assert found == Answer(0, out, '')
+        assert sum(took) == len(out)
         if words[0] != 'debug' and '--groups' not in words:
-            self.assertEqual(took[:-1], [MOST_A_CALL] * (len(took) - 1))
-        self.assertEqual(reads, calls_for(len(data)) + 1 if data else 0)
+            assert took[:-1] == [MOST_A_CALL] * (len(took) - 1)
+        assert reads == (calls_for(len(data)) + 1 if data else 0)
         return reads, took
 
-    def test_a_writer_breaks_at_each_call(self):
-        """What the calls before took is out, and the writer is not called again."""
-        for words, data, out in self.sessions + self.texts:
-            reads, took = self.whole(words, data, out)
-            self.all_ended(
-                (words, data, {'WRITE': str(call + 1), 'ERROR': str(error)},
-                 (Answer(3, out[:sum(took[:call])], 'write failed\n'), reads, [*took[:call], -1 if error else 0]))
-                for call in range(len(took)) for error in WRITE_ERRORS)
 
-    def test_a_reader_breaks_at_each_call(self):
-        """Nothing is written, and the reader is not called again."""
-        for words, data, out in self.sessions:
-            reads, _ = self.whole(words, data, out)
-            self.all_ended(
-                (words, data, {'READ': str(call), 'ERROR': str(error)}, (Answer(3, b'', 'read failed\n'), call, []))
-                for call in range(1, reads + 1) for error in READ_ERRORS)
-
-    def test_a_reader_gives_as_many_bytes_a_call_as_it_likes(self):
-        for words, data, out in self.sessions:
-            for most in (1, 2, len(data)):
-                found, reads, _ = self.ended('likes', words, data, MOST=str(most))
-                with self.subTest(words=words, most=most):
-                    self.assertEqual((found, reads), (Answer(0, out, ''), -(-len(data) // most) + 1))
-
-    def test_a_long_run_goes_out_in_pages(self):
-        """10,000 segments without a loss: the start, and four events for each segment."""
-        text = FIRST.replace(b'sim 1000000000', b'sim 1000000000000000').replace(b' 8000000 ', b' 8000000000 ')
-        text = text.replace(b'droptail 10', b'droptail 100').replace(b' 1000 1 0 ', b' 1000 10000 0 ')
-        found, _, took = self.ended('pages', ('run',), text, MOST='1000000000')
-        self.assertEqual((found.status, found.note, found.out[-11:]), (0, '', b'\nend 40001\n'))
-        self.assertGreater(len(found.out), 2_000_000)
-        self.assertEqual(sum(took), len(found.out))
-        self.assertLessEqual(max(took), 65_536)
-
-    def test_a_call_behind_the_last_is_not_made(self):
-        for words, data, out in self.sessions:
-            reads, took = self.whole(words, data, out)
-            self.all_ended((words, data, {name: str(1 + last), 'ERROR': str(EIO)}, (Answer(0, out, ''), reads, took))
-                           for name, last in (('READ', reads), ('WRITE', len(took))))
+@pytest.fixture(scope='module')
+def ends(library, tmp_path_factory):
+    return Ends(library('refuse_ends'), tmp_path_factory.mktemp('ends'))
 
 
-class Signals(Case):
-    def test_no_signal_interrupts_a_read(self):
-        """The program waits for its input, and is stopped and sent what it does not die of: it goes on."""
-        trace = read('examples', 'one_segment.trace')
-        process = subprocess.Popen([PROGRAM, 'run'], stdin=subprocess.PIPE, stdout=subprocess.PIPE,
-                                   stderr=subprocess.PIPE)
-        with process:
-            for piece in (FIRST[:50], FIRST[50:100], FIRST[100:]):
-                for number in (signal.SIGSTOP, signal.SIGCONT, signal.SIGCHLD, signal.SIGURG, signal.SIGWINCH):
-                    self.assertTrue(waits(process.pid, 'T' if number == signal.SIGCONT else 'S'))
-                    process.send_signal(number)
-                process.stdin.write(piece)
-                process.stdin.flush()
-            out, note = process.communicate()
-        self.assertEqual((process.returncode, out, note), (0, trace, b''))
+@pytest.mark.wants(cc='gcc')
+def test_a_writer_breaks_at_each_call(ends):
+    """What the calls before took is out, and the writer is not called again."""
+    for words, data, out in ends.sessions + ends.texts:
+        reads, took = ends.whole(words, data, out)
+        ends.all_ended(
+            (words, data, {'WRITE': str(call + 1), 'ERROR': str(error)},
+             (Answer(3, out[:sum(took[:call])], 'write failed\n'), reads, [*took[:call], -1 if error else 0]))
+            for call in range(len(took)) for error in WRITE_ERRORS)
+
+
+@pytest.mark.wants(cc='gcc')
+def test_a_reader_breaks_at_each_call(ends):
+    """Nothing is written, and the reader is not called again."""
+    for words, data, out in ends.sessions:
+        reads, _ = ends.whole(words, data, out)
+        ends.all_ended(
+            (words, data, {'READ': str(call), 'ERROR': str(error)}, (Answer(3, b'', 'read failed\n'), call, []))
+            for call in range(1, reads + 1) for error in READ_ERRORS)
+
+
+@pytest.mark.wants(cc='gcc')
+def test_a_reader_gives_as_many_bytes_a_call_as_it_likes(ends):
+    for words, data, out in ends.sessions:
+        for most in (1, 2, len(data)):
+            found, reads, _ = ends.ended('likes', words, data, MOST=str(most))
+            assert (found, reads) == (Answer(0, out, ''), -(-len(data) // most) + 1)
+
+
+@pytest.mark.wants(cc='gcc')
+def test_a_long_run_goes_out_in_pages(ends):
+    """10,000 segments without a loss: the start, and four events for each segment."""
+    text = FIRST.replace(b'sim 1000000000', b'sim 1000000000000000').replace(b' 8000000 ', b' 8000000000 ')
+    text = text.replace(b'droptail 10', b'droptail 100').replace(b' 1000 1 0 ', b' 1000 10000 0 ')
+    found, _, took = ends.ended('pages', ('run',), text, MOST='1000000000')
+    assert (found.status, found.note, found.out[-11:]) == (0, '', b'\nend 40001\n')
+    assert len(found.out) > 2_000_000
+    assert sum(took) == len(found.out)
+    assert max(took) <= 65_536
+
+
+@pytest.mark.wants(cc='gcc')
+def test_a_call_behind_the_last_is_not_made(ends):
+    for words, data, out in ends.sessions:
+        reads, took = ends.whole(words, data, out)
+        ends.all_ended((words, data, {name: str(1 + last), 'ERROR': str(EIO)}, (Answer(0, out, ''), reads, took))
+                  for name, last in (('READ', reads), ('WRITE', len(took))))
+
+
+def test_no_signal_interrupts_a_read():
+    """The program waits for its input, and is stopped and sent what it does not die of: it goes on."""
+    trace = read('examples', 'one_segment.trace')
+    process = subprocess.Popen([PROGRAM, 'run'], stdin=subprocess.PIPE, stdout=subprocess.PIPE,
+                               stderr=subprocess.PIPE)
+    with process:
+        for piece in (FIRST[:50], FIRST[50:100], FIRST[100:]):
+            for number in (signal.SIGSTOP, signal.SIGCONT, signal.SIGCHLD, signal.SIGURG, signal.SIGWINCH):
+                assert waits(process.pid, 'T' if number == signal.SIGCONT else 'S')
+                process.send_signal(number)
+            process.stdin.write(piece)
+            process.stdin.flush()
+        out, note = process.communicate()
+    assert (process.returncode, out, note) == (0, trace, b'')
 
 
 def waits(process, state):
@@ -757,23 +748,3 @@ def waits(process, state):
                 return True
         time.sleep(0.001)
     return False
-
-
-def main():
-    global PROGRAM
-    words = argparse.ArgumentParser(description=__doc__.partition('\n\n')[0])
-    words.add_argument('--program', default=PROGRAM)
-    given, rest = words.parse_known_args()
-    PROGRAM = given.program
-    if not os.path.exists(PROGRAM):
-        print(f"{PROGRAM} is not there: build it with 'make run'")
-        print('LEFT OUT, not passed: dev/test_bounds.py')
-        return 0
-    done = unittest.main(argv=[sys.argv[0], *rest], exit=False).result
-    failed = len({getattr(test, 'test_case', test).id() for test, _ in done.failures + done.errors})
-    print(f'{done.testsRun - failed} passed, {failed} failed')
-    return 1 if failed else 0
-
-
-if __name__ == '__main__':
-    sys.exit(main())

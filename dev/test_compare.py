@@ -1,21 +1,16 @@
-#!/usr/bin/env python3
 """Tests of dev/compare.py at a prompt: a program that is right differs in no session, and each of some that are
 wrong in one place differs in one. These programs are the model with one thing changed.
-
-Usage: dev/test_compare.py. The last line is 'N passed, N failed'.
 """
 import argparse
 import os
 import random
-import subprocess
 import sys
-import tempfile
-import unittest
-from unittest import mock
+
+import pytest
 
 import compare
 from compare import debugger, prompt
-from paths import TOP
+from clone import TOP, ran
 from tcpsim_model import grammar, waits
 from tcpsim_model.scenario import Refused
 
@@ -139,58 +134,48 @@ def answers(case):
     return compare.model_answers_kept.__wrapped__(*case, compare.MOST_BYTES)
 
 
-class Prompts(unittest.TestCase):
-    def test_each_fault_is_found(self):
-        for name, (step, place, attribute, wrong) in FAULTS.items():
-            with self.subTest(fault=name):
-                for case in cases(ENOUGH, max(step, prompt.STEPS)):
-                    expected = answers(case)
-                    with mock.patch.object(place, attribute, wrong):
-                        if not compare.agree(answers(case), expected):
-                            break
-                else:
-                    self.fail('no session shows it')
+@pytest.mark.parametrize('step, place, attribute, wrong', FAULTS.values(), ids=FAULTS)
+def test_each_fault_is_found(step, place, attribute, wrong):
+    for case in cases(ENOUGH, max(step, prompt.STEPS)):
+        expected = answers(case)
+        with pytest.MonkeyPatch.context() as patch:
+            patch.setattr(place, attribute, wrong)
+            if not compare.agree(answers(case), expected):
+                return
+    pytest.fail('no session shows it')
 
-    def compared(self, fault, count):
-        """The status and the output of a comparison with a program that has this fault."""
-        with tempfile.TemporaryDirectory() as folder:
-            path = os.path.join(folder, 'tcpsim')
-            with open(path, 'w', encoding='ascii') as file:
-                file.write(STAND_IN.format(python=sys.executable, model=os.path.join(TOP, 'python'), fault=fault))
-            os.chmod(path, 0o755)
-            done = subprocess.run([sys.executable, os.path.join(TOP, 'dev', 'compare.py'), '--kind', 'prompt',
-                                   '--count', str(count), '--program', path], capture_output=True, text=True, timeout=1200, check=False)
-        self.assertEqual(done.stderr, '')
+
+@pytest.fixture
+def compared(put):
+    """A function that answers the status and the output of a comparison with a program that has a fault."""
+    def run(fault, count):
+        path = put('tcpsim', STAND_IN.format(python=sys.executable, model=os.path.join(TOP, 'python'), fault=fault), 0o755)
+        done = ran(sys.executable, os.path.join(TOP, 'dev', 'compare.py'), '--kind', 'prompt', '--count', str(count), '--program', path,
+                   text=True, timeout=1200)
+        assert done.stderr == ''
         return done.returncode, done.stdout.splitlines()
-
-    def test_a_program_that_is_right(self):
-        self.assertEqual(self.compared('', 12), (0, ['prompt: 12 compared', '12 compared, 0 different']))
-
-    def test_a_program_that_is_wrong(self):
-        """What differs is shown, made shorter."""
-        status, shown = self.compared("prompt.PROMPT = '(tcpsim)'", 2)
-        self.assertEqual((status, shown[-1]), (1, '2 compared, 2 different'))
-        self.assertIn('same output', shown)
-
-    def test_a_prompt_of_no_step_has_the_other_forms_grammar(self):
-        for words, data in cases(60, 0):
-            scenario, keys = compare.parts_of(words, data)
-            lines = [line for line in keys.split(b'\n') if len(line) <= prompt.MOST_LINE and line.strip(b' ') != b'quit']
-            status, out, note = answers((words, scenario + compare.TYPED + b'\n'.join(lines)))
-            if status == 0:
-                text = compare.disassemble(compare.command_line.read(scenario))
-                whole = ''.join(debugger.session(text + b'---\n' + b'\n'.join(lines))).splitlines()
-                refused = [line for line in whole if line.startswith('refused ')]
-                self.assertEqual(out.decode().splitlines(), [line for line in whole if not line.startswith('refused ')])
-                self.assertEqual(note.replace(prompt.PROMPT, '').splitlines(), refused)
+    return run
 
 
-def main():
-    done = unittest.main(exit=False).result
-    failed = len({getattr(test, 'test_case', test).id() for test, _ in done.failures + done.errors})
-    print(f'{done.testsRun - failed} passed, {failed} failed')
-    return 1 if failed else 0
+def test_a_program_that_is_right(compared):
+    assert compared('', 12) == (0, ['prompt: 12 compared', '12 compared, 0 different'])
 
 
-if __name__ == '__main__':
-    sys.exit(main())
+def test_a_program_that_is_wrong(compared):
+    """What differs is shown, made shorter."""
+    status, shown = compared("prompt.PROMPT = '(tcpsim)'", 2)
+    assert (status, shown[-1]) == (1, '2 compared, 2 different')
+    assert 'same output' in shown
+
+
+def test_a_prompt_of_no_step_has_the_other_forms_grammar():
+    for words, data in cases(60, 0):
+        scenario, keys = compare.parts_of(words, data)
+        lines = [line for line in keys.split(b'\n') if len(line) <= prompt.MOST_LINE and line.strip(b' ') != b'quit']
+        status, out, note = answers((words, scenario + compare.TYPED + b'\n'.join(lines)))
+        if status == 0:
+            text = compare.disassemble(compare.command_line.read(scenario))
+            whole = ''.join(debugger.session(text + b'---\n' + b'\n'.join(lines))).splitlines()
+            refused = [line for line in whole if line.startswith('refused ')]
+            assert out.decode().splitlines() == [line for line in whole if not line.startswith('refused ')]
+            assert note.replace(prompt.PROMPT, '').splitlines() == refused

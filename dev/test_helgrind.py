@@ -1,22 +1,20 @@
-#!/usr/bin/env python3
-"""Tries the built program's threads under Helgrind, which must report no data race: `pytest dev/test_helgrind.py` or
-`python3 dev/test_helgrind.py`, after `make run`.
+"""Tries the built program's threads under Helgrind, which must report no data race.
 
 Helgrind takes an instruction with a lock prefix for a read, and for no order between threads. So `objdump` lists
 these instructions and the exchanges with memory, and dev/atomics.c reports each to Helgrind, as a happens-before
-edge at its operand. Its control leaves the sites of one function out: then races are reported. It wants valgrind
-with its headers, objdump and a C compiler; where one lacks the tests are left out, which is said, or fail where CI
-is set. By `python3` the last line is `N passed, M failed`.
+edge at its operand. Its control leaves the sites of one function out: then races are reported.
 """
 import collections
 import os
 import re
 import subprocess
-import sys
-import tempfile
-import unittest
 
-from by_hand import PROGRAM, TOP, main, wants, wide
+import pytest
+
+import clone
+from clone import PROGRAM, wide
+
+pytestmark = [pytest.mark.built, pytest.mark.wants(valgrind='valgrind', objdump='binutils', cc='gcc')]
 
 HEADING = re.compile(r'[0-9a-f]+ <(.+)>:')
 LISTED = re.compile(r' *([0-9a-f]+):\t((?:[0-9a-f]{2} )+) *\t?(.*)')
@@ -66,6 +64,7 @@ Site = collections.namedtuple('Site', 'at bytes text function')
 
 
 # ---- the program's atomic instructions
+
 
 def sites(program):
     """Its atomic instructions, as `objdump` lists them."""
@@ -123,56 +122,45 @@ def stubs(chosen):
 
 def build(chosen, folder):
     """The library that tells Helgrind of these sites."""
-    source, library = os.path.join(folder, 'stubs.s'), os.path.join(folder, 'atomics.so')
+    source = os.path.join(folder, 'stubs.s')
     with open(source, 'w', encoding='utf-8') as file:
         file.write(stubs(chosen))
-    subprocess.run(['cc', '-O1', '-shared', '-fPIC', '-fvisibility=hidden', os.path.join(TOP, 'dev', 'atomics.c'),
-                    source, '-o', library], check=True)
-    return library
+    return clone.library(folder, 'atomics', '-fvisibility=hidden', source)
 
 
 # ---- the runs
 
-@wants(valgrind='valgrind', objdump='binutils', cc='gcc')
-class Helgrind(unittest.TestCase):
-    @classmethod
-    def setUpClass(cls):
-        cls.folder = tempfile.TemporaryDirectory()
-        cls.addClassCleanup(cls.folder.cleanup)
-        cls.scenario = os.path.join(cls.folder.name, 'wide.txt')
-        with open(cls.scenario, 'wb') as file:
-            file.write(wide('1200ms'))
-        cls.sites = sites(PROGRAM)
-        cls.plain = subprocess.run([PROGRAM, 'run', cls.scenario], capture_output=True, check=True).stdout
+@pytest.fixture(scope='module')
+def reports(tmp_path_factory):
+    """A function that answers how many races Helgrind reports in a run by workers, where it is told of some sites."""
+    folder = str(tmp_path_factory.mktemp('helgrind'))
+    scenario, log = os.path.join(folder, 'wide.txt'), os.path.join(folder, 'log')
+    with open(scenario, 'wb') as file:
+        file.write(wide('1200ms'))
+    plain_trace = subprocess.run([PROGRAM, 'run', scenario], capture_output=True, check=True).stdout
 
-    def reports(self, chosen, workers):
-        """How many races Helgrind reports in a run by workers, where it is told of these sites."""
-        log = os.path.join(self.folder.name, 'log')
+    def count(chosen, workers):
         words = ['valgrind', '--tool=helgrind', '--fair-sched=yes', '--history-level=none', '--error-limit=no',
-                 f'--log-file={log}', PROGRAM, 'run', '--groups', 'auto', '--workers', str(workers), self.scenario]
-        env = {**os.environ, 'LD_PRELOAD': build(chosen, self.folder.name)}
-        written = subprocess.run(words, env=env, stdout=subprocess.PIPE, check=True).stdout
-        self.assertTrue(written == self.plain)
+                 f'--log-file={log}', PROGRAM, 'run', '--groups', 'auto', '--workers', str(workers), scenario]
+        env = {**os.environ, 'LD_PRELOAD': build(chosen, folder)}
+        assert subprocess.run(words, env=env, stdout=subprocess.PIPE, check=True).stdout == plain_trace
         with open(log, encoding='utf-8', errors='replace') as file:
-            said = file.read()
-        self.said = said
-        return int(REPORTS.search(said)[1])
-
-    def test_no_race_is_reported(self):
-        for workers in (2, 3, 4, 8):
-            with self.subTest(workers=workers):
-                self.assertEqual(self.reports(self.sites, workers), 0, self.said[:2000])
-
-    def test_races_are_reported_where_one_function_is_left_out(self):
-        """Those with the most sites first. Of many functions the sites can lack: others order what the threads share."""
-        functions = collections.Counter(plain(it.function) for it in self.sites)
-        found = {}
-        for name, _ in functions.most_common():
-            found[name] = self.reports([it for it in self.sites if plain(it.function) != name], 4)
-            if found[name] >= 1000:
-                return
-        self.fail(f'reports without the sites of one function: {found}')
+            return int(REPORTS.search(file.read())[1])
+    return count
 
 
-if __name__ == '__main__':
-    sys.exit(main('the threads under Helgrind'))
+@pytest.mark.parametrize('workers', [2, 3, 4, 8])
+def test_no_race_is_reported(reports, workers):
+    assert reports(sites(PROGRAM), workers) == 0
+
+
+def test_races_are_reported_where_one_function_is_left_out(reports):
+    """Those with the most sites first. Of many functions the sites can lack: others order what the threads share."""
+    all_sites = sites(PROGRAM)
+    functions = collections.Counter(plain(it.function) for it in all_sites)
+    found = {}
+    for name, _ in functions.most_common():
+        found[name] = reports([it for it in all_sites if plain(it.function) != name], 4)
+        if found[name] >= 1000:
+            return
+    pytest.fail(f'reports without the sites of one function: {found}')

@@ -1,21 +1,14 @@
-#!/usr/bin/env python3
 """Tries the built program with images: which are a scenario, and the first fault of others, at each bound of
 each number and for each fault of the whole. What is expected stands in the tables below, worked out by hand
-from docs/FORMATS.md. It goes after `make run`.
-
-Usage: dev/test_images.py [--program PATH] [TEST..]. The last line is 'N passed, N failed'.
-"""
-import argparse
+from docs/FORMATS.md."""
 import itertools
-import os
 import struct
-import subprocess
-import sys
-import unittest
 
-TOP = os.path.dirname(os.path.dirname(os.path.abspath(__file__)))
-PROGRAM = os.path.join(TOP, 'crates', 'tcpsim', 'out', 'tcpsim')
-LONGEST = 60                # seconds that a run may take
+import pytest
+
+import clone
+
+pytestmark = pytest.mark.built
 S, R, P = 0, 1, 2           # sender, receiver, router
 
 # A sender, two routers and a receiver in a row; the first link with CoDel and three lost packets, the third
@@ -158,125 +151,124 @@ def with_bytes(data, place, digits):
 
 def outcome(data, word='asm'):
     """What the program comes to: its output, or the code of a refusal."""
-    done = subprocess.run([PROGRAM, word], input=data, capture_output=True, timeout=LONGEST, check=False)
-    if done.returncode == 0:
-        return done.stdout
-    assert (done.returncode, done.stdout) == (1, b''), done
-    return done.stderr.decode().removeprefix('refused ').removesuffix('\n')
+    status, note, out = clone.outcome([word], data)
+    if status == 0:
+        return out
+    assert (status, out) == (1, b''), note
+    return note.decode().removeprefix('refused ').removesuffix('\n')
 
 
-class Images(unittest.TestCase):
-    def expect(self, row, data, fault):
-        self.assertEqual(outcome(data), fault or data, row)
-
-    def judged(self, row, data, is_right, fault='L3'):
-        """Refused for this fault exactly where it is not right; for none that is looked for before."""
-        found = outcome(data)
-        self.assertEqual(found != fault, is_right, row)
-        self.assertNotIn(found, ('L1', 'L2', 'L3', 'L4') if fault == 'L5' else ('L1', 'L2', 'L4'), row)
-
-    # ---- loading and saving
-
-    def test_an_image_is_loaded_and_saved_again(self):
-        self.expect('row', ROW, None)
-
-    def test_too_few_bytes_come_before_all_else(self):
-        data = with_bytes(ROW, 22, '03')        # of no kind of node
-        self.expect('whole', data, 'L3')
-        for size in range(3, len(data)):
-            self.expect(size, data[:size], 'L1')
-
-    def test_the_first_fault_of_an_image_counts(self):
-        for place, digits, fault in CHANGED:
-            self.expect((place, digits), with_bytes(ROW, place, digits), fault)
-
-    def test_an_image_of_the_first_version_is_saved_in_the_second(self):
-        self.assertEqual((len(FIRST), len(SECOND)), (134, 135))
-        for data in (FIRST, SECOND):
-            self.assertEqual(outcome(data), SECOND)
-
-    def test_a_last_byte_tells_the_variant(self):
-        for digits, words in SENDERS:
-            data = with_bytes(SECOND, 134, digits)
-            self.expect(digits, data, None)
-            self.assertTrue(outcome(data, 'dis').decode().endswith(f' {words}\n'))
-
-    def test_the_fourth_byte_tells_which_layout_is_judged(self):
-        for data, place, digits, fault in LAYOUTS:
-            self.expect((place, digits, fault), with_bytes(data, place, digits), fault)
-
-    # ---- ranges; two senders are no scenario, but numbers are judged first
-
-    def test_codel_has_limits(self):
-        for *codel, is_right in CODEL:
-            self.judged(codel, image([S, S], [link(0, 1, codel=codel)], [flow(0, 1)], end=1), is_right)
-
-    def test_a_link_has_limits(self):
-        for *numbers, is_right in LINKS:
-            self.judged(numbers, image([S, S], [link(*numbers)], [flow(0, 1)], end=1), is_right)
-
-    def test_lost_packets_have_limits(self):
-        for lost, is_right in LOST:
-            self.judged(lost, image([S, S], [link(0, 1, lost=lost)], [flow(0, 1)], end=1), is_right)
-
-    def test_a_flow_has_limits(self):
-        for *numbers, is_right in FLOWS:
-            self.judged(numbers, image([S, S], [link(0, 1)], [flow(*numbers)], end=100), is_right)
-
-    def test_routes_have_limits_and_an_order(self):
-        def of(nodes, links, *routes):
-            return image([S] * nodes, [link(0, 1)] * links, [flow(0, 1)], routes, end=1)
-        for *route, is_within, is_later in ROUTES:
-            self.judged(route, of(4, 6, route), is_within)
-            # With one node and one link more all of them are there, so that the order alone counts.
-            self.judged(route, of(5, 7, route), True)
-            self.judged(route, of(5, 7, (2, 1, 0), route), is_later)
-
-    def test_an_end_and_the_counts_have_limits(self):
-        for end, nodes, links, flows, is_right in COUNTS:
-            self.judged((end, nodes, links, flows), image([S] * nodes, [link(0, 1)] * links, [flow(0, 1)] * flows, end=end), is_right)
-        # As many routes as there may be are one for each two nodes, so one more does not rise either.
-        routes = list(itertools.product(range(256), range(256), (0,)))
-        for more, is_right in ((), True), (((255, 255, 0),), False):
-            self.judged(more, image([S] * 256, [link(0, 1)] * 2, [flow(0, 1)], (*routes, *more), end=1), is_right)
-
-    # ---- the whole
-
-    def test_the_first_fault_of_one_flow_counts(self):
-        for first, second, ends, route, fault in OF_ONE_FLOW:
-            links = [link(*first), link(*second), link(2, 0)]
-            self.expect((first, second, ends, route), image([S, R, P], links, [flow(*ends)], [route]), fault)
-
-    def test_a_break_of_any_way_comes_before_a_return_of_one(self):
-        for one, other, fault in WAYS:
-            routes = list(TWO_ROUTES)
-            for place, route in (one, other):
-                routes[place] = route
-            data = image([S, S, P, P, R, R], [link(*ends) for ends in TWO_LINKS], [flow(0, 4), flow(1, 5)], routes)
-            self.expect((one, other), data, fault)
-
-    def test_a_sender_and_a_receiver_have_a_link_and_a_flow_each(self):
-        for *ends, one, other, is_right in ENDS:
-            links = [link(*it) for it in (*ends, (2, 1))]
-            self.judged((ends, one, other), image([S, R, P], links, [flow(*one), flow(*other)]), is_right, 'L5')
-
-    def test_a_router_has_1_to_16_links(self):
-        for count, is_right in ((0, False), (1, True), (16, True), (17, False)):
-            self.judged(count, image([P, P], [link(0, 1)] * count + [link(1, 0)], [flow(0, 1)]), is_right, 'L5')
+def expect(row, data, fault):
+    assert outcome(data) == (fault or data), row
 
 
-def main():
-    global PROGRAM  # pylint: disable=global-statement
-    words = argparse.ArgumentParser(description=__doc__.partition('\n')[0])
-    words.add_argument('--program', default=PROGRAM)
-    words.add_argument('tests', nargs='*')
-    args = words.parse_args()
-    PROGRAM = os.path.abspath(args.program)
-    done = unittest.main(argv=[sys.argv[0], *args.tests], exit=False).result
-    failed = len({getattr(test, 'test_case', test).id() for test, _ in done.failures + done.errors})
-    print(f'{done.testsRun - failed} passed, {failed} failed')
-    return 1 if failed else 0
+def judged(row, data, is_right, fault='L3'):
+    """Refused for this fault exactly where it is not right; for none that is looked for before."""
+    found = outcome(data)
+    assert (found != fault) == is_right, row
+    assert found not in (('L1', 'L2', 'L3', 'L4') if fault == 'L5' else ('L1', 'L2', 'L4')), row
+
+# ---- loading and saving
 
 
-if __name__ == '__main__':
-    sys.exit(main())
+def test_an_image_is_loaded_and_saved_again():
+    expect('row', ROW, None)
+
+
+def test_too_few_bytes_come_before_all_else():
+    data = with_bytes(ROW, 22, '03')        # of no kind of node
+    expect('whole', data, 'L3')
+    for size in range(3, len(data)):
+        expect(size, data[:size], 'L1')
+
+
+def test_the_first_fault_of_an_image_counts():
+    for place, digits, fault in CHANGED:
+        expect((place, digits), with_bytes(ROW, place, digits), fault)
+
+
+def test_an_image_of_the_first_version_is_saved_in_the_second():
+    assert (len(FIRST), len(SECOND)) == (134, 135)
+    for data in (FIRST, SECOND):
+        assert outcome(data) == SECOND
+
+
+def test_a_last_byte_tells_the_variant():
+    for digits, words in SENDERS:
+        data = with_bytes(SECOND, 134, digits)
+        expect(digits, data, None)
+        assert outcome(data, 'dis').decode().endswith(f' {words}\n')
+
+
+def test_the_fourth_byte_tells_which_layout_is_judged():
+    for data, place, digits, fault in LAYOUTS:
+        expect((place, digits, fault), with_bytes(data, place, digits), fault)
+
+# ---- ranges; two senders are no scenario, but numbers are judged first
+
+
+def test_codel_has_limits():
+    for *codel, is_right in CODEL:
+        judged(codel, image([S, S], [link(0, 1, codel=codel)], [flow(0, 1)], end=1), is_right)
+
+
+def test_a_link_has_limits():
+    for *numbers, is_right in LINKS:
+        judged(numbers, image([S, S], [link(*numbers)], [flow(0, 1)], end=1), is_right)
+
+
+def test_lost_packets_have_limits():
+    for lost, is_right in LOST:
+        judged(lost, image([S, S], [link(0, 1, lost=lost)], [flow(0, 1)], end=1), is_right)
+
+
+def test_a_flow_has_limits():
+    for *numbers, is_right in FLOWS:
+        judged(numbers, image([S, S], [link(0, 1)], [flow(*numbers)], end=100), is_right)
+
+
+def test_routes_have_limits_and_an_order():
+    def of(nodes, links, *routes):
+        return image([S] * nodes, [link(0, 1)] * links, [flow(0, 1)], routes, end=1)
+    for *route, is_within, is_later in ROUTES:
+        judged(route, of(4, 6, route), is_within)
+        # With one node and one link more all of them are there, so that the order alone counts.
+        judged(route, of(5, 7, route), True)
+        judged(route, of(5, 7, (2, 1, 0), route), is_later)
+
+
+def test_an_end_and_the_counts_have_limits():
+    for end, nodes, links, flows, is_right in COUNTS:
+        judged((end, nodes, links, flows), image([S] * nodes, [link(0, 1)] * links, [flow(0, 1)] * flows, end=end), is_right)
+    # As many routes as there may be are one for each two nodes, so one more does not rise either.
+    routes = list(itertools.product(range(256), range(256), (0,)))
+    for more, is_right in ((), True), (((255, 255, 0),), False):
+        judged(more, image([S] * 256, [link(0, 1)] * 2, [flow(0, 1)], (*routes, *more), end=1), is_right)
+
+# ---- the whole
+
+
+def test_the_first_fault_of_one_flow_counts():
+    for first, second, ends, route, fault in OF_ONE_FLOW:
+        links = [link(*first), link(*second), link(2, 0)]
+        expect((first, second, ends, route), image([S, R, P], links, [flow(*ends)], [route]), fault)
+
+
+def test_a_break_of_any_way_comes_before_a_return_of_one():
+    for one, other, fault in WAYS:
+        routes = list(TWO_ROUTES)
+        for place, route in (one, other):
+            routes[place] = route
+        data = image([S, S, P, P, R, R], [link(*ends) for ends in TWO_LINKS], [flow(0, 4), flow(1, 5)], routes)
+        expect((one, other), data, fault)
+
+
+def test_a_sender_and_a_receiver_have_a_link_and_a_flow_each():
+    for *ends, one, other, is_right in ENDS:
+        links = [link(*it) for it in (*ends, (2, 1))]
+        judged((ends, one, other), image([S, R, P], links, [flow(*one), flow(*other)]), is_right, 'L5')
+
+
+def test_a_router_has_1_to_16_links():
+    for count, is_right in ((0, False), (1, True), (16, True), (17, False)):
+        judged(count, image([P, P], [link(0, 1)] * count + [link(1, 0)], [flow(0, 1)]), is_right, 'L5')

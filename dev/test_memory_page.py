@@ -1,18 +1,12 @@
-#!/usr/bin/env python3
-"""Tests of docs/MEMORY.md against the sources of the crates: the page has every public call that can be
-refused memory, each clause that it names stands at that call, and every other public call is among those
-that are never refused any.
-
-Usage: dev/test_memory_page.py. The last line is 'N passed, N failed'.
-"""
+"""Tests of docs/MEMORY.md against the sources of the crates: the page has every public call that can be refused memory,
+each clause that it names stands at that call, and every other public call is among those that are never refused any."""
 import collections
+import functools
 import os
 import re
-import sys
-import unittest
 
-TOP = os.path.dirname(os.path.dirname(os.path.abspath(__file__)))
-PAGE = os.path.join(TOP, 'docs', 'MEMORY.md')
+from clone import TOP, read_text
+
 # Crates that have tests alone and what these run by, and the program, which has no call but `main`.
 WITHOUT_CALLS = {'end_trials', 'text_trials', 'part_trials', 'net_trials', 'engine_trials', 'trials', 'tcpsim'}
 # What the last column says in the place of clauses.
@@ -24,8 +18,7 @@ Call = collections.namedtuple('Call', 'crate file owner name taken answer clause
 
 
 def crates():
-    with open(os.path.join(TOP, 'crates.txt'), encoding='utf-8') as file:
-        names = re.findall(r'^(\w+).*:', file.read(), re.M)
+    names = re.findall(r'^(\w+).*:', read_text('crates.txt'), re.M)
     return [name for name in names if name not in WITHOUT_CALLS]
 
 
@@ -34,8 +27,7 @@ def sources(crate):
     top = os.path.join(TOP, 'crates', crate, 'src')
     for at, _, files in sorted(os.walk(top)):
         for file in sorted(files):
-            with open(os.path.join(at, file), encoding='utf-8') as it:
-                yield os.path.relpath(os.path.join(at, file), top), it.read()
+            yield os.path.relpath(os.path.join(at, file), top), read_text(at, file)
 
 
 def visible(crate):
@@ -131,8 +123,7 @@ def name_of(call):
 def sections():
     """Of each crate of the page: the rows of calls that can be refused or go on without, and the names of those
     that are never refused."""
-    with open(PAGE, encoding='utf-8') as file:
-        parts = re.split(r'^## (.*)\n', file.read(), flags=re.M)
+    parts = re.split(r'^## (.*)\n', read_text('docs', 'MEMORY.md'), flags=re.M)
     return dict(zip(parts[1::2], parts[2::2]))
 
 
@@ -166,79 +157,77 @@ REFUSED, GOES_ON, TOLD, NEVER = ('Calls that can be refused', 'Calls that go on 
                                  'Answers that name the refusal of another call', 'Calls that are never refused')
 
 
-class Page(unittest.TestCase):
-    @classmethod
-    def setUpClass(cls):
-        cls.calls = {(crate, name_of(call)): call for crate in crates() for call in public_calls(crate)}
-        page = sections()
-        cls.tables = {name: list(rows(page[name])) for name in (REFUSED, GOES_ON, TOLD)}
-        cls.never = [(crate, name) for crate, text in by_crate(page[NEVER])
-                     for name in re.findall(r'`([^`]+)`', text)]
+@functools.cache
+def calls():
+    """All public calls, by their crates and names."""
+    return {(crate, name_of(call)): call for crate in crates() for call in public_calls(crate)}
 
-    def named(self, *tables):
-        return [(crate, name) for table in tables for crate, name, _, _ in self.tables[table]]
 
-    def test_the_sources_are_read(self):
-        """Some calls of each sort, read from the sources, so that no test here goes over nothing."""
-        for crate, name, clauses in (('packet_chain', 'PacketCell::new', ['ok', 'err']),
-                                     ('net_machine', 'Net::copy', ['']),
-                                     ('window_core', 'Window::new', None), ('window_engine', 'Sink::put', None),
-                                     ('trace_text', 'line_text', ['ok', 'err'])):
-            self.assertIn((crate, name), self.calls)
-            if clauses:
-                self.assertEqual(self.calls[crate, name].clauses, clauses)
-        self.assertGreater(len(self.calls), 250)
-        self.assertEqual({crate for crate, _ in self.calls} | {'table_run', 'window_law'}, set(crates()))
-        self.assertLessEqual({'AllocError', 'LoadFault', 'AsmFault', 'StepFault', 'GroupFault', 'TurnFault',
-                              'EngineFault', 'MoveFault', 'BreakFault', 'SessionFault'}, refusals())
+@functools.cache
+def table_of(name):
+    return list(rows(sections()[name]))
 
-    def test_every_call_that_can_be_refused_is_on_the_page(self):
-        types = refusals()
-        refused = {at for at, call in self.calls.items() if types & set(re.findall(r'\w+', call.answer))}
-        self.assertEqual(refused, set(self.named(REFUSED, TOLD)))
 
-    def test_every_call_stands_once(self):
-        named = self.named(REFUSED, GOES_ON, TOLD) + self.never
-        self.assertEqual([at for at, count in collections.Counter(named).items() if count > 1], [])
-        self.assertEqual(set(named) - set(self.calls), set(), 'on the page and no public call')
-        self.assertEqual(set(self.calls) - set(named), set(), 'a public call and not on the page')
+def never():
+    return [(crate, name) for crate, said in by_crate(sections()[NEVER]) for name in re.findall(r'`([^`]+)`', said)]
 
-    def test_clauses_stand_at_their_calls(self):
-        for table in (REFUSED, GOES_ON, TOLD):
-            for crate, name, _, said in self.tables[table]:
-                with self.subTest(crate=crate, call=name):
-                    call = self.calls[crate, name]
-                    clauses = re.findall(r'`(\w+)`', said)
-                    self.assertLessEqual(set(clauses), set(call.clauses) - {''})
-                    words = re.sub(r'`\w+`|[, ]+', ' ', said).strip()
-                    self.assertIn(words, (('',) if clauses else (READS, GIVEN, ONE_CLAUSE)))
-                    if words == ONE_CLAUSE:
-                        self.assertEqual(call.clauses, [''])
 
-    def test_what_is_only_read_is_lent(self):
-        """Where the page says that a call reads: nothing is lent to be changed or given away."""
-        for crate, name, _, said in self.tables[REFUSED]:
-            call = self.calls[crate, name]
-            kept = [is_kept(it) for it in arguments(call)]
-            with self.subTest(crate=crate, call=name):
-                if said == READS:
-                    self.assertTrue(all(kept), call.taken)
-                if said == GIVEN:
-                    self.assertFalse(all(kept), call.taken)
-                    self.assertNotIn('&mut', call.taken)
+def named(*tables):
+    return [(crate, name) for table in tables for crate, name, _, _ in table_of(table)]
+
+
+def test_the_sources_are_read():
+    """Some calls of each sort, read from the sources, so that no test here goes over nothing."""
+    for crate, name, clauses in (('packet_chain', 'PacketCell::new', ['ok', 'err']),
+                                 ('net_machine', 'Net::copy', ['']),
+                                 ('window_core', 'Window::new', None), ('window_engine', 'Sink::put', None),
+                                 ('trace_text', 'line_text', ['ok', 'err'])):
+        assert (crate, name) in calls()
+        if clauses:
+            assert calls()[crate, name].clauses == clauses
+    assert len(calls()) > 250
+    assert {crate for crate, _ in calls()} | {'table_run', 'window_law'} == set(crates())
+    assert {'AllocError', 'LoadFault', 'AsmFault', 'StepFault', 'GroupFault', 'TurnFault',
+                          'EngineFault', 'MoveFault', 'BreakFault', 'SessionFault'} <= refusals()
+
+
+def test_every_call_that_can_be_refused_is_on_the_page():
+    types = refusals()
+    refused = {at for at, call in calls().items() if types & set(re.findall(r'\w+', call.answer))}
+    assert refused == set(named(REFUSED, TOLD))
+
+
+def test_every_call_stands_once():
+    on_page = named(REFUSED, GOES_ON, TOLD) + never()
+    assert [at for at, count in collections.Counter(on_page).items() if count > 1] == []
+    assert set(on_page) - set(calls()) == set(), 'on the page and no public call'
+    assert set(calls()) - set(on_page) == set(), 'a public call and not on the page'
+
+
+def test_clauses_stand_at_their_calls():
+    for table in (REFUSED, GOES_ON, TOLD):
+        for crate, name, _, said in table_of(table):
+            call = calls()[crate, name]
+            clauses = re.findall(r'`(\w+)`', said)
+            assert set(clauses) <= set(call.clauses) - {''}
+            words = re.sub(r'`\w+`|[, ]+', ' ', said).strip()
+            assert words in (('',) if clauses else (READS, GIVEN, ONE_CLAUSE))
+            if words == ONE_CLAUSE:
+                assert call.clauses == ['']
+
+
+def test_what_is_only_read_is_lent():
+    """Where the page says that a call reads: nothing is lent to be changed or given away."""
+    for crate, name, _, said in table_of(REFUSED):
+        call = calls()[crate, name]
+        kept = [is_kept(it) for it in arguments(call)]
+        if said == READS:
+            assert all(kept), call.taken
+        if said == GIVEN:
+            assert not all(kept), call.taken
+            assert '&mut' not in call.taken
 
 
 def is_kept(argument):
     """Whether who gives it keeps it as it was."""
     return argument.startswith('&') and not argument.startswith('&mut') or bool(PLAIN.search(argument))
-
-
-def main():
-    done = unittest.main(exit=False).result
-    failed = len({getattr(test, 'test_case', test).id() for test, _ in done.failures + done.errors})
-    print(f'{done.testsRun - failed} passed, {failed} failed')
-    return 1 if failed else 0
-
-
-if __name__ == '__main__':
-    sys.exit(main())

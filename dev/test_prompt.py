@@ -1,13 +1,10 @@
-#!/usr/bin/env python3
 """Tests of `tcpsim debug FILE` with the built program: commands are typed one by one, into a pseudo-terminal and
 into pipes, and each answer has to be out before the next command goes in. And tests of what the program says at a
 terminal alone.
 
-What a line answers is what the model of python/tcpsim_model says of it. It goes after `make run`.
-Usage: dev/test_prompt.py [--program PATH] [--steps N] [TEST..]. --steps N is for a program whose prompt has the
-first N steps of its grammar (python/tcpsim_model/prompt.py), else all. The last line is 'N passed, N failed'.
+What a line answers is what the model of python/tcpsim_model says of it. `pytest --steps N` is for a program whose prompt
+has the first N steps of its grammar (python/tcpsim_model/prompt.py), else all.
 """
-import argparse
 import glob
 import os
 import pty
@@ -16,28 +13,28 @@ import re
 import select
 import signal
 import subprocess
-import sys
 import tempfile
 import termios
 import time
 import tty
-import unittest
 
-from paths import TOP
+import pytest
+
+import clone
+from clone import PROGRAM, TOP, paths, read, read_text
 from tcpsim_model import debugger, prompt, sessions, simulate
 from tcpsim_model.scenario import Refused
 from tcpsim_model.command_line import read as scenario_in
 
-PROGRAM = os.path.join(TOP, 'crates', 'tcpsim', 'out', 'tcpsim')
+pytestmark = pytest.mark.built
 PROMPT = b'(tcpsim) '
 LONGEST = 60        # seconds that a session may take
 MOST_LINE = 65_536  # bytes of a line
-STEPS = prompt.BUILT
+STEPS = clone.STEPS or prompt.BUILT
 # What is noted of a line that is refused as no command.
 NO_NAME = b'refused B1\nB1: no command has this name, or no sort of breakpoint\n'
 
-ONE = os.path.join(TOP, 'examples', 'one_segment.txt')
-TWO = os.path.join(TOP, 'examples', 'two_timeouts_in_a_row.txt')
+ONE, TWO = (paths(name)[0] for name in ('one_segment', 'two_timeouts_in_a_row'))
 HUNT = [b'break kind rto', b'run', b'run', b'back 2', b'clear', b'break drop', b'back 25', b'run', b'state']
 # What each step of the grammar brought: lines typed over the two timeouts, and the refusals of some.
 LINES = {
@@ -87,11 +84,6 @@ def of_steps(found):
     return [it for step, those in found.items() if step <= STEPS for it in those]
 
 
-def read(path):
-    with open(path, 'rb') as file:
-        return file.read()
-
-
 def scenario(path):
     return scenario_in(read(path))
 
@@ -122,8 +114,7 @@ def debug(path, given, *options, **more):
 def page():
     """What docs/DEBUGGING.md shows: of each session its file, its lines and what is answered, and of each command of
     the shell what it prints. A line `...` stands for some lines that are left out."""
-    with open(os.path.join(TOP, 'docs', 'DEBUGGING.md'), encoding='utf-8') as file:
-        blocks = re.findall(r'^```\n(.*?)^```$', file.read(), re.M | re.S)
+    blocks = re.findall(r'^```\n(.*?)^```$', read_text('docs', 'DEBUGGING.md'), re.M | re.S)
     sessions_, commands = [], []
     for block in blocks:
         for line in block.splitlines():
@@ -197,173 +188,179 @@ class Typed:
         return status, rest
 
 
-class AtThePrompt(unittest.TestCase):
-    def typed(self, path, lines, *options, terminal):
-        """Types lines one by one: each is answered before the next one is asked for."""
-        session = Typed(path, *options, terminal=terminal)
-        self.assertEqual(session.until_asked(), b'')
-        self.assertEqual(session.shown(), b'')
-        for line, (answer, note) in zip(lines, answers(path, lines)):
-            session.type(line + b'\n')
-            noted = session.until_asked()
-            with self.subTest(line=line, terminal=terminal):
-                self.assertEqual((session.shown(), noted), (answer, note))
-        session.type(b'quit\n')
-        self.assertEqual(session.end(), (0, b''))
+def typed(path, lines, *options, terminal):
+    """Types lines one by one: each is answered before the next one is asked for."""
+    session = Typed(path, *options, terminal=terminal)
+    assert session.until_asked() == b''
+    assert session.shown() == b''
+    for line, (answer, note) in zip(lines, answers(path, lines)):
+        session.type(line + b'\n')
+        noted = session.until_asked()
+        assert (session.shown(), noted) == (answer, note)
+    session.type(b'quit\n')
+    assert session.end() == (0, b'')
 
-    def test_each_answer_is_out_before_the_next_command_goes_in(self):
-        lines, refused = of_steps(LINES), [line for line, _ in of_steps(REFUSALS)]
-        for terminal in (True, False):
-            self.typed(TWO, lines, terminal=terminal)
-            self.typed(TWO, lines, '--workers', '2', '--groups', 'each', terminal=terminal)
-            self.typed(ONE, refused + [b'', b'   ', b'step 3', b' back  2 '], terminal=terminal)
 
-    def test_random_commands(self):
-        pick = random.Random(35)
-        for count in range(40):
-            path = pick.choice((ONE, TWO))
-            net = simulate.Network(scenario(path))
-            moments = [line.time for line in iter(net.step, None)]
-            session = prompt.Prompt(net.scenario, STEPS)
-            lines = [line for line in (sessions.any_line(pick, net.scenario, moments, STEPS) for _ in range(12))
-                     if not session.quits(line)]
-            with self.subTest(count=count):
-                self.typed(path, lines, terminal=bool(count % 2))
+def test_each_answer_is_out_before_the_next_command_goes_in():
+    lines, refused = of_steps(LINES), [line for line, _ in of_steps(REFUSALS)]
+    for terminal in (True, False):
+        typed(TWO, lines, terminal=terminal)
+        typed(TWO, lines, '--workers', '2', '--groups', 'each', terminal=terminal)
+        typed(ONE, refused + [b'', b'   ', b'step 3', b' back  2 '], terminal=terminal)
 
-    def test_all_lines_at_once(self):
-        """What is there before it is asked for is answered in turn, with a prompt a line."""
-        lines = of_steps(LINES)
-        noted = b''.join(PROMPT + note for _, note in answers(TWO, lines)) + PROMPT
-        for groups in 'one', 'each':
-            for workers in '1', '2', '64':
-                told = debug(TWO, b''.join(line + b'\n' for line in lines), '--groups', groups, '--workers', workers)
-                with self.subTest(groups=groups, workers=workers):
-                    self.assertEqual(told, (0, model(TWO, lines), noted))
 
-    def test_the_end_of_input(self):
-        self.assertEqual(debug(ONE, b''), (0, b'', PROMPT))
-        for last in (b'step 3\n', b'step 3'):
-            self.assertEqual(debug(ONE, last), (0, model(ONE, [b'step 3']), PROMPT * 2))
+def test_random_commands():
+    pick = random.Random(35)
+    for count in range(40):
+        path = pick.choice((ONE, TWO))
+        net = simulate.Network(scenario(path))
+        moments = [line.time for line in iter(net.step, None)]
+        session = prompt.Prompt(net.scenario, STEPS)
+        lines = [line for line in (sessions.any_line(pick, net.scenario, moments, STEPS) for _ in range(12))
+                 if not session.quits(line)]
+        typed(path, lines, terminal=bool(count % 2))
 
-    def test_quit(self):
-        """Nothing behind the line is read: it is there for who reads on."""
-        for line in (b'quit', b'  quit ', b' quit', *((b'q', b' qu', b'qui') if STEPS else ())):
-            with tempfile.TemporaryFile() as keys:
-                keys.write(b'step 1\n' + line + b'\nstep 2\n')
-                keys.seek(0)
-                done = subprocess.run([PROGRAM, 'debug', ONE], stdin=keys, capture_output=True, timeout=LONGEST,
-                                      check=False)
-                self.assertEqual((done.returncode, done.stdout, done.stderr), (0, model(ONE, [b'step 1']), PROMPT * 2))
-                self.assertEqual(os.lseek(keys.fileno(), 0, os.SEEK_CUR), len(b'step 1\n' + line + b'\n'))
 
-    def test_refused_lines(self):
-        for line, code in of_steps(REFUSALS):
-            with self.subTest(line=line):
-                (_, note), = answers(ONE, [line])
-                self.assertTrue(note.startswith(b'refused ' + code + b'\n'))
-                self.assertEqual(debug(ONE, line + b'\nstep 1\n'), (0, model(ONE, [b'step 1']), PROMPT + note + PROMPT * 2))
+def test_all_lines_at_once():
+    """What is there before it is asked for is answered in turn, with a prompt a line."""
+    lines = of_steps(LINES)
+    noted = b''.join(PROMPT + note for _, note in answers(TWO, lines)) + PROMPT
+    for groups in 'one', 'each':
+        for workers in '1', '2', '64':
+            told = debug(TWO, b''.join(line + b'\n' for line in lines), '--groups', groups, '--workers', workers)
+            assert told == (0, model(TWO, lines), noted)
 
-    def test_the_nearest_command(self):
-        for word, nearest in ((b'stpe', b'step'), (b'bak', b'back'), (b'brak', b'break'), (b'brakes', b'breaks'), (b'halp', b'help'),
-                              (b'exit', b'quit'), (b'x', b'run'), (b'x' * 32, b'step'), (b'\xff\trun', b'run')):
-            with self.subTest(word=word):
-                shown = word.replace(b'\xff\t', b'??')
-                noted = PROMPT + NO_NAME + b'tcpsim: no command ' + shown + b'; the nearest is ' + nearest + b'\n' + PROMPT
-                for line in (word, b'  ' + word + b'  1'):
-                    self.assertEqual(debug(ONE, line + b'\n'), (0, b'', noted))
-        for line in (b'x' * 33, b'break n 0', b'state kind rto', b'help stpe'):
-            self.assertEqual(debug(ONE, line + b'\n'), (0, b'', PROMPT + NO_NAME + PROMPT))
 
-    def test_long_lines(self):
-        step = model(ONE, [b'step 1'])
-        for line, code in ((b'a' * MOST_LINE, b'B1'), (b'a' * (MOST_LINE + 1), b'B2'),
-                           (b'step 1' + b' ' * MOST_LINE, b'B2'), (b' ' * (MOST_LINE + 2) + b'quit', b'B2'),
-                           (b'b' * 3_000_000 + b' step 1', b'B2')):
-            with self.subTest(length=len(line), code=code):
-                told = debug(ONE, line + b'\nstep 1\n')
-                means = prompt.MEANINGS[code.decode()].encode()
-                self.assertEqual(told, (0, step, PROMPT + b'refused ' + code + b'\n' + means + b'\n' + PROMPT * 2))
-        self.assertEqual(debug(ONE, b'step 1'.ljust(MOST_LINE) + b'\n'), (0, step, PROMPT * 2))
+def test_the_end_of_input():
+    assert debug(ONE, b'') == (0, b'', PROMPT)
+    for last in (b'step 3\n', b'step 3'):
+        assert debug(ONE, last) == (0, model(ONE, [b'step 3']), PROMPT * 2)
 
-    def test_a_refused_scenario_has_no_prompt(self):
-        with tempfile.TemporaryDirectory() as folder:
-            path = os.path.join(folder, 'short.txt')
-            with open(path, 'wb') as file:
-                file.write(b'sim 5\nnode s sender\n')
-            with tempfile.TemporaryFile() as keys:
-                keys.write(b'step 1\n')
-                keys.seek(0)
-                done = subprocess.run([PROGRAM, 'debug', path], stdin=keys, capture_output=True, timeout=LONGEST,
-                                      check=False)
-                self.assertEqual((done.returncode, done.stdout, done.stderr), (1, b'', b'refused L3 line 0\n'))
-                self.assertEqual(os.lseek(keys.fileno(), 0, os.SEEK_CUR), 0)
-            self.assertEqual(debug(ONE, b'step 1\n', '--groups', '0'), (2, b'', b'refused groups\n'))
-            none = os.path.join(folder, 'none.txt')
-            self.assertEqual(debug(none, b'step 1\n'), (3, b'', f'cannot read {none}\n'.encode()))
-            self.assertEqual(debug(folder, b'step 1\n'), (3, b'', f'cannot read {folder}\n'.encode()))
 
-    def test_an_image(self):
-        with tempfile.TemporaryDirectory() as folder:
-            path = os.path.join(folder, 'one.tcb')
-            with open(path, 'wb') as file:
-                subprocess.run([PROGRAM, 'asm', ONE], stdout=file, check=True, timeout=LONGEST)
-            self.assertEqual(debug(path, b'step 3\n'), (0, model(ONE, [b'step 3']), PROMPT * 2))
-
-    def test_standard_input_has_both_where_no_file_is_named(self):
-        given = read(ONE) + b'---\nstep 3\nquit\n'
-        for words in ((), ('-',)):
-            done = subprocess.run([PROGRAM, 'debug', *words], input=given, capture_output=True, timeout=LONGEST,
+def test_quit():
+    """Nothing behind the line is read: it is there for who reads on."""
+    for line in (b'quit', b'  quit ', b' quit', *((b'q', b' qu', b'qui') if STEPS else ())):
+        with tempfile.TemporaryFile() as keys:
+            keys.write(b'step 1\n' + line + b'\nstep 2\n')
+            keys.seek(0)
+            done = subprocess.run([PROGRAM, 'debug', ONE], stdin=keys, capture_output=True, timeout=LONGEST,
                                   check=False)
-            expected = b''.join(piece.encode() for piece in debugger.session(given))
-            self.assertTrue(expected.endswith(b'refused B1\n'))
-            self.assertEqual((done.returncode, done.stdout, done.stderr), (0, expected, b''))
+            assert (done.returncode, done.stdout, done.stderr) == (0, model(ONE, [b'step 1']), PROMPT * 2)
+            assert os.lseek(keys.fileno(), 0, os.SEEK_CUR) == len(b'step 1\n' + line + b'\n')
 
-    def test_the_hunts_of_the_examples(self):
-        found = sorted(glob.glob(os.path.join(TOP, 'examples', '*.commands')))
-        self.assertEqual(len(found), 2)
-        for path in found:
-            given = read(path.replace('.commands', '.txt')) + b'---\n' + read(path)
-            done = subprocess.run([PROGRAM, 'debug'], input=given, capture_output=True, timeout=LONGEST, check=False)
-            expected = ''.join(debugger.session(given)).encode()
-            self.assertEqual((done.returncode, done.stdout, done.stderr), (0, expected, b''), path)
 
-    def test_the_page(self):
-        """What docs/DEBUGGING.md shows is what is answered."""
-        shown, commands = page()
-        self.assertEqual((len(shown), len(commands)), (3, 1))
-        for path, lines, (answer,) in shown:
-            status, out, _ = debug(path, b''.join(line + b'\n' for line in lines))
-            with self.subTest(path=path):
-                self.assertEqual(status, 0)
-                self.assertIsNotNone(re.fullmatch(answer, out.decode()), out.decode())
-        for line, (answer,) in commands:
-            done = subprocess.run(line.replace('crates/tcpsim/out/tcpsim', PROGRAM), shell=True, capture_output=True, cwd=TOP,
-                                  timeout=LONGEST, check=False)
-            self.assertEqual((done.returncode, done.stderr), (0, b''))
-            self.assertIsNotNone(re.fullmatch(answer, done.stdout.decode()), done.stdout)
+def test_refused_lines():
+    for line, code in of_steps(REFUSALS):
+        (_, note), = answers(ONE, [line])
+        assert note.startswith(b'refused ' + code + b'\n')
+        assert debug(ONE, line + b'\nstep 1\n') == (0, model(ONE, [b'step 1']), PROMPT + note + PROMPT * 2)
 
-    def test_an_interrupt_ends_it_as_any_program(self):
-        session = Typed(ONE, terminal=False)
-        session.until_asked()
-        session.type(b'step\n')
-        session.until_asked()
-        session.program.send_signal(signal.SIGINT)
-        self.assertEqual(session.end(), (-signal.SIGINT, b''))
 
-    def test_ends_that_fail(self):
-        with open('/dev/full', 'wb') as full:
-            done = subprocess.run([PROGRAM, 'debug', ONE], input=b'step 1\nstep 1\n', stdout=full,
-                                  stderr=subprocess.PIPE, timeout=LONGEST, check=False)
-            self.assertEqual((done.returncode, done.stderr), (3, PROMPT + b'write failed\n'))
-            # What fails on standard error is ignored.
-            done = subprocess.run([PROGRAM, 'debug', ONE], input=b'bak 1\nstep 3\n', stdout=subprocess.PIPE,
-                                  stderr=full, timeout=LONGEST, check=False)
-            self.assertEqual((done.returncode, done.stdout), (0, model(ONE, [b'step 3'])))
-        # A folder opens and cannot be read: no line comes.
-        keys = os.open(TOP, os.O_RDONLY)
-        self.addCleanup(os.close, keys)
-        done = subprocess.run([PROGRAM, 'debug', ONE], stdin=keys, capture_output=True, timeout=LONGEST, check=False)
-        self.assertEqual((done.returncode, done.stdout, done.stderr), (3, b'', PROMPT + b'read failed\n'))
+def test_the_nearest_command():
+    for word, nearest in ((b'stpe', b'step'), (b'bak', b'back'), (b'brak', b'break'), (b'brakes', b'breaks'), (b'halp', b'help'),
+                          (b'exit', b'quit'), (b'x', b'run'), (b'x' * 32, b'step'), (b'\xff\trun', b'run')):
+        shown = word.replace(b'\xff\t', b'??')
+        noted = PROMPT + NO_NAME + b'tcpsim: no command ' + shown + b'; the nearest is ' + nearest + b'\n' + PROMPT
+        for line in (word, b'  ' + word + b'  1'):
+            assert debug(ONE, line + b'\n') == (0, b'', noted)
+    for line in (b'x' * 33, b'break n 0', b'state kind rto', b'help stpe'):
+        assert debug(ONE, line + b'\n') == (0, b'', PROMPT + NO_NAME + PROMPT)
+
+
+def test_long_lines():
+    step = model(ONE, [b'step 1'])
+    for line, code in ((b'a' * MOST_LINE, b'B1'), (b'a' * (MOST_LINE + 1), b'B2'),
+                       (b'step 1' + b' ' * MOST_LINE, b'B2'), (b' ' * (MOST_LINE + 2) + b'quit', b'B2'),
+                       (b'b' * 3_000_000 + b' step 1', b'B2')):
+        told = debug(ONE, line + b'\nstep 1\n')
+        means = prompt.MEANINGS[code.decode()].encode()
+        assert told == (0, step, PROMPT + b'refused ' + code + b'\n' + means + b'\n' + PROMPT * 2)
+    assert debug(ONE, b'step 1'.ljust(MOST_LINE) + b'\n') == (0, step, PROMPT * 2)
+
+
+def test_a_refused_scenario_has_no_prompt():
+    with tempfile.TemporaryDirectory() as folder:
+        path = os.path.join(folder, 'short.txt')
+        with open(path, 'wb') as file:
+            file.write(b'sim 5\nnode s sender\n')
+        with tempfile.TemporaryFile() as keys:
+            keys.write(b'step 1\n')
+            keys.seek(0)
+            done = subprocess.run([PROGRAM, 'debug', path], stdin=keys, capture_output=True, timeout=LONGEST,
+                                  check=False)
+            assert (done.returncode, done.stdout, done.stderr) == (1, b'', b'refused L3 line 0\n')
+            assert os.lseek(keys.fileno(), 0, os.SEEK_CUR) == 0
+        assert debug(ONE, b'step 1\n', '--groups', '0') == (2, b'', b'refused groups\n')
+        none = os.path.join(folder, 'none.txt')
+        assert debug(none, b'step 1\n') == (3, b'', f'cannot read {none}\n'.encode())
+        assert debug(folder, b'step 1\n') == (3, b'', f'cannot read {folder}\n'.encode())
+
+
+def test_an_image():
+    with tempfile.TemporaryDirectory() as folder:
+        path = os.path.join(folder, 'one.tcb')
+        with open(path, 'wb') as file:
+            subprocess.run([PROGRAM, 'asm', ONE], stdout=file, check=True, timeout=LONGEST)
+        assert debug(path, b'step 3\n') == (0, model(ONE, [b'step 3']), PROMPT * 2)
+
+
+def test_standard_input_has_both_where_no_file_is_named():
+    given = read(ONE) + b'---\nstep 3\nquit\n'
+    for words in ((), ('-',)):
+        done = subprocess.run([PROGRAM, 'debug', *words], input=given, capture_output=True, timeout=LONGEST,
+                              check=False)
+        expected = b''.join(piece.encode() for piece in debugger.session(given))
+        assert expected.endswith(b'refused B1\n')
+        assert (done.returncode, done.stdout, done.stderr) == (0, expected, b'')
+
+
+def test_the_hunts_of_the_examples():
+    found = sorted(glob.glob(os.path.join(TOP, 'examples', '*.commands')))
+    assert len(found) == 2
+    for path in found:
+        given = read(path.replace('.commands', '.txt')) + b'---\n' + read(path)
+        done = subprocess.run([PROGRAM, 'debug'], input=given, capture_output=True, timeout=LONGEST, check=False)
+        expected = ''.join(debugger.session(given)).encode()
+        assert (done.returncode, done.stdout, done.stderr) == (0, expected, b''), path
+
+
+def test_the_page():
+    """What docs/DEBUGGING.md shows is what is answered."""
+    shown, commands = page()
+    assert (len(shown), len(commands)) == (3, 1)
+    for path, lines, (answer,) in shown:
+        status, out, _ = debug(path, b''.join(line + b'\n' for line in lines))
+        assert status == 0
+        assert re.fullmatch(answer, out.decode()) is not None, out.decode()
+    for line, (answer,) in commands:
+        done = subprocess.run(line.replace('crates/tcpsim/out/tcpsim', PROGRAM), shell=True, capture_output=True, cwd=TOP,
+                              timeout=LONGEST, check=False)
+        assert (done.returncode, done.stderr) == (0, b'')
+        assert re.fullmatch(answer, done.stdout.decode()) is not None, done.stdout
+
+
+def test_an_interrupt_ends_it_as_any_program():
+    session = Typed(ONE, terminal=False)
+    session.until_asked()
+    session.type(b'step\n')
+    session.until_asked()
+    session.program.send_signal(signal.SIGINT)
+    assert session.end() == (-signal.SIGINT, b'')
+
+
+def test_ends_that_fail():
+    with open('/dev/full', 'wb') as full:
+        done = subprocess.run([PROGRAM, 'debug', ONE], input=b'step 1\nstep 1\n', stdout=full,
+                              stderr=subprocess.PIPE, timeout=LONGEST, check=False)
+        assert (done.returncode, done.stderr) == (3, PROMPT + b'write failed\n')
+        # What fails on standard error is ignored.
+        done = subprocess.run([PROGRAM, 'debug', ONE], input=b'bak 1\nstep 3\n', stdout=subprocess.PIPE,
+                              stderr=full, timeout=LONGEST, check=False)
+        assert (done.returncode, done.stdout) == (0, model(ONE, [b'step 3']))
+    # A folder opens and cannot be read: no line comes.
+    keys = os.open(TOP, os.O_RDONLY)
+    done = subprocess.run([PROGRAM, 'debug', ONE], stdin=keys, capture_output=True, timeout=LONGEST, check=False)
+    assert (done.returncode, done.stdout, done.stderr) == (3, b'', PROMPT + b'read failed\n')
 
 
 # What is awaited where standard input is a terminal.
@@ -387,48 +384,26 @@ def beside_terminal(stream, *words):
         os.close(theirs)
 
 
-class AtATerminal(unittest.TestCase):
-    def test_what_is_awaited(self):
-        nothing = b'refused E10 line 0\n'
-        for words, awaited in ((('run',), WANTS_SCENARIO), (('run', '--groups', 'each', '--workers', '2'), WANTS_SCENARIO), (('asm',), WANTS_SCENARIO),
-                               (('dis',), WANTS_SCENARIO), (('figures',), WANTS_SCENARIO), (('debug',), WANTS_FILE), (('run', '-'), b''), (('debug', '-'), b'')):
-            self.assertEqual(beside_terminal('stdin', *words), (1, awaited + nothing), words)
-            done = subprocess.run([PROGRAM, *words], input=b'', capture_output=True, timeout=LONGEST, check=False)
-            self.assertEqual((done.returncode, done.stderr), (1, nothing), words)
-        self.assertEqual(beside_terminal('stdin', 'run', ONE), (0, b''))
-        self.assertEqual(beside_terminal('stdin', 'debug', ONE), (0, PROMPT))
-
-    def test_a_refusal_explains_itself(self):
-        with tempfile.TemporaryDirectory() as folder:
-            path = os.path.join(folder, 'wrong.txt')
-            with open(path, 'wb') as file:
-                file.write(b'sim 5\nnode s sendr\n')
-            for words in (*((word, path) for word in ('run', 'asm', 'dis', 'figures', 'debug')), ('run', '--groups', '0', ONE)):
-                done = subprocess.run([PROGRAM, *words, '--explain'], stdin=subprocess.DEVNULL, capture_output=True, timeout=LONGEST, check=False)
-                plain = subprocess.run([PROGRAM, *words], stdin=subprocess.DEVNULL, capture_output=True, timeout=LONGEST, check=False)
-                with self.subTest(words=words):
-                    self.assertTrue(done.stderr.startswith(plain.stderr) and len(done.stderr.splitlines()) > len(plain.stderr.splitlines()) == 1)
-                    self.assertEqual(beside_terminal('stderr', *words), (done.returncode, done.stderr))
-                    self.assertEqual(beside_terminal('stdin', *words), (done.returncode, plain.stderr))
-        self.assertEqual(beside_terminal('stderr', 'run', '/none'), (3, b'cannot read /none\n'))
+def test_what_is_awaited():
+    nothing = b'refused E10 line 0\n'
+    for words, awaited in ((('run',), WANTS_SCENARIO), (('run', '--groups', 'each', '--workers', '2'), WANTS_SCENARIO), (('asm',), WANTS_SCENARIO),
+                           (('dis',), WANTS_SCENARIO), (('figures',), WANTS_SCENARIO), (('debug',), WANTS_FILE), (('run', '-'), b''), (('debug', '-'), b'')):
+        assert beside_terminal('stdin', *words) == (1, awaited + nothing), words
+        done = subprocess.run([PROGRAM, *words], input=b'', capture_output=True, timeout=LONGEST, check=False)
+        assert (done.returncode, done.stderr) == (1, nothing), words
+    assert beside_terminal('stdin', 'run', ONE) == (0, b'')
+    assert beside_terminal('stdin', 'debug', ONE) == (0, PROMPT)
 
 
-def main():
-    global PROGRAM, STEPS
-    arguments = argparse.ArgumentParser(add_help=False)
-    arguments.add_argument('--program', default=PROGRAM)
-    arguments.add_argument('--steps', type=int, default=STEPS)
-    options, rest = arguments.parse_known_args()
-    PROGRAM, STEPS = os.path.abspath(options.program), options.steps
-    if not os.path.exists(PROGRAM):
-        print(f"{PROGRAM} is not there: build it with 'make run'")
-        print('LEFT OUT, not passed: dev/test_prompt.py')
-        return 0
-    done = unittest.main(argv=[sys.argv[0], *rest], exit=False).result
-    failed = len({getattr(test, 'test_case', test).id() for test, _ in done.failures + done.errors})
-    print(f'{done.testsRun - failed} passed, {failed} failed')
-    return 1 if failed else 0
-
-
-if __name__ == '__main__':
-    sys.exit(main())
+def test_a_refusal_explains_itself():
+    with tempfile.TemporaryDirectory() as folder:
+        path = os.path.join(folder, 'wrong.txt')
+        with open(path, 'wb') as file:
+            file.write(b'sim 5\nnode s sendr\n')
+        for words in (*((word, path) for word in ('run', 'asm', 'dis', 'figures', 'debug')), ('run', '--groups', '0', ONE)):
+            done = subprocess.run([PROGRAM, *words, '--explain'], stdin=subprocess.DEVNULL, capture_output=True, timeout=LONGEST, check=False)
+            plain = subprocess.run([PROGRAM, *words], stdin=subprocess.DEVNULL, capture_output=True, timeout=LONGEST, check=False)
+            assert done.stderr.startswith(plain.stderr) and len(done.stderr.splitlines()) > len(plain.stderr.splitlines()) == 1
+            assert beside_terminal('stderr', *words) == (done.returncode, done.stderr)
+            assert beside_terminal('stdin', *words) == (done.returncode, plain.stderr)
+    assert beside_terminal('stderr', 'run', '/none') == (3, b'cannot read /none\n')

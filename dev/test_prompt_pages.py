@@ -1,29 +1,15 @@
-#!/usr/bin/env python3
 """Tests of what docs/FORMATS.md says of the debugger's prompt, by the model of python/tcpsim_model: names cut short, times,
-and an example of each refusal.
-
-Usage: dev/test_prompt_pages.py. The last line is 'N passed, N failed'.
-"""
-import os
+and an example of each refusal."""
 import re
-import sys
-import unittest
 
-from paths import TOP
+from clone import paths, read, read_text
 from tcpsim_model import prompt
 from tcpsim_model.scenario import Refused
 from tcpsim_model.command_line import read as scenario_in
 
-TWO = os.path.join('examples', 'two_timeouts_in_a_row.txt')
-
-
-def read(*path):
-    with open(os.path.join(TOP, *path), 'rb') as file:
-        return file.read()
-
 
 def session():
-    return prompt.Prompt(scenario_in(read(TWO)), prompt.BUILT)
+    return prompt.Prompt(scenario_in(read(paths('two_timeouts_in_a_row')[0])), prompt.BUILT)
 
 
 def refusal(line):
@@ -37,7 +23,7 @@ def refusal(line):
 
 def tables():
     """The tables of the part of docs/FORMATS.md on the prompt: of each row the cells."""
-    part = read('docs', 'FORMATS.md').decode().partition('\n### At the prompt\n')[2].partition('\n## ')[0]
+    part = read_text('docs', 'FORMATS.md').partition('\n### At the prompt\n')[2].partition('\n## ')[0]
     rows = [[cell.strip() for cell in line.strip('|').split('|')] for line in part.splitlines() if line.startswith('|')]
     found = {}
     for row in rows:
@@ -52,43 +38,34 @@ def words(cell):
     return re.findall(r'`([^`]*)`', cell)
 
 
-class Pages(unittest.TestCase):
-    def test_names(self):
-        found, at_prompt = [], session()
-        for name, also, *_ in tables()['Name']:
-            if words(name):
-                name, = words(name)
-                found.append(name.encode())
-                short = [name[:size] for size in range(1, len(name))]
-                self.assertEqual(words(also), [it for it in short if at_prompt.name_of(it.encode()) == name.encode()])
-        self.assertEqual(found, [name for name, step in prompt.NAMES.items() if step <= prompt.BUILT])
-
-    def test_topics(self):
-        row, = (cells for cells in tables()['Line'] if 'help numbers' in cells[0])
-        self.assertEqual(words(row[0]), [f'help {topic.decode()}' for topic in prompt.TOPICS])
-        for topic in words(row[0]):
-            self.assertIsNone(refusal(topic))
-
-    def test_times(self):
-        rows = tables()['Time']
-        for time, nanoseconds in rows:
-            for word in words(time):
-                self.assertEqual(prompt.time_in(word.encode()), int(nanoseconds.replace(',', '')), word)
-        self.assertEqual({re.sub('[0-9.]', '', word) for row in rows for word in words(row[0])}, {'', 'ns', 'us', 'ms', 's'})
-
-    def test_refusals(self):
-        for noted, _, examples in tables()['Noted']:
-            code = words(noted)[0].removeprefix('refused ')
-            for line in words(examples) if 'after' not in examples else ():
-                self.assertEqual(refusal(line), code, line)
+def test_names():
+    found, at_prompt = [], session()
+    for name, also, *_ in tables()['Name']:
+        if words(name):
+            name, = words(name)
+            found.append(name.encode())
+            short = [name[:size] for size in range(1, len(name))]
+            assert words(also) == [it for it in short if at_prompt.name_of(it.encode()) == name.encode()]
+    assert found == [name for name, step in prompt.NAMES.items() if step <= prompt.BUILT]
 
 
-def main():
-    done = unittest.main(exit=False).result
-    failed = len({getattr(test, 'test_case', test).id() for test, _ in done.failures + done.errors})
-    print(f'{done.testsRun - failed} passed, {failed} failed')
-    return 1 if failed else 0
+def test_topics():
+    row, = (cells for cells in tables()['Line'] if 'help numbers' in cells[0])
+    assert words(row[0]) == [f'help {topic.decode()}' for topic in prompt.TOPICS]
+    for topic in words(row[0]):
+        assert refusal(topic) is None
 
 
-if __name__ == '__main__':
-    sys.exit(main())
+def test_times():
+    rows = tables()['Time']
+    for time, nanoseconds in rows:
+        for word in words(time):
+            assert prompt.time_in(word.encode()) == int(nanoseconds.replace(',', '')), word
+    assert {re.sub('[0-9.]', '', word) for row in rows for word in words(row[0])} == {'', 'ns', 'us', 'ms', 's'}
+
+
+def test_refusals():
+    for noted, _, examples in tables()['Noted']:
+        code = words(noted)[0].removeprefix('refused ')
+        for line in words(examples) if 'after' not in examples else ():
+            assert refusal(line) == code, line

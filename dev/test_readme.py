@@ -1,36 +1,25 @@
-#!/usr/bin/env python3
 """Tests of README.md and of the lists of pages: README is a page and a half, each of its commands runs as it
 stands and prints what stands below it, docs/index.md has every page, docs/PROOFS.md every crate, and each place that
 docs/GLOSSARY.md names is there.
 
-The commands run in a folder of their own, with the project's folders in it, so they go after `make run`. Left out
-are `make` and `apt-get`, and pictures where matplotlib is not there, which is said.
-Usage: dev/test_readme.py. The last line is 'N passed, N failed'.
+The commands run in a folder of their own, with the project's folders in it. Left out are `make` and `apt-get`.
 """
+import importlib.util
 import os
 import re
-import subprocess
 import sys
-import tempfile
-import unittest
 
-TOP = os.path.dirname(os.path.dirname(os.path.abspath(__file__)))
-PROGRAM = os.path.join('crates', 'tcpsim', 'out', 'tcpsim')
+import pytest
+
+from clone import TOP, ran, read_text
+
 MOST_LINES, MOST_OF_A_LINE = 150, 400
 MOST_OF_A_CRATE = 5     # points of docs/PROOFS.md
-# What a command wants beside the program, and how it is found.
-WANTED = {'tcpsim-plot': ('matplotlib', lambda: not subprocess.run([sys.executable, '-c', 'import matplotlib'],
-                                                                   stderr=subprocess.DEVNULL, check=False).returncode)}
-
-
-def read(*path):
-    with open(os.path.join(TOP, *path), encoding='utf-8') as file:
-        return file.read()
 
 
 def blocks():
     """The blocks of README between fences, as lists of lines."""
-    return [it.splitlines() for it in re.findall(r'^```\n(.*?)^```$', read('README.md'), re.M | re.S)]
+    return [it.splitlines() for it in re.findall(r'^```\n(.*?)^```$', read_text('README.md'), re.M | re.S)]
 
 
 def commands():
@@ -45,91 +34,80 @@ def commands():
             yield lines[begin][2:], lines[begin + 1:end]
 
 
-class Readme(unittest.TestCase):
-    def test_it_is_a_page_and_a_half(self):
-        lines = read('README.md').splitlines()
-        self.assertLessEqual(len(lines), MOST_LINES)
-        for line in lines:
-            self.assertLessEqual(len(line), MOST_OF_A_LINE, line)
-
-    def test_its_links_lead_somewhere(self):
-        for page in ('README.md', *(f'docs/{name}' for name in os.listdir(os.path.join(TOP, 'docs')) if name.endswith('.md'))):
-            for target in re.findall(r'\]\(([^)\s]+)\)', read(page)):
-                path, _, place = target.partition('#')
-                if re.match(r'[a-z]+:', path):
-                    continue
-                with self.subTest(page=page, target=target):
-                    path = os.path.normpath(os.path.join(TOP, os.path.dirname(page), path)) if path else os.path.join(TOP, page)
-                    self.assertTrue(os.path.exists(path))
-                    if place:
-                        heads = re.findall(r'^#+ (.*)', read(os.path.relpath(path, TOP)), re.M)
-                        self.assertIn(place, {re.sub(r'[^\w -]', '', head.lower()).replace(' ', '-') for head in heads})
-
-    def test_the_first_run_prints_what_is_shown(self):
-        self.assertIn(read('examples', 'one_segment.trace').splitlines(), blocks())
-
-    @unittest.skipUnless(os.path.exists(os.path.join(TOP, PROGRAM)), 'the program is not built')
-    def test_its_commands_run_as_they_stand(self):
-        tried = 0
-        with tempfile.TemporaryDirectory() as folder:
-            for name in ('bin', 'crates', 'docs', 'examples'):
-                os.symlink(os.path.join(TOP, name), os.path.join(folder, name))
-            for command, shown in commands():
-                lacks = [what for word, (what, is_there) in WANTED.items() if word in command and not is_there()]
-                if re.match('make|apt-get', command) or lacks:
-                    if lacks:
-                        print(f'LEFT OUT, not passed: {command} (no {lacks[0]})')
-                    continue
-                tried += 1
-                command = re.sub(r'^bin/', f'{sys.executable} bin/', command)
-                done = subprocess.run(['sh', '-c', command], cwd=folder, capture_output=True, text=True, timeout=1200,
-                                      stdin=subprocess.DEVNULL, check=False)
-                with self.subTest(command=command):
-                    self.assertEqual(done.returncode, 0, done.stderr)
-                    lines = done.stdout.splitlines()
-                    if shown and shown[-1] == '...':
-                        self.assertEqual(lines[:len(shown) - 1], shown[:-1])
-                        self.assertGreaterEqual(len(lines), len(shown))
-                    elif shown is not None:
-                        self.assertEqual(lines, shown)
-        self.assertGreaterEqual(tried, 9)
+def test_it_is_a_page_and_a_half():
+    lines = read_text('README.md').splitlines()
+    assert len(lines) <= MOST_LINES
+    for line in lines:
+        assert len(line) <= MOST_OF_A_LINE, line
 
 
-class Pages(unittest.TestCase):
-    def test_the_index_has_each_page_once(self):
-        found = re.findall(r'^- \[[^]]+\]\(([^)]+)\): .', read('docs', 'index.md'), re.M)
-        wanted = [name for name in os.listdir(os.path.join(TOP, 'docs')) if name.endswith('.md') and name != 'index.md']
-        wanted += [f'../bench/{name}' for name in os.listdir(os.path.join(TOP, 'bench')) if name.endswith('.md')]
-        self.assertEqual(sorted(found), sorted(wanted))
-
-    def test_the_glossary_names_files_that_are_there(self):
-        found = re.findall(r'`((?:\w+/)+[\w.]+)`', read('docs', 'GLOSSARY.md'))
-        self.assertGreater(len(found), 60)
-        for path in found:
-            with self.subTest(path=path):
-                self.assertTrue(os.path.exists(os.path.join(TOP, '' if path.startswith('dev/') else 'crates', path)))
-
-    def test_each_crate_has_some_points(self):
-        crates = re.findall(r'^(\w+).*:', read('crates.txt'), re.M)
-        part = read('docs', 'PROOFS.md').partition('\n## The crates')[2].partition('\n## ')[0]
-        found = {}
-        for head, text in re.findall(r'^### (.*)\n((?:(?!### ).*\n?)*)', part, re.M):
-            for crate in head.split(', '):
-                found[crate] = len(re.findall(r'^- ', text, re.M))
-        self.assertEqual(sorted(crates), sorted(found))
-        for crate, points in found.items():
-            with self.subTest(crate=crate):
-                self.assertTrue(1 <= points <= MOST_OF_A_CRATE, points)
+def test_its_links_lead_somewhere():
+    for page in ('README.md', *(f'docs/{name}' for name in os.listdir(os.path.join(TOP, 'docs')) if name.endswith('.md'))):
+        for target in re.findall(r'\]\(([^)\s]+)\)', read_text(page)):
+            path, _, place = target.partition('#')
+            if re.match(r'[a-z]+:', path):
+                continue
+            path = os.path.normpath(os.path.join(TOP, os.path.dirname(page), path)) if path else os.path.join(TOP, page)
+            assert os.path.exists(path)
+            if place:
+                heads = re.findall(r'^#+ (.*)', read_text(os.path.relpath(path, TOP)), re.M)
+                assert place in {re.sub(r'[^\w -]', '', head.lower()).replace(' ', '-') for head in heads}
 
 
-def main():
-    if not os.path.exists(os.path.join(TOP, PROGRAM)):
-        print("LEFT OUT, not passed: the commands of README.md (the program is not built)")
-    done = unittest.main(exit=False).result
-    failed = len({getattr(test, 'test_case', test).id() for test, _ in done.failures + done.errors})
-    print(f'{done.testsRun - failed - len(done.skipped)} passed, {failed} failed')
-    return 1 if failed else 0
+def test_the_first_run_prints_what_is_shown():
+    assert read_text('examples', 'one_segment.trace').splitlines() in blocks()
 
 
-if __name__ == '__main__':
-    sys.exit(main())
+@pytest.fixture(scope='module')
+def clone_of_links(tmp_path_factory):
+    """A folder for all commands, since some read what those before them wrote."""
+    folder = tmp_path_factory.mktemp('readme')
+    for name in ('bin', 'crates', 'docs', 'examples'):
+        os.symlink(os.path.join(TOP, name), folder / name)
+    return folder
+
+
+@pytest.mark.built
+@pytest.mark.parametrize('command, shown', [it for it in commands() if not re.match('make|apt-get', it[0])])
+def test_its_commands_run_as_they_stand(clone_of_links, command, shown):
+    if 'tcpsim-plot' in command and not importlib.util.find_spec('matplotlib'):
+        pytest.skip('no matplotlib: apt-get install python3-matplotlib')
+    command = re.sub(r'^bin/', f'{sys.executable} bin/', command)
+    done = ran('sh', '-c', command, cwd=clone_of_links, text=True, timeout=1200)
+    assert done.returncode == 0, done.stderr
+    lines = done.stdout.splitlines()
+    if shown and shown[-1] == '...':
+        assert lines[:len(shown) - 1] == shown[:-1]
+        assert len(lines) >= len(shown)
+    elif shown is not None:
+        assert lines == shown
+
+
+def test_commands_are_found():
+    assert len([command for command, _ in commands() if not re.match('make|apt-get', command)]) >= 9
+
+
+def test_the_index_has_each_page_once():
+    found = re.findall(r'^- \[[^]]+\]\(([^)]+)\): .', read_text('docs', 'index.md'), re.M)
+    wanted = [name for name in os.listdir(os.path.join(TOP, 'docs')) if name.endswith('.md') and name != 'index.md']
+    wanted += [f'../bench/{name}' for name in os.listdir(os.path.join(TOP, 'bench')) if name.endswith('.md')]
+    assert sorted(found) == sorted(wanted)
+
+
+def test_the_glossary_names_files_that_are_there():
+    found = re.findall(r'`((?:\w+/)+[\w.]+)`', read_text('docs', 'GLOSSARY.md'))
+    assert len(found) > 60
+    for path in found:
+        assert os.path.exists(os.path.join(TOP, '' if path.startswith('dev/') else 'crates', path))
+
+
+def test_each_crate_has_some_points():
+    crates = re.findall(r'^(\w+).*:', read_text('crates.txt'), re.M)
+    part = read_text('docs', 'PROOFS.md').partition('\n## The crates')[2].partition('\n## ')[0]
+    found = {}
+    for head, text in re.findall(r'^### (.*)\n((?:(?!### ).*\n?)*)', part, re.M):
+        for crate in head.split(', '):
+            found[crate] = len(re.findall(r'^- ', text, re.M))
+    assert sorted(crates) == sorted(found)
+    for crate, points in found.items():
+        assert 1 <= points <= MOST_OF_A_CRATE, points

@@ -1,30 +1,17 @@
-#!/usr/bin/env python3
 """Tests of docs/SCENARIOS.md: its text runs as the page says, its figure shows that text, and each of its
-mistakes is refused with the words of its row. Run with the built program, else with the model.
-
-Usage: dev/test_scenarios.py [--program PATH]
-"""
+mistakes is refused with the words of its row. Run with the built program, else with the model."""
 import functools
 import html
-import os
 import re
-import shlex
-import shutil
-import subprocess
-import sys
-import unittest
 
-from paths import MODEL, TOP
+from clone import outcome, read_text
 from tcpsim.figures import Figures
 from tcpsim.figures import figures as trace_figures
 from tcpsim.scenario.text import Scenario
 
-BUILT = os.path.join(TOP, 'crates', 'tcpsim', 'out', 'tcpsim')
-
 
 def page():
-    with open(os.path.join(TOP, 'docs', 'SCENARIOS.md'), encoding='utf-8') as file:
-        return file.read()
+    return read_text('docs', 'SCENARIOS.md')
 
 
 def scenario():
@@ -64,41 +51,42 @@ def place_of(line, lines):
 
 
 def run(text):
-    done = subprocess.run([*PROGRAM, 'run'], input=text.encode('ascii'), capture_output=True, check=False)
-    return done.returncode, done.stdout.decode('ascii'), done.stderr.decode('utf-8').strip()
+    status, note, trace = outcome(['run'], text.encode('ascii'))
+    return status, trace.decode('ascii'), note.decode('utf-8').strip()
 
 
-class ThePage(unittest.TestCase):
-    def test_its_text_runs(self):
-        status, trace, note = run(scenario())
-        self.assertEqual((status, note), (0, ''))
-        events = re.search(r'^([\d,]+) events;', page(), re.M)[1].replace(',', '')
-        self.assertEqual(trace.splitlines()[-1], f'end {events}')
+def test_its_text_runs():
+    status, trace, note = run(scenario())
+    assert (status, note) == (0, '')
+    events = re.search(r'^([\d,]+) events;', page(), re.M)[1].replace(',', '')
+    assert trace.splitlines()[-1] == f'end {events}'
 
-    def test_its_figure_shows_its_text(self):
-        with open(os.path.join(TOP, 'docs', 'pictures', 'dumbbell.svg'), encoding='utf-8') as file:
-            shown = re.findall('<text [^>]*monospace[^>]*>([^<]*)<', file.read())
-        self.assertEqual([html.unescape(line) for line in shown], scenario().splitlines())
 
-    def test_its_mistakes_are_refused_as_it_says(self):
-        rows = mistakes()
-        self.assertEqual(len(rows), 10)
-        for written, note in rows:
-            with self.subTest(written):
-                self.assertEqual(run(with_mistake(written)), (1, '', note))
+def test_its_figure_shows_its_text():
+    shown = re.findall('<text [^>]*monospace[^>]*>([^<]*)<', read_text('docs', 'pictures', 'dumbbell.svg'))
+    assert [html.unescape(line) for line in shown] == scenario().splitlines()
 
-    def test_ten_nanoseconds_are_over_at_once(self):
-        text = scenario().replace('sim 20000000000', 'sim 10').replace(' 100000000 200000 0', ' 0 200000 0')
-        self.assertEqual(run(text)[1].splitlines()[-1], 'end 2')
 
-    def test_its_figures(self):
-        """Shares and median waits with drop-tail and with CoDel, in whole numbers, and the least round trip."""
-        told = re.search(r'fa has (\d+) percent of `pq` and fb, with twice the round trip, (\d+)\. With CoDel at `pq` '
-                         r'\(below\) they have (\d+) and (\d+), and packets wait (\d+) ms in the median, not (\d+)\.', page())
-        self.assertEqual([int(number) for number in told.groups()],
-                         [*shares(scenario()), *shares(with_codel()), median_wait(with_codel()), median_wait(scenario())])
-        least = figures(scenario())['fa', 'least round trip']
-        self.assertIn(f"fa's round trip is {least / 10**6:.3f} ms", page())
+def test_its_mistakes_are_refused_as_it_says():
+    rows = mistakes()
+    assert len(rows) == 10
+    for written, note in rows:
+        assert run(with_mistake(written)) == (1, '', note)
+
+
+def test_ten_nanoseconds_are_over_at_once():
+    text = scenario().replace('sim 20000000000', 'sim 10').replace(' 100000000 200000 0', ' 0 200000 0')
+    assert run(text)[1].splitlines()[-1] == 'end 2'
+
+
+def test_its_figures():
+    """Shares and median waits with drop-tail and with CoDel, in whole numbers, and the least round trip."""
+    told = re.search(r'fa has (\d+) percent of `pq` and fb, with twice the round trip, (\d+)\. With CoDel at `pq` '
+                     r'\(below\) they have (\d+) and (\d+), and packets wait (\d+) ms in the median, not (\d+)\.', page())
+    assert [int(number) for number in told.groups()] == \
+        [*shares(scenario()), *shares(with_codel()), median_wait(with_codel()), median_wait(scenario())]
+    least = figures(scenario())['fa', 'least round trip']
+    assert f"fa's round trip is {least / 10**6:.3f} ms" in page()
 
 
 def with_codel():
@@ -121,15 +109,3 @@ def shares(text):
 
 def median_wait(text):
     return round(figures(text)['pq', 'median delay in the queue'] / 10**6)
-
-
-def program_of(words):
-    if words[:1] == ['--program']:
-        return shlex.split(words[1])
-    found = next((path for path in (BUILT, shutil.which('tcpsim')) if path and os.path.exists(path)), None)
-    return [found] if found else [sys.executable, MODEL]
-
-
-if __name__ == '__main__':
-    PROGRAM = program_of(sys.argv[1:])
-    unittest.main(argv=sys.argv[:1])

@@ -1,24 +1,18 @@
-#!/usr/bin/env python3
-"""Tests of how many threads the program starts: dev/test_threads.py, after `make run`. A library that
-is loaded before the program counts them. It wants a C compiler, `cc`; where there is none the tests are
-left out, which is said. The last line is `N passed, M failed`.
-"""
+"""Tests of how many threads the program starts. A library that is loaded before the program counts them."""
 import contextlib
 import glob
 import os
-import shutil
 import subprocess
-import sys
-import tempfile
 import time
-import unittest
 from itertools import accumulate
 
-TOP = os.path.dirname(os.path.dirname(os.path.abspath(__file__)))
-PROGRAM = os.path.join(TOP, 'crates', 'tcpsim', 'out', 'tcpsim')
-NET = os.path.join(TOP, 'bin', 'tcpsim-net')
-# Four parts with a bottleneck each, joined by cables of 40 ms: each part has thousands of events in a window.
-WIDE = ('islands', '--islands', '4', '--flows', '10', '--rate', '200M', '--between', '40ms', '--end', '2s')
+import pytest
+
+import clone
+from clone import PROGRAM, Folder, tool_words
+
+pytestmark = [pytest.mark.built, pytest.mark.wants(cc='gcc')]
+WIDE = (*clone.WIDE, '2s')
 # Twice as many, for as many threads as share them.
 WIDER = ('islands', '--islands', '8', *WIDE[3:])
 # One flow over links of 1 ms: a window holds a few events.
@@ -54,31 +48,21 @@ def most_hands(groups):
     return max(groups, min(PROCESSORS, 2 * groups))
 
 
-class Threads(unittest.TestCase):
-    @classmethod
-    def setUpClass(cls):
-        cls.folder = tempfile.TemporaryDirectory()
-        cls.library = os.path.join(cls.folder.name, 'threads.so')
-        source = os.path.join(TOP, 'dev', 'threads.c')
-        subprocess.run(['cc', '-O1', '-shared', '-fPIC', source, '-o', cls.library, '-ldl'], check=True)
-
-    @classmethod
-    def tearDownClass(cls):
-        cls.folder.cleanup()
+class TestThreads(Folder):
+    @pytest.fixture(autouse=True)
+    def counting(self, library):
+        self.library = library('threads')
 
     def text_of(self, shape):
-        return subprocess.run([sys.executable, NET, *shape], check=True, capture_output=True, text=True).stdout
+        return subprocess.run([*tool_words('net'), *shape], check=True, capture_output=True, text=True).stdout
 
     def ran(self, text, *words, late=None):
         """What the program writes, and what beside it, and how many threads it started; `at_once` is then how many of
         them there were at a time at most, `writes` how often it wrote."""
-        counts = os.path.join(self.folder.name, 'counts')
-        with open(counts, 'wb'):
-            pass
+        counts = self.put('counts', '')
         env = {**os.environ, 'LD_PRELOAD': self.library, 'THREADS': counts, **({'THREADS_LATE': late} if late else {})}
-        done = subprocess.run([PROGRAM, *words], input=text, capture_output=True, text=True, env=env, check=True)
-        with open(counts, 'rb') as file:
-            marks = file.read()
+        done = subprocess.run([PROGRAM, *words], input=text.encode(), capture_output=True, env=env, check=True)
+        marks = clone.read(counts)
         self.at_once = max(accumulate(({ord('t'): 1, ord('j'): -1}.get(mark, 0) for mark in marks), initial=0))
         self.writes = marks.count(b'w')
         return done.stdout, done.stderr, marks.count(b't')
@@ -92,13 +76,13 @@ class Threads(unittest.TestCase):
         """How many threads a run starts; its trace is that of a run without options."""
         plain, none = self.counted(text, 'run')
         trace, threads = self.counted(text, 'run', *words)
-        self.assertEqual(none, 0)
-        self.assertTrue(trace == plain)
+        assert none == 0
+        assert trace == plain
         return threads
 
     def test_the_library_counts(self):
         """Where windows hold thousands of events, threads are started; without this no other row says anything."""
-        self.assertGreater(self.run_of(self.text_of(WIDE), '--groups', self.parts(), '--workers', '4'), 0)
+        assert self.run_of(self.text_of(WIDE), '--groups', self.parts(), '--workers', '4') > 0
 
     def parts(self, shape=WIDE, count=4):
         """The group of each node of a wide scenario: those that links of less than 40 ms join are in one."""
@@ -109,7 +93,7 @@ class Threads(unittest.TestCase):
                 old, new = group[it[3]], group[it[2]]
                 group = {name: new if has == old else has for name, has in group.items()}
         numbers = sorted(set(group.values()))
-        self.assertEqual(len(numbers), count)
+        assert len(numbers) == count
         return ','.join(str(numbers.index(it)) for it in group.values())
 
     def halves(self):
@@ -122,29 +106,29 @@ class Threads(unittest.TestCase):
         four = self.parts()
         for groups in (four, four.replace('1', '0'), four.replace('3', '2').replace('1', '0')):
             for workers in ('2', '3'):
-                self.assertGreater(self.run_of(text, '--groups', groups, '--workers', workers), 0)
+                assert self.run_of(text, '--groups', groups, '--workers', workers) > 0
 
     def test_threads_tell_of_each_hundredth(self):
         """A window ends at each hundredth of a run that is told. One worker tells of those that an event passes."""
         text, words = self.text_of(WIDE), ('run', '--progress', '--groups', self.parts(), '--workers')
         trace, told, none = self.ran(text, *words, '1')
-        self.assertEqual((none, told), (0, self.ran(text, 'run', '--progress')[1]))
+        assert (none, told) == (0, self.ran(text, 'run', '--progress')[1])
         noted = [self.ran(text, *words, workers) for workers in ('2', '4')]
         for found, said, threads in noted:
-            self.assertGreater(threads, 0)
-            self.assertTrue(found == trace)
-            self.assertEqual(said.count('% of 2 s simulated'), 100)
-        self.assertEqual(noted[0][1], noted[1][1])
+            assert threads > 0
+            assert found == trace
+            assert said.count(b'% of 2 s simulated') == 100
+        assert noted[0][1] == noted[1][1]
 
     def test_one_worker_or_one_group_starts_none(self):
         text = self.text_of(WIDE)
-        self.assertEqual(self.run_of(text, '--groups', self.parts(), '--workers', '1'), 0)
-        self.assertEqual(self.run_of(text, '--groups', 'one', '--workers', '64'), 0)
+        assert self.run_of(text, '--groups', self.parts(), '--workers', '1') == 0
+        assert self.run_of(text, '--groups', 'one', '--workers', '64') == 0
 
     def test_small_windows_start_none(self):
         text = self.text_of(SMALL)
         for workers in ('2', '4', '64'):
-            self.assertEqual(self.run_of(text, '--groups', 'each', '--workers', workers), 0)
+            assert self.run_of(text, '--groups', 'each', '--workers', workers) == 0
 
     def test_the_calling_thread_is_one_of_the_workers(self):
         """For four workers three threads are started beside the program's own, which works too; they stay from window to
@@ -152,8 +136,8 @@ class Threads(unittest.TestCase):
         text = self.text_of(WIDE)
         for workers in (2, 3, 4, 64):
             expected = min(workers, most_hands(4)) - 1
-            self.assertEqual(self.run_of(text, '--groups', self.parts(), '--workers', str(workers)), expected)
-            self.assertEqual(self.at_once, expected)
+            assert self.run_of(text, '--groups', self.parts(), '--workers', str(workers)) == expected
+            assert self.at_once == expected
 
     def test_more_threads_than_groups_make_text_where_there_are_processors(self):
         """For two groups at most two more, and none that would have no processor."""
@@ -161,7 +145,7 @@ class Threads(unittest.TestCase):
         for groups, count in (self.halves(), 2), (three, 3):
             for workers in (2, 3, 4, 64):
                 expected = min(workers, most_hands(count)) - 1
-                self.assertEqual(self.run_of(text, '--groups', groups, '--workers', str(workers)), expected)
+                assert self.run_of(text, '--groups', groups, '--workers', str(workers)) == expected
 
     def shares_of(self, name, groups, workers):
         """Which share of a run's processor time each of its threads used, the largest first."""
@@ -171,42 +155,37 @@ class Threads(unittest.TestCase):
             while running.poll() is None:
                 times |= times_of(running.pid)
                 time.sleep(0.005)
-        self.assertEqual(running.returncode, 0)
+        assert running.returncode == 0
         return sorted((it / sum(times.values()) for it in times.values()), reverse=True)
 
-    @unittest.skipUnless(os.path.exists('/proc/self/schedstat'), 'no times of threads')
+    @pytest.mark.skipif(not os.path.exists('/proc/self/schedstat'), reason='no times of threads')
     def test_each_thread_has_its_share_of_the_time(self):
         """As many threads as workers, and processors for them, have each a tenth of the time of a wide run at least. Beside
         other work threads come late, and the first one does more; so one run of a few has to show it."""
-        name = os.path.join(self.folder.name, 'wider.txt')
-        with open(name, 'w', encoding='utf-8') as file:
-            file.write(self.text_of(WIDER))
+        name = self.put('wider.txt', self.text_of(WIDER))
         groups = self.parts(WIDER, 8)
         for workers in (2, 4, 8):
             wanted, found = min(workers, PROCESSORS), []
             while len(found) < TRIES and max(found, default=0) < wanted:
                 found.append(sum(it >= 0.1 for it in self.shares_of(name, groups, workers)))
-            with self.subTest(workers=workers, found=found):
-                self.assertGreaterEqual(max(found), wanted)
+            assert max(found) >= wanted
 
-    @unittest.skipUnless(hasattr(os, 'sched_setaffinity'), 'no way to take processors away')
+    @pytest.mark.skipif(not hasattr(os, 'sched_setaffinity'), reason='no way to take processors away')
     def test_on_one_processor_no_thread_is_started_for_text(self):
         allowed = os.sched_getaffinity(0)
         text, two = self.text_of(WIDE), self.halves()
         os.sched_setaffinity(0, {min(allowed)})
         try:
-            self.assertEqual(self.run_of(text, '--groups', two, '--workers', '4'), 1)
+            assert self.run_of(text, '--groups', two, '--workers', '4') == 1
         finally:
             os.sched_setaffinity(0, allowed)
 
     def test_nobody_waits_for_threads_that_come_late(self):
         """Threads that start 3 s late find nothing to run: the calling thread takes back what they were to do, and the
         whole trace is there before they come. The run ends once they have gone."""
-        name = os.path.join(self.folder.name, 'late.txt')
-        with open(name, 'w', encoding='utf-8') as file:
-            file.write(self.text_of(WIDE))
+        name = self.put('late.txt', self.text_of(WIDE))
         plain = subprocess.run([PROGRAM, 'run', name], capture_output=True, check=True).stdout
-        env = {**os.environ, 'LD_PRELOAD': self.library, 'THREADS': os.path.join(self.folder.name, 'counts'),
+        env = {**os.environ, 'LD_PRELOAD': self.library, 'THREADS': os.path.join(self.folder, 'counts'),
                'THREADS_LATE': '3000000'}
         words = ['run', '--workers', '4', '--groups', self.parts(), name]
         begun = time.monotonic()
@@ -215,10 +194,10 @@ class Threads(unittest.TestCase):
             early = time.monotonic() - begun
             last = running.stdout.read()
             late = time.monotonic() - begun
-        self.assertEqual(running.returncode, 0)
-        self.assertTrue(lines + last == plain)
-        self.assertLess(early, 3)
-        self.assertGreaterEqual(late, 3)
+        assert running.returncode == 0
+        assert lines + last == plain
+        assert early < 3
+        assert late >= 3
 
     def test_lateness_is_seen(self):
         """Where threads start 3 s late, events are run one after another after a few windows, and written by a page of text
@@ -228,63 +207,41 @@ class Threads(unittest.TestCase):
         plain, _, _ = self.ran(text, 'run')
         least = self.writes
         late, _, threads = self.ran(text, 'run', '--workers', '4', '--groups', self.parts(), late='3000000')
-        self.assertGreater(threads, 0)
-        self.assertTrue(late == plain)
-        self.assertLess(self.writes, 1.4 * least)
+        assert threads > 0
+        assert late == plain
+        assert self.writes < 1.4 * least
 
     def test_the_debugger_goes_by_the_same_rule(self):
         text = self.text_of(SMALL) + '---\nuntil 19000000000\n'
         plain, none = self.counted(text, 'debug')
         answers, threads = self.counted(text, 'debug', '--workers', '4', '--groups', 'each')
-        self.assertEqual((none, threads), (0, 0))
-        self.assertTrue(answers == plain)
+        assert (none, threads) == (0, 0)
+        assert answers == plain
         text = self.text_of(WIDE) + '---\nuntil 19000000000\n'
         plain, _ = self.counted(text, 'debug')
         answers, threads = self.counted(text, 'debug', '--workers', '4', '--groups', self.parts())
-        self.assertGreater(threads, 0)
-        self.assertTrue(answers == plain)
+        assert threads > 0
+        assert answers == plain
 
     def test_groups_that_are_found(self):
         """Two halves are two groups in a run, and one in the debugger, which would start threads for each window; four
         parts are four groups in both."""
-        self.assertGreater(self.run_of(PAIRS, '--groups', 'auto', '--workers', '2'), 0)
+        assert self.run_of(PAIRS, '--groups', 'auto', '--workers', '2') > 0
         for text, starts in (PAIRS, False), (self.text_of(WIDE), True):
             text += '---\nuntil 9000000000\n'
             plain, _ = self.counted(text, 'debug')
             answers, threads = self.counted(text, 'debug', '--workers', '4', '--groups', 'auto')
-            with self.subTest(starts=starts):
-                self.assertEqual(threads > 0, starts)
-                self.assertTrue(answers == plain)
+            assert (threads > 0) == starts
+            assert answers == plain
 
     def test_the_debugger_starts_none_for_one_worker_or_one_group(self):
         """Neither with commands that are all there nor with lines that are typed, which by several workers start some."""
         text, commands = self.text_of(WIDE), 'until 19000000000\n'
-        name = os.path.join(self.folder.name, 'wide.txt')
-        with open(name, 'w', encoding='utf-8') as file:
-            file.write(text)
+        name = self.put('wide.txt', text)
         for given, words in ((f'{text}---\n{commands}', ('debug',)), (commands, ('debug', name))):
             plain, none = self.counted(given, *words)
-            self.assertEqual(none, 0)
+            assert none == 0
             for shared, starts in (((self.parts(), '1'), False), (('one', '64'), False), ((self.parts(), '4'), True)):
                 answers, threads = self.counted(given, *words, '--groups', shared[0], '--workers', shared[1])
-                with self.subTest(words=words, shared=shared):
-                    self.assertEqual(threads > 0, starts)
-                    self.assertTrue(answers == plain)
-
-
-def main():
-    if not shutil.which('cc'):
-        print('LEFT OUT, not passed: the count of threads (no C compiler: apt-get install gcc)')
-        print('0 passed, 0 failed')
-        return 0
-    if not os.path.exists(PROGRAM):
-        print(f'test_threads.py: {os.path.relpath(PROGRAM)} is not there: build it with `make run`', file=sys.stderr)
-        return 1
-    result = unittest.main(argv=sys.argv, exit=False, verbosity=0).result
-    failed = len({getattr(test, 'test_case', test).id() for test, _ in result.failures + result.errors})
-    print(f'{result.testsRun - failed} passed, {failed} failed')
-    return 1 if failed else 0
-
-
-if __name__ == '__main__':
-    sys.exit(main())
+                assert (threads > 0) == starts
+                assert answers == plain

@@ -1,20 +1,17 @@
-#!/usr/bin/env python3
-"""Tests that no wake-up of the thread pool is lost: dev/test_wakeups.py, or `pytest dev/test_wakeups.py`.
+"""Tests that no wake-up of the thread pool is lost.
 
 spin searches the model dev/spin/thread_pool.pml whole, for two and for three threads, and has to refuse the models that
-are wrong. The model has each line of the functions that it stands for, in their order. It wants `spin` and a C compiler;
-without them its searches are left out, which is said, and with CI=true they fail. The last line is
-`N passed, M failed`.
+are wrong. The model has each line of the functions that it stands for, in their order.
 """
 import os
 import re
 import shutil
 import subprocess
-import sys
-import tempfile
-import unittest
 
-TOP = os.path.dirname(os.path.dirname(os.path.abspath(__file__)))
+import pytest
+
+from clone import TOP, read_text
+
 MODEL = os.path.join(TOP, 'dev', 'spin', 'thread_pool.pml')
 SOURCES = os.path.join(TOP, 'crates', 'thread_pool', 'src')
 TWO_THREADS = {'WORKERS': 1, 'ROUNDS': 2}
@@ -29,8 +26,6 @@ WRONG = {
 }
 # Lines that are no step: braces, and what can't be reached.
 NO_STEP = re.compile(r'[{}();, ]*|\} else \{|unreachable!\(\)|//.*')
-MISSING = [it for it in ('spin', 'cc') if not shutil.which(it)]
-LEFT_OUT = f'no {" and no ".join(MISSING)}: apt-get install spin gcc'
 
 
 def core_sources():
@@ -42,14 +37,9 @@ def core_sources():
     return os.path.join(os.path.dirname(page), 'rattle', 'core', 'src')
 
 
-def read(path):
-    with open(path, encoding='utf-8') as file:
-        return file.read()
-
-
 def steps_of(source, name):
     """The lines of a function's body in Rust, as `rt fmt` lays it out, but those that are no step."""
-    lines = read(source).splitlines()
+    lines = read_text(source).splitlines()
     head = next(at for at, line in enumerate(lines) if re.search(rf'\bfn {name}\b', line))
     begin = next(at for at in range(head, len(lines)) if lines[at].endswith('{'))
     indent = lines[head][:len(lines[head]) - len(lines[head].lstrip())]
@@ -60,7 +50,7 @@ def steps_of(source, name):
 
 def functions_of_model():
     """Each function that the model stands for: (file, name, the lines that it cites)."""
-    found = re.findall(r'^/\* ([\w. ]+\.rt): (?:pub )?fn (\w+) \*/\n(.*?)\n\}', read(MODEL), re.M | re.S)
+    found = re.findall(r'^/\* ([\w. ]+\.rt): (?:pub )?fn (\w+) \*/\n(.*?)\n\}', read_text(MODEL), re.M | re.S)
     return [(place, name, re.findall(r'/\* (.*?) \*/', body)) for place, name, body in found]
 
 
@@ -74,65 +64,41 @@ def searched(folder, defines, *options):
     return subprocess.run(words, cwd=folder, check=True, capture_output=True, text=True).stdout
 
 
-class Steps(unittest.TestCase):
-    """The model has the lines of the code."""
-
-    def test_each_function_has_its_lines(self):
-        core = core_sources()
-        functions = functions_of_model()
-        self.assertEqual(len(functions), 16)
-        for place, name, cited in functions:
-            folder = core if place.startswith('core ') else SOURCES
-            if folder is None:
-                continue
-            with self.subTest(place=place, name=name):
-                self.assertEqual(cited, steps_of(os.path.join(folder, place.split()[-1]), name))
+# ---- the model has the lines of the code
 
 
-@unittest.skipIf(MISSING and os.environ.get('CI') != 'true', LEFT_OUT)
-class Searches(unittest.TestCase):
-    """What spin finds."""
-
-    def setUp(self):
-        if MISSING:
-            self.fail(LEFT_OUT)
-        self.folder = tempfile.TemporaryDirectory()
-        self.addCleanup(self.folder.cleanup)
-
-    def expect_right(self, defines, *options):
-        self.assertIn('errors: 0', searched(self.folder.name, defines, *options))
-
-    def test_two_threads_wake_each_other(self):
-        self.expect_right(TWO_THREADS, '-DSAFETY')
-
-    def test_three_threads_wake_each_other(self):
-        self.expect_right(THREE_THREADS, '-DSAFETY')
-
-    def test_the_end_comes(self):
-        """No state is met twice on one way, so each way ends."""
-        for defines in TWO_THREADS, THREE_THREADS:
-            with self.subTest(defines=defines):
-                self.expect_right(defines, '-DNP')
-
-    def test_wrong_models_are_refused(self):
-        for name, fault in WRONG.items():
-            with self.subTest(name=name):
-                self.assertIn(f'pan:1: {fault}', searched(self.folder.name, {**TWO_THREADS, name: 1}, '-DSAFETY'))
-
-    def test_three_threads_do_not_wake_each_other_in_the_old_order(self):
-        """Where who puts something into a mailbox gives the lock back, and notifies behind."""
-        defines = {**THREE_THREADS, 'NOTIFIES_AFTER_THE_LOCK': 1}
-        self.assertIn('pan:1: invalid end state', searched(self.folder.name, defines, '-DSAFETY'))
+def test_each_function_has_its_lines():
+    core = core_sources()
+    functions = functions_of_model()
+    assert len(functions) == 16
+    for place, name, cited in functions:
+        folder = core if place.startswith('core ') else SOURCES
+        if folder is None:
+            continue
+        assert cited == steps_of(os.path.join(folder, place.split()[-1]), name)
 
 
-def main():
-    result = unittest.main(argv=sys.argv, exit=False, verbosity=0).result
-    if result.skipped:
-        print(f'LEFT OUT, not passed: the searches of the model of the thread pool ({LEFT_OUT})')
-    failed = len({getattr(test, 'test_case', test).id() for test, _ in result.failures + result.errors})
-    print(f'{result.testsRun - failed - len(result.skipped)} passed, {failed} failed')
-    return 1 if failed else 0
+# ---- what spin finds
+
+wants_spin = pytest.mark.wants(spin='spin', cc='gcc')
 
 
-if __name__ == '__main__':
-    sys.exit(main())
+@wants_spin
+@pytest.mark.parametrize('defines', [TWO_THREADS, THREE_THREADS])
+@pytest.mark.parametrize('option', ['-DSAFETY', '-DNP'])
+def test_threads_wake_each_other_and_the_end_comes(tmp_path, defines, option):
+    """By -DNP: no state is met twice on one way, so each way ends."""
+    assert 'errors: 0' in searched(tmp_path, defines, option)
+
+
+@wants_spin
+@pytest.mark.parametrize('name, fault', WRONG.items())
+def test_wrong_models_are_refused(tmp_path, name, fault):
+    assert f'pan:1: {fault}' in searched(tmp_path, {**TWO_THREADS, name: 1}, '-DSAFETY')
+
+
+@wants_spin
+def test_three_threads_do_not_wake_each_other_in_the_old_order(tmp_path):
+    """Where who puts something into a mailbox gives the lock back, and notifies behind."""
+    defines = {**THREE_THREADS, 'NOTIFIES_AFTER_THE_LOCK': 1}
+    assert 'pan:1: invalid end state' in searched(tmp_path, defines, '-DSAFETY')

@@ -1,46 +1,26 @@
-#!/usr/bin/env python3
 """Runs the built program on whole inputs whose outcome was worked out without it: each text of
 dev/whole/ against the trace beside it, by hand from docs/MODEL.md or by the model of python/tcpsim_model,
 debugging sessions, what flows wait for, and figures against what was worked out by hand, and the texts,
 images and words of the tables there and below against their faults.
 
 They were tests of the crate trials. On bytes alone they try the program as it is run, and the prover need
-not prove them. Usage: dev/test_whole.py [--program PATH] [TEST..]. The last line is 'N passed, N failed'.
+not prove them.
 """
-import argparse
-import concurrent.futures
 import glob
 import os
-import subprocess
-import sys
-import tempfile
-import unittest
+import re
 
-HERE = os.path.dirname(os.path.abspath(__file__))
-TOP = os.path.dirname(HERE)
-sys.path.insert(0, HERE)
+import pytest
 
-from whole import command_line, images, refusals, sessions, tables, texts  # noqa: E402
-from whole import canonical, nodes, waits  # noqa: E402
-from whole.texts import RIGHT  # noqa: E402
+from clone import PROGRAM, TOP, outcome, ran, read, side_by_side
+from whole import canonical, command_line, images, nodes, refusals, sessions, tables, texts, waits
+from whole.texts import RIGHT
 
-PROGRAM = os.path.join(TOP, 'crates', 'tcpsim', 'out', 'tcpsim')
-LONGEST = 60  # seconds that a run may take
+pytestmark = pytest.mark.built
+HERE = os.path.join(TOP, 'dev')
 FIRST = ''.join(f'{line}\n' for line in texts.LINES).encode()
-
-
-def read(name):
-    with open(name, 'rb') as file:
-        return file.read()
-
-
 EQUAL_TIMES = read(f'{TOP}/examples/equal_times.txt')
-
-
-def outcome(words, given):
-    """The status, the note and the output of a run of the program."""
-    done = subprocess.run([PROGRAM, *words], input=given, capture_output=True, timeout=LONGEST, check=False)
-    return done.returncode, done.stderr, done.stdout
+TRACE = read(f'{TOP}/examples/one_segment.trace')
 
 
 def hash_of(data):
@@ -60,389 +40,397 @@ def text_with(lines, pieces, number, line):
     return ''.join(f'{it}\n' for it in [*own, *more]) + (line if number > len(lines) else '')
 
 
-class Whole(unittest.TestCase):
-    def expect(self, cases):
-        """Runs the program on each case, its words and its input, which has to end with this status, note
-        and output."""
-        with concurrent.futures.ThreadPoolExecutor(len(os.sched_getaffinity(0))) as pool:
-            came = pool.map(lambda it: outcome(it[0], it[1]), cases)
-            for (words, given, *wanted), found in zip(cases, came):
-                with self.subTest(words=words, given=given[:2000]):
-                    self.assertEqual(found, tuple(wanted))
+def expect(cases):
+    """Runs the program on each case, its words and its input, which has to end with this status, note
+    and output."""
+    came = side_by_side(outcome, [it[:2] for it in cases])
+    for (words, given, *wanted), found in zip(cases, came):
+        assert found == tuple(wanted), (words, given[:2000])
 
-    def expect_faults(self, subcommand, rows):
-        """Each row is an input, what it is refused for, or RIGHT, and what is written then; None is not
-        looked at."""
-        with concurrent.futures.ThreadPoolExecutor(len(os.sched_getaffinity(0))) as pool:
-            came = pool.map(lambda it: outcome([subcommand], it[0]), rows)
-            for (given, fault, output), (status, note, found) in zip(rows, came):
-                with self.subTest(given=given[:2000], fault=fault):
-                    if fault == RIGHT:
-                        self.assertEqual((status, note), (0, b''))
-                        self.assertIn(output, (None, found))
-                    else:
-                        self.assertEqual((status, note, found), (1, f'refused {fault}\n'.encode(), b''))
 
-    def expect_texts(self, rows):
-        """The same of texts, by a fault and its line."""
-        faults = [(text.encode(), code if code == RIGHT else f'{code} line {line}' if code[0] == 'E' else
-                   f'{code} line 0', None) for text, code, line in rows]
-        self.assertTrue(all(line == 0 for _, code, line in rows if code[0] in 'rL'))
-        self.expect_faults('asm', faults)
+def expect_faults(subcommand, rows):
+    """Each row is an input, what it is refused for, or RIGHT, and what is written then; None is not
+    looked at."""
+    came = side_by_side(outcome, [([subcommand], given) for given, _, _ in rows])
+    for (given, fault, output), (status, note, found) in zip(rows, came):
+        wanted = (0, b'', found if output is None else output) if fault == RIGHT else (1, f'refused {fault}\n'.encode(), b'')
+        assert (status, note, found) == wanted, given[:2000]
 
-    # ---- runs
 
-    def test_runs_have_the_stored_traces(self):
-        names = sorted(glob.glob(f'{HERE}/whole/*.txt'))
-        self.assertGreaterEqual(len(names), 10)
-        self.expect([(['run'], read(it), 0, b'', read(f'{it[:-4]}.trace')) for it in names])
+def expect_texts(rows):
+    """The same of texts, by a fault and its line."""
+    faults = [(text.encode(), code if code == RIGHT else f'{code} line {line}' if code[0] == 'E' else
+               f'{code} line 0', None) for text, code, line in rows]
+    assert all(line == 0 for _, code, line in rows if code[0] in 'rL')
+    expect_faults('asm', faults)
 
-    def test_a_hundred_thousand_events_of_a_network_run_to_their_end(self):
-        """402 drops by CoDel, 19 at the full queue, 63 timeouts."""
-        text = read(f'{TOP}/examples/four_flows_before_codel.txt').decode()
-        for old, new, count in [('sim 10000000000\n', 'sim 100000000000\n', 1), (' 1000 6 ', ' 1000 2100 ', 4),
-                                ('codel 20 3000000 10000000 1040', 'codel 8 3000000 10000000 1040', 1)]:
-            self.assertEqual(text.count(old), count, old)
-            text = text.replace(old, new)
-        status, note, trace = outcome(['run'], text.encode())
-        self.assertEqual((status, note), (0, b''))
-        self.assertTrue(trace.endswith(b'\nend 103546\n'))
-        self.assertEqual(len(trace), 5_656_297)
-        self.assertEqual(hash_of(trace), 0x7547_0a11_fb92_3df2)
+# ---- runs
 
-    def test_a_router_with_256_incoming_links_passes_all_on(self):
-        """Of each flow there are its start, and the segment and its acknowledgement, which are three times sent and have
-        three times arrived."""
-        status, note, trace = outcome(['run'], texts.star().encode())
-        self.assertEqual((status, note), (0, b''))
-        *lines, end = trace.decode().splitlines()
-        self.assertEqual((len(lines), end), (8 * 13, f'end {8 * 13}'))
-        times = [int(line.split()[1]) for line in lines]
-        self.assertEqual(times, sorted(times))
-        self.assertEqual(sum(' una=1000 ' in line for line in lines), 8)
 
-    def test_groups_that_are_found_change_no_byte(self):
-        """Three flows of which each has its own links: a window with many events in each group."""
-        for given in (FIRST, texts.ISLANDS.encode()):
-            plain = outcome(['run'], given)
-            self.assertEqual(plain[0], 0)
-            self.expect([(['run', '--groups', 'auto', '--workers', workers], given, *plain)
-                         for workers in ('1', '3', '64')])
+def test_runs_have_the_stored_traces():
+    names = sorted(glob.glob(f'{HERE}/whole/*.txt'))
+    assert len(names) >= 10
+    expect([(['run'], read(it), 0, b'', read(f'{it[:-4]}.trace')) for it in names])
 
-    def test_groups_and_workers_change_no_byte(self):
-        """Of one segment, of two flows of equal times, and of a run that ends on a full queue's losses, whose events
-        were counted by the model."""
-        many = FIRST.replace(b' 1000 1 0 ', b' 1000 200 0 ')
-        plain = outcome(['run'], many)
-        self.assertEqual((plain[0], plain[2][-9:]), (0, b'\nend 145\n'))
-        trace, equal = (read(f'{TOP}/examples/{name}.trace') for name in ('one_segment', 'equal_times'))
-        rows = [(FIRST, ('one', 'each', '0,1', '63,7'), ('1', '2', '64', '01', '+1'), (0, b'', trace)),
-                (EQUAL_TIMES, ('one', 'each', '0,1,0,1,0', '5,5,63,0,0'), ('1', '2', '64'), (0, b'', equal)),
-                (many, ('each',), ('1', '2', '64'), plain)]
-        self.expect([(['run', *words], given, *wanted) for given, groups, workers, wanted in rows
-                     for group in groups for count in workers
-                     for words in (('--groups', group, '--workers', count), ('--workers', count, '--groups', group))])
 
-    def test_figures_have_their_tables(self):
-        self.expect([(['figures'], FIRST, 0, b'', tables.ONE_SEGMENT.encode()),
-                     (['figures'], tables.BOTH_LOST.encode(), 0, b'', tables.AFTER_A_TIMEOUT.encode()),
-                     (['figures'], b'sim 01', 1, b'refused E4 line 1\n', b'')])
+def test_a_hundred_thousand_events_of_a_network_run_to_their_end():
+    """402 drops by CoDel, 19 at the full queue, 63 timeouts."""
+    text = read(f'{TOP}/examples/four_flows_before_codel.txt').decode()
+    for old, new, count in [('sim 10000000000\n', 'sim 100000000000\n', 1), (' 1000 6 ', ' 1000 2100 ', 4),
+                            ('codel 20 3000000 10000000 1040', 'codel 8 3000000 10000000 1040', 1)]:
+        assert text.count(old) == count, old
+        text = text.replace(old, new)
+    status, note, trace = outcome(['run'], text.encode())
+    assert (status, note) == (0, b'')
+    assert trace.endswith(b'\nend 103546\n')
+    assert len(trace) == 5_656_297
+    assert hash_of(trace) == 0x7547_0a11_fb92_3df2
 
-    # ---- debugging sessions
 
-    def test_sessions_have_their_answers(self):
-        self.expect([(words, FIRST + b'---\n' + commands.encode(), 0, b'', answers.encode()) for words in sessions.SHARED
-                     for commands, answers in ((sessions.MOVES, sessions.ANSWERS), (sessions.BREAKS, sessions.STOPS),
-                                               (sessions.FAULTS, sessions.REFUSED_FOR))])
+def test_a_router_with_256_incoming_links_passes_all_on():
+    """Of each flow there are its start, and the segment and its acknowledgement, which are three times sent and have
+    three times arrived."""
+    status, note, trace = outcome(['run'], texts.star().encode())
+    assert (status, note) == (0, b'')
+    *lines, end = trace.decode().splitlines()
+    assert (len(lines), end) == (8 * 13, f'end {8 * 13}')
+    times = [int(line.split()[1]) for line in lines]
+    assert times == sorted(times)
+    assert sum(' una=1000 ' in line for line in lines) == 8
 
-    def test_sessions_of_other_texts_have_their_answers(self):
-        """What waits in a queue that is CoDel's, with each event that is pending; and a NewReno flow that loses
-        segments of one window, and one of them again, beside a Reno flow."""
-        names = sorted(glob.glob(f'{HERE}/whole/*.session'))
-        self.assertEqual(len(names), 2)
-        self.expect([(words, read(it), 0, b'', read(f'{it[:-8]}.answers')) for it in names for words in sessions.CREWS])
 
-    def test_each_state_is_the_one_that_is_reached_at_once(self):
-        """A flow's events, the end, back and until a moment that is past; and 50 events forwards and 50 back, one at a
-        time, of a run of 6 events and of one that is longer."""
-        longer = EQUAL_TIMES.replace(b'sim 2040001', b'sim 1000000000').replace(b' 1000 1 0 ', b' 1000 20 0 ')
-        for text, commands, first, positions in [
-                (EQUAL_TIMES, b'break flow 1\nrun\nrun\nrun\nback 1\nuntil 2040000\n', b'break 1\n', [2, 6, 6, 5, 5]),
-                *((text, b'step 1\n' * 50 + b'back 1\n' * 50, b'',
-                   [min(it, last) for it in range(1, 51)] + [max(0, last - it) for it in range(1, 51)])
-                  for text, last in ((EQUAL_TIMES, 6), (longer, 50)))]:
-            reached = {it: outcome(['debug'], text + b'---\nstep %d\n' % it) for it in sorted(set(positions))}
-            for it, (status, note, state) in reached.items():
-                self.assertEqual((status, note, state[:state.index(b'\n')]), (0, b'', b'at %d' % it))
-            answers = first + b''.join(reached[it][2] for it in positions)
-            self.expect([(words, text + b'---\n' + commands, 0, b'', answers) for words in sessions.CREWS])
+def test_groups_that_are_found_change_no_byte():
+    """Three flows of which each has its own links: a window with many events in each group."""
+    for given in (FIRST, texts.ISLANDS.encode()):
+        plain = outcome(['run'], given)
+        assert plain[0] == 0
+        expect([(['run', '--groups', 'auto', '--workers', workers], given, *plain)
+                for workers in ('1', '3', '64')])
 
-    def test_a_session_has_a_group_for_each_node(self):
-        self.expect([(['debug', '--groups', groups], FIRST + b'---\n' + sessions.MOVES.encode(), 2, b'refused groups\n', b'')
-                     for groups in sessions.NO_GROUPS])
 
-    def test_a_session_has_no_image(self):
-        """An image is taken for a text, whose fault comes before that of the groups."""
-        self.expect([(['debug', *words], b'TCB1\n---\n', 1, b'refused E2 line 1\n', b'')
-                     for words in ([], *(['--groups', groups] for groups in sessions.NO_GROUPS))])
+def test_groups_and_workers_change_no_byte():
+    """Of one segment, of two flows of equal times, and of a run that ends on a full queue's losses, whose events
+    were counted by the model."""
+    many = FIRST.replace(b' 1000 1 0 ', b' 1000 200 0 ')
+    plain = outcome(['run'], many)
+    assert (plain[0], plain[2][-9:]) == (0, b'\nend 145\n')
+    trace, equal = (read(f'{TOP}/examples/{name}.trace') for name in ('one_segment', 'equal_times'))
+    rows = [(FIRST, ('one', 'each', '0,1', '63,7'), ('1', '2', '64', '01', '+1'), (0, b'', trace)),
+            (EQUAL_TIMES, ('one', 'each', '0,1,0,1,0', '5,5,63,0,0'), ('1', '2', '64'), (0, b'', equal)),
+            (many, ('each',), ('1', '2', '64'), plain)]
+    expect([(['run', *words], given, *wanted) for given, groups, workers, wanted in rows
+            for group in groups for count in workers
+            for words in (('--groups', group, '--workers', count), ('--workers', count, '--groups', group))])
 
-    def test_typed_lines_have_their_answers(self):
-        for words in sessions.TYPED:
-            for name, rows in (('one_segment', sessions.LINES_TYPED), ('equal_times', sessions.LINES_OF_EQUAL_TIMES)):
-                for lines, prompts, answers, notes in rows:
-                    with self.subTest(words=words, lines=lines):
-                        typed = ''.join(f'{it}\n' for it in lines).encode()
-                        status, noted, output = outcome([*words, f'{TOP}/examples/{name}.txt'], typed)
-                        self.assertEqual((status, output), (0, answers.encode()))
-                        self.assertEqual(noted.count(b'(tcpsim) '), prompts)
-                        self.assertEqual(noted.replace(b'(tcpsim) ', b'').decode().split('\n'), [*notes, ''])
 
-    def test_nodes_have_their_ends_links_and_packets(self):
-        """By node, whose dump is the same in groups."""
-        given = read(f'{HERE}/whole/two_flows_over_a_router.txt') + b'---\n' + nodes.COMMANDS.encode()
-        self.expect([(words, given, 0, b'', nodes.ANSWERS.encode())
-                     for words in (['debug'], ['debug', '--groups', 'each', '--workers', '2'])])
+def test_figures_have_their_tables():
+    expect([(['figures'], FIRST, 0, b'', tables.ONE_SEGMENT.encode()),
+            (['figures'], tables.BOTH_LOST.encode(), 0, b'', tables.AFTER_A_TIMEOUT.encode()),
+            (['figures'], b'sim 01', 1, b'refused E4 line 1\n', b'')])
 
-    def test_what_a_flow_waits_for_is_told(self):
-        """The lines that a move passed are the trace's, and left out here."""
-        for text, moves in waits.ROWS:
-            lines = ['break stall 0', *(line for move, _ in moves for line in (move, 'why 0'))]
-            wanted = ''.join(['break 1: stall 0\n', *(told for _, told in moves)])
-            with tempfile.NamedTemporaryFile(suffix='.txt') as file, self.subTest(text=text):
-                file.write(text.encode())
-                file.flush()
-                status, _, output = outcome(['debug', file.name], ''.join(f'{it}\n' for it in lines).encode())
-                told = [it for it in output.decode().splitlines(True) if not it[0].isdigit() and not it.startswith('.. ')]
-                self.assertEqual((status, ''.join(told)), (0, wanted))
+# ---- debugging sessions
 
-    # ---- texts
 
-    def test_texts_have_their_faults(self):
-        self.expect_texts(texts.TEXTS)
-        self.expect_faults('run', [(text.encode(), f'{code} line {line}', None) for text, code, line in texts.TEXTS])
+def test_sessions_have_their_answers():
+    expect([(words, FIRST + b'---\n' + commands.encode(), 0, b'', answers.encode()) for words in sessions.SHARED
+            for commands, answers in ((sessions.MOVES, sessions.ANSWERS), (sessions.BREAKS, sessions.STOPS),
+                                      (sessions.FAULTS, sessions.REFUSED_FOR))])
 
-    def test_lines_have_their_faults(self):
-        rows = [(text_with(texts.LINES, texts.LOSSES, at, line), code, place)
-                for at, line, code, place in [*texts.PLACED, *texts.NAMED]]
-        rows += [(text_with(texts.ROUTED, texts.ROUTER_LINKS, at, line), code, place)
-                 for at, line, code, place in texts.ROUTES]
-        self.expect_texts(rows)
 
-    def test_texts_of_many_statements_have_their_faults(self):
-        self.expect_texts([(text_with(texts.LINES, pieces, at, line), code, place)
-                           for pieces, at, line, code, place in texts.COUNTED])
+def test_sessions_of_other_texts_have_their_answers():
+    """What waits in a queue that is CoDel's, with each event that is pending; and a NewReno flow that loses
+    segments of one window, and one of them again, beside a Reno flow."""
+    names = sorted(glob.glob(f'{HERE}/whole/*.session'))
+    assert len(names) == 2
+    expect([(words, read(it), 0, b'', read(f'{it[:-8]}.answers')) for it in names for words in sessions.CREWS])
 
-    def test_lines_of_many_words_have_their_faults(self):
-        rows = [(7, first + ' 1' * more, of_flow if first == 'flow' else 'E3', 7)
-                for more, of_flow in texts.WORDS for first in ('sim', 'node', 'flow', 'route', 'lose')]
-        rows += [(4, texts.CODEL + ' 1' * more, code, place) for more, code, place in texts.MORE]
-        self.expect_texts([(text_with(texts.LINES, texts.LOSSES, at, line), code, place)
-                           for at, line, code, place in rows])
 
-    def test_long_lines_have_their_faults(self):
-        self.expect([(['run'], (first + piece * count).encode(), 1, f'{note}\n'.encode(), b'')
-                     for first, piece, count, note in texts.LONG])
+def test_each_state_is_the_one_that_is_reached_at_once():
+    """A flow's events, the end, back and until a moment that is past; and 50 events forwards and 50 back, one at a
+    time, of a run of 6 events and of one that is longer."""
+    longer = EQUAL_TIMES.replace(b'sim 2040001', b'sim 1000000000').replace(b' 1000 1 0 ', b' 1000 20 0 ')
+    for text, commands, first, positions in [
+            (EQUAL_TIMES, b'break flow 1\nrun\nrun\nrun\nback 1\nuntil 2040000\n', b'break 1\n', [2, 6, 6, 5, 5]),
+            *((text, b'step 1\n' * 50 + b'back 1\n' * 50, b'',
+               [min(it, last) for it in range(1, 51)] + [max(0, last - it) for it in range(1, 51)])
+              for text, last in ((EQUAL_TIMES, 6), (longer, 50)))]:
+        reached = {it: outcome(['debug'], text + b'---\nstep %d\n' % it) for it in sorted(set(positions))}
+        for it, (status, note, state) in reached.items():
+            assert (status, note, state[:state.index(b'\n')]) == (0, b'', b'at %d' % it)
+        answers = first + b''.join(reached[it][2] for it in positions)
+        expect([(words, text + b'---\n' + commands, 0, b'', answers) for words in sessions.CREWS])
 
-    def test_scenarios_have_their_canonical_texts(self):
-        self.expect([(['dis'], given.encode(), 0, b'', again.encode()) for given, again in canonical.CANONICAL])
-        flow = FIRST.decode().rstrip()
-        again = images.FIRST_AGAIN.removesuffix('reno iw3\n')
-        self.expect([(['dis'], f'{flow} {words}\n'.encode(), 0, b'', f'{again}{words}\n'.encode()) for words in canonical.SENDERS])
 
-    def test_a_fault_is_shown_at_its_place(self):
-        for before, number, rows in ((canonical.RIGHT, 4, canonical.FOURTH), (canonical.RIGHT + canonical.FLOWS, 132, canonical.ONE_MORE)):
-            for line, code, start, count in rows:
-                shown = f"{line}\n{' ' * start}{'^' * count}\n".replace('\t', '?')
-                self.expect_why(['asm'], (before + line).encode(), code, shown)
-                self.expect_faults('asm', [((before + line).encode(), f'{code} line {number}', None)])
+def test_a_session_has_a_group_for_each_node():
+    expect([(['debug', '--groups', groups], FIRST + b'---\n' + sessions.MOVES.encode(), 2, b'refused groups\n', b'')
+            for groups in sessions.NO_GROUPS])
 
-    def test_a_cut_text_has_its_fault_or_runs(self):
-        trace = read(f'{TOP}/examples/one_segment.trace')
-        rows = [(FIRST[:size], fault, trace) for least, most, fault in texts.CUTS for size in range(least, most + 1)]
-        self.assertEqual([len(it) for it, _, _ in rows], [*range(len(FIRST) + 1)])
-        self.expect_faults('run', rows)
 
-    def test_a_byte_out_of_range_is_told_by_its_line(self):
-        self.expect_faults('run', [
-            (FIRST[:place] + bytes([byte]) + FIRST[place + 1:], f'E1 line {FIRST.count(10, 0, place) + 1}', None)
-            for place in range(len(FIRST)) for byte in texts.OUTSIDE])
+def test_a_session_has_no_image():
+    """An image is taken for a text, whose fault comes before that of the groups."""
+    expect([(['debug', *words], b'TCB1\n---\n', 1, b'refused E2 line 1\n', b'')
+            for words in ([], *(['--groups', groups] for groups in sessions.NO_GROUPS))])
 
-    # ---- images
 
-    def changed(self, image, rows):
-        """Images with bytes put at places, what each is refused for, and itself."""
-        made = [(image[:place] + bytes.fromhex(put), place + len(bytes.fromhex(put)), fault)
-                for place, put, fault in rows]
-        return [(it + image[end:], fault, it + image[end:]) for it, end, fault in made]
+def test_typed_lines_have_their_answers():
+    for words in sessions.TYPED:
+        for name, rows in (('one_segment', sessions.LINES_TYPED), ('equal_times', sessions.LINES_OF_EQUAL_TIMES)):
+            for lines, prompts, answers, notes in rows:
+                typed = ''.join(f'{it}\n' for it in lines).encode()
+                status, noted, output = outcome([*words, f'{TOP}/examples/{name}.txt'], typed)
+                assert (status, output) == (0, answers.encode())
+                assert noted.count(b'(tcpsim) ') == prompts
+                assert noted.replace(b'(tcpsim) ', b'').decode().split('\n') == [*notes, '']
 
-    def test_a_scenario_goes_from_text_to_image_and_back(self):
-        self.assertEqual((len(images.FIRST_IMAGE), len(images.IN_VERSION_1)), (135, 134))
-        again = images.FIRST_AGAIN.encode()
-        trace = read(f'{TOP}/examples/one_segment.trace')
-        self.expect([(words, given, 0, b'', output)
-                     for given in (FIRST, again, images.FIRST_IMAGE, images.IN_VERSION_1)
-                     for words, output in ((['asm'], images.FIRST_IMAGE), (['dis'], again), (['run'], trace))])
 
-    def test_images_have_their_faults(self):
-        self.expect_faults('asm', self.changed(images.FIRST_IMAGE, images.CHANGED))
+def test_nodes_have_their_ends_links_and_packets():
+    """By node, whose dump is the same in groups."""
+    given = read(f'{HERE}/whole/two_flows_over_a_router.txt') + b'---\n' + nodes.COMMANDS.encode()
+    expect([(words, given, 0, b'', nodes.ANSWERS.encode())
+            for words in (['debug'], ['debug', '--groups', 'each', '--workers', '2'])])
 
-    def test_images_of_version_1_have_their_faults(self):
-        """What is right is the same bytes in version 2, with one more for the sender."""
-        self.expect_faults('asm', [(it, fault, b'TCB2' + it[4:] + b'\0') for it, fault, _ in
-                                   self.changed(images.IN_VERSION_1, images.CHANGED_IN_VERSION_1)])
 
-    def test_a_sender_has_one_byte(self):
-        self.expect([(['asm'], FIRST.rstrip() + f'{words}\n'.encode(), 0, b'', images.FIRST_IMAGE[:-1] + bytes([byte]))
-                     for words, byte in images.SENDERS])
+def test_what_a_flow_waits_for_is_told(put):
+    """The lines that a move passed are the trace's, and left out here."""
+    for text, moves in waits.ROWS:
+        lines = ['break stall 0', *(line for move, _ in moves for line in (move, 'why 0'))]
+        wanted = ''.join(['break 1: stall 0\n', *(told for _, told in moves)])
+        status, _, output = outcome(['debug', put('run.txt', text)], ''.join(f'{it}\n' for it in lines).encode())
+        told = [it for it in output.decode().splitlines(True) if not it[0].isdigit() and not it.startswith('.. ')]
+        assert (status, ''.join(told)) == (0, wanted)
 
-    def test_lost_packets_have_their_faults(self):
-        rows = [([*range(first, last + 1)], fault) for first, last, fault in images.LOST]
-        rows += [(numbers, 'L3') for numbers in images.NOT_RISING]
-        made = [(b''.join(it.to_bytes(4, 'big') for it in numbers), len(numbers), fault) for numbers, fault in rows]
-        made = [(images.FIRST_IMAGE[:65] + bytes([count]) + lost + images.FIRST_IMAGE[66:], fault)
-                for lost, count, fault in made]
-        self.expect_faults('asm', [(it, fault, it) for it, fault in made])
+# ---- texts
 
-    def test_a_cut_image_has_too_few_bytes(self):
-        notes = {0: b'refused E10 line 0\n', 1: b'refused E2 line 1\n', 2: b'refused E2 line 1\n'}
-        self.expect([(['run'], image[:size], 1, notes.get(size, b'refused L1\n'), b'')
-                     for image in (images.FIRST_IMAGE, images.IN_VERSION_1) for size in range(len(image))])
 
-    def test_images_of_many_records_have_their_faults(self):
-        made = [(images.image_of(counts, routes), fault) for counts, routes, fault in images.COUNTS]
-        self.expect_faults('asm', [(it, fault, it) for it, fault in made])
+def test_texts_have_their_faults():
+    expect_texts(texts.TEXTS)
+    expect_faults('run', [(text.encode(), f'{code} line {line}', None) for text, code, line in texts.TEXTS])
 
-    def test_the_greatest_images_are_taken(self):
-        """Each is given again, by its text too."""
-        for image in (images.greatest(), images.most_flows()):
-            self.expect([(['asm'], image, 0, b'', image)])
-            status, note, text = outcome(['dis'], image)
-            self.assertEqual((status, note), (0, b''))
-            self.expect([(['asm'], text, 0, b'', image)])
 
-    # ---- why
+def test_lines_have_their_faults():
+    rows = [(text_with(texts.LINES, texts.LOSSES, at, line), code, place)
+            for at, line, code, place in [*texts.PLACED, *texts.NAMED]]
+    rows += [(text_with(texts.ROUTED, texts.ROUTER_LINKS, at, line), code, place)
+             for at, line, code, place in texts.ROUTES]
+    expect_texts(rows)
 
-    def expect_why(self, words, given, code, lines):
-        """The note with the code, these lines, and the first line of the code's text are on standard error."""
-        with self.subTest(words=words, given=given[:2000]):
-            status, said, output = outcome([*words, '--explain'], given)
-            note, shown = said.decode().split('\n', 1)
-            self.assertEqual((status, output), (1, b''))
-            self.assertRegex(note, rf'^refused {code}( line \d+)?$')
-            about = outcome(['explain', code], b'')[2].decode().split('\n', 1)[0]
-            self.assertEqual(shown, f'{lines}{about}\n')
 
-    def test_a_refusal_of_a_text_is_shown_with_its_reason(self):
-        texts_of = [*refusals.SHOWN, *((text_with(texts.ROUTED, texts.LOSSES, place, line), code, lines)
-                                       for place, line, code, lines in refusals.CHANGED)]
-        for given, code, lines in texts_of:
-            for word in ('asm', 'dis', 'run'):
-                self.expect_why([word], given.encode(), code, lines)
+def test_texts_of_many_statements_have_their_faults():
+    expect_texts([(text_with(texts.LINES, pieces, at, line), code, place)
+                  for pieces, at, line, code, place in texts.COUNTED])
 
-    def test_a_refusal_of_an_image_is_shown_with_its_reason(self):
-        image = outcome(['asm'], ''.join(f'{line}\n' for line in texts.ROUTED).encode())[2]
-        self.assertEqual(len(image), 232)
-        for place, put, kept, code, lines in refusals.CHANGED_BYTES:
-            put = bytes.fromhex(put)
-            self.expect_why(['dis'], (image[:place] + put + image[place + len(put):])[:kept], code, lines)
-        image = outcome(['asm'], refusals.TWO_ROUTERS.encode())[2]
-        place, put, code, lines = refusals.RETURNING
+
+def test_lines_of_many_words_have_their_faults():
+    rows = [(7, first + ' 1' * more, of_flow if first == 'flow' else 'E3', 7)
+            for more, of_flow in texts.WORDS for first in ('sim', 'node', 'flow', 'route', 'lose')]
+    rows += [(4, texts.CODEL + ' 1' * more, code, place) for more, code, place in texts.MORE]
+    expect_texts([(text_with(texts.LINES, texts.LOSSES, at, line), code, place)
+                  for at, line, code, place in rows])
+
+
+def test_long_lines_have_their_faults():
+    expect([(['run'], (first + piece * count).encode(), 1, f'{note}\n'.encode(), b'')
+            for first, piece, count, note in texts.LONG])
+
+
+def test_scenarios_have_their_canonical_texts():
+    expect([(['dis'], given.encode(), 0, b'', again.encode()) for given, again in canonical.CANONICAL])
+    flow = FIRST.decode().rstrip()
+    again = images.FIRST_AGAIN.removesuffix('reno iw3\n')
+    expect([(['dis'], f'{flow} {words}\n'.encode(), 0, b'', f'{again}{words}\n'.encode()) for words in canonical.SENDERS])
+
+
+def test_a_fault_is_shown_at_its_place():
+    for before, number, rows in ((canonical.RIGHT, 4, canonical.FOURTH), (canonical.RIGHT + canonical.FLOWS, 132, canonical.ONE_MORE)):
+        for line, code, start, count in rows:
+            shown = f"{line}\n{' ' * start}{'^' * count}\n".replace('\t', '?')
+            expect_why(['asm'], (before + line).encode(), code, shown)
+            expect_faults('asm', [((before + line).encode(), f'{code} line {number}', None)])
+
+
+def test_a_cut_text_has_its_fault_or_runs():
+    rows = [(FIRST[:size], fault, TRACE) for least, most, fault in texts.CUTS for size in range(least, most + 1)]
+    assert [len(it) for it, _, _ in rows] == [*range(len(FIRST) + 1)]
+    expect_faults('run', rows)
+
+
+def test_a_byte_out_of_range_is_told_by_its_line():
+    expect_faults('run', [
+        (FIRST[:place] + bytes([byte]) + FIRST[place + 1:], f'E1 line {FIRST.count(10, 0, place) + 1}', None)
+        for place in range(len(FIRST)) for byte in texts.OUTSIDE])
+
+# ---- images
+
+
+def changed(image, rows):
+    """Images with bytes put at places, what each is refused for, and itself."""
+    made = [(image[:place] + bytes.fromhex(put), place + len(bytes.fromhex(put)), fault)
+            for place, put, fault in rows]
+    return [(it + image[end:], fault, it + image[end:]) for it, end, fault in made]
+
+
+def test_a_scenario_goes_from_text_to_image_and_back():
+    assert (len(images.FIRST_IMAGE), len(images.IN_VERSION_1)) == (135, 134)
+    again = images.FIRST_AGAIN.encode()
+    expect([(words, given, 0, b'', output)
+            for given in (FIRST, again, images.FIRST_IMAGE, images.IN_VERSION_1)
+            for words, output in ((['asm'], images.FIRST_IMAGE), (['dis'], again), (['run'], TRACE))])
+
+
+def test_images_have_their_faults():
+    expect_faults('asm', changed(images.FIRST_IMAGE, images.CHANGED))
+
+
+def test_images_of_version_1_have_their_faults():
+    """What is right is the same bytes in version 2, with one more for the sender."""
+    expect_faults('asm', [(it, fault, b'TCB2' + it[4:] + b'\0') for it, fault, _ in
+                          changed(images.IN_VERSION_1, images.CHANGED_IN_VERSION_1)])
+
+
+def test_a_sender_has_one_byte():
+    expect([(['asm'], FIRST.rstrip() + f'{words}\n'.encode(), 0, b'', images.FIRST_IMAGE[:-1] + bytes([byte]))
+            for words, byte in images.SENDERS])
+
+
+def test_lost_packets_have_their_faults():
+    rows = [([*range(first, last + 1)], fault) for first, last, fault in images.LOST]
+    rows += [(numbers, 'L3') for numbers in images.NOT_RISING]
+    made = [(b''.join(it.to_bytes(4, 'big') for it in numbers), len(numbers), fault) for numbers, fault in rows]
+    made = [(images.FIRST_IMAGE[:65] + bytes([count]) + lost + images.FIRST_IMAGE[66:], fault)
+            for lost, count, fault in made]
+    expect_faults('asm', [(it, fault, it) for it, fault in made])
+
+
+def test_a_cut_image_has_too_few_bytes():
+    notes = {0: b'refused E10 line 0\n', 1: b'refused E2 line 1\n', 2: b'refused E2 line 1\n'}
+    expect([(['run'], image[:size], 1, notes.get(size, b'refused L1\n'), b'')
+            for image in (images.FIRST_IMAGE, images.IN_VERSION_1) for size in range(len(image))])
+
+
+def test_images_of_many_records_have_their_faults():
+    made = [(images.image_of(counts, routes), fault) for counts, routes, fault in images.COUNTS]
+    expect_faults('asm', [(it, fault, it) for it, fault in made])
+
+
+def test_the_greatest_images_are_taken():
+    """Each is given again, by its text too."""
+    for image in (images.greatest(), images.most_flows()):
+        expect([(['asm'], image, 0, b'', image)])
+        status, note, text = outcome(['dis'], image)
+        assert (status, note) == (0, b'')
+        expect([(['asm'], text, 0, b'', image)])
+
+# ---- why
+
+
+def expect_why(words, given, code, lines):
+    """The note with the code, these lines, and the first line of the code's text are on standard error."""
+    status, said, output = outcome([*words, '--explain'], given)
+    note, shown = said.decode().split('\n', 1)
+    assert (status, output) == (1, b'')
+    assert re.search(rf'^refused {code}( line \d+)?$', note)
+    about = outcome(['explain', code], b'')[2].decode().split('\n', 1)[0]
+    assert shown == f'{lines}{about}\n'
+
+
+def test_a_refusal_of_a_text_is_shown_with_its_reason():
+    texts_of = [*refusals.SHOWN, *((text_with(texts.ROUTED, texts.LOSSES, place, line), code, lines)
+                                   for place, line, code, lines in refusals.CHANGED)]
+    for given, code, lines in texts_of:
+        for word in ('asm', 'dis', 'run'):
+            expect_why([word], given.encode(), code, lines)
+
+
+def test_a_refusal_of_an_image_is_shown_with_its_reason():
+    image = outcome(['asm'], ''.join(f'{line}\n' for line in texts.ROUTED).encode())[2]
+    assert len(image) == 232
+    for place, put, kept, code, lines in refusals.CHANGED_BYTES:
         put = bytes.fromhex(put)
-        self.expect_why(['asm'], image[:place] + put + image[place + len(put):], code, lines)
-
-    def test_nothing_is_shown_unasked_and_of_a_right_input(self):
-        self.expect([(['run'], b'sim 0\n', 1, b'refused E5 line 1\n', b''),
-                     (['asm'], text_with(texts.ROUTED, texts.LOSSES, 1, 'sim 5').encode(), 0, b'',
-                      outcome(['asm', '--explain'], text_with(texts.ROUTED, texts.LOSSES, 1, 'sim 5').encode())[2]),
-                     (['run', '--explain'], FIRST, 0, b'', read(f'{TOP}/examples/one_segment.trace')),
-                     (['run', '--explain', '--groups', '0,1,1'], FIRST, 2,
-                      b'refused groups\ngroups that are given: 3; nodes: 2\n'
-                      + outcome(['explain', 'groups'], b'')[2].split(b'\n', 1)[0] + b'\n', b'')])
-
-    def test_each_hundredth_that_is_passed_is_told(self):
-        """Of a run of 4 ms, whose events are at 0, 1.04, 2.04, 2.08 and 3.08 ms, and of one of a second; by one worker,
-        whatever the groups, as without options."""
-        trace = read(f'{TOP}/examples/one_segment.trace')
-        for given, end, passed in ((FIRST.replace(b'sim 1000000000', b'sim 4000000'), '0.004',
-                                    [(26, 2), (51, 3), (52, 4), (77, 5), (100, 5)]),
-                                   (FIRST, '1', [(100, 5)])):
-            told = ''.join(f'\r{percent} % of {end} s simulated, {events} events' for percent, events in passed)
-            self.expect([(['run', '--progress', *words], given, 0, f'{told}\n'.encode(), trace)
-                         for words in ([], ['--groups', 'each'], ['--groups', '0,1', '--workers', '1'])])
-        self.expect([(['run', '--progress'], b'sim 1\n', 1, b'refused L3 line 0\n', b''), (['run'], FIRST, 0, b'', trace)])
-
-    def test_by_workers_each_hundredth_is_told_up_to_the_last_event(self):
-        """Of the run of 4 ms, with how many events are run by each hundredth."""
-        trace = read(f'{TOP}/examples/one_segment.trace')
-        moments = [0, 1040000, 2040000, 2080000, 3080000]
-        passed = [(it, sum(at < it * 40000 for at in moments)) for it in range(1, 78)] + [(100, 5)]
-        told = ''.join(f'\r{percent} % of 0.004 s simulated, {events} events' for percent, events in passed)
-        self.expect([(['run', '--progress', '--groups', 'each', '--workers', workers],
-                      FIRST.replace(b'sim 1000000000', b'sim 4000000'), 0, f'{told}\n'.encode(), trace)
-                     for workers in ('2', '64')])
-
-    def test_seconds_have_the_decimals_that_they_need(self):
-        rows = [(1, '0.000000001'), (1_000_000_000, '1'), (90_500_000_000, '90.5'), (1_000_000_000_000_000, '1000000'),
-                (2_010_000_001, '2.010000001')]
-        for end, seconds in rows:
-            status, said, _ = outcome(['run', '--progress'], FIRST.replace(b'sim 1000000000', b'sim %d' % end))
-            events = 1 if end == 1 else 5
-            self.assertEqual((status, said), (0, f'\r100 % of {seconds} s simulated, {events} events\n'.encode()))
-
-    # ---- words
-
-    def unread(self, given):
-        """The outcome of a run whose standard input is a folder, which fails whenever it is read."""
-        folder = os.open(TOP, os.O_RDONLY)
-        try:
-            done = subprocess.run([PROGRAM, *given], stdin=folder, capture_output=True, timeout=LONGEST, check=False)
-        finally:
-            os.close(folder)
-        return done.returncode, done.stderr, done.stdout
-
-    def test_mistaken_words_are_refused_unread(self):
-        self.assertEqual(self.unread(['run']), (3, b'read failed\n', b''))
-        for given in command_line.MISTAKEN:
-            with self.subTest(words=given):
-                status, note, output = self.unread(given)
-                self.assertEqual((status, output), (2, b''))
-                self.assertTrue(note.startswith(b'error: ') and note.endswith(b'\n'), note)
-                self.assertEqual(outcome(given, FIRST), (status, note, output))
-
-    def test_codes_are_explained_unread(self):
-        none = b'error: no such code; there are E1 to E10, L1 to L8, I1, B1 to B5, M and groups\n'
-        for code in ('E0', 'e1', '', 'E1:'):
-            self.assertEqual(self.unread(['explain', code]), (2, none, b''))
-        self.assertEqual(self.unread(['explain', 'M']), (0, b'', command_line.MEMORY.encode()))
-
-    def test_options_are_written_in_several_ways(self):
-        trace = read(f'{TOP}/examples/one_segment.trace')
-        self.expect([(['run', *given], FIRST, 0, b'', trace) for given in command_line.WRITTEN])
-
-    def test_groups_that_do_not_fit_the_nodes_are_refused(self):
-        self.expect([(['run', *given], FIRST, 2, b'refused groups\n', b'') for given in command_line.NO_GROUPS])
-
-    def test_an_input_is_refused_before_its_groups(self):
-        cases = [([task, '--groups', '0'], given, 1, note, b'')
-                 for given, note in command_line.BEFORE_GROUPS for task in ('run', 'debug')]
-        self.expect([*cases, (['run', '--groups', '0'], b'TCB1', 1, b'refused L1\n', b'')])
+        expect_why(['dis'], (image[:place] + put + image[place + len(put):])[:kept], code, lines)
+    image = outcome(['asm'], refusals.TWO_ROUTERS.encode())[2]
+    place, put, code, lines = refusals.RETURNING
+    put = bytes.fromhex(put)
+    expect_why(['asm'], image[:place] + put + image[place + len(put):], code, lines)
 
 
-def main():
-    global PROGRAM
-    arguments = argparse.ArgumentParser(add_help=False)
-    arguments.add_argument('--program', default=PROGRAM)
-    options, rest = arguments.parse_known_args()
-    PROGRAM = os.path.abspath(options.program)
-    if not os.path.exists(PROGRAM):
-        print(f"{PROGRAM} is not there: build it with 'make run'")
-        print('LEFT OUT, not passed: dev/test_whole.py')
-        return 0
-    done = unittest.main(argv=[sys.argv[0], *rest], exit=False).result
-    failed = len({getattr(test, 'test_case', test).id() for test, _ in done.failures + done.errors})
-    print(f'{done.testsRun - failed} passed, {failed} failed')
-    return 1 if failed else 0
+def test_nothing_is_shown_unasked_and_of_a_right_input():
+    expect([(['run'], b'sim 0\n', 1, b'refused E5 line 1\n', b''),
+            (['asm'], text_with(texts.ROUTED, texts.LOSSES, 1, 'sim 5').encode(), 0, b'',
+             outcome(['asm', '--explain'], text_with(texts.ROUTED, texts.LOSSES, 1, 'sim 5').encode())[2]),
+            (['run', '--explain'], FIRST, 0, b'', TRACE),
+            (['run', '--explain', '--groups', '0,1,1'], FIRST, 2,
+             b'refused groups\ngroups that are given: 3; nodes: 2\n'
+             + outcome(['explain', 'groups'], b'')[2].split(b'\n', 1)[0] + b'\n', b'')])
 
 
-if __name__ == '__main__':
-    sys.exit(main())
+def test_each_hundredth_that_is_passed_is_told():
+    """Of a run of 4 ms, whose events are at 0, 1.04, 2.04, 2.08 and 3.08 ms, and of one of a second; by one worker,
+    whatever the groups, as without options."""
+    for given, end, passed in ((FIRST.replace(b'sim 1000000000', b'sim 4000000'), '0.004',
+                                [(26, 2), (51, 3), (52, 4), (77, 5), (100, 5)]),
+                               (FIRST, '1', [(100, 5)])):
+        told = ''.join(f'\r{percent} % of {end} s simulated, {events} events' for percent, events in passed)
+        expect([(['run', '--progress', *words], given, 0, f'{told}\n'.encode(), TRACE)
+                for words in ([], ['--groups', 'each'], ['--groups', '0,1', '--workers', '1'])])
+    expect([(['run', '--progress'], b'sim 1\n', 1, b'refused L3 line 0\n', b''), (['run'], FIRST, 0, b'', TRACE)])
+
+
+def test_by_workers_each_hundredth_is_told_up_to_the_last_event():
+    """Of the run of 4 ms, with how many events are run by each hundredth."""
+    moments = [0, 1040000, 2040000, 2080000, 3080000]
+    passed = [(it, sum(at < it * 40000 for at in moments)) for it in range(1, 78)] + [(100, 5)]
+    told = ''.join(f'\r{percent} % of 0.004 s simulated, {events} events' for percent, events in passed)
+    expect([(['run', '--progress', '--groups', 'each', '--workers', workers],
+             FIRST.replace(b'sim 1000000000', b'sim 4000000'), 0, f'{told}\n'.encode(), TRACE)
+            for workers in ('2', '64')])
+
+
+def test_seconds_have_the_decimals_that_they_need():
+    rows = [(1, '0.000000001'), (1_000_000_000, '1'), (90_500_000_000, '90.5'), (1_000_000_000_000_000, '1000000'),
+            (2_010_000_001, '2.010000001')]
+    for end, seconds in rows:
+        status, said, _ = outcome(['run', '--progress'], FIRST.replace(b'sim 1000000000', b'sim %d' % end))
+        events = 1 if end == 1 else 5
+        assert (status, said) == (0, f'\r100 % of {seconds} s simulated, {events} events\n'.encode())
+
+# ---- words
+
+
+def unread(given):
+    """The outcome of a run whose standard input is a folder, which fails whenever it is read."""
+    folder = os.open(TOP, os.O_RDONLY)
+    try:
+        done = ran(PROGRAM, *given, stdin=folder)
+    finally:
+        os.close(folder)
+    return done.returncode, done.stderr, done.stdout
+
+
+def test_mistaken_words_are_refused_unread():
+    assert unread(['run']) == (3, b'read failed\n', b'')
+    for given in command_line.MISTAKEN:
+        status, note, output = unread(given)
+        assert (status, output) == (2, b'')
+        assert note.startswith(b'error: ') and note.endswith(b'\n'), note
+        assert outcome(given, FIRST) == (status, note, output)
+
+
+def test_codes_are_explained_unread():
+    none = b'error: no such code; there are E1 to E10, L1 to L8, I1, B1 to B5, M and groups\n'
+    for code in ('E0', 'e1', '', 'E1:'):
+        assert unread(['explain', code]) == (2, none, b'')
+    assert unread(['explain', 'M']) == (0, b'', command_line.MEMORY.encode())
+
+
+def test_options_are_written_in_several_ways():
+    expect([(['run', *given], FIRST, 0, b'', TRACE) for given in command_line.WRITTEN])
+
+
+def test_groups_that_do_not_fit_the_nodes_are_refused():
+    expect([(['run', *given], FIRST, 2, b'refused groups\n', b'') for given in command_line.NO_GROUPS])
+
+
+def test_an_input_is_refused_before_its_groups():
+    cases = [([task, '--groups', '0'], given, 1, note, b'')
+             for given, note in command_line.BEFORE_GROUPS for task in ('run', 'debug')]
+    expect([*cases, (['run', '--groups', '0'], b'TCB1', 1, b'refused L1\n', b'')])

@@ -10,7 +10,7 @@ import tempfile
 
 import pytest
 
-from paths import BIN, MODEL, TOP
+from clone import BIN, MODEL, TOP
 
 BUILT = os.path.join(TOP, 'crates', 'tcpsim', 'out', 'tcpsim')
 PROGRAM = BUILT if os.path.exists(BUILT) else MODEL

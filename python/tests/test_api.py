@@ -12,7 +12,7 @@ import time
 
 import pytest
 
-from paths import BIN, TOP
+from clone import BIN, TOP
 
 import tcpsim
 from tcpsim.api.answers import WaitingPacket

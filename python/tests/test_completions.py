@@ -1,26 +1,21 @@
-#!/usr/bin/env python3
-"""Tests of the shells' completions and of the man pages: python/tests/test_completions.py. bash is asked by
+"""Tests of the shells' completions and of the man pages. bash is asked by
 `compgen` through the functions, and bash and zsh by a terminal of their own in which a line is typed; fish by
 `complete -C`. The words of each subcommand are those of its `--help`, in each shell and in the man page. A
 shell that is not there is left out, which is said. The last line is `N passed, M failed`.
 """
-import io
 import os
 import pty
 import re
 import select
-import shutil
-import stat
 import subprocess
 import sys
-import tempfile
 import time
-import unittest
 
-from paths import BIN, TOP
+import pytest
+
+from clone import BIN, PROGRAM, TOP, Folder
 
 COMPLETIONS = os.path.join(TOP, 'completions')
-PROGRAM = os.path.join(TOP, 'crates', 'tcpsim', 'out', 'tcpsim')
 SUBCOMMANDS = ('asm', 'debug', 'dis', 'explain', 'figures', 'run')
 TOOLS = ('run', 'model', 'flows', 'plot', 'net', 'sweep', 'follow', 'stalls', 'replay')
 MARK = '@ready@'
@@ -68,29 +63,21 @@ LINES = (
 )
 
 
-class Folder(unittest.TestCase):
+class Shelf(Folder):
     """A folder with files to complete, and the tools on PATH."""
 
-    def setUp(self):
-        folder = tempfile.TemporaryDirectory()
-        self.addCleanup(folder.cleanup)
-        self.folder, self.bin = os.path.join(folder.name, 'here'), os.path.join(folder.name, 'bin')
+    def setup_method(self):
+        super().setup_method()
+        self.home, self.bin, self.folder = self.folder, os.path.join(self.folder, 'bin'), os.path.join(self.folder, 'here')
         os.makedirs(os.path.join(self.folder, 'shelf'))
         os.makedirs(self.bin)
-        for name in ('scenario one.txt', 'scenario_two.txt', os.path.join('shelf', 'inner.txt')):
-            with open(os.path.join(self.folder, name), 'w', encoding='ascii'):
-                pass
-        for tool in TOOLS:
-            path = os.path.join(self.bin, f'tcpsim-{tool}')
-            with open(path, 'w', encoding='utf-8') as file:
-                file.write(f'#!/bin/sh\nexec {sys.executable} {BIN}/tcpsim-{tool} "$@"\n')
-            os.chmod(path, stat.S_IRWXU)
-        path = os.path.join(self.bin, 'tcpsim')
-        with open(path, 'w', encoding='utf-8') as file:
-            file.write('#!/bin/sh\n[ "$*" = explain ] && printf "E4: a word\\nE10: no sim\\ngroups: none\\n"\n')
-        os.chmod(path, stat.S_IRWXU)
-        self.environment = {'PATH': f'{self.bin}:{os.environ["PATH"]}', 'HOME': folder.name, 'TERM': 'dumb',
-                            'LANG': 'C', 'INPUTRC': os.devnull, 'XDG_CONFIG_HOME': folder.name}
+        for name in ('scenario one.txt', 'scenario_two.txt', 'shelf/inner.txt'):
+            self.put(name, '')
+        for name in TOOLS:
+            self.put(f'{self.bin}/tcpsim-{name}', f'#!/bin/sh\nexec {sys.executable} {BIN}/tcpsim-{name} "$@"\n', 0o700)
+        self.put(f'{self.bin}/tcpsim', '#!/bin/sh\n[ "$*" = explain ] && printf "E4: a word\\nE10: no sim\\ngroups: none\\n"\n', 0o700)
+        self.environment = {'PATH': f'{self.bin}:{os.environ["PATH"]}', 'HOME': self.home, 'TERM': 'dumb',
+                            'LANG': 'C', 'INPUTRC': os.devnull, 'XDG_CONFIG_HOME': self.home}
 
     def run_shell(self, *words):
         done = subprocess.run(words, cwd=self.folder, env=self.environment, capture_output=True, text=True,
@@ -131,35 +118,34 @@ def part_of(page, head):
     return re.search(rf'^\.SH {head}\n((?:(?!\.SH ).*\n)*)', page, re.M)[1]
 
 
-@unittest.skipUnless(os.path.exists(PROGRAM), 'the program is not built')
-class Words(Folder):
+@pytest.mark.built
+class TestWords(Shelf):
     """Each word that the program's help lists, and no other, in each shell and in the man page."""
 
-    def setUp(self):
-        super().setUp()
+    def setup_method(self):
+        super().setup_method()
         self.options = {name: long_options(help_of(PROGRAM, name)) for name in SUBCOMMANDS}
         self.groups = re.search(r'--groups <G> .*: (one, each, auto), or numbers', help_of(PROGRAM, 'run'))[1].split(', ')
 
     def test_subcommands_are_those_of_the_help(self):
         told = re.findall(r'^  ([a-z]+)  ', help_of(PROGRAM).partition('Commands:')[2], re.M)
-        self.assertEqual(sorted(told), sorted(SUBCOMMANDS))
-        self.assertEqual({it for it in self.compgen('_tcpsim', 'tcpsim', '') if it[0] != '-'}, set(told))
-        self.assertEqual(set(re.findall(r'^\.B tcpsim ([a-z]+)$', part_of(manual('tcpsim'), 'SYNOPSIS'), re.M)), set(told))
+        assert sorted(told) == sorted(SUBCOMMANDS)
+        assert {it for it in self.compgen('_tcpsim', 'tcpsim', '') if it[0] != '-'} == set(told)
+        assert set(re.findall(r'^\.B tcpsim ([a-z]+)$', part_of(manual('tcpsim'), 'SYNOPSIS'), re.M)) == set(told)
         for name in told:
-            self.assertIn(f'.TP\n.B {name}\n', part_of(manual('tcpsim'), 'SUBCOMMANDS'))
+            assert f'.TP\n.B {name}\n' in part_of(manual('tcpsim'), 'SUBCOMMANDS')
 
     def test_bash(self):
         for name in SUBCOMMANDS:
-            with self.subTest(name):
-                self.assertEqual(set(self.compgen('_tcpsim', 'tcpsim', name, '--')), self.options[name])
-        self.assertEqual(self.compgen('_tcpsim', 'tcpsim', 'run', '--groups', ''), sorted(self.groups))
+            assert set(self.compgen('_tcpsim', 'tcpsim', name, '--')) == self.options[name]
+        assert self.compgen('_tcpsim', 'tcpsim', 'run', '--groups', '') == sorted(self.groups)
 
     def test_zsh(self):
         with open(os.path.join(COMPLETIONS, '_tcpsim'), encoding='utf-8') as file:
             text = file.read().partition('_tcpsim_tool()')[0]
-        self.assertEqual(long_options(text), set().union(*self.options.values()) | {'--version'})
-        self.assertEqual(set(re.findall(r"^    '([a-z]+):", text, re.M)), set(SUBCOMMANDS))
-        self.assertIn(f'({" ".join(self.groups)})', text)
+        assert long_options(text) == set().union(*self.options.values()) | {'--version'}
+        assert set(re.findall(r"^    '([a-z]+):", text, re.M)) == set(SUBCOMMANDS)
+        assert f'({" ".join(self.groups)})' in text
 
     def test_fish(self):
         with open(os.path.join(COMPLETIONS, 'tcpsim.fish'), encoding='utf-8') as file:
@@ -171,37 +157,34 @@ class Words(Folder):
             for name in where[1].split() if where else SUBCOMMANDS:
                 if option and '__fish_use_subcommand' not in line:
                     told[name].add(f'--{option[1]}')
-        self.assertEqual(told, self.options)
-        self.assertTrue(any(f"-a '{' '.join(self.groups)}'" in line for line in lines))
+        assert told == self.options
+        assert any(f"-a '{' '.join(self.groups)}'" in line for line in lines)
 
     def test_the_manual(self):
         page = manual('tcpsim')
         for name in SUBCOMMANDS:
             form = re.search(rf'^\.B tcpsim {name}\n((?:(?!\.br).*\n)*)', part_of(page, 'SYNOPSIS'), re.M)[1]
-            with self.subTest(name):
-                self.assertEqual(long_options(form), self.options[name] - {'--help'})
-                self.assertEqual('FILE' in form, '[FILE]' in help_of(PROGRAM, name))
+            assert long_options(form) == self.options[name] - {'--help'}
+            assert ('FILE' in form) == ('[FILE]' in help_of(PROGRAM, name))
         heads = re.findall(r'^\.TP\n(.*)', part_of(page, 'OPTIONS'), re.M)
-        self.assertEqual(long_options('\n'.join(heads)), set().union(*self.options.values()) | {'--version'})
+        assert long_options('\n'.join(heads)) == set().union(*self.options.values()) | {'--version'}
         for value in self.groups:
-            self.assertIn(f'\n.B {value}\n', part_of(page, 'OPTIONS'))
+            assert f'\n.B {value}\n' in part_of(page, 'OPTIONS')
 
 
-class Manuals(unittest.TestCase):
-    def test_a_tool_s_page_has_each_option_of_its_help(self):
-        for tool in TOOLS:
-            words = [sys.executable, f'{BIN}/tcpsim-{tool}']
-            try:
-                text = help_of(*words)
-                for shape in re.findall(r'^    ([a-z][a-z-]*)(?: .*)?$', text, re.M) if tool == 'net' else ():
-                    text += help_of(*words, shape)
-            except subprocess.CalledProcessError:   # its library is not there, as matplotlib
-                continue
-            with self.subTest(tool):
-                self.assertEqual(long_options(text) - long_options(manual(f'tcpsim-{tool}')) - {'--help'}, set())
+def test_a_tool_s_page_has_each_option_of_its_help():
+    for tool in TOOLS:
+        words = [sys.executable, f'{BIN}/tcpsim-{tool}']
+        try:
+            text = help_of(*words)
+            for shape in re.findall(r'^    ([a-z][a-z-]*)(?: .*)?$', text, re.M) if tool == 'net' else ():
+                text += help_of(*words, shape)
+        except subprocess.CalledProcessError:   # its library is not there, as matplotlib
+            continue
+        assert long_options(text) - long_options(manual(f'tcpsim-{tool}')) - {'--help'} == set()
 
 
-class Compgen(Folder):
+class TestCompgen(Shelf):
     """bash's answers, all words that fit: those of the function, by `compgen`, or where it has none, files."""
 
     def compgen(self, function, *words):
@@ -222,8 +205,7 @@ class Compgen(Folder):
                               (['tcpsim', 'run', '--groups', '=', 'o'], ['one']),
                               (['tcpsim', 'run', '--groups', '='], ['auto', 'each', 'one']),
                               (['tcpsim', 'run', '--wrong'], [])):
-            with self.subTest(words):
-                self.assertEqual(self.compgen('_tcpsim', *words), answer)
+            assert self.compgen('_tcpsim', *words) == answer
 
     def test_files(self):
         for words, answer in ((['tcpsim', 'run', '<', 's'], ['scenario one.txt', 'scenario_two.txt', 'shelf']),
@@ -231,10 +213,9 @@ class Compgen(Folder):
                               (['tcpsim', 'run', '--workers', '2', '<', 'shelf/'], ['shelf/inner.txt']),
                               (['tcpsim', '<', 'scenario_'], ['scenario_two.txt']),
                               (['tcpsim', 'run', 'scenario_'], ['scenario_two.txt'])):
-            with self.subTest(words):
-                self.assertEqual(self.compgen('_tcpsim', *words), answer)
-        self.assertEqual(self.compgen('_tcpsim_tool', 'tcpsim-flows', 'scenario_'), ['scenario_two.txt'])
-        self.assertEqual(self.compgen('_tcpsim_tool', 'tcpsim-plot', 'a.txt', '-o', 'she'), ['shelf'])
+            assert self.compgen('_tcpsim', *words) == answer
+        assert self.compgen('_tcpsim_tool', 'tcpsim-flows', 'scenario_') == ['scenario_two.txt']
+        assert self.compgen('_tcpsim_tool', 'tcpsim-plot', 'a.txt', '-o', 'she') == ['shelf']
 
     def test_a_tool_has_the_options_of_its_help(self):
         for tool in TOOLS:
@@ -244,23 +225,22 @@ class Compgen(Folder):
             if not text:            # its library is not there, as matplotlib
                 continue
             options = re.findall(r'^  (?:-\w(?: [^\s,]+)?, )?(--[a-z-]+)', text, re.MULTILINE)
-            with self.subTest(tool):
-                self.assertIn('--help', options)
-                self.assertEqual(set(options) - set(self.compgen('_tcpsim_tool', f'tcpsim-{tool}', '--')), set())
+            assert '--help' in options
+            assert set(options) - set(self.compgen('_tcpsim_tool', f'tcpsim-{tool}', '--')) == set()
         for tool, options in (('flows', {'--series', '--from', '--to', '--busy', '--csv', '--program'}),
                               ('follow', {'--flow', '--byte', '--csv', '--program', '--help'}),
                               ('stalls', {'--longer', '--flow', '--csv', '--program', '--causes', '--help'})):
-            self.assertTrue(options <= set(self.compgen('_tcpsim_tool', f'tcpsim-{tool}', 'a.txt', '--')), tool)
+            assert options <= set(self.compgen('_tcpsim_tool', f'tcpsim-{tool}', 'a.txt', '--')), tool
 
     def test_shapes_of_net(self):
-        self.assertTrue({'dumbbell', 'parking-lot', 'chain', 'tree'} <= set(self.compgen('_tcpsim_tool', 'tcpsim-net', '')))
-        self.assertEqual(self.compgen('_tcpsim_tool', 'tcpsim-net', 'dumbbell', '--rtt'), ['--rtt'])
+        assert {'dumbbell', 'parking-lot', 'chain', 'tree'} <= set(self.compgen('_tcpsim_tool', 'tcpsim-net', ''))
+        assert self.compgen('_tcpsim_tool', 'tcpsim-net', 'dumbbell', '--rtt') == ['--rtt']
 
     def test_all_commands_are_told(self):
         script = 'source "$1"; complete -p'
         told = self.run_shell('bash', '-c', script, 'bash', os.path.join(COMPLETIONS, 'tcpsim.bash'))
-        self.assertEqual(sorted(line.split()[-1] for line in told if '-o default' in line),
-                         sorted(['tcpsim'] + [f'tcpsim-{tool}' for tool in TOOLS]))
+        assert sorted(line.split()[-1] for line in told if '-o default' in line) == \
+            sorted(['tcpsim'] + [f'tcpsim-{tool}' for tool in TOOLS])
 
 
 class Terminal:
@@ -306,17 +286,16 @@ class Terminal:
         os.waitpid(self.process, 0)
 
 
-class InATerminal(Folder):
+class TestInATerminal(Shelf):
     """Lines that are typed, in bash and in zsh."""
 
     def lines(self, terminal):
         self.addCleanup(terminal.close)
         terminal.type(f'echo {MARK[:3]}""{MARK[3:]}\n')
-        self.assertTrue(terminal.wait_for(re.escape(MARK)), terminal.text)
+        assert terminal.wait_for(re.escape(MARK)), terminal.text
         for line, completed in LINES:
-            with self.subTest(line):
-                # What may follow an option, a space or `=`, is the shell's own affair.
-                self.assertEqual(terminal.completed(line).rstrip(' ='), completed.rstrip(' ='))
+            # What may follow an option, a space or `=`, is the shell's own affair.
+            assert terminal.completed(line).rstrip(' =') == completed.rstrip(' =')
 
     def test_bash(self):
         start = os.path.join(self.folder, '..', 'start')
@@ -326,7 +305,7 @@ class InATerminal(Folder):
                        'bind "set bell-style none"\nbind "set enable-bracketed-paste off"\n')
         self.lines(Terminal(['bash', '--noprofile', '--rcfile', start, '-i'], self.folder, self.environment))
 
-    @unittest.skipUnless(shutil.which('zsh'), 'no zsh')
+    @pytest.mark.wants(zsh='zsh')
     def test_zsh(self):
         with open(os.path.join(self.environment['HOME'], '.zshrc'), 'w', encoding='utf-8') as file:
             file.write(f'fpath=({COMPLETIONS} $fpath)\nautoload -Uz compinit\ncompinit -u -D\nPS1="$ "\n'
@@ -335,8 +314,8 @@ class InATerminal(Folder):
         self.lines(Terminal(['zsh', '-i'], self.folder, {**self.environment, 'ZDOTDIR': self.environment['HOME']}))
 
 
-class Fish(Folder):
-    @unittest.skipUnless(shutil.which('fish'), 'no fish')
+class TestFish(Shelf):
+    @pytest.mark.wants(fish='fish')
     def test_fish(self):
         for line, answer in (('tcpsim d', ['debug', 'dis']), ('tcpsim run --', ['--explain', '--groups', '--help', '--progress', '--workers']),
                              ('tcpsim asm --', ['--explain', '--help']), ('tcpsim run --groups a', ['auto']),
@@ -346,25 +325,4 @@ class Fish(Folder):
                              ('tcpsim-follow scenario_', ['scenario_two.txt']), ('tcpsim-follow --by', ['--byte']),
                              ('tcpsim-stalls scenario_', ['scenario_two.txt']), ('tcpsim-stalls --lon', ['--longer']),
                              ('tcpsim-stalls --ca', ['--causes']), ('tcpsim-net dumb', ['dumbbell'])):
-            with self.subTest(line):
-                self.assertEqual(self.fish(line), answer)
-
-
-def main():
-    for shell in ('zsh', 'fish'):
-        if not shutil.which(shell):
-            print(f'LEFT OUT, not passed: the completions of {shell} (it is not there)')
-    if not os.path.exists(PROGRAM):
-        print('LEFT OUT, not passed: the words of the program (it is not built)')
-    stream = io.StringIO()
-    result = unittest.TextTestRunner(stream=stream).run(unittest.defaultTestLoader.loadTestsFromModule(
-        sys.modules['__main__']))
-    failed = len({str(test).split(') [')[0] for test, _ in result.failures + result.errors})
-    if failed:
-        print(stream.getvalue())
-    print(f'{result.testsRun - failed - len(result.skipped)} passed, {failed} failed')
-    return 1 if failed else 0
-
-
-if __name__ == '__main__':
-    sys.exit(main())
+            assert self.fish(line) == answer

@@ -1,5 +1,5 @@
 """An experiment as a test, that of docs/PYTHON.md. Usage: python3 -m pytest python/tests/test_delay.py."""
-import paths  # noqa: F401  where the package is
+import clone  # noqa: F401  where the package is
 
 import pytest
 

@@ -21,7 +21,7 @@ import time
 
 import pytest
 
-from paths import TOP
+from clone import TOP
 from seven_tools import (ENDINGS, EXAMPLE, MODULES, OLD, PATIENCE, PROGRAM, READERS, TOOLS, call, is_told, place, run, target,
                          to_old, to_private, whole, words)
 

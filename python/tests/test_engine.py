@@ -1,31 +1,23 @@
-#!/usr/bin/env python3
-"""Tests of `tcpsim-flows --engine` and tcpsim/engine.py: python/tests/test_engine.py [--program FILE]. Its figures are
-those of tcpsim-flows over the trace, on every example and on random scenarios; percentiles are at most a part of 32 above. Where the program
-is not built or has no subcommand `figures`, the model takes its place, which is said. Nothing but Python's standard
-library is wanted. The last line is `N passed, M failed`.
-"""
+"""Tests of `tcpsim-flows --engine` and tcpsim/engine.py. Its figures are
+those of tcpsim-flows over the trace, on every example and on random scenarios; percentiles are at most a part of 32 above. """
 import csv
 import glob
-import io
 import os
 import random
 import stat
-import subprocess
-import sys
-import tempfile
-import unittest
 
-from paths import BIN, MODEL, TOP
+import pytest
+
+import clone
+from clone import NAMES, PROGRAM, TOP, Folder, paths, tool
 from tcpsim import engine
 from tcpsim.figures import Figures, engine_figures
 from tcpsim.figures import figures as trace_figures
-from tcpsim.program import BUILT, is_program, knows
 from tcpsim.scenario.text import Scenario, Unreadable
 from tcpsim_model import image, nets, simulate
 from tcpsim_model.figures import figures
 from tcpsim_model.text import assemble, disassemble
 
-PROGRAM = MODEL
 RANDOM = 80             # scenarios
 # What the program's table has not: parts of one flow at a link.
 LEFT_OUT = {'share of the bottleneck', 'loss', 'least round trip', 'median round trip', '99th percentile of round trips'}
@@ -43,9 +35,7 @@ flow f s r 1000 1 0 64000 0
 
 def examples():
     """The texts and traces of the examples, by their names."""
-    for path in sorted(glob.glob(os.path.join(TOP, 'examples', '*.txt'))):
-        with open(path, encoding='ascii') as text, open(path[:-3] + 'trace', encoding='ascii') as trace:
-            yield os.path.basename(path), text.read(), trace.read()
+    return ((name, *map(clone.read_text, paths(name))) for name in NAMES)
 
 
 def random_runs():
@@ -69,126 +59,111 @@ def from_table(text, table):
     return by_key(engine_figures(engine.EngineRun(Scenario(text), table)))
 
 
-class AgainstTraces(unittest.TestCase):
-    def agree(self, got, wanted):
-        """Answers which figures there are of both, and which of those have no value in the table alone."""
-        both, none = set(), set()
-        for key, value in wanted.items():
-            what, _, figure, _ = key
-            if (what == 'flow' and (figure in LEFT_OUT or ' dropped as ' in figure)):
-                self.assertNotIn(key, got)
-                continue
-            both.add((what, figure))
-            if got[key] is None and value is not None:
-                none.add((what, figure))
-            elif figure in PERCENTILES and value is not None:
-                self.assertTrue(value <= got[key] and 32 * got[key] <= 33 * value, (key, value, got[key]))
-            else:
-                self.assertEqual(got[key], value, key)
-        return both, none
-
-    def test_examples_and_random_scenarios(self):
-        seen, none = set(), set()
-        for runs, may_lack in ((examples(), False), (random_runs(), True)):
-            for name, text, trace in runs:
-                with self.subTest(name):
-                    got = from_table(text, figures(assemble(text.encode())))
-                    both, lacking = self.agree(got, from_trace(text, trace))
-                    self.assertTrue(may_lack or not lacking, lacking)
-                    seen |= both
-                    none |= lacking
-                    for _, link, figure, _ in got:
-                        if figure == 'dropped':
-                            self.assertEqual(sum(got['link', link, reason, 'packets'] for reason in engine.REASONS),
-                                             got['link', link, 'dropped', 'packets'])
-        self.assertTrue({('flow', 'goodput'), ('flow', 'completed'), ('flow', 'bottleneck'), ('link', 'utilization'),
-                         ('link', 'mean queue'), ('link', 'loss'), ('link', 'dropped'), ('run', 'span'),
-                         ('run', 'Jain\'s index of goodput')} <= seen, seen)
-        self.assertLessEqual(none, {('flow', 'bottleneck'), ('link', 'utilization'), ('link', 'mean queue')})
-
-    def test_a_link_that_sends_past_the_last_event(self):
-        """How long it does so the table doesn't say: it has counted to the end. At a later end it is told."""
-        for end, told in (('2000000000', False), ('5000000000', True)):
-            text = PAST_THE_LAST.replace('2000000000', end)
-            scenario = assemble(text.encode())
-            got, wanted = from_table(text, figures(scenario)), from_trace(text, ''.join(simulate.trace(scenario)))
-            self.assertEqual(wanted['flow', 'f', 'completed', 'ns'], 1042320000)
-            for key in (('link', 'a', 'utilization', 'part'), ('flow', 'f', 'bottleneck', 'link')):
-                self.assertEqual(got[key], wanted[key] if told else None)
-            self.assertEqual(got['link', 'b', 'utilization', 'part'], wanted['link', 'b', 'utilization', 'part'])
+def agree(got, wanted):
+    """Answers which figures there are of both, and which of those have no value in the table alone."""
+    both, none = set(), set()
+    for key, value in wanted.items():
+        what, _, figure, _ = key
+        if (what == 'flow' and (figure in LEFT_OUT or ' dropped as ' in figure)):
+            assert key not in got
+            continue
+        both.add((what, figure))
+        if got[key] is None and value is not None:
+            none.add((what, figure))
+        elif figure in PERCENTILES and value is not None:
+            assert value <= got[key] and 32 * got[key] <= 33 * value, (key, value, got[key])
+        else:
+            assert got[key] == value, key
+    return both, none
 
 
-class Files(unittest.TestCase):
-    """The command."""
+def test_examples_and_random_scenarios():
+    seen, none = set(), set()
+    for runs, may_lack in ((examples(), False), (random_runs(), True)):
+        for name, text, trace in runs:
+            got = from_table(text, figures(assemble(text.encode())))
+            both, lacking = agree(got, from_trace(text, trace))
+            assert may_lack or not lacking, lacking
+            seen |= both
+            none |= lacking
+            for _, link, figure, _ in got:
+                if figure == 'dropped':
+                    assert sum(got['link', link, reason, 'packets'] for reason in engine.REASONS) == \
+                        got['link', link, 'dropped', 'packets']
+    assert ({('flow', 'goodput'), ('flow', 'completed'), ('flow', 'bottleneck'), ('link', 'utilization'),
+                     ('link', 'mean queue'), ('link', 'loss'), ('link', 'dropped'), ('run', 'span'),
+                     ('run', 'Jain\'s index of goodput')} <= seen), seen
+    assert none <= {('flow', 'bottleneck'), ('link', 'utilization'), ('link', 'mean queue')}
 
-    def setUp(self):
-        folder = tempfile.TemporaryDirectory()
-        self.addCleanup(folder.cleanup)
-        self.folder = folder.name
-        self.scenario = os.path.join(TOP, 'examples', 'two_timeouts_in_a_row.txt')
 
-    def put(self, name, data, mode=stat.S_IRUSR | stat.S_IWUSR):
-        path = os.path.join(self.folder, name)
-        with open(path, 'wb') as file:
-            file.write(data.encode() if isinstance(data, str) else data)
-        os.chmod(path, mode)
-        return path
+def test_a_link_that_sends_past_the_last_event():
+    """How long it does so the table doesn't say: it has counted to the end. At a later end it is told."""
+    for end, told in (('2000000000', False), ('5000000000', True)):
+        text = PAST_THE_LAST.replace('2000000000', end)
+        scenario = assemble(text.encode())
+        got, wanted = from_table(text, figures(scenario)), from_trace(text, ''.join(simulate.trace(scenario)))
+        assert wanted['flow', 'f', 'completed', 'ns'] == 1042320000
+        for key in (('link', 'a', 'utilization', 'part'), ('flow', 'f', 'bottleneck', 'link')):
+            assert got[key] == (wanted[key] if told else None)
+        assert got['link', 'b', 'utilization', 'part'] == wanted['link', 'b', 'utilization', 'part']
+
+
+class Files(Folder):
+    scenario = paths('two_timeouts_in_a_row')[0]
 
     def run_flows(self, *words, program=None, **more):
-        return subprocess.run([sys.executable, os.path.join(BIN, 'tcpsim-flows'), *words, '--program', program or PROGRAM],
-                              capture_output=True, check=False, timeout=120, **more)
+        return tool('flows', *words, '--program', program or PROGRAM, cwd=self.folder, **more)
 
     def lines(self, *words, **more):
         done = self.run_flows(*words, **more)
-        self.assertEqual((done.returncode, done.stderr), (0, b''))
+        assert (done.returncode, done.stderr) == (0, b'')
         return done.stdout.decode().splitlines()
 
     def csv(self, *words):
         return {tuple(row[:4]): row[4] for row in csv.reader(self.lines(*words, '--csv'))}
 
 
-class Command(Files):
+class TestCommand(Files):
     def test_the_program_s_figures_are_those_of_its_traces(self):
         """On each example, by the command: whole words of the CSV, but for percentiles."""
         for path in sorted(glob.glob(os.path.join(TOP, 'examples', '*.txt'))):
             got, wanted = self.csv(path, '--engine'), self.csv(path, path[:-3] + 'trace')
             shared = set(got) & set(wanted)
-            self.assertGreater(len(shared), 20)
+            assert len(shared) > 20
             for key in shared:
-                with self.subTest(os.path.basename(path), key=key):
-                    if key[2] in PERCENTILES and wanted[key]:
-                        self.assertTrue(int(wanted[key]) <= int(got[key]) <= int(wanted[key]) * 33 / 32)
-                    else:
-                        self.assertEqual(got[key], wanted[key])
+                if key[2] in PERCENTILES and wanted[key]:
+                    assert int(wanted[key]) <= int(got[key]) <= int(wanted[key]) * 33 / 32
+                else:
+                    assert got[key] == wanted[key]
 
     def test_the_table(self):
         """17 segments, 5 lost; 12 * 1.04 ms of 3.01752 s; the queue summed is 10.4 packet-ms, the median of twelve waits
         1.04 ms, whose class ends at 2^20 - 1 ns."""
         lines = self.lines(self.scenario, '--engine')
-        self.assertEqual(lines[0].split(), 'flow bytes Mbit/s bottleneck sent timeouts sent again: fast after timeouts '
+        assert lines[0].split() == ('flow bytes Mbit/s bottleneck sent timeouts sent again: fast after timeouts '
                          'timed RTT ms: least median 99th completed s'.split())
-        self.assertEqual(lines[1].split(), 'f 10,000 0.027 a 17 2 0 7 3.080 3.080 3.080 3.015440'.split())
-        self.assertEqual(lines[3].split()[-7:], 'dropped as lost as full by CoDel loss %'.split()[-7:])
-        self.assertEqual(lines[4].split(), 'a 0.4 3 0.00 1.049 3.120 5 5 0 0 29.41'.split())
-        self.assertEqual(lines[-2:], ['Jain\'s index of goodput: 1.0000', 'span: 3.017520 s'])
+        assert lines[1].split() == 'f 10,000 0.027 a 17 2 0 7 3.080 3.080 3.080 3.015440'.split()
+        assert lines[3].split()[-7:] == 'dropped as lost as full by CoDel loss %'.split()[-7:]
+        assert lines[4].split() == 'a 0.4 3 0.00 1.049 3.120 5 5 0 0 29.41'.split()
+        assert lines[-2:] == ['Jain\'s index of goodput: 1.0000', 'span: 3.017520 s']
 
     def test_texts_images_and_standard_input(self):
         with open(self.scenario, encoding='ascii') as file:
             text = file.read()
         names = self.lines(self.scenario, '--engine', '--csv')
-        self.assertEqual(self.lines('-', '--engine', '--csv', input=text.encode()), names)
+        assert self.lines('-', '--engine', '--csv', input=text.encode()) == names
         numbers = [line.replace(',f,', ',f0,').replace('link,a', 'link,l0').replace('link,b,', 'link,l1,') for line in names]
         for version in (1, 2):
             path = self.put('image', image.save(assemble(text.encode()), version))
-            self.assertEqual(self.lines(path, '--engine', '--csv'), numbers)
+            assert self.lines(path, '--engine', '--csv') == numbers
 
     def test_idle_links_are_left_out(self):
         with open(self.scenario, encoding='ascii') as file:
             text = file.read()
         path = self.put('idle', text.replace('flow f', 'node p router\nlink c p s 8000000 1000000 droptail 2\nflow f'))
-        self.assertTrue(any(line.startswith('link,c,') for line in self.lines(path, '--engine', '--csv')))
+        assert any(line.startswith('link,c,') for line in self.lines(path, '--engine', '--csv'))
         busy = self.lines(path, '--engine', '--csv', '--busy')
-        self.assertEqual({line.split(',')[1] for line in busy if line.startswith('link,')}, {'a', 'b'})
+        assert {line.split(',')[1] for line in busy if line.startswith('link,')} == {'a', 'b'}
 
     def test_words_that_are_refused(self):
         trace = self.scenario[:-3] + 'trace'
@@ -196,8 +171,8 @@ class Command(Files):
                             (('--engine', '--from', '0'), '--from'), (('--engine', '--to', '2s'), '--to'),
                             (('--engine', '--series', '1s'), '--series'), (('--eng',), '--eng')):
             done = self.run_flows(self.scenario, *words)
-            self.assertEqual((done.returncode, done.stdout, done.stderr.count(b'\n')), (2, b'', 1), words)
-            self.assertTrue(done.stderr.startswith(b'tcpsim-flows: ') and note.encode() in done.stderr, done.stderr)
+            assert (done.returncode, done.stdout, done.stderr.count(b'\n')) == (2, b'', 1), words
+            assert done.stderr.startswith(b'tcpsim-flows: ') and note.encode() in done.stderr, done.stderr
 
     def test_ends_that_fail(self):
         """One sentence and status 1; a program that has no such subcommand is named."""
@@ -210,9 +185,8 @@ class Command(Files):
                 (self.scenario, full, 'status 4: count full'), (self.scenario, '/nowhere', '/nowhere'),
                 (self.scenario, self.put('true', '#!/bin/sh\n', stat.S_IRWXU), 'no table of figures')):
             done = self.run_flows(scenario, '--engine', program=program)
-            with self.subTest(note):
-                self.assertEqual((done.returncode, done.stdout, done.stderr.count(b'\n')), (1, b'', 1), done.stderr)
-                self.assertTrue(done.stderr.startswith(b'tcpsim-flows: ') and note.encode() in done.stderr, done.stderr)
+            assert (done.returncode, done.stdout, done.stderr.count(b'\n')) == (1, b'', 1), done.stderr
+            assert done.stderr.startswith(b'tcpsim-flows: ') and note.encode() in done.stderr, done.stderr
 
     def test_what_is_no_table_is_refused(self):
         with open(self.scenario, encoding='ascii') as file:
@@ -222,26 +196,5 @@ class Command(Files):
         for wrong in ('', lines[0], table[1:], table.replace('ns,0', 'ns,x'), table.replace('link,0,busy', 'link,0,0,busy'),
                       ''.join(line for line in lines if not line.startswith('link,1')),
                       ''.join(line for line in lines if 'completed' not in line), ''.join(lines[:-1]), ''.join(lines[1:])):
-            with self.assertRaises(Unreadable):
+            with pytest.raises(Unreadable):
                 engine.EngineRun(Scenario(text), wrong)
-
-
-def main():
-    global PROGRAM
-    named = os.path.abspath(sys.argv[2]) if sys.argv[1:2] == ['--program'] and len(sys.argv) == 3 else BUILT
-    if is_program(named) and knows(named, 'figures'):
-        PROGRAM = named
-    else:
-        print('LEFT OUT, not passed: the figures of the program (it is not built, or knows no `figures`)')
-    stream = io.StringIO()
-    result = unittest.TextTestRunner(stream=stream).run(unittest.defaultTestLoader.loadTestsFromModule(
-        sys.modules['__main__']))
-    failed = len({str(test).split(') [')[0] for test, _ in result.failures + result.errors})
-    if failed:
-        print(stream.getvalue())
-    print(f'{result.testsRun - failed} passed, {failed} failed')
-    return 1 if failed else 0
-
-
-if __name__ == '__main__':
-    sys.exit(main())

@@ -1,33 +1,25 @@
-#!/usr/bin/env python3
-"""Tests of a run's figures: python/tests/test_figures.py [--program FILE]. On every example and on random scenarios the
-model's figures (python/tcpsim_model/figures.py), which it counts from its states, are those that tcpsim/trace.py and
-tcpsim-flows find in the trace; and where the program is built and has the command `figures`, its figures are the
-model's, byte for byte. Four tables are worked out by hand. dev/compare.py sees a table that is wrong by one.
-Nothing but Python's standard library is wanted. The last line is `N passed, M failed`.
-"""
-import glob
-import io
+"""Tests of a run's figures. On every example and on random scenarios the model's figures (python/tcpsim_model/figures.py),
+which it counts from its states, are those that tcpsim/trace.py and tcpsim-flows find in the trace; and the figures of the
+built program are the model's, byte for byte. Four tables are worked out by hand. dev/compare.py sees a table that is wrong
+by one."""
 import os
 import random
 import re
-import stat
-import subprocess
 import sys
-import tempfile
-import unittest
 from array import array
 
-from paths import TOP
+import pytest
+
+import clone
+from clone import NAMES, TOP, outcome, paths, ran
 from tcpsim.figures import Figures
 from tcpsim.samples import percentile
-from tcpsim.program import BUILT, is_program, knows
 from tcpsim.scenario.text import Scenario
 from tcpsim.trace import FlowState, Reader
 from tcpsim_model import command_line, image, nets, simulate
 from tcpsim_model.figures import HEADING, figures
 from tcpsim_model.text import assemble, disassemble
 
-PROGRAM = BUILT
 RANDOM = 60             # scenarios
 
 
@@ -55,9 +47,7 @@ class Sampled(FlowState):
 
 def examples():
     """Each example's name, its text and its trace."""
-    for path in sorted(glob.glob(os.path.join(TOP, 'examples', '*.txt'))):
-        with open(path, encoding='ascii') as text, open(path[:-3] + 'trace', encoding='ascii') as trace:
-            yield os.path.basename(path), text.read(), trace.read()
+    return ((name, *map(clone.read_text, paths(name))) for name in NAMES)
 
 
 def random_texts():
@@ -131,30 +121,29 @@ PERCENTILES = {'flow': ((50, 'median round trip'), (99, '99th percentile of roun
                'link': ((50, 'median delay in the queue'), (99, '99th percentile of delay in the queue'))}
 
 
-class AgainstTraces(unittest.TestCase):
-    def test_examples_and_random_scenarios(self):
-        """All figures; a percentile is not below the exact one, at most a part of 32 above, and not past the
-        greatest value."""
-        seen = set()
-        for name, text, trace in traced():
-            with self.subTest(name):
-                got = values_of(figures(assemble(text.encode())))
-                exact, values = counted(text, trace)
-                for key, value in exact.items():
-                    self.assertEqual(got.pop(key), value, key)
-                    seen.add((key[0], *key[2:], bool(value)))
-                for (what, number), numbers in values.items():
-                    for percent, figure in PERCENTILES[what]:
-                        self.is_percentile(got.pop((what, number, figure, 'ns')), numbers, percent)
-                self.assertEqual(got, {})
-        self.assertEqual({key[:-1] for key in seen if key[-1]}, {key[:-1] for key in seen}, 'a figure that is always 0')
+def test_examples_and_random_scenarios():
+    """All figures; a percentile is not below the exact one, at most a part of 32 above, and not past the
+    greatest value."""
+    seen = set()
+    for name, text, trace in traced():
+        got = values_of(figures(assemble(text.encode())))
+        exact, values = counted(text, trace)
+        for key, value in exact.items():
+            assert got.pop(key) == value, key
+            seen.add((key[0], *key[2:], bool(value)))
+        for (what, number), numbers in values.items():
+            for percent, figure in PERCENTILES[what]:
+                is_percentile(got.pop((what, number, figure, 'ns')), numbers, percent)
+        assert got == {}
+    assert {key[:-1] for key in seen if key[-1]} == {key[:-1] for key in seen}, 'a figure that is always 0'
 
-    def is_percentile(self, answer, numbers, percent):
-        exact = percentile(numbers, percent)
-        if exact is None:
-            self.assertIsNone(answer)
-        else:
-            self.assertTrue(exact <= answer <= max(numbers) and 32 * answer <= 33 * exact, (exact, answer))
+
+def is_percentile(answer, numbers, percent):
+    exact = percentile(numbers, percent)
+    if exact is None:
+        assert answer is None
+    else:
+        assert exact <= answer <= max(numbers) and 32 * answer <= 33 * exact, (exact, answer)
 
 
 # The runs by hand: links of 8 Mbit/s and 1 ms each way, on which a segment takes 1.04 ms and an acknowledgement .04.
@@ -188,119 +177,124 @@ def table_of(flow, a, b, run):
     return '\n'.join([HEADING, *rows, 'run,,events,events,{}'.format(run[0]), 'run,,end,ns,{}'.format(run[1]), ''])
 
 
-class ByHand(unittest.TestCase):
-    """The model's tables, and the program's where it has them."""
-
-    def has(self, text, *values):
-        table = table_of(*values)
-        self.assertEqual(figures(assemble(text.encode())), table)
-        if is_program(PROGRAM) and knows(PROGRAM, 'figures'):
-            done = subprocess.run([PROGRAM, 'figures'], input=text, capture_output=True, text=True, check=False)
-            self.assertEqual((done.returncode, done.stdout, done.stderr), (0, table, ''))
-
-    def test_one_segment(self):
-        """0 is sent at 0, free at 1.04 ms, arrives at 2.04; 1000 is sent at once, free at 2.08, arrives at 3.08: four
-        events and the start. The one round trip is 3.08 ms, so that each percentile is the greatest. Nothing waits:
-        one delay on each link, 0. 1000 + 40 and 40 bytes."""
-        self.has(ONE_SEGMENT, '0 1000 3080000 1 0 0 0 1 3080000 3080000 3080000 3080000',
-                 '1 0 0 0 1 1040 1040000 0 0 0 0 0', '1 0 0 0 1 40 40000 0 0 0 0 0', (5, 3080000))
-
-    def test_a_segment_that_waits(self):
-        """Of two segments 1000 waits for 1.04 ms while 0 is sent. Acknowledgements: 1000 at 3.08 ms, the one round trip (0 is
-        timed, then nothing new is sent), and 2000 at 4.12."""
-        self.has(ONE_SEGMENT.replace('1000 1 0', '1000 2 0'), '0 2000 4120000 2 0 0 0 1 3080000 3080000 3080000 3080000',
-                 '2 0 0 0 2 2080 2080000 1 1040000 0 1040000 1040000', '2 0 0 0 2 80 80000 0 0 0 0 0', (9, 4120000))
-
-    def test_waits_of_three_segments(self):
-        """Of three segments 1000 waits for 1.04 ms and 2000 for twice as long. The median is 1,040,000 = 63 * 2^14 + 7,808,
-        whose class ends at 64 * 2^14 - 1; the 3rd is the greatest, and no percentile is above that."""
-        self.has(ONE_SEGMENT.replace('1000 1 0', '1000 3 0'), '0 3000 5160000 3 0 0 0 1 3080000 3080000 3080000 3080000',
-                 '3 0 0 0 3 3120 3120000 2 3120000 1048575 2080000 2080000', '3 0 0 0 3 120 120000 0 0 0 0 0', (13, 5160000))
-
-    def test_a_segment_that_is_lost(self):
-        """Of two segments 1000 is lost. Acknowledgement 1000 comes at 3.08 ms, the one round trip, and the timer, of 1 s from
-        then on, ends at 1.00308 s: 1000 is sent again, and its acknowledgement comes 3.08 ms later, which is no sample.
-        Events: the start, the timer, and for each of the two that arrive a free, a data, b free, an ack."""
-        self.has(ONE_SEGMENT.replace('sim 1', 'sim 2').replace('1000 1 0', '1000 2 0') + 'lose a 2\n',
-                 '0 2000 1006160000 3 0 1 1 1 3080000 3080000 3080000 3080000',
-                 '3 1 0 0 2 2080 2080000 0 0 0 0 0', '2 0 0 0 2 80 80000 0 0 0 0 0', (10, 1006160000))
-
-    def test_two_segments_lost_with_a_timeout(self):
-        """0 to 3000 are offered at 0; 0 begins, 1000 waits 1.04 ms, 2000 and 3000 are lost.
-        Acknowledgements: 1000 at 3.08 ms, the one round trip (0 is timed, then nothing new is sent); 2000 at 4.12.
-        The timer, of 1 s from then on, ends at 1.00412 s: 2000 is sent again, and its acknowledgement, 3000, comes
-        3.08 ms later, at 1.00720. Now cwnd is 2000 and nxt 3000: 3000 is sent again, as the timeout's work, and
-        acknowledged at 1.01028.
-        Segments: 4, and 2 again. Delays on a: 0, 1.04 ms, 0, 0: the 2nd of four is 0; the 4th is 1,040,000, whose class
-        ends at 1,048,575, past the greatest. Events: the start, the timer, and for each of the four that arrive a free,
-        a data, b free, an ack."""
-        self.has(LOST, '0 4000 1010280000 6 0 2 1 1 3080000 3080000 3080000 3080000',
-                 '6 2 0 0 4 4160 4160000 1 1040000 0 1040000 1040000', '4 0 0 0 4 160 160000 0 0 0 0 0', (18, 1010280000))
-
-    def test_codel_that_drops(self):
-        """Target and interval are 1 ms, maxpacket is 1000. At 0 0 begins, and 1000, 2000 and 3000 wait.
-        1.04 ms  1000 has waited for longer than the target, and 2,080 bytes are behind it: first_above becomes 2.04. It is
-                 sent, after 1.04 ms
-        2.08     2000 has waited 2.08 ms, 1,040 bytes are behind it, and 2.04 is past: it is dropped. Behind 3000 nothing
-                 is left, so it is sent, after 2.08 ms; drop state is on
-        3.08     acknowledgement 1000, the one round trip; cwnd 5000: 4000 is sent, and waits until 3.12, .04 ms: drop
-                 state is off
-        4.12     acknowledgement 2000: the timer is to end at 1.00412 s. 3000 and 4000 arrive at 4.12 and 5.16: two
-                 duplicates, at 5.16 and 6.20, and nothing is left to be sent
-        1.00412 s  2000 is sent again, at once; it arrives, and 5000 is acknowledged at 1.00720
-        Segments: 5, and 1 again. Waiting: 3 for 1.04 ms, 2 for 1.04, 1 for .04: 5.24 packet-ms. Delays of the five sent:
-        0, 1.04, 2.08, .04, 0. The 3rd is 40,000 = 39 * 2^10 + 64, whose class ends at 40 * 2^10 - 1; the 5th 2,080,000,
-        the greatest. Events: the start, the timer, and four for each of the five sent."""
-        self.has(CODEL, '0 5000 1007200000 6 0 1 1 1 3080000 3080000 3080000 3080000',
-                 '6 0 0 1 5 5200 5200000 3 5240000 40959 2080000 2080000', '5 0 0 0 5 200 200000 0 0 0 0 0',
-                 (22, 1007200000))
-
-    def test_three_duplicates_that_begin_no_recovery(self):
-        """A NewReno sender after a timeout: una is not past recover (RFC 6582 section 3.2 step 1), so that 3000, lost
-        twice, waits for the timer again. 0 to 3000 are offered at 0 and lost.
-        1.00000 s  the timer: ssthresh 2000, 0 is sent again, recover = 4000, the timeout doubles to 2 s
-        1.00308    acknowledgement 1000: cwnd 2000; 1000 and 2000 are sent again, 2000 after 1.04 ms in the queue
-        1.00616    2000: cwnd 2500, 3000 is sent again and lost
-        1.00720    3000: cwnd 2900, 4000 is sent for the first time and timed. The timer is to end at 3.00720
-        1.01028, 1.01336, 1.01644  duplicates, for 4000, and for 5000 and 6000, which the first two send (limited transmit).
-                   The third begins nothing, and nothing more comes
-        3.00720    3000 is sent again, which ends the timing; acknowledgement 7000 at 3.01028: 7000 is sent and timed
-        3.01336    8000: the one round trip, 3.08 ms
-        Sent again: 0, 1000, 2000, 3000, 3000, none in a recovery. Sent are 8 and these 5, of which 5 are lost. Events: the
-        start, two timers, and four for each of the eight that arrive."""
-        self.has(BELOW_RECOVER, '0 8000 3013360000 13 0 5 2 1 3080000 3080000 3080000 3080000',
-                 '13 5 0 0 8 8320 8320000 1 1040000 0 1040000 1040000', '8 0 0 0 8 320 320000 0 0 0 0 0', (35, 3013360000))
-
-    def test_they_are_counted_and_begin_nothing(self):
-        """The duplicates of the run above, one by one, and those of a Reno sender, which sends 3000 again at the third."""
-        for variant, third in (('newreno', False), ('reno', True)):
-            net = simulate.Network(assemble(BELOW_RECOVER.replace('newreno', variant).encode()))
-            sender, got = net.ends[0], []
-            while line := net.step():
-                if line.kind == 'ack' and line.names == '0 3000' and sender.dups:
-                    got.append((sender.dups, sender.recovery, sender.nxt))
-            self.assertEqual(got, [(1, False, 6000), (2, False, 7000), (3, third, 7000)])
-        rows = values_of(figures(assemble(BELOW_RECOVER.replace('newreno', 'reno').encode())))
-        self.assertEqual([rows['flow', '0', figure, 'segments'] for figure, _ in FLOW[3:6]], [13, 1, 4])
+# ---- the model's tables, and the program's where it has them
 
 
-class ThePage(unittest.TestCase):
-    """docs/FORMATS.md has each figure with its unit, in the order of the table, and the table of the first run."""
-
-    def test_figures(self):
-        with open(os.path.join(TOP, 'docs', 'FORMATS.md'), encoding='utf-8') as file:
-            page = file.read().partition('\n## Figures\n')[2].partition('\n## ')[0]
-        self.assertIn('\n```\n' + figures(assemble(ONE_SEGMENT.encode())) + '```\n', page)
-        told = [[(name, unit) for names, unit in re.findall(r'^\| (`.*`) \| (\S+) \|', part, re.M)
-                 for name in re.findall('`([^`]*)`', names)]
-                for part in re.split('^Of a link:|^Of the run:', page, flags=re.M)]
-        self.assertEqual(told, [[*FLOW], [*LINK], [('events', 'events'), ('end', 'ns')]])
+def has(text, *values):
+    table = table_of(*values)
+    assert figures(assemble(text.encode())) == table
+    assert outcome(['figures'], text.encode()) == (0, b'', table.encode())
 
 
-class TheComparison(unittest.TestCase):
-    """dev/compare.py --kind figures, with the model in the program's place, and with tables that are wrong."""
+def test_one_segment():
+    """0 is sent at 0, free at 1.04 ms, arrives at 2.04; 1000 is sent at once, free at 2.08, arrives at 3.08: four
+    events and the start. The one round trip is 3.08 ms, so that each percentile is the greatest. Nothing waits:
+    one delay on each link, 0. 1000 + 40 and 40 bytes."""
+    has(ONE_SEGMENT, '0 1000 3080000 1 0 0 0 1 3080000 3080000 3080000 3080000',
+             '1 0 0 0 1 1040 1040000 0 0 0 0 0', '1 0 0 0 1 40 40000 0 0 0 0 0', (5, 3080000))
 
-    STAND_IN = '''#!{python}
+
+def test_a_segment_that_waits():
+    """Of two segments 1000 waits for 1.04 ms while 0 is sent. Acknowledgements: 1000 at 3.08 ms, the one round trip (0 is
+    timed, then nothing new is sent), and 2000 at 4.12."""
+    has(ONE_SEGMENT.replace('1000 1 0', '1000 2 0'), '0 2000 4120000 2 0 0 0 1 3080000 3080000 3080000 3080000',
+             '2 0 0 0 2 2080 2080000 1 1040000 0 1040000 1040000', '2 0 0 0 2 80 80000 0 0 0 0 0', (9, 4120000))
+
+
+def test_waits_of_three_segments():
+    """Of three segments 1000 waits for 1.04 ms and 2000 for twice as long. The median is 1,040,000 = 63 * 2^14 + 7,808,
+    whose class ends at 64 * 2^14 - 1; the 3rd is the greatest, and no percentile is above that."""
+    has(ONE_SEGMENT.replace('1000 1 0', '1000 3 0'), '0 3000 5160000 3 0 0 0 1 3080000 3080000 3080000 3080000',
+             '3 0 0 0 3 3120 3120000 2 3120000 1048575 2080000 2080000', '3 0 0 0 3 120 120000 0 0 0 0 0', (13, 5160000))
+
+
+def test_a_segment_that_is_lost():
+    """Of two segments 1000 is lost. Acknowledgement 1000 comes at 3.08 ms, the one round trip, and the timer, of 1 s from
+    then on, ends at 1.00308 s: 1000 is sent again, and its acknowledgement comes 3.08 ms later, which is no sample.
+    Events: the start, the timer, and for each of the two that arrive a free, a data, b free, an ack."""
+    has(ONE_SEGMENT.replace('sim 1', 'sim 2').replace('1000 1 0', '1000 2 0') + 'lose a 2\n',
+             '0 2000 1006160000 3 0 1 1 1 3080000 3080000 3080000 3080000',
+             '3 1 0 0 2 2080 2080000 0 0 0 0 0', '2 0 0 0 2 80 80000 0 0 0 0 0', (10, 1006160000))
+
+
+def test_two_segments_lost_with_a_timeout():
+    """0 to 3000 are offered at 0; 0 begins, 1000 waits 1.04 ms, 2000 and 3000 are lost.
+    Acknowledgements: 1000 at 3.08 ms, the one round trip (0 is timed, then nothing new is sent); 2000 at 4.12.
+    The timer, of 1 s from then on, ends at 1.00412 s: 2000 is sent again, and its acknowledgement, 3000, comes
+    3.08 ms later, at 1.00720. Now cwnd is 2000 and nxt 3000: 3000 is sent again, as the timeout's work, and
+    acknowledged at 1.01028.
+    Segments: 4, and 2 again. Delays on a: 0, 1.04 ms, 0, 0: the 2nd of four is 0; the 4th is 1,040,000, whose class
+    ends at 1,048,575, past the greatest. Events: the start, the timer, and for each of the four that arrive a free,
+    a data, b free, an ack."""
+    has(LOST, '0 4000 1010280000 6 0 2 1 1 3080000 3080000 3080000 3080000',
+             '6 2 0 0 4 4160 4160000 1 1040000 0 1040000 1040000', '4 0 0 0 4 160 160000 0 0 0 0 0', (18, 1010280000))
+
+
+def test_codel_that_drops():
+    """Target and interval are 1 ms, maxpacket is 1000. At 0 0 begins, and 1000, 2000 and 3000 wait.
+    1.04 ms  1000 has waited for longer than the target, and 2,080 bytes are behind it: first_above becomes 2.04. It is
+             sent, after 1.04 ms
+    2.08     2000 has waited 2.08 ms, 1,040 bytes are behind it, and 2.04 is past: it is dropped. Behind 3000 nothing
+             is left, so it is sent, after 2.08 ms; drop state is on
+    3.08     acknowledgement 1000, the one round trip; cwnd 5000: 4000 is sent, and waits until 3.12, .04 ms: drop
+             state is off
+    4.12     acknowledgement 2000: the timer is to end at 1.00412 s. 3000 and 4000 arrive at 4.12 and 5.16: two
+             duplicates, at 5.16 and 6.20, and nothing is left to be sent
+    1.00412 s  2000 is sent again, at once; it arrives, and 5000 is acknowledged at 1.00720
+    Segments: 5, and 1 again. Waiting: 3 for 1.04 ms, 2 for 1.04, 1 for .04: 5.24 packet-ms. Delays of the five sent:
+    0, 1.04, 2.08, .04, 0. The 3rd is 40,000 = 39 * 2^10 + 64, whose class ends at 40 * 2^10 - 1; the 5th 2,080,000,
+    the greatest. Events: the start, the timer, and four for each of the five sent."""
+    has(CODEL, '0 5000 1007200000 6 0 1 1 1 3080000 3080000 3080000 3080000',
+             '6 0 0 1 5 5200 5200000 3 5240000 40959 2080000 2080000', '5 0 0 0 5 200 200000 0 0 0 0 0',
+             (22, 1007200000))
+
+
+def test_three_duplicates_that_begin_no_recovery():
+    """A NewReno sender after a timeout: una is not past recover (RFC 6582 section 3.2 step 1), so that 3000, lost
+    twice, waits for the timer again. 0 to 3000 are offered at 0 and lost.
+    1.00000 s  the timer: ssthresh 2000, 0 is sent again, recover = 4000, the timeout doubles to 2 s
+    1.00308    acknowledgement 1000: cwnd 2000; 1000 and 2000 are sent again, 2000 after 1.04 ms in the queue
+    1.00616    2000: cwnd 2500, 3000 is sent again and lost
+    1.00720    3000: cwnd 2900, 4000 is sent for the first time and timed. The timer is to end at 3.00720
+    1.01028, 1.01336, 1.01644  duplicates, for 4000, and for 5000 and 6000, which the first two send (limited transmit).
+               The third begins nothing, and nothing more comes
+    3.00720    3000 is sent again, which ends the timing; acknowledgement 7000 at 3.01028: 7000 is sent and timed
+    3.01336    8000: the one round trip, 3.08 ms
+    Sent again: 0, 1000, 2000, 3000, 3000, none in a recovery. Sent are 8 and these 5, of which 5 are lost. Events: the
+    start, two timers, and four for each of the eight that arrive."""
+    has(BELOW_RECOVER, '0 8000 3013360000 13 0 5 2 1 3080000 3080000 3080000 3080000',
+             '13 5 0 0 8 8320 8320000 1 1040000 0 1040000 1040000', '8 0 0 0 8 320 320000 0 0 0 0 0', (35, 3013360000))
+
+
+def test_they_are_counted_and_begin_nothing():
+    """The duplicates of the run above, one by one, and those of a Reno sender, which sends 3000 again at the third."""
+    for variant, third in (('newreno', False), ('reno', True)):
+        net = simulate.Network(assemble(BELOW_RECOVER.replace('newreno', variant).encode()))
+        sender, got = net.ends[0], []
+        while line := net.step():
+            if line.kind == 'ack' and line.names == '0 3000' and sender.dups:
+                got.append((sender.dups, sender.recovery, sender.nxt))
+        assert got == [(1, False, 6000), (2, False, 7000), (3, third, 7000)]
+    rows = values_of(figures(assemble(BELOW_RECOVER.replace('newreno', 'reno').encode())))
+    assert [rows['flow', '0', figure, 'segments'] for figure, _ in FLOW[3:6]] == [13, 1, 4]
+
+
+# ---- docs/FORMATS.md has each figure with its unit, in the order of the table, and the table of the first run
+
+
+def test_figures():
+    with open(os.path.join(TOP, 'docs', 'FORMATS.md'), encoding='utf-8') as file:
+        page = file.read().partition('\n## Figures\n')[2].partition('\n## ')[0]
+    assert '\n```\n' + figures(assemble(ONE_SEGMENT.encode())) + '```\n' in page
+    told = [[(name, unit) for names, unit in re.findall(r'^\| (`.*`) \| (\S+) \|', part, re.M)
+             for name in re.findall('`([^`]*)`', names)]
+            for part in re.split('^Of a link:|^Of the run:', page, flags=re.M)]
+    assert told == [[*FLOW], [*LINK], [('events', 'events'), ('end', 'ns')]]
+
+
+# ---- dev/compare.py --kind figures, with the model in the program's place, and with tables that are wrong
+
+STAND_IN = '''#!{python}
 import sys
 sys.path.insert(0, {model!r})
 from tcpsim_model import command_line
@@ -313,7 +307,7 @@ if note:
     print(note, file=sys.stderr)
 sys.exit(status)
 '''
-    MORE = '''
+MORE = '''
 lines = table.splitlines(True)
 for n, line in enumerate(lines):
     words, _, value = line.rpartition(",")
@@ -322,72 +316,48 @@ for n, line in enumerate(lines):
 table = "".join(lines)
 '''
 
-    def compared(self, change, *words):
-        with tempfile.TemporaryDirectory() as folder:
-            path = os.path.join(folder, 'tcpsim')
-            with open(path, 'w', encoding='utf-8') as file:
-                file.write(self.STAND_IN.format(python=sys.executable, model=os.path.join(TOP, 'python'), change=change))
-            os.chmod(path, stat.S_IRWXU)
-            return subprocess.run([sys.executable, os.path.join(TOP, 'dev', 'compare.py'), '--kind', 'figures',
-                                   '--random', '--jobs', '2', '--shrink', '0', '--program', path, *words],
-                                  capture_output=True, text=True, check=False, timeout=600)
 
-    def test_the_model_is_equal(self):
-        done = self.compared('', '--count', '30')
-        self.assertEqual((done.returncode, done.stdout), (0, 'figures: 30 compared\n30 compared, 0 different\n'), done.stderr)
-
-    def test_what_is_wrong_by_one_is_seen(self):
-        """Among them a percentile that is still at most 1/32 above the exact one."""
-        for words in ('flow,0,sent again by timeout,segments', 'link,0,median delay in the queue,ns', 'link,1,busy,ns',
-                      'run,,events,events'):
-            done = self.compared(self.MORE.format(words=words), '--count', '4')
-            with self.subTest(words):
-                self.assertEqual(done.returncode, 1, done.stderr)
-                self.assertRegex(done.stdout, f'program: {words},')
-                self.assertNotIn(' 0 different', done.stdout)
-
-    def test_a_row_too_few_or_a_note_too_many_is_seen(self):
-        for change in ('table = table.rpartition("run")[0]', 'note = note or "done"', 'status = status or 3'):
-            done = self.compared(change, '--count', '4')
-            self.assertEqual((done.returncode, ' 0 different' in done.stdout), (1, False), change)
+@pytest.fixture
+def compared(put):
+    def run(change, *words):
+        path = put('tcpsim', STAND_IN.format(python=sys.executable, model=os.path.join(TOP, 'python'), change=change), 0o755)
+        return ran(sys.executable, os.path.join(TOP, 'dev', 'compare.py'), '--kind', 'figures', '--random', '--jobs', '2', '--shrink', '0',
+                   '--program', path, *words, text=True, timeout=600)
+    return run
 
 
-class TheProgram(unittest.TestCase):
-    def test_it_has_the_model_s_figures(self):
-        """Of texts and of images, on standard output alone."""
-        if not (is_program(PROGRAM) and knows(PROGRAM, 'figures')):
-            self.skipTest('no program that knows `figures`')
-        for name, text in [*((name, text) for name, text, _ in examples()), *random_texts()]:
-            scenario = assemble(text.encode())
-            for data in (text.encode(), image.save(scenario)):
-                done = subprocess.run([PROGRAM, 'figures'], input=data, capture_output=True, check=False, timeout=60)
-                with self.subTest(name):
-                    self.assertEqual((done.returncode, done.stdout.decode(), done.stderr), (0, figures(scenario), b''))
-
-    def test_it_refuses_as_the_model_does(self):
-        if not (is_program(PROGRAM) and knows(PROGRAM, 'figures')):
-            self.skipTest('no program that knows `figures`')
-        for data in (b'', b'sim 01\n', b'sim 5\n', b'TCB2\0', b'TCBX' + bytes(40)):
-            status, note = command_line.main(['figures'], data, lambda piece: self.fail('something is written'))
-            done = subprocess.run([PROGRAM, 'figures'], input=data, capture_output=True, check=False, timeout=60)
-            self.assertEqual((done.returncode, done.stdout, done.stderr.decode().strip()), (status, b'', note))
+def test_the_model_is_equal(compared):
+    done = compared('', '--count', '30')
+    assert (done.returncode, done.stdout) == (0, 'figures: 30 compared\n30 compared, 0 different\n'), done.stderr
 
 
-def main():
-    global PROGRAM
-    if sys.argv[1:2] == ['--program'] and len(sys.argv) == 3:
-        PROGRAM = os.path.abspath(sys.argv[2])
-    stream = io.StringIO()
-    result = unittest.TextTestRunner(stream=stream).run(unittest.defaultTestLoader.loadTestsFromModule(
-        sys.modules['__main__']))
-    failed = len({str(test).split(') [')[0] for test, _ in result.failures + result.errors})
-    if result.skipped:
-        print('LEFT OUT, not passed: the figures of the program (it is not built, or knows no `figures`)')
-    if failed:
-        print(stream.getvalue())
-    print(f'{result.testsRun - failed - len(result.skipped)} passed, {failed} failed')
-    return 1 if failed else 0
+def test_what_is_wrong_by_one_is_seen(compared):
+    """Among them a percentile that is still at most 1/32 above the exact one."""
+    for words in ('flow,0,sent again by timeout,segments', 'link,0,median delay in the queue,ns', 'link,1,busy,ns',
+                  'run,,events,events'):
+        done = compared(MORE.format(words=words), '--count', '4')
+        assert done.returncode == 1, done.stderr
+        assert re.search(f'program: {words},', done.stdout)
+        assert ' 0 different' not in done.stdout
 
 
-if __name__ == '__main__':
-    sys.exit(main())
+def test_a_row_too_few_or_a_note_too_many_is_seen(compared):
+    for change in ('table = table.rpartition("run")[0]', 'note = note or "done"', 'status = status or 3'):
+        done = compared(change, '--count', '4')
+        assert (done.returncode, ' 0 different' in done.stdout) == (1, False), change
+
+
+@pytest.mark.built
+def test_the_program_has_the_model_s_figures():
+    """Of texts and of images, on standard output alone."""
+    for name, text in [*((name, text) for name, text, _ in examples()), *random_texts()]:
+        scenario = assemble(text.encode())
+        for data in (text.encode(), image.save(scenario)):
+            assert outcome(['figures'], data) == (0, b'', figures(scenario).encode()), name
+
+
+@pytest.mark.built
+def test_the_program_refuses_as_the_model_does():
+    for data in (b'', b'sim 01\n', b'sim 5\n', b'TCB2\0', b'TCBX' + bytes(40)):
+        status, note = command_line.main(['figures'], data, lambda piece: pytest.fail('something is written'))
+        assert outcome(['figures'], data) == (status, f'{note}\n'.encode(), b'')

@@ -1,8 +1,5 @@
-#!/usr/bin/env python3
-"""Tests of tcpsim-flows, tcpsim/trace.py and tcpsim/program.py: python/tests/test_flows.py [--program FILE]. What is
-expected was worked out by hand from the lines of TRACE, or is said by another way to the same number.
-Nothing but Python's standard library is wanted; without the built program the model takes its place.
-The last line is `N passed, M failed`.
+"""Tests of tcpsim-flows, tcpsim/trace.py and tcpsim/program.py. What is expected was worked out by hand from the lines of
+TRACE, or is said by another way to the same number.
 
 TRACE is the run of one flow over a queue of two packets at 8 Mbit/s, 1 ms each way: a segment takes
 1.04 ms, and is lost twice, 3000 at 0 and 7000 at 4.12 ms; test_trace.py has its account line by line.
@@ -15,16 +12,16 @@ import signal
 import subprocess
 import sys
 import tempfile
-import unittest
 
-from paths import BIN, MODEL, TOP
-from tcpsim import figures
-from tcpsim.program import BUILT, NoProgram, find_program, found, is_program
+import pytest
+
+from clone import BIN, BUILT, MODEL, PROGRAM, TOP, Folder, tool
+from tcpsim import figures, program
+from tcpsim.program import NoProgram, find_program
 from tcpsim.curves import Run
 from tcpsim.samples import Sample, percentile
 from tcpsim.scenario.text import Scenario, Unreadable
 
-PROGRAM = MODEL
 MS = 10**6
 SCENARIO = '''sim 12000000
 node s sender
@@ -71,38 +68,26 @@ def rows(text=SCENARIO, trace=TRACE, **span):
     return {(name, figure): value for _, name, figure, _, value in figures.figures(run)}
 
 
-class Files(unittest.TestCase):
-    """The command, over files of a folder."""
-
-    def setUp(self):
-        folder = tempfile.TemporaryDirectory()
-        self.addCleanup(folder.cleanup)
-        self.folder = folder.name
+class Files(Folder):
+    def setup_method(self):
+        super().setup_method()
         self.scenario, self.trace = self.put('run.txt', SCENARIO), self.put('run.trace', TRACE)
 
-    def put(self, name, data):
-        path = os.path.join(self.folder, name)
-        with open(path, 'wb') as file:
-            file.write(data.encode() if isinstance(data, str) else data)
-        return path
-
     def run_flows(self, *words, **more):
-        return subprocess.run([sys.executable, os.path.join(BIN, 'tcpsim-flows'), *words], capture_output=True, check=False,
-                              timeout=120, **more)
+        return tool('flows', *words, **more)
 
     def lines(self, *words):
         done = self.run_flows(*words)
-        self.assertEqual((done.returncode, done.stderr), (0, b''))
+        assert (done.returncode, done.stderr) == (0, b'')
         return done.stdout.decode().splitlines()
 
 
-class Spans(unittest.TestCase):
+class TestSpans:
     def check(self, expected, **span):
         got = rows(**span)
         for key, value in expected.items():
-            with self.subTest(key, **span):
-                self.assertAlmostEqual(got[key], value, 9) if isinstance(value, float) else \
-                    self.assertEqual(got[key], value)
+            self.assertAlmostEqual(got[key], value, 9) if isinstance(value, float) else \
+                self.assertEqual(got[key], value)
 
     def test_from(self):
         """From 4.14 ms: of a, 2000 is on its way until 4.16, 5000 and 6000 wait from 3.08 and 4.12; sent are
@@ -141,77 +126,79 @@ class Spans(unittest.TestCase):
             parts = [(rows(text, trace, begin=begin, end=end), end - begin) for begin, end in zip(cuts, cuts[1:])]
             for key, value in whole.items():
                 if key[1] in ('delivered', 'sent', 'timeouts', 'sent again by timeout', 'dropped') or ' dropped as ' in key[1]:
-                    self.assertEqual(sum(part.get(key, 0) for part, _ in parts), value, key)
+                    assert sum(part.get(key, 0) for part, _ in parts) == value, key
                 elif key[1] in ('utilization', 'mean queue'):
-                    self.assertAlmostEqual(sum(part[key] * span for part, span in parts) / whole['', 'span'], value, 9, key)
+                    assert sum(part[key] * span for part, span in parts) / whole['', 'span'] == \
+                        pytest.approx(value, rel=0, abs=5e-10), key
                 elif key[1] == 'greatest queue':
-                    self.assertEqual(max(part[key] for part, _ in parts), value, key)
+                    assert max(part[key] for part, _ in parts) == value, key
 
     def test_spans_that_are_refused(self):
         for span in ({'begin': 12000000}, {'begin': 10**12}):
-            with self.assertRaises(Unreadable):
+            with pytest.raises(Unreadable):
                 rows(**span)
 
 
-class Whole(unittest.TestCase):
-    def test_figures_are_those_of_the_curves(self):
-        """On every example: what is counted on the way is what the kept columns of `Run` say."""
-        for name in sorted(os.listdir(os.path.join(TOP, 'examples'))):
-            if not name.endswith('.trace'):
-                continue
-            with open(os.path.join(TOP, 'examples', name[:-5] + 'txt'), encoding='ascii') as file:
-                scenario = Scenario(file.read())
-            with open(os.path.join(TOP, 'examples', name), encoding='ascii') as file:
-                lines = file.read().splitlines()
-            run, got = Run(scenario, lines), figures.Figures(scenario, lines)
-            begin, end = run.begin(), max(run.end(), run.begin() + 1)
-            got = {(name, figure): value for _, name, figure, _, value in figures.figures(got)}
-            for flow in run.flows:
-                for figure, value in (
-                        ('delivered', flow.delivered()), ('sent', len(flow.sent) + len(flow.again)),
-                        ('timeouts', len(flow.timeouts)), ('sent again by timeout', flow.by_timeout),
-                        ('sent again by fast retransmit', flow.by_fast_retransmit), ('completed', flow.completed),
-                        ('median round trip', percentile(flow.round_trips, 50)),
-                        ('99th percentile of round trips', percentile(flow.round_trips, 99))):
-                    self.assertEqual(got[flow.flow.name, figure], value, (name, figure))
-            for link in run.links:
-                sending = sum(min(b, end) - max(a, begin) for a, b in zip(link.busy_from, link.busy_to) if a < end)
-                queue, times = [0, *link.queue], [begin, *link.queue_times, end]
-                waited = sum(length * (b - a) for length, a, b in zip(queue, times, times[1:]))
-                for figure, value in (
-                        ('utilization', sending / (end - begin)), ('mean queue', waited / (end - begin)),
-                        ('greatest queue', max(queue)), ('dropped', len(link.drops)), ('sent', len(link.waits)),
-                        ('median delay in the queue', percentile(link.waits, 50))):
-                    self.assertEqual(got[link.link.name, figure], value, (name, figure))
-
-    def test_percentiles_of_what_stands_in_a_file(self):
-        chance = random.Random(7)
-        for greatest in (3, 1000, 10**6, 10**13):
-            with tempfile.TemporaryFile() as file:
-                samples, kept = [Sample(file), Sample(file)], [[], []]
-                for n in range(20_000):
-                    number = chance.randrange(greatest)
-                    samples[n % 2].recent.append(number)
-                    kept[n % 2].append(number)
-                    if n % 3000 == 2999:
-                        samples[0].spill()
-                        samples[1].spill()
-                for sample, numbers in zip(samples, kept):
-                    self.assertEqual(sample.least(), min(numbers))
-                    for percent in (0, 1, 50, 99, 100):
-                        self.assertEqual(sample.percentile(percent), percentile(numbers, percent))
-
-    def test_a_run_that_is_spilled_has_the_same_figures(self):
-        before = figures.HELD, figures.PORTION
-        try:
-            figures.HELD, figures.PORTION = 1, 2
-            spilled = rows()
-        finally:
-            figures.HELD, figures.PORTION = before
-        self.assertEqual(spilled, rows())
+def test_figures_are_those_of_the_curves():
+    """On every example: what is counted on the way is what the kept columns of `Run` say."""
+    for name in sorted(os.listdir(os.path.join(TOP, 'examples'))):
+        if not name.endswith('.trace'):
+            continue
+        with open(os.path.join(TOP, 'examples', name[:-5] + 'txt'), encoding='ascii') as file:
+            scenario = Scenario(file.read())
+        with open(os.path.join(TOP, 'examples', name), encoding='ascii') as file:
+            lines = file.read().splitlines()
+        run, got = Run(scenario, lines), figures.Figures(scenario, lines)
+        begin, end = run.begin(), max(run.end(), run.begin() + 1)
+        got = {(name, figure): value for _, name, figure, _, value in figures.figures(got)}
+        for flow in run.flows:
+            for figure, value in (
+                    ('delivered', flow.delivered()), ('sent', len(flow.sent) + len(flow.again)),
+                    ('timeouts', len(flow.timeouts)), ('sent again by timeout', flow.by_timeout),
+                    ('sent again by fast retransmit', flow.by_fast_retransmit), ('completed', flow.completed),
+                    ('median round trip', percentile(flow.round_trips, 50)),
+                    ('99th percentile of round trips', percentile(flow.round_trips, 99))):
+                assert got[flow.flow.name, figure] == value, (name, figure)
+        for link in run.links:
+            sending = sum(min(b, end) - max(a, begin) for a, b in zip(link.busy_from, link.busy_to) if a < end)
+            queue, times = [0, *link.queue], [begin, *link.queue_times, end]
+            waited = sum(length * (b - a) for length, a, b in zip(queue, times, times[1:]))
+            for figure, value in (
+                    ('utilization', sending / (end - begin)), ('mean queue', waited / (end - begin)),
+                    ('greatest queue', max(queue)), ('dropped', len(link.drops)), ('sent', len(link.waits)),
+                    ('median delay in the queue', percentile(link.waits, 50))):
+                assert got[link.link.name, figure] == value, (name, figure)
 
 
-class Series(Files):
+def test_percentiles_of_what_stands_in_a_file():
+    chance = random.Random(7)
+    for greatest in (3, 1000, 10**6, 10**13):
+        with tempfile.TemporaryFile() as file:
+            samples, kept = [Sample(file), Sample(file)], [[], []]
+            for n in range(20_000):
+                number = chance.randrange(greatest)
+                samples[n % 2].recent.append(number)
+                kept[n % 2].append(number)
+                if n % 3000 == 2999:
+                    samples[0].spill()
+                    samples[1].spill()
+            for sample, numbers in zip(samples, kept):
+                assert sample.least() == min(numbers)
+                for percent in (0, 1, 50, 99, 100):
+                    assert sample.percentile(percent) == percentile(numbers, percent)
+
+
+def test_a_run_that_is_spilled_has_the_same_figures():
+    before = figures.HELD, figures.PORTION
+    try:
+        figures.HELD, figures.PORTION = 1, 2
+        spilled = rows()
+    finally:
+        figures.HELD, figures.PORTION = before
+    assert spilled == rows()
+
+
+class TestSeries(Files):
     def series(self, *words):
         return list(csv.DictReader(io.StringIO('\n'.join(self.lines(self.scenario, self.trace, *words)))))
 
@@ -219,7 +206,7 @@ class Series(Files):
         """In steps of 4 ms. cwnd is 4000 to 3.08, 5000 to 4.12, 6000 to 5.16, 7000 to 8.28, 5500 to 11.36; a's
         queue is 2 to 1.04, 1 to 2.08, 0 to 3.08, 2 to 3.12, 1 to 4.12, 2 to 4.16, 1 to 5.2."""
         got = self.series('--series', '4ms')
-        self.assertEqual([(row['from s'], row['to s']) for row in got], [('0', '0.004'), ('0.004', '0.008'), ('0.008', '0.012')])
+        assert [(row['from s'], row['to s']) for row in got] == [('0', '0.004'), ('0.004', '0.008'), ('0.008', '0.012')]
         for column, values in (
                 ('f mean cwnd bytes', ((4 * 3.08 + 5 * .92) / .004, (5 * .12 + 6 * 1.04 + 7 * 2.84) / .004,
                                        (7 * .28 + 5.5 * 3.08 + 2.5 * .64) / .004)),
@@ -227,18 +214,19 @@ class Series(Files):
                 ('a mean queue packets', ((2.08 + 1.04 + .08 + .88) / 4, (.12 + .08 + 1.04) / 4, 0)),
                 ('a greatest queue packets', (2, 2, 0)), ('b greatest queue packets', (0, 0, 0))):
             for row, value in zip(got, values):
-                self.assertAlmostEqual(float(row[column]), value, 5 if value < 1000 else 0, (column, row['from s']))
+                assert float(row[column]) == \
+                    pytest.approx(value, rel=0, abs=.5 * 10 ** -(5 if value < 1000 else 0)), (column, row['from s'])
 
     def test_goodput_of_the_rows_is_what_was_delivered(self):
         text, trace = (os.path.join(TOP, 'examples', 'two_flows_share_fairly' + end) for end in ('.txt', '.trace'))
         got = list(csv.DictReader(io.StringIO('\n'.join(self.lines(text, trace, '--series', '1s')))))
-        self.assertEqual(len(got), 14)
-        self.assertEqual(round(sum(float(row['fa goodput bit/s']) for row in got) / 8), 225_000)
+        assert len(got) == 14
+        assert round(sum(float(row['fa goodput bit/s']) for row in got) / 8) == 225_000
 
     def test_a_last_row_that_is_shorter_and_one_that_is_chosen(self):
-        self.assertEqual([row['to s'] for row in self.series('--series', '5ms')], ['0.005', '0.01', '0.012'])
-        self.assertEqual([(row['from s'], row['to s']) for row in self.series('--series', '5ms', '--from', '1ms', '--to', '7ms')],
-                         [('0.001', '0.006'), ('0.006', '0.007')])
+        assert [row['to s'] for row in self.series('--series', '5ms')] == ['0.005', '0.01', '0.012']
+        assert [(row['from s'], row['to s']) for row in self.series('--series', '5ms', '--from', '1ms', '--to', '7ms')] == \
+            [('0.001', '0.006'), ('0.006', '0.007')]
 
     def test_idle_links_are_left_out(self):
         text = SCENARIO.replace('flow f', 'node p router\nlink c p s 8000000 1000000 droptail 2\nflow f')
@@ -247,47 +235,47 @@ class Series(Files):
             every = '\n'.join(self.lines(path, self.trace, *words))
             busy = '\n'.join(self.lines(path, self.trace, '--busy', *words))
             name = 'c mean' if '--series' in words else 'link,c,' if words else '\nc  '
-            self.assertIn(name, every)
-            self.assertNotIn(name, busy)
-            self.assertIn(name.replace('c', 'b', 1) if words != ('--csv',) else 'link,b,', busy)
+            assert name in every
+            assert name not in busy
+            assert (name.replace('c', 'b', 1) if words != ('--csv',) else 'link,b,') in busy
 
     def test_too_many_rows(self):
         done = self.run_flows(self.scenario, self.trace, '--series', '1ns')
-        self.assertEqual((done.returncode, done.stdout), (1, b''))
-        self.assertIn(b'longer step', done.stderr)
+        assert (done.returncode, done.stdout) == (1, b'')
+        assert b'longer step' in done.stderr
 
 
-class Commands(Files):
+class TestCommands(Files):
     def test_the_table_has_timeouts_and_loss(self):
         lines = self.lines(self.scenario, self.trace)
-        self.assertEqual(lines[0].split('  ')[0], 'flow')
+        assert lines[0].split('  ')[0] == 'flow'
         for title in ('loss %', 'timeouts', 'sent again: fast', 'after timeouts'):
-            self.assertIn(title, lines[0])
-        self.assertEqual(lines[1].split(), 'f 7,000 4.667 100.0 a 9 22.22 0 1 0 3.080 4.120 5.160 -'.split())
-        self.assertEqual(lines[4].split()[-2:], ['2', '22.22'])     # two of nine offered
+            assert title in lines[0]
+        assert lines[1].split() == 'f 7,000 4.667 100.0 a 9 22.22 0 1 0 3.080 4.120 5.160 -'.split()
+        assert lines[4].split()[-2:] == ['2', '22.22']     # two of nine offered
 
     def test_csv_in_a_part(self):
         lines = self.lines(self.scenario, self.trace, '--csv', '--from', '4140us', '--to', '0.012s')
-        self.assertIn('flow,f,delivered,bytes,4000', lines)
-        self.assertIn('run,,begin,ns,4140000', lines)
+        assert 'flow,f,delivered,bytes,4000' in lines
+        assert 'run,,begin,ns,4140000' in lines
 
     def test_the_program_is_run_on_texts_and_images(self):
         image = subprocess.run([PROGRAM, 'asm'], input=SCENARIO.encode(), capture_output=True, check=True).stdout
         path = self.put('run.tcb', image)
         given = self.lines(self.scenario, self.trace, '--csv')
-        self.assertEqual(self.lines(self.scenario, '--program', PROGRAM, '--csv'), given)
+        assert self.lines(self.scenario, '--program', PROGRAM, '--csv') == given
         named = [line.replace('flow,f,', 'flow,f0,').replace('link,a,', 'link,l0,').replace('link,b,', 'link,l1,').replace(
             'link,a', 'link,l0').replace('at a,', 'at l0,') for line in given]
-        self.assertEqual(self.lines(path, '--program', PROGRAM, '--csv'), named)
-        self.assertEqual(self.lines(path, self.trace, '--program', PROGRAM, '--csv'), named)
+        assert self.lines(path, '--program', PROGRAM, '--csv') == named
+        assert self.lines(path, self.trace, '--program', PROGRAM, '--csv') == named
         done = self.run_flows('-', '--program', PROGRAM, '--csv', input=image)
-        self.assertEqual(done.stdout.decode().splitlines(), named)
+        assert done.stdout.decode().splitlines() == named
 
     def test_a_run_that_is_left_early(self):
         """With --to the rest of a long run is not waited for: the flow has 10^9 segments to send."""
         path = self.put('long.txt', SCENARIO.replace('sim 12000000', 'sim 1000000000000000').replace(
             '1000 8 0', '1000 1000000000 0').replace('droptail', 'droptail 1', 1).replace('droptail 1 2', 'droptail 2'))
-        self.assertIn('run,,span,ns,50000000', self.lines(path, '--program', PROGRAM, '--csv', '--to', '50ms'))
+        assert 'run,,span,ns,50000000' in self.lines(path, '--program', PROGRAM, '--csv', '--to', '50ms')
 
     def test_what_is_refused_is_one_sentence(self):
         lines = TRACE.splitlines()
@@ -313,45 +301,44 @@ class Commands(Files):
                 ((self.put('n', SCENARIO.replace('12000000', '012')), '--program', PROGRAM), 'refused E4 line 1'),
                 ((self.scenario, '--program', self.folder), 'no program'),
                 ((self.scenario, self.trace, '--from', '100s'), 'ends at 0.012 s')):
-            with self.subTest(words[-1] if len(words) < 3 else note):
-                done = self.run_flows(*words)
-                text = done.stderr.decode()
-                self.assertEqual((done.returncode, done.stdout), (1, b''), text)
-                self.assertIn(note, text)
-                self.assertEqual((text.count('\n'), text.startswith('tcpsim-flows: ')), (1, True), text)
+            done = self.run_flows(*words)
+            text = done.stderr.decode()
+            assert (done.returncode, done.stdout) == (1, b''), text
+            assert note in text
+            assert (text.count('\n'), text.startswith('tcpsim-flows: ')) == (1, True), text
 
     def test_words_that_are_refused(self):
         for words in (('--from', '5s', '--to', '4s'), ('--series', '0s'), ('--from', '5x'), ('--to', '1e9'), ('--from', '-1'),
                       ('--from', '1'), ('--to', '0.0000000001s'), ('--to', '2000000s'), ('--seri', '1s'), ('--csv', 'x'), ('--from',)):
             done = self.run_flows(self.scenario, self.trace, *words)
-            self.assertEqual((done.returncode, done.stdout), (2, b''), words)
-            self.assertEqual((done.stderr.count(b'\n'), done.stderr.startswith(b'tcpsim-flows: ')), (1, True), done.stderr)
+            assert (done.returncode, done.stdout) == (2, b''), words
+            assert (done.stderr.count(b'\n'), done.stderr.startswith(b'tcpsim-flows: ')) == (1, True), done.stderr
 
     def test_it_names_itself_as_it_was_called(self):
         link = os.path.join(self.folder, 'tcpsim-flows')
         os.symlink(os.path.join(BIN, 'tcpsim-flows'), link)
         for words in ((), ('nothing',), (self.scenario, '--program', '/nowhere')):
             done = subprocess.run([sys.executable, link, *words], capture_output=True, text=True, check=False)
-            self.assertEqual((done.stdout, done.stderr.count('\n')), ('', 1), done.stderr)
-            self.assertTrue(done.stderr.startswith('tcpsim-flows: '), done.stderr)
+            assert (done.stdout, done.stderr.count('\n')) == ('', 1), done.stderr
+            assert done.stderr.startswith('tcpsim-flows: '), done.stderr
 
     def test_a_full_disk(self):
         for words in ((), ('--csv',), ('--series', '1us'), ('--help',)):
             with open('/dev/full', 'w', encoding='ascii') as full:
                 done = subprocess.run([sys.executable, os.path.join(BIN, 'tcpsim-flows'), self.scenario, self.trace, *words],
                                       stdout=full, stderr=subprocess.PIPE, text=True, check=False)
-            self.assertEqual((done.returncode, done.stderr), (1, 'tcpsim-flows: standard output: No space left on device\n'))
+            assert (done.returncode, done.stderr) == (1, 'tcpsim-flows: standard output: No space left on device\n')
 
     def test_a_pipe_that_ends(self):
         for words in ((), ('--csv',), ('--series', '1us')):
             script = '"$@" | head -n 1; exit "${PIPESTATUS[0]}"'
             done = subprocess.run(['bash', '-c', script, 'bash', sys.executable, os.path.join(BIN, 'tcpsim-flows'), self.scenario,
                                    self.trace, *words], capture_output=True, check=False)
-            self.assertIn(done.returncode, (0, 128 + signal.SIGPIPE), words)      # 0 where all was written before
-            self.assertEqual(done.stderr, b'', words)
+            assert done.returncode in (0, 128 + signal.SIGPIPE), words      # 0 where all was written before
+            assert done.stderr == b'', words
 
 
-class Finding(Files):
+class TestFinding(Files):
     def test_order(self):
         """Named, else beside the script, else on PATH, else the clone's."""
         beside, path = os.path.join(self.folder, 'beside'), os.path.join(self.folder, 'path')
@@ -362,34 +349,14 @@ class Finding(Files):
         try:
             os.environ['PATH'] = path
             sys.argv = [os.path.join(beside, 'tcpsim-flows')]
-            self.assertEqual(find_program(MODEL), MODEL)
-            self.assertEqual(find_program(), os.path.join(beside, 'tcpsim'))
+            assert find_program(MODEL) == MODEL
+            assert find_program() == os.path.join(beside, 'tcpsim')
             sys.argv = [os.path.join(self.folder, 'tcpsim-flows')]
-            self.assertEqual(find_program(), os.path.join(path, 'tcpsim'))
+            assert find_program() == os.path.join(path, 'tcpsim')
             os.environ['PATH'] = self.folder
-            self.assertEqual(found(), BUILT)
+            assert program.found() == BUILT
             for named in (self.folder, self.trace, 'nothing'):
-                with self.assertRaises(NoProgram):
+                with pytest.raises(NoProgram):
                     find_program(named)
         finally:
             sys.argv, os.environ['PATH'] = argv, before
-
-
-def main():
-    global PROGRAM
-    if sys.argv[1:2] == ['--program'] and len(sys.argv) == 3:
-        PROGRAM = os.path.abspath(sys.argv[2])
-    elif is_program(found()):
-        PROGRAM = found()
-    stream = io.StringIO()
-    result = unittest.TextTestRunner(stream=stream).run(unittest.defaultTestLoader.loadTestsFromModule(
-        sys.modules['__main__']))
-    failed = len({str(test).split(') [')[0] for test, _ in result.failures + result.errors})
-    if failed:
-        print(stream.getvalue())
-    print(f'{result.testsRun - failed} passed, {failed} failed')
-    return 1 if failed else 0
-
-
-if __name__ == '__main__':
-    sys.exit(main())

@@ -1,9 +1,7 @@
-#!/usr/bin/env python3
-"""Tests of tcpsim-follow and tcpsim/lives.py: python/tests/test_follow.py [--program FILE]. Every segment of every example
+"""Tests of tcpsim-follow and tcpsim/lives.py. Every segment of every example
 is followed, and its sums are held against another reading of the trace: tcpsim/trace.py says when a packet
 entered a queue and when it left it, and arithmetic when it is at the next one. Two tables were worked out by
-hand from the lines. Nothing but Python's standard library is wanted; without the built program the model
-takes its place. The last line is `N passed, M failed`.
+hand from the lines.
 """
 import csv
 import io
@@ -11,36 +9,27 @@ import os
 import re
 import subprocess
 import sys
-import tempfile
-import unittest
 from bisect import bisect_right
 from collections import defaultdict
 from functools import cache
 
-from paths import BIN, MODEL, TOP
+
+import clone
+from clone import BIN, NAMES, PROGRAM, Folder, paths, tool
 from tcpsim import follow, lives
 from tcpsim.cli import follow as command
-from tcpsim.program import found, is_program
 from tcpsim.curves import Run
 from tcpsim.scenario.text import Scenario, Unreadable
 from tcpsim.scenario.units import HEADER_BYTES
 from tcpsim.trace import ACK, DATA, LinkState, Reader
 
-EXAMPLES = os.path.join(TOP, 'examples')
-PROGRAM = MODEL
-NAMES = sorted(name[:-6] for name in os.listdir(EXAMPLES) if name.endswith('.trace'))
-
-
-def paths(name):
-    return [os.path.join(EXAMPLES, name + end) for end in ('.txt', '.trace')]
 
 
 @cache
 def example(name):
     """The scenario and the trace's lines of an example."""
-    text, trace = paths(name)
-    with open(text, encoding='ascii') as scenario, open(trace, encoding='ascii') as lines:
-        return Scenario(scenario.read()), lines.read().splitlines()
+    text, lines = clone.example(name)
+    return Scenario(text), lines
 
 
 @cache
@@ -169,92 +158,96 @@ def painted(begin, end, lives_of):
     return parts, still
 
 
-class Sums(unittest.TestCase):
-    def test_every_segment_of_every_example(self):
-        """The four parts add up to the whole and are those of the other reading, each by itself."""
-        segments = sum(self.check_flow(*it) for it in examples_flows())
-        self.assertGreater(segments, 5000)
+def test_every_segment_of_every_example():
+    """The four parts add up to the whole and are those of the other reading, each by itself."""
+    segments = sum(check_flow(*it) for it in examples_flows())
+    assert segments > 5000
 
-    def check_flow(self, name, scenario, lines, flow):
-        walk, ends, moments = followed(name, flow), Ends(scenario, lines, flow), moments_of(name)
-        beyond = max((reached for _, reached in ends.sent), default=0)
-        self.assertEqual(list(walk.segments), list(range(0, beyond, scenario.flows[flow].mss)), (name, flow))
-        answers = sorted({packet.offered: packet.number for segment in walk.segments.values()
-                          for packet in segment.acks}.items())
-        numbers = [number for _, number in answers]
-        acks = [moments.life(flow, ACK, number, offered) for offered, number in answers]
-        for number, segment in walk.segments.items():
-            whole, parts, reasons = walk.sums(segment)
-            where = name, flow, number
-            begin, done = ends.first(ends.sent, number), ends.first(ends.acked, number)
-            end = scenario.end if done is None else done
-            self.assertEqual((segment.copies[0].offered, segment.done, whole), (begin, done, end - begin), where)
-            self.assertEqual(sum(parts.values()), whole, where)
-            self.assertEqual(sum(time for _, time in reasons), parts['stood still'], where)
-            copies = [moments.life(flow, DATA, number, packet.offered) for packet in segment.copies]
-            above = up_to_one_that_came(acks[bisect_right(numbers, number):])
-            expected, still = painted(begin, end, [states for states, _, _ in above + copies])
-            self.assertEqual(parts, expected, where)
-            self.check_reasons(reasons, still, copies, ends.first(ends.passed, number), where)
-            self.assertEqual([packet.fate or 'waits' for packet in segment.copies],
-                             [fate if fate != 'came' or at < scenario.end else 'waits' for _, fate, at in copies], where)
-        return len(walk.segments)
 
-    def check_reasons(self, reasons, still, copies, passed, where):
-        """What the segment stood still for: before it came, before all before it had come, and after that."""
-        arrived = min((at for _, fate, at in copies if fate == 'came'), default=None)
-        spent = dict.fromkeys(('sender', 'receiver', 'answer'), 0)
-        for since, to in still:
-            spent['sender' if arrived is None or since < arrived else 'receiver' if passed is None or since < passed else
-                  'answer'] += to - since
-        got = dict.fromkeys(spent, 0)
-        for reason, time in reasons:
-            got['sender' if 'sent again' in reason else 'receiver' if 'missing' in reason else 'answer'] += time
-        self.assertEqual(got, spent, where)
+def check_flow(name, scenario, lines, flow):
+    walk, ends, moments = followed(name, flow), Ends(scenario, lines, flow), moments_of(name)
+    beyond = max((reached for _, reached in ends.sent), default=0)
+    assert list(walk.segments) == list(range(0, beyond, scenario.flows[flow].mss)), (name, flow)
+    answers = sorted({packet.offered: packet.number for segment in walk.segments.values()
+                      for packet in segment.acks}.items())
+    numbers = [number for _, number in answers]
+    acks = [moments.life(flow, ACK, number, offered) for offered, number in answers]
+    for number, segment in walk.segments.items():
+        whole, parts, reasons = walk.sums(segment)
+        where = name, flow, number
+        begin, done = ends.first(ends.sent, number), ends.first(ends.acked, number)
+        end = scenario.end if done is None else done
+        assert (segment.copies[0].offered, segment.done, whole) == (begin, done, end - begin), where
+        assert sum(parts.values()) == whole, where
+        assert sum(time for _, time in reasons) == parts['stood still'], where
+        copies = [moments.life(flow, DATA, number, packet.offered) for packet in segment.copies]
+        above = up_to_one_that_came(acks[bisect_right(numbers, number):])
+        expected, still = painted(begin, end, [states for states, _, _ in above + copies])
+        assert parts == expected, where
+        check_reasons(reasons, still, copies, ends.first(ends.passed, number), where)
+        assert [packet.fate or 'waits' for packet in segment.copies] == \
+            [fate if fate != 'came' or at < scenario.end else 'waits' for _, fate, at in copies], where
+    return len(walk.segments)
 
-    def test_waits_of_the_rows_are_those_of_the_queues(self):
-        """Each row `waits` that was followed by a `tx` has the wait that the link's queue had."""
-        rows = 0
-        for name, scenario, _, flow in examples_flows():
-            links = {link.name: number for number, link in enumerate(scenario.links)}
-            for segment in followed(name, flow).segments.values():
-                for packet in segment.copies + segment.answers():
-                    taken = [row.time for row in packet.watch.rows if row.event == 'tx']
-                    for row, began in zip([row for row in packet.watch.rows if row.event == 'waits'], taken):
-                        queue = moments_of(name).taken[links[row.at], packet.sort, flow, packet.number]
-                        self.assertEqual((queue[row.time], row.span), (began, began - row.time), (name, row.line))
-                        rows += 1
-        self.assertGreater(rows, 20000)
 
-    def test_why_segments_are_sent_again(self):
-        """As often in fast recovery, and as often after a timeout, as tcpsim/trace.py counts it."""
-        seen = set()
-        for name, scenario, lines, flow in examples_flows():
-            run = run_of(name).flows[flow]
-            why = [packet.why for segment in followed(name, flow).segments.values() for packet in segment.copies]
-            seen.update(why)
-            self.assertEqual(why.count(lives.THIRD_DUPLICATE) + why.count(lives.PARTIAL), run.by_fast_retransmit, (name, flow))
-            self.assertEqual(why.count(lives.THIRD_DUPLICATE), len(run.recoveries), (name, flow))
-            self.assertTrue(lives.PARTIAL not in why or scenario.flows[flow].newreno, (name, flow))
-            self.assertEqual(why.count(lives.TIMEOUT), len(run.timeouts), (name, flow))
-            self.assertEqual(why.count(lives.TIMEOUT) + why.count(lives.AFTER_TIMEOUT), run.by_timeout, (name, flow))
-            self.assertEqual(why.count(lives.FIRST), len(run.sent), (name, flow))
-        self.assertEqual(seen, {lives.FIRST, lives.THIRD_DUPLICATE, lives.PARTIAL, lives.TIMEOUT, lives.AFTER_TIMEOUT})
+def check_reasons(reasons, still, copies, passed, where):
+    """What the segment stood still for: before it came, before all before it had come, and after that."""
+    arrived = min((at for _, fate, at in copies if fate == 'came'), default=None)
+    spent = dict.fromkeys(('sender', 'receiver', 'answer'), 0)
+    for since, to in still:
+        spent['sender' if arrived is None or since < arrived else 'receiver' if passed is None or since < passed else
+              'answer'] += to - since
+    got = dict.fromkeys(spent, 0)
+    for reason, time in reasons:
+        got['sender' if 'sent again' in reason else 'receiver' if 'missing' in reason else 'answer'] += time
+    assert got == spent, where
 
-    def test_drops_are_those_of_the_lines(self):
-        """Each drop of data is a row with its line and its reason."""
-        reasons = set()
-        for name, scenario, lines, flow in examples_flows():
-            got = [(row.time, packet.number, row.words.partition(':')[0], row.line)
-                   for segment in followed(name, flow).segments.values() for packet in segment.copies
-                   for row in packet.watch.rows if row.event == 'dropped']
-            drops = run_of(name).flows[flow].drops
-            self.assertEqual(sorted(row[:3] for row in got),
-                             sorted((time, number, reason) for time, _, reason, sort, number in drops if sort == DATA), name)
-            for _, number, reason, line in got:
-                self.assertIn(f' drop={reason}:{flow}:{number}', lines[line - 1], name)
-                reasons.add(reason)
-        self.assertEqual(reasons, {'lost', 'full', 'codel'})
+
+def test_waits_of_the_rows_are_those_of_the_queues():
+    """Each row `waits` that was followed by a `tx` has the wait that the link's queue had."""
+    rows = 0
+    for name, scenario, _, flow in examples_flows():
+        links = {link.name: number for number, link in enumerate(scenario.links)}
+        for segment in followed(name, flow).segments.values():
+            for packet in segment.copies + segment.answers():
+                taken = [row.time for row in packet.watch.rows if row.event == 'tx']
+                for row, began in zip([row for row in packet.watch.rows if row.event == 'waits'], taken):
+                    queue = moments_of(name).taken[links[row.at], packet.sort, flow, packet.number]
+                    assert (queue[row.time], row.span) == (began, began - row.time), (name, row.line)
+                    rows += 1
+    assert rows > 20000
+
+
+def test_why_segments_are_sent_again():
+    """As often in fast recovery, and as often after a timeout, as tcpsim/trace.py counts it."""
+    seen = set()
+    for name, scenario, lines, flow in examples_flows():
+        run = run_of(name).flows[flow]
+        why = [packet.why for segment in followed(name, flow).segments.values() for packet in segment.copies]
+        seen.update(why)
+        assert why.count(lives.THIRD_DUPLICATE) + why.count(lives.PARTIAL) == run.by_fast_retransmit, (name, flow)
+        assert why.count(lives.THIRD_DUPLICATE) == len(run.recoveries), (name, flow)
+        assert lives.PARTIAL not in why or scenario.flows[flow].newreno, (name, flow)
+        assert why.count(lives.TIMEOUT) == len(run.timeouts), (name, flow)
+        assert why.count(lives.TIMEOUT) + why.count(lives.AFTER_TIMEOUT) == run.by_timeout, (name, flow)
+        assert why.count(lives.FIRST) == len(run.sent), (name, flow)
+    assert seen == {lives.FIRST, lives.THIRD_DUPLICATE, lives.PARTIAL, lives.TIMEOUT, lives.AFTER_TIMEOUT}
+
+
+def test_drops_are_those_of_the_lines():
+    """Each drop of data is a row with its line and its reason."""
+    reasons = set()
+    for name, scenario, lines, flow in examples_flows():
+        got = [(row.time, packet.number, row.words.partition(':')[0], row.line)
+               for segment in followed(name, flow).segments.values() for packet in segment.copies
+               for row in packet.watch.rows if row.event == 'dropped']
+        drops = run_of(name).flows[flow].drops
+        assert sorted(row[:3] for row in got) == \
+            sorted((time, number, reason) for time, _, reason, sort, number in drops if sort == DATA), name
+        for _, number, reason, line in got:
+            assert f' drop={reason}:{flow}:{number}' in lines[line - 1], name
+            reasons.add(reason)
+    assert reasons == {'lost', 'full', 'codel'}
 
 
 # ---- tables
@@ -303,30 +296,17 @@ whole         3.006200000 s, from the first offering to its acknowledgement
 '''
 
 
-class Files(unittest.TestCase):
+class Files(Folder):
     """The command, over files of a folder."""
-
-    def setUp(self):
-        folder = tempfile.TemporaryDirectory()
-        self.addCleanup(folder.cleanup)
-        self.folder = folder.name
-        self.scenario, self.trace = paths('two_timeouts_in_a_row')
-        with open(self.scenario, encoding='ascii') as text, open(self.trace, encoding='ascii') as trace:
-            self.text, self.lines = text.read(), trace.read().splitlines()
-
-    def put(self, name, data):
-        path = os.path.join(self.folder, name)
-        with open(path, 'wb') as file:
-            file.write(data.encode() if isinstance(data, str) else data)
-        return path
+    scenario, trace = paths('two_timeouts_in_a_row')
+    text, lines = clone.example('two_timeouts_in_a_row')
 
     def run_follow(self, *words):
-        return subprocess.run([sys.executable, os.path.join(BIN, 'tcpsim-follow'), *words], capture_output=True, check=False,
-                              cwd=self.folder, timeout=120)
+        return tool('follow', *words, cwd=self.folder)
 
     def told(self, *words):
         done = self.run_follow(*words)
-        self.assertEqual((done.returncode, done.stderr), (0, b''))
+        assert (done.returncode, done.stderr) == (0, b'')
         return done.stdout.decode()
 
     def rows(self, name, flow, byte):
@@ -335,22 +315,22 @@ class Files(unittest.TestCase):
         return [(int(row['line']), row['packet'], row['event'], row['at'], row['words']) for row in told if row['line']]
 
 
-class Tables(Files):
+class TestTables(Files):
     def test_tables_by_hand(self):
         for name, byte, table in (('one_segment', 0, ONE_SEGMENT), ('two_timeouts_in_a_row', 4000, TWO_TIMEOUTS)):
-            self.assertEqual(self.told(*paths(name), '--flow', 'f', '--byte', str(byte)), table)
+            assert self.told(*paths(name), '--flow', 'f', '--byte', str(byte)) == table
 
     def test_any_byte_of_the_segment_and_the_program(self):
         scenario = paths('two_timeouts_in_a_row')[0]
         for words in (('--flow', '0', '--byte', '4999'), ('--flow', 'f', '--byte', '4001')):
-            self.assertEqual(self.told(scenario, *words, '--program', PROGRAM), TWO_TIMEOUTS)
+            assert self.told(scenario, *words, '--program', PROGRAM) == TWO_TIMEOUTS
 
     def test_pipes(self):
         """Both files can be pipes, which are read once, and the scenario standard input."""
         script = '"$1" "$2" <(cat "$3") <(cat "$4") --flow f --byte 4000; "$1" "$2" - "$4" --flow f --byte 4000 < "$3"'
         done = subprocess.run(['bash', '-c', script, 'bash', sys.executable, os.path.join(BIN, 'tcpsim-follow'), self.scenario,
                                self.trace], capture_output=True, check=True, text=True)
-        self.assertEqual((done.stdout, done.stderr), (2 * TWO_TIMEOUTS, ''))
+        assert (done.stdout, done.stderr) == (2 * TWO_TIMEOUTS, '')
 
     def test_sent_again_by_the_third_duplicate(self):
         """14000 is dropped by CoDel in line 54; the acknowledgements of 15000 to 17000 are the duplicates."""
@@ -361,57 +341,57 @@ class Tables(Files):
                     (69, 'ack 14000', 'duplicate', 's', 'duplicate 3 asks for the segment'),
                     (69, 'segment 14000 (copy 2)', 'sent again', 's', 'offered again: the third duplicate'),
                     (69, 'segment 14000 (copy 2)', 'waits', 'a', 'behind 4 packets (3 in the queue, 1 being sent), for 30.96 ms')):
-            self.assertIn(row, rows)
-        self.assertLess(rows.index((69, 'ack 14000', 'duplicate', 's', 'duplicate 3 asks for the segment')),
-                        rows.index((69, 'segment 14000 (copy 2)', 'sent again', 's', 'offered again: the third duplicate')))
+            assert row in rows
+        assert rows.index((69, 'ack 14000', 'duplicate', 's', 'duplicate 3 asks for the segment')) < \
+            rows.index((69, 'segment 14000 (copy 2)', 'sent again', 's', 'offered again: the third duplicate'))
 
     def test_sent_again_after_a_timeout(self):
         rows = self.rows('a_timer_that_stays_doubled', 'f', 3000)
-        self.assertIn((13, 'segment 3000 (copy 2)', 'sent again', 's',
-                       'offered again: a timeout had made the sender begin again'), rows)
-        self.assertIn((17, 'segment 3000 (copy 3)', 'sent again', 's', 'offered again: the timeout after 2 s'), rows)
-        self.assertIn((16, 'ack 4000', 'dropped', 'b', 'lost: the scenario says so'), rows)
-        self.assertIn((19, 'segment 3000 (copy 3)', 'not new', 'r', 'the receiver has it already'), rows)
+        assert (13, 'segment 3000 (copy 2)', 'sent again', 's',
+                       'offered again: a timeout had made the sender begin again') in rows
+        assert (17, 'segment 3000 (copy 3)', 'sent again', 's', 'offered again: the timeout after 2 s') in rows
+        assert (16, 'ack 4000', 'dropped', 'b', 'lost: the scenario says so') in rows
+        assert (19, 'segment 3000 (copy 3)', 'not new', 'r', 'the receiver has it already') in rows
 
     def test_a_full_queue(self):
         rows = self.rows('slow_start_into_a_full_queue', 'f', 11000)
-        self.assertEqual([row[2:] for row in rows if row[2] == 'dropped'], [('dropped', 'a', 'full: 3 packets in the queue')])
-        self.assertEqual([row[0] for row in rows if row[2] == 'duplicate'][:3], [62, 65, 66])
+        assert [row[2:] for row in rows if row[2] == 'dropped'] == [('dropped', 'a', 'full: 3 packets in the queue')]
+        assert [row[0] for row in rows if row[2] == 'duplicate'][:3] == [62, 65, 66]
 
     def test_answers(self):
         """The first segment's answer waits for the second; that of the ninth for the alarm."""
         rows = self.rows('an_answer_that_waits_for_its_alarm', 'f', 0)
-        self.assertIn((6, 'segment 0', 'answer waits', 'r', 'for the alarm in 400 ms, or for another segment'), rows)
-        self.assertIn((7, 'ack 2000', 'answered', 'r', 'answers segment 1000 at once, after a wait of 1.04 ms for a second segment'),
-                      rows)
-        self.assertIn((28, 'ack 9000', 'answered', 'r', 'answers segment 8000 by the alarm, after a wait of 400 ms'),
-                      self.rows('an_answer_that_waits_for_its_alarm', 'f', 8000))
-        self.assertIn((3, 'ack 1000', 'answered', 'r', 'answers segment 0 at once'), self.rows('one_segment', 'f', 0))
+        assert (6, 'segment 0', 'answer waits', 'r', 'for the alarm in 400 ms, or for another segment') in rows
+        assert (7, 'ack 2000', 'answered', 'r', 'answers segment 1000 at once, after a wait of 1.04 ms for a second segment') in \
+            rows
+        assert (28, 'ack 9000', 'answered', 'r', 'answers segment 8000 by the alarm, after a wait of 400 ms') in \
+            self.rows('an_answer_that_waits_for_its_alarm', 'f', 8000)
+        assert (3, 'ack 1000', 'answered', 'r', 'answers segment 0 at once') in self.rows('one_segment', 'f', 0)
 
     def test_a_segment_that_waits_for_one_before_it(self):
         rows = self.rows('two_timeouts_in_a_row', 'f', 8000)
-        self.assertIn((19, 'segment 8000', 'held', 'r', '4000 is missing before it, and asked for at once'), rows)
+        assert (19, 'segment 8000', 'held', 'r', '4000 is missing before it, and asked for at once') in rows
 
     def test_an_answer_that_was_dropped_is_told(self):
         """Of the duplicates that ask for segment 0 the second is lost."""
         text = self.text[:self.text.index('lose')].replace(' 10 0 64000', ' 4 0 64000') + 'lose a 1\nlose b 2\n'
         told = self.told(self.put('run.txt', text), '--program', PROGRAM, '--flow', 'f', '--byte', '0')
-        self.assertRegex(told, r'ack 0 +dropped +b +lost: it would have asked for the segment')
-        self.assertNotIn('duplicate 3', told)
+        assert re.search(r'ack 0 +dropped +b +lost: it would have asked for the segment', told)
+        assert 'duplicate 3' not in told
 
     def test_csv(self):
         for name, byte in (('two_timeouts_in_a_row', 4000), ('an_answer_that_waits_for_its_alarm', 8000)):
             rows = list(csv.reader(io.StringIO(self.told(*paths(name), '--flow', 'f', '--byte', str(byte), '--csv'))))
-            self.assertEqual(rows[0], ['line', 'time', 'packet', 'event', 'at', 'ns', 'behind', 'words'])
+            assert rows[0] == ['line', 'time', 'packet', 'event', 'at', 'ns', 'behind', 'words']
             sums = {row[7]: int(row[5]) for row in rows if row[3] == 'sum'}
-            self.assertEqual(list(sums), ['waited', 'serialized', 'under way', 'stood still', 'whole'])
-            self.assertEqual(sum(sums.values()), 2 * sums['whole'])
-            self.assertEqual(sum(int(row[5]) for row in rows if row[3] == 'part of stood still'), sums['stood still'])
-            self.assertEqual(sum(int(row[5]) for row in rows if row[3] == 'waits'), sums['waited'])
-        self.assertIn(['15', '14200000', 'segment 8000', 'waits', 'a', '2080000', '2',
-                       'behind 2 packets (1 in the queue, 1 being sent), for 2.08 ms'], rows)
+            assert list(sums) == ['waited', 'serialized', 'under way', 'stood still', 'whole']
+            assert sum(sums.values()) == 2 * sums['whole']
+            assert sum(int(row[5]) for row in rows if row[3] == 'part of stood still') == sums['stood still']
+            assert sum(int(row[5]) for row in rows if row[3] == 'waits') == sums['waited']
+        assert ['15', '14200000', 'segment 8000', 'waits', 'a', '2080000', '2',
+                       'behind 2 packets (1 in the queue, 1 being sent), for 2.08 ms'] in rows
         table = self.told(*paths(name), '--flow', 'f', '--byte', str(byte)).splitlines()
-        self.assertEqual(len([row for row in rows if row[0]]) - 1, table.index('') - 1)
+        assert len([row for row in rows if row[0]]) - 1 == table.index('') - 1
 
     def test_runs_that_end_before_the_acknowledgement(self):
         """At 2.5 ms the acknowledgement is under way; where the trace has no `end`, its last line is the end."""
@@ -419,24 +399,23 @@ class Tables(Files):
         with open(text, encoding='ascii') as file:
             short = self.put('short.txt', file.read().replace('sim 1000000000', 'sim 2500000'))
         told = self.told(short, '--program', PROGRAM, '--flow', 'f', '--byte', '0')
-        self.assertIn('under way     0.001420000 s\nstood still   0.000000000 s\nwhole         0.002500000 s, from the first '
-                      'offering to the end of the run, never acknowledged\n', told)
+        assert ('under way     0.001420000 s\nstood still   0.000000000 s\nwhole         0.002500000 s, from the first '
+                      'offering to the end of the run, never acknowledged\n') in told
         with open(trace, encoding='ascii') as file:
             cut = self.put('cut.trace', ''.join(file.readlines()[:4]))
         told = self.told(text, cut, '--partial', '--flow', 'f', '--byte', '0')
-        self.assertIn('whole         0.002080000 s, from the first offering to the last line of the trace, which has no end; '
-                      'not acknowledged so far\n', told)
+        assert ('whole         0.002080000 s, from the first offering to the last line of the trace, which has no end; '
+                      'not acknowledged so far\n') in told
 
 
-class Refusals(Files):
+class TestRefusals(Files):
     def refused(self, note, *words, status=1):
         """One sentence, with the note in it; nothing on standard output."""
         done = self.run_follow(*words)
         text = done.stderr.decode()
-        with self.subTest(note):
-            self.assertEqual((done.returncode, done.stdout), (status, b''), text)
-            self.assertIn(note, text)
-            self.assertEqual((text.count('\n'), text.startswith('tcpsim-follow: ')), (1, True), text)
+        assert (done.returncode, done.stdout) == (status, b''), text
+        assert note in text
+        assert (text.count('\n'), text.startswith('tcpsim-follow: ')) == (1, True), text
 
     def trace_refused(self, note, lines, end='\n'):
         self.refused(note, self.scenario, self.put('changed', '\n'.join(lines) + end), '--flow', 'f', '--byte', '0')
@@ -444,7 +423,7 @@ class Refusals(Files):
     def with_line(self, number, old, new):
         """The lines, of one of which a part is another."""
         line = self.lines[number - 1]
-        self.assertIn(old, line)
+        assert old in line
         return self.lines[:number - 1] + [line.replace(old, new)] + self.lines[number:]
 
     def test_a_trace_that_is_not_the_scenarios(self):
@@ -485,7 +464,7 @@ class Refusals(Files):
         for words in ((), ('--csv',)):
             done = subprocess.run(['bash', '-c', script, 'bash', sys.executable, os.path.join(BIN, 'tcpsim-follow'),
                                    *paths('bufferbloat'), '--flow', 'g', '--byte', '0', *words], capture_output=True, check=False)
-            self.assertEqual((done.returncode, done.stderr, done.stdout.count(b'\n')), (0, b'', 1), words)
+            assert (done.returncode, done.stderr, done.stdout.count(b'\n')) == (0, b'', 1), words
 
     def test_any_word_that_is_changed(self):
         """No change of one word makes anything but a refusal that names a line, or another table."""
@@ -501,25 +480,5 @@ class Refusals(Files):
                         command.write_table(walk, segment, io.StringIO())
                     except Unreadable as wrong:
                         refused += 1
-                        self.assertRegex(str(wrong), r'^line \d+ is no line of this scenario')
-        self.assertGreater(refused, 1000)
-
-
-def main():
-    global PROGRAM
-    if sys.argv[1:2] == ['--program'] and len(sys.argv) == 3:
-        PROGRAM = os.path.abspath(sys.argv[2])
-    elif is_program(found()):
-        PROGRAM = found()
-    stream = io.StringIO()
-    result = unittest.TextTestRunner(stream=stream).run(unittest.defaultTestLoader.loadTestsFromModule(
-        sys.modules['__main__']))
-    failed = len({str(test).split(') [')[0] for test, _ in result.failures + result.errors})
-    if failed:
-        print(stream.getvalue())
-    print(f'{result.testsRun - failed} passed, {failed} failed')
-    return 1 if failed else 0
-
-
-if __name__ == '__main__':
-    sys.exit(main())
+                        assert re.search(r'^line \d+ is no line of this scenario', str(wrong))
+        assert refused > 1000

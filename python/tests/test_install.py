@@ -13,7 +13,7 @@ import sys
 
 import pytest
 
-from paths import BIN, TOP
+from clone import BIN, TOP
 from tcpsim import VERSIONS
 
 NAMES = sorted(os.listdir(BIN))

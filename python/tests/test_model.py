@@ -1,12 +1,12 @@
-#!/usr/bin/env python3
 """Worked examples for the model: python/tests/test_model.py."""
 import io
 import os
 import random
-import unittest
 from collections import namedtuple
 
-from paths import TOP
+import pytest
+
+from clone import TOP
 from tcpsim_model import command_line, figures, image, prompt, simulate
 from tcpsim_model.queues import COUNT_STOPS, Codel, gap
 from tcpsim_model.receiver import Receiver
@@ -140,73 +140,72 @@ def positions(output):
     return [int(line[3:]) for line in output.decode().splitlines() if line.startswith('at ')]
 
 
-class Case(unittest.TestCase):
+class Case:
     def runs(self, text, trace, *options):
-        self.assertEqual(program(text, 'run', *options), (0, trace.encode(), ''))
+        assert program(text, 'run', *options) == (0, trace.encode(), '')
 
     def refuses(self, text, note, command='run'):
-        self.assertEqual(program(text, command), (1, b'', note))
+        assert program(text, command) == (1, b'', note)
 
 
-class Numbers(unittest.TestCase):
-    def test_gap(self):
-        self.assertEqual([gap(10**8, c) for c in range(1, 7)],
-                         [100000000, 70710678, 57735026, 50000000, 44721359, 40824829])
-        self.assertEqual([gap(1, 2), gap(10**10, 2)], [0, 7071067811])
-
-    def test_gap_is_the_greatest(self):
-        pick = random.Random(1)
-        for _ in range(5000):
-            interval, count = pick.randint(1, 10**pick.randint(1, 10)), pick.randint(1, 10**pick.randint(1, 9))
-            d = gap(interval, count)
-            self.assertTrue(d * d * count <= interval * interval < (d + 1) ** 2 * count)
-
-    def test_initial_window(self):
-        self.assertEqual([initial_window(m) for m in (1095, 1096, 2190, 2191)], [4380, 3288, 6570, 4382])
-        self.assertEqual([initial_window(m, True) for m in (1, 1000, 1460, 1461, 7300, 7301, 9000)],
-                         [10, 10000, 14600, 14600, 14600, 14602, 18000])
-
-    def test_round_trip_samples(self):
-        first = after_sample(None, 0, 400000000)
-        self.assertEqual(first[2], 1200000000)
-        self.assertEqual(after_sample(*first[:2], 400000000)[1:], (150000000, 1000000000))
-        self.assertEqual(after_sample(None, 0, 200000000)[2], 1000000000)
+def test_gap():
+    assert [gap(10**8, c) for c in range(1, 7)] == [100000000, 70710678, 57735026, 50000000, 44721359, 40824829]
+    assert [gap(1, 2), gap(10**10, 2)] == [0, 7071067811]
 
 
-class SenderAlone(unittest.TestCase):
-    def setUp(self):
+def test_gap_is_the_greatest():
+    pick = random.Random(1)
+    for _ in range(5000):
+        interval, count = pick.randint(1, 10**pick.randint(1, 10)), pick.randint(1, 10**pick.randint(1, 9))
+        d = gap(interval, count)
+        assert d * d * count <= interval * interval < (d + 1) ** 2 * count
+
+
+def test_initial_window():
+    assert [initial_window(m) for m in (1095, 1096, 2190, 2191)] == [4380, 3288, 6570, 4382]
+    assert [initial_window(m, True) for m in (1, 1000, 1460, 1461, 7300, 7301, 9000)] == \
+        [10, 10000, 14600, 14600, 14600, 14602, 18000]
+
+
+def test_round_trip_samples():
+    first = after_sample(None, 0, 400000000)
+    assert first[2] == 1200000000
+    assert after_sample(*first[:2], 400000000)[1:] == (150000000, 1000000000)
+    assert after_sample(None, 0, 200000000)[2] == 1000000000
+
+
+class TestSenderAlone:
+    def setup_method(self):
         self.sender = s = Sender(1000, 10**9, 64000)
         s.nxt = s.high = s.cwnd = 10000
         s.deadline = 10**9
 
     def test_fast_retransmit_and_recovery(self):
         s = self.sender
-        self.assertEqual([s.on_ack(0, 5) for _ in range(2)], [[10000], [11000]])
-        self.assertEqual((s.on_ack(0, 5), s.ssthresh, s.cwnd, s.recovery), ([0], 5000, 8000, True))
-        self.assertEqual((s.on_ack(0, 5), s.cwnd), ([], 9000))
-        self.assertEqual((s.on_ack(0, 5), s.cwnd), ([], 10000))
-        self.assertEqual((s.on_ack(12000, 5), s.cwnd, s.recovery),
-                         ([12000, 13000, 14000, 15000, 16000], 5000, False))
+        assert [s.on_ack(0, 5) for _ in range(2)] == [[10000], [11000]]
+        assert (s.on_ack(0, 5), s.ssthresh, s.cwnd, s.recovery) == ([0], 5000, 8000, True)
+        assert (s.on_ack(0, 5), s.cwnd) == ([], 9000)
+        assert (s.on_ack(0, 5), s.cwnd) == ([], 10000)
+        assert (s.on_ack(12000, 5), s.cwnd, s.recovery) == ([12000, 13000, 14000, 15000, 16000], 5000, False)
 
     def test_two_timeouts(self):
         s = self.sender
         for rto in (2, 4):
-            self.assertEqual(s.on_rto(10**9), [0])
-            self.assertEqual((s.ssthresh, s.cwnd, s.rto, s.nxt, s.deadline),
-                             (5000, 1000, rto * 10**9, 1000, (rto + 1) * 10**9))
+            assert s.on_rto(10**9) == [0]
+            assert (s.ssthresh, s.cwnd, s.rto, s.nxt, s.deadline) == (5000, 1000, rto * 10**9, 1000, (rto + 1) * 10**9)
 
     def test_congestion_avoidance(self):
         for cwnd, wider in ((10000, 10100), (1000001, 1000002)):
             s = Sender(1000, 10**9, 2**30)
             s.ssthresh, s.nxt, s.high, s.cwnd = 2000, 10000, 10000, cwnd
             s.on_ack(1000, 5)
-            self.assertEqual(s.cwnd, wider)
+            assert s.cwnd == wider
 
 
-class NewRenoAlone(unittest.TestCase):
+class TestNewRenoAlone:
     """Ten segments out; byte 0 is lost, and byte 6000."""
 
-    def setUp(self):
+    def setup_method(self):
         self.sender = s = Sender(1000, 10**9, 64000, newreno=True)
         s.nxt = s.high = s.cwnd = 10000
         s.deadline = 10**9
@@ -219,35 +218,35 @@ class NewRenoAlone(unittest.TestCase):
 
     def test_a_partial_acknowledgement_sends_the_next_hole(self):
         s = self.sender
-        self.assertEqual([s.on_ack(0, 5) for _ in range(5)], [[10000], [11000], [0], [], []])
-        self.assertEqual((s.ssthresh, s.cwnd, s.recover, s.dups), (5000, 10000, 12000, 5))
-        self.assertEqual(s.on_ack(6000, 7), [6000])
-        self.assertEqual((s.una, s.nxt, s.cwnd, s.deadline, s.partial, s.recovery, s.dups),
-                         (6000, 12000, 5000, 7 + 10**9, True, True, 5))
-        self.assertEqual((s.on_ack(6000, 8), s.cwnd), ([], 6000))
-        self.assertEqual((s.on_ack(6000, 9), s.cwnd), ([12000], 7000))
-        self.assertEqual((s.on_ack(12000, 10), s.cwnd, s.recovery), ([13000, 14000, 15000, 16000], 5000, False))
+        assert [s.on_ack(0, 5) for _ in range(5)] == [[10000], [11000], [0], [], []]
+        assert (s.ssthresh, s.cwnd, s.recover, s.dups) == (5000, 10000, 12000, 5)
+        assert s.on_ack(6000, 7) == [6000]
+        assert (s.una, s.nxt, s.cwnd, s.deadline, s.partial, s.recovery, s.dups) == \
+            (6000, 12000, 5000, 7 + 10**9, True, True, 5)
+        assert (s.on_ack(6000, 8), s.cwnd) == ([], 6000)
+        assert (s.on_ack(6000, 9), s.cwnd) == ([12000], 7000)
+        assert (s.on_ack(12000, 10), s.cwnd, s.recovery) == ([13000, 14000, 15000, 16000], 5000, False)
 
     def test_a_later_partial_acknowledgement_leaves_the_timer(self):
         s = self.sender
         self.recovering()
-        self.assertEqual(s.on_ack(8000, 9), [8000])
-        self.assertEqual((s.una, s.cwnd, s.deadline, s.recovery), (8000, 4000, 7 + 10**9, True))
+        assert s.on_ack(8000, 9) == [8000]
+        assert (s.una, s.cwnd, s.deadline, s.recovery) == (8000, 4000, 7 + 10**9, True)
 
     def test_the_window_is_a_segment_at_least(self):
         s = self.sender
         s.ssthresh = 2000
         self.recovering()
         s.cwnd = 2000
-        self.assertEqual(s.on_ack(11000, 9), [11000])
-        self.assertEqual((s.cwnd, s.recovery), (1000, True))
+        assert s.on_ack(11000, 9) == [11000]
+        assert (s.cwnd, s.recovery) == (1000, True)
 
     def test_a_partial_acknowledgement_sends_a_new_segment_where_there_is_room(self):
         s = self.sender
         for _ in range(9):
             s.on_ack(0, 5)
-        self.assertEqual((s.cwnd, s.nxt), (14000, 14000))
-        self.assertEqual((s.on_ack(1000, 7), s.cwnd, s.recovery), ([1000, 14000], 14000, True))
+        assert (s.cwnd, s.nxt) == (14000, 14000)
+        assert (s.on_ack(1000, 7), s.cwnd, s.recovery) == ([1000, 14000], 14000, True)
 
     def test_duplicates_behind_recover_start_nothing(self):
         s = self.sender
@@ -255,29 +254,28 @@ class NewRenoAlone(unittest.TestCase):
         for _ in range(2):
             s.on_ack(6000, 9)
         s.on_ack(12000, 10)
-        self.assertEqual([(s.on_ack(12000, 11), s.dups) for _ in range(4)],
-                         [([17000], 1), ([18000], 2), ([], 3), ([], 4)])
-        self.assertEqual((s.cwnd, s.recovery, s.recover), (5000, False, 12000))
+        assert [(s.on_ack(12000, 11), s.dups) for _ in range(4)] == [([17000], 1), ([18000], 2), ([], 3), ([], 4)]
+        assert (s.cwnd, s.recovery, s.recover) == (5000, False, 12000)
         s.on_ack(13000, 12)
         for _ in range(3):
             s.on_ack(13000, 13)
-        self.assertTrue(s.recovery)
+        assert s.recovery
 
     def test_a_timeout_sets_recover(self):
         s = self.sender
         s.on_rto(10**9)
-        self.assertEqual((s.recover, s.recovery, s.nxt), (10000, False, 1000))
+        assert (s.recover, s.recovery, s.nxt) == (10000, False, 1000)
         s.on_ack(3000, 2 * 10**9)
-        self.assertEqual([s.on_ack(3000, 2 * 10**9) for _ in range(3)], [[], [], []])
-        self.assertEqual((s.dups, s.recovery, s.cwnd), (3, False, 2000))
+        assert [s.on_ack(3000, 2 * 10**9) for _ in range(3)] == [[], [], []]
+        assert (s.dups, s.recovery, s.cwnd) == (3, False, 2000)
 
     def test_a_partial_acknowledgement_measures(self):
         s = self.sender
         for _ in range(3):
             s.on_ack(0, 5)
         s.timing, s.rto = (5000, 0), 4 * 10**9
-        self.assertEqual(s.on_ack(6000, 10**8), [6000])
-        self.assertEqual((s.srtt, s.rto, s.deadline, s.timing), (10**8, 10**9, 10**8 + 10**9, None))
+        assert s.on_ack(6000, 10**8) == [6000]
+        assert (s.srtt, s.rto, s.deadline, s.timing) == (10**8, 10**9, 10**8 + 10**9, None)
 
     def test_no_loss_shows_no_difference(self):
         pick = random.Random(4)
@@ -288,9 +286,9 @@ class NewRenoAlone(unittest.TestCase):
             ack = min(both[0].una + 1000 * pick.choice((0, 1, 1, 2)), both[0].nxt)
             if both[0].dups == 2 and ack == both[0].una:
                 continue
-            self.assertEqual(*(s.on_ack(ack, now) for s in both))
-            self.assertEqual(*(s.dump() for s in both))
-        self.assertEqual(both[0].una, 200000)
+            one, other = ((s.on_ack(ack, now), s.dump()) for s in both)
+            assert one == other
+        assert both[0].una == 200000
 
     def test_facts_in_every_state_of_random_runs(self):
         """What a sender's fields keep, whatever comes."""
@@ -310,47 +308,47 @@ class NewRenoAlone(unittest.TestCase):
                     partial += was[1] and s.recovery and s.una > was[0]
                     behind += s.dups >= 3 and not s.recovery
                 self.facts(s)
-        self.assertGreater(partial, 500)
-        self.assertGreater(behind, 200)
+        assert partial > 500
+        assert behind > 200
 
     def facts(self, s):
-        self.assertTrue(s.una <= s.nxt <= s.high <= s.total and s.nxt - s.una <= s.rwnd and s.lt <= s.nxt - s.una)
-        self.assertTrue(s.mss <= s.cwnd and s.mss <= s.ssthresh)
-        self.assertEqual(s.deadline is not None, s.una < s.nxt)
+        assert s.una <= s.nxt <= s.high <= s.total and s.nxt - s.una <= s.rwnd and s.lt <= s.nxt - s.una
+        assert s.mss <= s.cwnd and s.mss <= s.ssthresh
+        assert (s.deadline is not None) == (s.una < s.nxt)
         if not s.newreno:
-            self.assertEqual((s.recovery, s.recover, s.partial), (s.dups >= 3, None, False))
+            assert (s.recovery, s.recover, s.partial) == (s.dups >= 3, None, False)
             return
-        self.assertTrue(not s.recovery or s.dups >= 3)
-        self.assertTrue(s.recover is None or s.recover <= s.high)
-        self.assertTrue(s.nxt == s.high or s.recover == s.high)
-        self.assertTrue(not s.recovery or (s.una < s.recover and s.nxt == s.high))
+        assert not s.recovery or s.dups >= 3
+        assert s.recover is None or s.recover <= s.high
+        assert s.nxt == s.high or s.recover == s.high
+        assert not s.recovery or (s.una < s.recover and s.nxt == s.high)
 
 
-class ReceiverAlone(unittest.TestCase):
-    def test_delayed_acknowledgements(self):
-        r = Receiver(1000, 500000000)
-        self.assertEqual((r.on_data(0, 7), r.alarm), (None, 500000007))
-        self.assertEqual((r.on_data(2000, 8), r.alarm), (1000, None))
-        self.assertEqual((r.on_data(1000, 9), r.on_data(0, 10)), (3000, 3000))
+def test_delayed_acknowledgements():
+    r = Receiver(1000, 500000000)
+    assert (r.on_data(0, 7), r.alarm) == (None, 500000007)
+    assert (r.on_data(2000, 8), r.alarm) == (1000, None)
+    assert (r.on_data(1000, 9), r.on_data(0, 10)) == (3000, 3000)
 
-    def test_against_the_set_of_numbers_received(self):
-        """The rule said over the whole set of numbers received."""
-        pick = random.Random(2)
-        for _ in range(300):
-            delack = pick.choice((0, 50))
-            r, seen, waits = Receiver(10, delack), set(), False
-            for now in range(40):
-                seq = 10 * pick.randint(0, 15)
-                old = least_missing(seen)
-                wait = seq == old and not any(x > seq for x in seen) and delack > 0 and not waits
-                seen.add(seq)
-                self.assertEqual(r.on_data(seq, now), None if wait else least_missing(seen))
-                self.assertEqual(r.alarm, now + delack if wait else None)
-                self.assertEqual(r.held, {x for x in seen if x > least_missing(seen)})
-                waits = wait
-                if waits and pick.random() < 0.3:
-                    self.assertEqual(r.on_delack(), least_missing(seen))
-                    waits = False
+
+def test_against_the_set_of_numbers_received():
+    """The rule said over the whole set of numbers received."""
+    pick = random.Random(2)
+    for _ in range(300):
+        delack = pick.choice((0, 50))
+        r, seen, waits = Receiver(10, delack), set(), False
+        for now in range(40):
+            seq = 10 * pick.randint(0, 15)
+            old = least_missing(seen)
+            wait = seq == old and not any(x > seq for x in seen) and delack > 0 and not waits
+            seen.add(seq)
+            assert r.on_data(seq, now) == (None if wait else least_missing(seen))
+            assert r.alarm == (now + delack if wait else None)
+            assert r.held == {x for x in seen if x > least_missing(seen)}
+            waits = wait
+            if waits and pick.random() < 0.3:
+                assert r.on_delack() == least_missing(seen)
+                waits = False
 
 
 def least_missing(seen):
@@ -366,54 +364,55 @@ def numbers(taken):
     return [packet[2] for packet in dropped], None if given is None else given[2]
 
 
-class CodelAlone(unittest.TestCase):
-    def test_first_drop_state(self):
-        q = Codel(100, 5000000, 100000000, 1000)
-        for packet in packets(0, 3):
-            q.offer(packet, 0)
-        self.assertEqual(numbers(q.take(10000000)), ([], 0))
-        self.assertEqual(numbers(q.take(110000000)), ([1], 2))
-        self.assertEqual((q.dropping, q.count, q.drop_next), (True, 1, 210000000))
-        self.assertEqual((numbers(q.take(120000000)), q.dropping), (([], None), False))
-        q.offer(*packets(3, 1), 120000000)
-        self.assertEqual(numbers(q.take(900000000)), ([], 3))
+def test_first_drop_state():
+    q = Codel(100, 5000000, 100000000, 1000)
+    for packet in packets(0, 3):
+        q.offer(packet, 0)
+    assert numbers(q.take(10000000)) == ([], 0)
+    assert numbers(q.take(110000000)) == ([1], 2)
+    assert (q.dropping, q.count, q.drop_next) == (True, 1, 210000000)
+    assert (numbers(q.take(120000000)), q.dropping) == (([], None), False)
+    q.offer(*packets(3, 1), 120000000)
+    assert numbers(q.take(900000000)) == ([], 3)
 
-    def test_drop_states_one_after_another(self):
-        q = Codel(100, 5000000, 100000000, 1500)
-        for packet in packets(0, 12):
-            q.offer(packet, 0)
-        for now, dropped, given, count, drop_next, dropping in (
-                (10000000, [], 0, 0, 0, False),
-                (110000000, [1], 2, 1, 210000000, True),
-                (210000000, [3], 4, 2, 280710678, True),
-                (400000000, [5, 6, 7], 8, 5, 433167063, True),
-                (420000000, [], 9, 5, 433167063, True),
-                (425000000, [], 10, 5, 433167063, False),
-                (430000000, [], 11, 5, 433167063, False),
-                (530000000, [12], 13, 4, 580000000, True)):
-            self.assertEqual(numbers(q.take(now)), (dropped, given))
-            self.assertEqual((q.count, q.drop_next, q.dropping), (count, drop_next, dropping))
-            if now == 425000000:
-                for packet in packets(12, 6):
-                    q.offer(packet, now)
 
-    def test_against_the_take_said_over_the_whole_list(self):
-        pick, drops = random.Random(3), 0
-        for _ in range(400):
-            q = Codel(pick.choice((5, 30)), pick.choice((1, 40)), pick.choice((1, 10, 100)), pick.choice((1, 50)))
-            q.count = pick.choice((0, COUNT_STOPS - 2)) if pick.random() < 0.1 else 0
-            now = 0
-            for n in range(150):
-                now += pick.choice((0, 1, 3, 20, 300)) if pick.random() < 0.3 else 1
-                if pick.random() < 0.6:
-                    q.offer((0, pick.random() < 0.1, n, pick.choice((40, 41))), now)
-                else:
-                    wanted = taken_whole(q, now)
-                    dropped, given = q.take(now)
-                    drops += len(dropped)
-                    self.assertEqual(wanted, (list(dropped), given, list(q.entries), state(q)))
-                    self.assertEqual(q.bytes, sum(packet[3] for packet, _ in q.entries))
-        self.assertGreater(drops, 2000)
+def test_drop_states_one_after_another():
+    q = Codel(100, 5000000, 100000000, 1500)
+    for packet in packets(0, 12):
+        q.offer(packet, 0)
+    for now, dropped, given, count, drop_next, dropping in (
+            (10000000, [], 0, 0, 0, False),
+            (110000000, [1], 2, 1, 210000000, True),
+            (210000000, [3], 4, 2, 280710678, True),
+            (400000000, [5, 6, 7], 8, 5, 433167063, True),
+            (420000000, [], 9, 5, 433167063, True),
+            (425000000, [], 10, 5, 433167063, False),
+            (430000000, [], 11, 5, 433167063, False),
+            (530000000, [12], 13, 4, 580000000, True)):
+        assert numbers(q.take(now)) == (dropped, given)
+        assert (q.count, q.drop_next, q.dropping) == (count, drop_next, dropping)
+        if now == 425000000:
+            for packet in packets(12, 6):
+                q.offer(packet, now)
+
+
+def test_against_the_take_said_over_the_whole_list():
+    pick, drops = random.Random(3), 0
+    for _ in range(400):
+        q = Codel(pick.choice((5, 30)), pick.choice((1, 40)), pick.choice((1, 10, 100)), pick.choice((1, 50)))
+        q.count = pick.choice((0, COUNT_STOPS - 2)) if pick.random() < 0.1 else 0
+        now = 0
+        for n in range(150):
+            now += pick.choice((0, 1, 3, 20, 300)) if pick.random() < 0.3 else 1
+            if pick.random() < 0.6:
+                q.offer((0, pick.random() < 0.1, n, pick.choice((40, 41))), now)
+            else:
+                wanted = taken_whole(q, now)
+                dropped, given = q.take(now)
+                drops += len(dropped)
+                assert wanted == (list(dropped), given, list(q.entries), state(q))
+                assert q.bytes == sum(packet[3] for packet, _ in q.entries)
+    assert drops > 2000
 
 
 State = namedtuple('State', 'first_above drop_next count lastcount dropping')
@@ -464,14 +463,14 @@ def taken_whole(q, now):
     return [packet for packet, _ in waiting[:k]], given, waiting[k + 1:], after
 
 
-class Runs(Case):
+class TestRuns(Case):
     def test_one_segment(self):
         self.runs(ONE_SEGMENT, ONE_SEGMENT_TRACE)
         self.runs(ONE_SEGMENT_IMAGE, ONE_SEGMENT_TRACE)
 
     def test_a_larger_initial_window(self):
         wider = ONE_SEGMENT_TRACE.replace('cwnd=4000', 'cwnd=10000').replace('cwnd=5000', 'cwnd=11000')
-        self.assertEqual(wider.count('cwnd=10000'), 2)
+        assert wider.count('cwnd=10000') == 2
         self.runs(with_variant('reno iw10'), wider)
         self.runs(with_variant('newreno iw10'), wider)
         self.runs(with_variant('newreno iw3'), ONE_SEGMENT_TRACE)
@@ -481,7 +480,7 @@ class Runs(Case):
             for workers in ('1', '2', '64'):
                 self.runs(ONE_SEGMENT, ONE_SEGMENT_TRACE, '--groups', groups, '--workers', workers)
         for groups in ('0', '0,64', '0,01', '0,', '0,1,2', ''):
-            self.assertEqual(program(ONE_SEGMENT, 'run', '--groups=' + groups)[:2], (2, b''))
+            assert program(ONE_SEGMENT, 'run', '--groups=' + groups)[:2] == (2, b'')
 
     def test_the_end_is_not_in_the_run(self):
         lines = ONE_SEGMENT_TRACE.splitlines(keepends=True)
@@ -539,9 +538,9 @@ def table(flow, links, events, end):
     return ''.join(line + '\n' for line in lines + [f'run,,events,events,{events}', f'run,,end,ns,{end}'])
 
 
-class Figures(Case):
+class TestFigures(Case):
     def has(self, text, *figures_of):
-        self.assertEqual(program(text, 'figures'), (0, table(*figures_of).encode(), ''))
+        assert program(text, 'figures') == (0, table(*figures_of).encode(), '')
 
     def test_one_segment(self):
         """Its acknowledgement comes at 3.08 ms; 1,040 and 40 bytes are sent, each at once."""
@@ -586,15 +585,15 @@ class Figures(Case):
         self.refuses(ONE_SEGMENT_IMAGE + b'\0', 'refused L4', 'figures')
         self.refuses(b'\n' * 16777217, 'refused I1', 'figures')
         for word in ('--groups', '--workers', '--progress', 'x'):
-            self.assertEqual(program(ONE_SEGMENT, 'figures', word, '1')[:2], (2, b''))
+            assert program(ONE_SEGMENT, 'figures', word, '1')[:2] == (2, b'')
 
     def test_classes(self):
         """Each number lies in one class, at most 1/32 below its top; the classes follow one another."""
         before = -1
         for number in range(3000):
             top = figures.top(number)
-            self.assertEqual((figures.class_of(before + 1), figures.class_of(top)), (number, number))
-            self.assertTrue(32 * top <= 33 * (before + 1) or top == before + 1)
+            assert (figures.class_of(before + 1), figures.class_of(top)) == (number, number)
+            assert 32 * top <= 33 * (before + 1) or top == before + 1
             before = top
 
     def test_percentiles_are_at_most_a_part_of_32_above(self):
@@ -603,13 +602,13 @@ class Figures(Case):
             values = [pick.randrange(10**pick.randint(0, 15)) for _ in range(pick.randint(1, 60))]
             for percent in (1, 50, 99, 100):
                 exact, answer = figures.nearest_rank(values, percent), figures.percentile(values, percent)
-                self.assertTrue(exact <= answer <= max(values) and 32 * answer <= 33 * exact)
-                self.assertGreaterEqual(100 * sum(value <= exact for value in values), percent * len(values))
-                self.assertLess(100 * sum(value < exact for value in values), percent * len(values))
-        self.assertEqual((figures.nearest_rank([], 50), figures.percentile([], 50)), (None, None))
+                assert exact <= answer <= max(values) and 32 * answer <= 33 * exact
+                assert 100 * sum(value <= exact for value in values) >= percent * len(values)
+                assert 100 * sum(value < exact for value in values) < percent * len(values)
+        assert (figures.nearest_rank([], 50), figures.percentile([], 50)) == (None, None)
 
 
-class Texts(Case):
+class TestTexts(Case):
     def test_ways(self):
         self.refuses(LOOP, 'refused L8 line 0')
         self.refuses(LOOP[:LOOP.rindex('route')], 'refused L7 line 0')
@@ -644,15 +643,15 @@ class Texts(Case):
         text = text.replace('link a s r', 'link l0 n0 n1').replace('link b r s', 'link l1 n1 n0')
         text = text.replace('flow f s r', 'flow f0 n0 n1').replace(' 64000 0\n', ' 64000 0 reno iw3\n')
         for given in (ONE_SEGMENT, ONE_SEGMENT_IMAGE, OLD_IMAGE, with_variant('reno iw3')):
-            self.assertEqual(program(given, 'dis'), (0, text.encode(), ''))
+            assert program(given, 'dis') == (0, text.encode(), '')
         for variant in VARIANTS:
-            self.assertEqual(program(with_variant(variant), 'dis')[1], text.replace('reno iw3', variant).encode())
+            assert program(with_variant(variant), 'dis')[1] == text.replace('reno iw3', variant).encode()
         for text in (ONE_SEGMENT, EQUAL_TIMES, CODEL + 'lose b 3\nlose a 1\nlose b 7\n', *map(with_variant, VARIANTS)):
             scenario = assemble(text.encode())
-            self.assertEqual(assemble(disassemble(scenario)), scenario)
+            assert assemble(disassemble(scenario)) == scenario
 
 
-class Images(Case):
+class TestImages(Case):
     def with_bytes(self, at, new):
         data = bytearray(ONE_SEGMENT_IMAGE)
         new = bytes.fromhex(new)
@@ -660,28 +659,28 @@ class Images(Case):
         return bytes(data)
 
     def test_one_segment(self):
-        self.assertEqual(program(ONE_SEGMENT, 'asm'), (0, ONE_SEGMENT_IMAGE, ''))
-        self.assertEqual((len(OLD_IMAGE), len(ONE_SEGMENT_IMAGE)), (134, 135))
+        assert program(ONE_SEGMENT, 'asm') == (0, ONE_SEGMENT_IMAGE, '')
+        assert (len(OLD_IMAGE), len(ONE_SEGMENT_IMAGE)) == (134, 135)
 
     def test_there_and_back(self):
         for text in (ONE_SEGMENT, EQUAL_TIMES, CODEL + 'lose b 3\nlose a 1\nlose b 7\n', *map(with_variant, VARIANTS)):
             scenario = assemble(text.encode())
-            self.assertEqual(image.load(image.save(scenario)), scenario)
+            assert image.load(image.save(scenario)) == scenario
             if 'newreno' not in text and 'iw10' not in text:
-                self.assertEqual(image.load(image.save(scenario, 1)), scenario)
+                assert image.load(image.save(scenario, 1)) == scenario
 
     def test_variants(self):
         for bits, variant in enumerate(VARIANTS):
             data = ONE_SEGMENT_IMAGE[:-1] + bytes((bits,))
-            self.assertEqual(program(with_variant(variant), 'asm'), (0, data, ''))
-            self.assertTrue(program(data, 'dis')[1].endswith(f' {variant}\n'.encode()))
+            assert program(with_variant(variant), 'asm') == (0, data, '')
+            assert program(data, 'dis')[1].endswith(f' {variant}\n'.encode())
         for bits in (4, 5, 128, 255):
             self.refuses(ONE_SEGMENT_IMAGE[:-1] + bytes((bits,)), 'refused L3')
             self.refuses(ONE_SEGMENT_IMAGE[:-1] + bytes((bits, 0)), 'refused L3')
 
     def test_versions(self):
         """By which layout the bytes are judged."""
-        self.assertEqual(program(OLD_IMAGE, 'asm'), (0, ONE_SEGMENT_IMAGE, ''))
+        assert program(OLD_IMAGE, 'asm') == (0, ONE_SEGMENT_IMAGE, '')
         for fourth, rest, note in ((b'2', b'', 'L1'), (b'3', b'', 'L2'), (b'3', b'\0', 'L2'), (b'X', b'', 'L2'),
                                    (b'1', b'\0', 'L4'), (b'2', b'\0\0', 'L4')):
             self.refuses(OLD_IMAGE[:3] + fourth + OLD_IMAGE[4:] + rest, 'refused ' + note)
@@ -691,7 +690,7 @@ class Images(Case):
             for size in range(len(data)):
                 cut = data[:size]
                 self.refuses(cut, 'refused ' + ('E10 line 0' if size == 0 else 'E2 line 1' if size < 3 else 'L1'))
-                with self.assertRaisesRegex(Refused, 'L1'):
+                with pytest.raises(Refused, match='L1'):
                     image.load(cut)
             self.refuses(data + b'\0', 'refused L4')
 
@@ -707,19 +706,19 @@ class Images(Case):
                 (second, '0000 0001', 'L5'), (22, '02', 'L6')):
             self.refuses(self.with_bytes(at, new), 'refused ' + note)
         for at, new in ((first + 12, '00000002540be400'), (4, '00038d7ea4c68000')):
-            self.assertEqual(program(self.with_bytes(at, new), 'run')[0], 0)
+            assert program(self.with_bytes(at, new), 'run')[0] == 0
 
 
-class Sessions(Case):
+class TestSessions(Case):
     def session(self, text, *commands):
         status, out, note = program(text + '---\n' + '\n'.join(commands), 'debug')
-        self.assertEqual((status, note), (0, ''))
+        assert (status, note) == (0, '')
         return out
 
     def test_steps_both_ways(self):
         out = self.session(ONE_SEGMENT, 'step 3', 'back 2', 'back 9', 'run')
-        self.assertEqual(positions(out), [3, 1, 0, 5])
-        self.assertTrue(out.decode().startswith('''at 3
+        assert positions(out) == [3, 1, 0, 5]
+        assert out.decode().startswith('''at 3
 node 0 sender 0 una=0 nxt=1000 high=1000 cwnd=4000 ssthresh=64000 dups=0 lt=0 fr=0 timing=1000@0 srtt=- rttvar=0 rto=1000000000 resent=0
 node 1 receiver 0 next=1000 held=-
 link 0 offered=1 sent=1 queue=-
@@ -728,22 +727,22 @@ event 2080000 1 0 3 free 1
 event 3080000 0 2 1 ack 0 1000
 event 1000000000 0 0 1 rto 0
 at 1
-'''))
+''')
         last = out.decode().split('at 5\n')[1]
-        self.assertTrue(last.startswith(
+        assert last.startswith(
             'node 0 sender 0 una=1000 nxt=1000 high=1000 cwnd=5000 ssthresh=64000 dups=0 lt=0 fr=0 timing=-'
-            ' srtt=3080000 rttvar=1540000 rto=1000000000 resent=0\n'))
-        self.assertNotIn('event', last)
+            ' srtt=3080000 rttvar=1540000 rto=1000000000 resent=0\n')
+        assert 'event' not in last
 
     def test_codel_dump(self):
-        self.assertEqual(self.session(CODEL, 'step 1').decode(), CODEL_DUMP)
+        assert self.session(CODEL, 'step 1').decode() == CODEL_DUMP
 
     def test_breakpoints(self):
         out = self.session(ONE_SEGMENT, 'break kind data', 'run', 'run', 'back 1', 'until 2040000', 'bak 1')
-        self.assertTrue(out.startswith(b'break 1\nat 3\n') and out.endswith(b'refused B1\n'))
-        self.assertEqual(positions(out), [3, 5, 4, 4])
+        assert out.startswith(b'break 1\nat 3\n') and out.endswith(b'refused B1\n')
+        assert positions(out) == [3, 5, 4, 4]
         out = self.session(EQUAL_TIMES, 'break flow 1', 'run', 'run', 'run', 'back 1', 'until 2040000')
-        self.assertEqual(positions(out), [2, 6, 6, 5, 5])
+        assert positions(out) == [2, 6, 6, 5, 5]
 
     def test_refused_commands(self):
         for command, code in (
@@ -751,97 +750,96 @@ at 1
                 ('break drop 1', 'B2'), ('step', 'B2'), ('step 1 2', 'B2'), ('state 1', 'B2'), ('step 01', 'B3'),
                 ('step 1000000000000001', 'B3'), ('break node 2', 'B3'), ('break flow 1', 'B3'),
                 ('break kind tx', 'B3'), ('back -1', 'B3'), ('step\t1', 'B1'), ('# step 1', 'B1')):
-            self.assertEqual(self.session(ONE_SEGMENT, command).decode(), f'refused {code}\n', command)
-        self.assertEqual(self.session(ONE_SEGMENT, '', '   ', 'break drop', ' break  node 1 ', 'break drop', 'clear',
-                                      'break drop').decode(), 'break 1\nbreak 2\nbreak 2\nclear\nbreak 1\n')
+            assert self.session(ONE_SEGMENT, command).decode() == f'refused {code}\n', command
+        assert self.session(ONE_SEGMENT, '', '   ', 'break drop', ' break  node 1 ', 'break drop', 'clear',
+                                      'break drop').decode() == 'break 1\nbreak 2\nbreak 2\nclear\nbreak 1\n'
 
     def test_too_many_breakpoints(self):
         nodes = ''.join(f'node x{n} router\n' for n in range(64))
         links = ''.join(f'link y{n} x{n} r 1000 1 droptail 1\n' for n in range(64))
         out = self.session(ONE_SEGMENT + nodes + links, *(f'break node {n}' for n in range(65)), 'break node 63')
-        self.assertEqual(out.decode().splitlines()[-3:], ['break 64', 'refused B4', 'break 64'])
+        assert out.decode().splitlines()[-3:] == ['break 64', 'refused B4', 'break 64']
 
     def test_no_commands(self):
-        self.assertEqual(program(ONE_SEGMENT, 'debug'), (0, b'', ''))
-        self.assertEqual(program(ONE_SEGMENT + '---', 'debug'), (0, b'', ''))
-        self.assertEqual(program('---\nstate\n', 'debug'), (1, b'', 'refused E10 line 0'))
-        self.assertEqual(program(ONE_SEGMENT_IMAGE, 'debug')[0], 1)
+        assert program(ONE_SEGMENT, 'debug') == (0, b'', '')
+        assert program(ONE_SEGMENT + '---', 'debug') == (0, b'', '')
+        assert program('---\nstate\n', 'debug') == (1, b'', 'refused E10 line 0')
+        assert program(ONE_SEGMENT_IMAGE, 'debug')[0] == 1
 
 
 # What `refused B1` means.
 NO_NAME = 'B1: no command has this name, or no sort of breakpoint'
 
 
-class Prompts(Case):
+class TestPrompts(Case):
     def typed(self, text, *lines, steps=prompt.STEPS):
         """What is written and what is noted, without the prompts."""
         out, notes, keys = [], [], io.BytesIO(''.join(line + '\n' for line in lines).encode())
         status, note = command_line.main(('debug', 'FILE', '--steps', str(steps)), keys, out.append, notes.append,
                                          lambda _: text.encode())
-        self.assertEqual((status, note), (0, ''))
+        assert (status, note) == (0, '')
         return b''.join(out).decode(), b''.join(notes).decode().replace(prompt.PROMPT, '').split()
 
     def refuses(self, code, *lines):
         for line in lines:
             out, notes = self.typed(ONE_SEGMENT, line)
-            self.assertEqual((out, notes[:2]), ('', ['refused', code]), line)
+            assert (out, notes[:2]) == ('', ['refused', code]), line
 
     def where(self, *lines):
         """The positions that the dumps are of."""
         return positions(self.typed(ONE_SEGMENT, *lines, steps=1)[0].encode())
 
     def test_names_cut_short(self):
-        self.assertEqual(self.where('s', 'st', 'ste', 'b', 'ba', 'sta', 'r', 'u 0', 'state', 'back 9'),
-                         [1, 2, 3, 2, 1, 1, 5, 5, 5, 0])
-        self.assertEqual(self.typed(ONE_SEGMENT, 'br drop', 'brea drop', 'c', 'break node 1', steps=1)[0],
-                         'break 1\nbreak 1\nclear\nbreak 1\n')
+        assert self.where('s', 'st', 'ste', 'b', 'ba', 'sta', 'r', 'u 0', 'state', 'back 9') == \
+            [1, 2, 3, 2, 1, 1, 5, 5, 5, 0]
+        assert self.typed(ONE_SEGMENT, 'br drop', 'brea drop', 'c', 'break node 1', steps=1)[0] == \
+            'break 1\nbreak 1\nclear\nbreak 1\n'
         self.refuses('B1', 'x', 'steps', 'stepp 1', 'S', 'y', 'break no 1', 'br k rto', 'ste\tp', '#')
 
     def test_the_nearest_name(self):
         for line, word, name in (('stpe', 'stpe', 'step'), ('bak 1', 'bak', 'back'), ('sate', 'sate', 'state'), ('  exit', 'exit', 'quit'),
                                  ('x', 'x', 'run'), ('bt', 'bt', 'step'), ('ste\tp', 'ste?p', 'step'), ('x' * 32, 'x' * 32, 'step')):
             told = f'refused B1 {NO_NAME} tcpsim: no command {word}; the nearest is {name}'.split()
-            self.assertEqual(self.typed(ONE_SEGMENT, line), ('', told), line)
+            assert self.typed(ONE_SEGMENT, line) == ('', told), line
         for line in ('x' * 33, 'break no 1', 'help stpe', 'state x'):
-            self.assertEqual(self.typed(ONE_SEGMENT, line), ('', f'refused B1 {NO_NAME}'.split()), line)
-        self.assertEqual(self.typed(ONE_SEGMENT, 'wy 0', steps=4)[1][-1], 'run')
-        self.assertEqual(self.typed(ONE_SEGMENT, 'stpe', steps=0), ('', ['refused', 'B1']))
+            assert self.typed(ONE_SEGMENT, line) == ('', f'refused B1 {NO_NAME}'.split()), line
+        assert self.typed(ONE_SEGMENT, 'wy 0', steps=4)[1][-1] == 'run'
+        assert self.typed(ONE_SEGMENT, 'stpe', steps=0) == ('', ['refused', 'B1'])
 
     def test_the_numbers_that_there_are(self):
         told = 'tcpsim: there are nodes 0 to 1, links 0 to 1, flows 0 to 0: see help numbers'.split()
         for line in ('why f', 'w 1', 'break flow 1', 'br kind acks', 'state link 2', 'sta node n'):
-            self.assertEqual(self.typed(ONE_SEGMENT, line)[1][-len(told):], told, line)
+            assert self.typed(ONE_SEGMENT, line)[1][-len(told):] == told, line
         for line in ('step x', 'until 1.5', 'lines 1001', 'delete 01', 'why', 'break n 0'):
-            self.assertNotIn('tcpsim:', self.typed(ONE_SEGMENT, line)[1], line)
+            assert 'tcpsim:' not in self.typed(ONE_SEGMENT, line)[1], line
 
     def test_words(self):
         self.refuses('B2', 'step 1 2', 'back 1 1', 'run 1', 'until', 'until 1 s', 'clear 1', 'break', 'br drop link',
                      'quit now', 'q 1', 'x' * 65_537, ' ' * 65_537)
         self.refuses('B3', 'step 01', 'back -1', 'step 1000000000000001', 'break node 2', 'br kind tx')
-        self.assertEqual(self.where('step 1000000000000000'), [5])
+        assert self.where('step 1000000000000000') == [5]
 
     def test_times(self):
         for time, position in (('2040000', 2), ('2040001', 3), ('2040us', 2), ('2.04ms', 2), ('0.00204s', 2), ('2.040001ms', 3),
                                ('2040.001us', 3), ('2040001ns', 3), ('0s', 0), ('0.000000001s', 1), ('1000000s', 5),
                                ('1000000000000us', 5), ('1000000000000000', 5)):
-            self.assertEqual(self.where(f'until {time}'), [position], time)
+            assert self.where(f'until {time}') == [position], time
         self.refuses('B3', 'u 1.5', 'u 1.5ns', 'u 1.0ns', 'u 1.0000us', 'u 1.s', 'u .5s', 'u s', 'u 01s', 'u 00', 'u 1S', 'u 1e3',
                      'u 1000000.000000001s', 'u 1000000000000001', 'u ' + '9' * 5000 + 's')
 
     def test_an_empty_line(self):
-        self.assertEqual(self.where('', 's', '', 'step 2', ' ', 'b', 'state', 'x', 'run 1', 'clear', '', '', 'u 1', '', 'r', ''),
-                         [1, 2, 4, 5, 4, 4, 3, 2, 2, 2, 5, 5])
-        self.assertEqual(self.where('state', 'br drop', '', 'back 01', ''), [0])
+        assert self.where('', 's', '', 'step 2', ' ', 'b', 'state', 'x', 'run 1', 'clear', '', '', 'u 1', '', 'r', '') == \
+            [1, 2, 4, 5, 4, 4, 3, 2, 2, 2, 5, 5]
+        assert self.where('state', 'br drop', '', 'back 01', '') == [0]
 
     def test_the_end(self):
         for line in ('quit', 'q', ' qu ', 'qui'):
-            self.assertEqual(self.where('s', line, 's'), [1])
-        self.assertEqual(self.typed(ONE_SEGMENT), ('', []))
+            assert self.where('s', line, 's') == [1]
+        assert self.typed(ONE_SEGMENT) == ('', [])
 
     def test_breakpoints_by_number(self):
-        self.assertEqual(self.typed(ONE_SEGMENT, 'breaks', 'br node 1', 'break flow 0', 'break kind ack', 'break drop', 'br flow 0',
-                                    'd 2', 'breaks', 'd 3', 'del 1', 'breaks', 'br node 1', 'clear', 'breaks')[0],
-                         'no breakpoint\nbreak 1: node 1\nbreak 2: flow 0\nbreak 3: kind ack\nbreak 4: drop\nbreak 2: flow 0\n'
+        assert self.typed(ONE_SEGMENT, 'breaks', 'br node 1', 'break flow 0', 'break kind ack', 'break drop', 'br flow 0',
+                                    'd 2', 'breaks', 'd 3', 'del 1', 'breaks', 'br node 1', 'clear', 'breaks')[0] == ('no breakpoint\nbreak 1: node 1\nbreak 2: flow 0\nbreak 3: kind ack\nbreak 4: drop\nbreak 2: flow 0\n'
                          'deleted 2: flow 0\nbreak 1: node 1\nbreak 2: kind ack\nbreak 3: drop\ndeleted 3: drop\n'
                          'deleted 1: node 1\nbreak 1: kind ack\nbreak 2: node 1\nclear\nno breakpoint\n')
         self.refuses('B2', 'breaks 1', 'd', 'd 1 1', 'help s t')
@@ -869,7 +867,7 @@ class Prompts(Case):
                 ('l 0', ''), ('b 2', lines[4] + lines[3] + 'at 3 of the run, time 2040000 ns\n'),
                 ('s', lines[3] + 'at 4 of the run, time 2080000 ns\nbreak 1: kind free\n')):
             before, given = self.typed(ONE_SEGMENT, *given)[0], (*given, line)
-            self.assertEqual(self.typed(ONE_SEGMENT, *given)[0], before + answer, line)
+            assert self.typed(ONE_SEGMENT, *given)[0] == before + answer, line
         self.refuses('B2', 'lines 1 1')
         self.refuses('B3', 'l 1001', 'lines -1')
 
@@ -879,23 +877,24 @@ class Prompts(Case):
         lines = list(simulate.trace(assemble(text.encode())))
         for count, more in ((10, ''), (11, '.. 1 more\n'), (25, '.. 15 more\n')):
             forwards, back = self.typed(text, f's {count}')[0], self.typed(text, f's {count}', f'b {count}')[0]
-            self.assertTrue(forwards.startswith(''.join(lines[:10]) + more + f'at {count} of the run'))
-            self.assertEqual(back, forwards + ''.join(lines[:count][::-1][:10]) + more + 'at 0 of the run, time 0 ns, the beginning\n')
-        self.assertEqual(self.typed(text, 's 20', 'l 4')[0].splitlines(True)[-4:], lines[16:20])
-        self.assertEqual(self.typed(text, 's 20', 'l')[0].splitlines(True)[-10:], lines[10:20])
+            assert forwards.startswith(''.join(lines[:10]) + more + f'at {count} of the run')
+            assert back == \
+                forwards + ''.join(lines[:count][::-1][:10]) + more + 'at 0 of the run, time 0 ns, the beginning\n'
+        assert self.typed(text, 's 20', 'l 4')[0].splitlines(True)[-4:] == lines[16:20]
+        assert self.typed(text, 's 20', 'l')[0].splitlines(True)[-10:] == lines[10:20]
 
     def test_parts_of_a_state(self):
         dump = self.typed(CODEL, 's', 'state')[0].splitlines(True)[2:]
-        self.assertEqual(''.join(dump), CODEL_DUMP)
+        assert ''.join(dump) == CODEL_DUMP
         for line, part in (('state node 0', dump[1:2]), ('sta node 1', dump[2:3]), ('state link 0', dump[3:4]), ('state link 1', dump[4:5]),
                            ('state flow 0', [line for line in dump[1:] if 'free' not in line and 'link 1' not in line])):
-            self.assertEqual(self.typed(CODEL, 's', line)[0].splitlines(True)[2:], part)
+            assert self.typed(CODEL, 's', line)[0].splitlines(True)[2:] == part
         for flow in ('0', '1'):
             dump, part = (self.typed(EQUAL_TIMES, 's 3', line)[0].splitlines()[4:] for line in ('state', f'state flow {flow}'))
-            self.assertEqual([line for line in part if line.startswith('event')],
-                             [line for line in dump if line.startswith('event') and ' free ' not in line and line.split()[6] == flow])
-            self.assertEqual([line for line in part if line.startswith('node')],
-                             [line for line in dump if line.startswith('node') and line.split()[3:4] == [flow]])
+            assert [line for line in part if line.startswith('event')] == \
+                [line for line in dump if line.startswith('event') and ' free ' not in line and line.split()[6] == flow]
+            assert [line for line in part if line.startswith('node')] == \
+                [line for line in dump if line.startswith('node') and line.split()[3:4] == [flow]]
         self.refuses('B1', 'state 1', 'state kind rto', 'state no 0', 'state x y z')
         self.refuses('B2', 'state node', 'state link 0 0')
         self.refuses('B3', 'state node 2', 'state link 2', 'state flow 1', 'state flow 00', 'state node s')
@@ -912,7 +911,7 @@ class Prompts(Case):
                 ('', lines[2] + 'at 2 of the run, time 1040000 ns\nbreak 1: kind free\n'),
                 ('', lines[1] + lines[0] + start), ('', start), ('c', 'clear\n')):
             before, given = self.typed(ONE_SEGMENT, *given)[0], (*given, line)
-            self.assertEqual(self.typed(ONE_SEGMENT, *given)[0], before + answer, line)
+            assert self.typed(ONE_SEGMENT, *given)[0] == before + answer, line
         self.refuses('B2', 'reverse 1', 're drop')
 
     def example(self, name, *lines):
@@ -921,22 +920,22 @@ class Prompts(Case):
 
     def test_breakpoints_of_several_conditions(self):
         answers = self.typed(ONE_SEGMENT, 'br kind free node 1', 'break node 1 kind free', 'br drop link 1 byte 7 flow 0', 'r')[0]
-        self.assertEqual(answers.splitlines()[:3], ['break 1: node 1 kind free', 'break 1: node 1 kind free',
-                                                    'break 2: flow 0 drop link 1 byte 7'])
+        assert answers.splitlines()[:3] == ['break 1: node 1 kind free', 'break 1: node 1 kind free',
+                                                    'break 2: flow 0 drop link 1 byte 7']
         # One condition alone is met before: node 0 by events 1 and 2, a free link by event 2.
-        self.assertEqual(answers.splitlines()[-2:], ['at 4 of the run, time 2080000 ns', 'break 1: node 1 kind free'])
+        assert answers.splitlines()[-2:] == ['at 4 of the run, time 2080000 ns', 'break 1: node 1 kind free']
         # A link is met where a packet is sent over it or is dropped there; a byte is the first of a segment or of what is awaited.
         for words, positions in (('link 0', (1, 5)), ('link 1', (3, 5)), ('byte 0', (3, 5)), ('byte 1000', (5, 5)), ('byte 1', (5, 5))):
             found = self.typed(ONE_SEGMENT, f'break {words}', 'r', 'r')[0].splitlines()
-            self.assertEqual([int(line.split()[1]) for line in found if line.startswith('at ')], [*positions], words)
+            assert [int(line.split()[1]) for line in found if line.startswith('at ')] == [*positions], words
         found = self.example('two_timeouts_in_a_row.txt', 'break link 0 drop kind rto', 'r')
-        self.assertEqual(found[-2:], ['at 26 of the run, time 1006200000 ns', 'break 1: kind rto drop link 0'])
+        assert found[-2:] == ['at 26 of the run, time 1006200000 ns', 'break 1: kind rto drop link 0']
         # A byte that is dropped: at the sender's own link, where no packet of it arrives, and by CoDel as the link becomes free.
         for name, words, positions in (('two_timeouts_in_a_row.txt', 'byte 4000 drop', (6, 26, 51)),
                                        ('two_timeouts_in_a_row.txt', 'drop byte 2000', (51,)),
                                        ('codel_enters_drop_state.txt', 'byte 14000 drop', (54,))):
             found = self.example(name, f'break {words}', *['r'] * len(positions))
-            self.assertEqual([int(line.split()[1]) for line in found if line.startswith('at ')], [*positions], words)
+            assert [int(line.split()[1]) for line in found if line.startswith('at ')] == [*positions], words
         self.refuses('B1', 'break drop 1', 'break node 0 no 1', 'break node 0 stall')
         self.refuses('B2', 'break', 'break node', 'break node 0 flow', 'break drop drop', 'break node 0 node 1')
         self.refuses('B3', 'break link 2', 'break drop node 2', 'break byte 9000000000001')
@@ -946,9 +945,9 @@ class Prompts(Case):
         for words in ('stall', 'stall 0'):
             found = self.example('two_timeouts_in_a_row.txt', f'break {words}', 'r', 'r', 're')
             places = [line for line in found if line.startswith(('at ', 'break '))]
-            self.assertEqual(places, [f'break 1: {words}', 'at 25 of the run, time 9280000 ns', f'break 1: {words}',
+            assert places == [f'break 1: {words}', 'at 25 of the run, time 9280000 ns', f'break 1: {words}',
                                       'at 51 of the run, time 3017520000 ns, the end', 'at 25 of the run, time 9280000 ns',
-                                      f'break 1: {words}'])
+                                      f'break 1: {words}']
         self.refuses('B2', 'break stall 0 0')
         self.refuses('B3', 'break stall 1', 'break stall drop')
 
@@ -960,30 +959,30 @@ class Prompts(Case):
                 (3, ['flow 0 has sent all 1000 bytes: 0 are acknowledged', 'under way: ack 1000 to node 0 at 3080000 ns',
                      'alarms: rto at 1000000000 ns']),
                 (5, ['flow 0 is complete: all 1000 bytes are acknowledged'])):
-            self.assertEqual(self.typed(ONE_SEGMENT, f's {count}', 'why 0')[0].splitlines()[-len(lines):], lines, count)
+            assert self.typed(ONE_SEGMENT, f's {count}', 'why 0')[0].splitlines()[-len(lines):] == lines, count
         for count, lines in (
                 (25, ['flow 0 is stalled: 2 duplicate acknowledgements, and its retransmission timer is due at 1006200000 ns',
                       'alarms: rto at 1006200000 ns']),
                 (31, ['flow 0 sends no more: 2000 bytes in flight, a segment of 1000, cwnd 2000',
                       'waits: data 6000 at place 1 of link 0', 'under way: data 5000 to node 1 at 3011320000 ns',
                       'alarms: rto at 7009280000 ns'])):
-            self.assertEqual(self.example('two_timeouts_in_a_row.txt', f's {count}', 'w 0')[-len(lines):], lines, count)
+            assert self.example('two_timeouts_in_a_row.txt', f's {count}', 'w 0')[-len(lines):] == lines, count
         small = ONE_SEGMENT.replace(' 1000 1 0 64000 0', ' 1000 3 0 1999 0')
-        self.assertNotEqual(small, ONE_SEGMENT)
-        self.assertEqual(self.typed(small, 's', 'why 0')[0].splitlines()[2],
-                         'flow 0 sends no more: 1000 bytes in flight, a segment of 1000, rwnd 1999')
+        assert small != ONE_SEGMENT
+        assert self.typed(small, 's', 'why 0')[0].splitlines()[2] == \
+            'flow 0 sends no more: 1000 bytes in flight, a segment of 1000, rwnd 1999'
         # Both alarms are due at one moment: the receiver's, whose node has the lower number, comes first.
         tied = (ONE_SEGMENT.replace('sim 1000000000', 'sim 2000000000').replace('node s sender\nnode r receiver', 'node r receiver\nnode s sender')
                 .replace('8000000 1000000 droptail 10\nlink b', '8000000 798960000 droptail 10\nlink b').replace(' 64000 0', ' 64000 200000000'))
-        self.assertEqual(self.typed(tied, 's 3', 'why 0')[0].splitlines()[-2:], [
+        assert self.typed(tied, 's 3', 'why 0')[0].splitlines()[-2:] == [
             'flow 0 is stalled: 0 duplicate acknowledgements, and its delayed acknowledgement is due at 1000000000 ns',
-            'alarms: delack at 1000000000 ns, rto at 1000000000 ns'])
+            'alarms: delack at 1000000000 ns, rto at 1000000000 ns']
         self.refuses('B2', 'why', 'why 0 0')
         self.refuses('B3', 'why 1', 'why f')
 
     def test_help(self):
         out, notes = self.typed(ONE_SEGMENT, 'help', steps=2)
-        self.assertEqual((out.splitlines(), notes), ([
+        assert (out.splitlines(), notes) == ([
             'step [K]     run the next K events (1)',
             'back [K]     take the last K events back (1)',
             'run          run until a breakpoint matches, or to the end',
@@ -996,35 +995,30 @@ class Prompts(Case):
             'help [NAME]  show this, or more of NAME: a command, numbers, trace, kinds or stall',
             'quit         end the session',
             '(nodes N, links L and flows F are numbers from 0, in the order of the text: help numbers)',
-            '(an empty line does the last move again)'], []))
+            '(an empty line does the last move again)'], [])
         for word in ('u', 'unt', 'until'):
-            self.assertEqual(self.typed(ONE_SEGMENT, f'help {word}')[0].splitlines(),
-                             ['until T      run all events before the moment T, as 1.5s, 20ms or 10000ns',
-                              'T is a number of nanoseconds, or has a unit: ns, us, ms or s. It only goes forwards.', 'until 20ms'])
-        self.assertTrue(self.typed(ONE_SEGMENT, 'h breaks')[0].startswith('breaks '))
+            assert self.typed(ONE_SEGMENT, f'help {word}')[0].splitlines() == ['until T      run all events before the moment T, as 1.5s, 20ms or 10000ns',
+                              'T is a number of nanoseconds, or has a unit: ns, us, ms or s. It only goes forwards.', 'until 20ms']
+        assert self.typed(ONE_SEGMENT, 'h breaks')[0].startswith('breaks ')
         # Each example is a line that is not refused, but for what is not there.
         for name, (_, _, _, example) in prompt.HELP.items():
-            self.assertTrue(example.encode().startswith(name))
-            self.assertIn(self.typed(ONE_SEGMENT, example)[1][:2], ([], ['refused', 'B5']))
+            assert example.encode().startswith(name)
+            assert self.typed(ONE_SEGMENT, example)[1][:2] in ([], ['refused', 'B5'])
 
     def test_help_on_topics(self):
         for words, topic in (('n num numbers', b'numbers'), ('t tra trace', b'trace'), ('k ki kinds', b'kinds'), ('stal stall', b'stall')):
             for word in words.split():
-                self.assertEqual(self.typed(ONE_SEGMENT, f'help {word}'), (prompt.TOPICS[topic], []))
+                assert self.typed(ONE_SEGMENT, f'help {word}') == (prompt.TOPICS[topic], [])
         # A command comes first.
         for word, name in (('s', 'step'), ('st', 'step'), ('sta', 'state'), ('l', 'lines')):
-            self.assertTrue(self.typed(ONE_SEGMENT, f'help {word}')[0].startswith(f'{name} '))
+            assert self.typed(ONE_SEGMENT, f'help {word}')[0].startswith(f'{name} ')
         self.refuses('B1', 'help stalls', 'help numbers1', 'help traces 1')
         self.refuses('B2', 'help kinds rto', 'h k k')
         # The last line of each can be typed; a terminal holds it.
         for text in prompt.TOPICS.values():
             lines = text.splitlines()
-            self.assertEqual(self.typed(ONE_SEGMENT, lines[-1])[1], [])
-            self.assertLessEqual(max(map(len, lines)), 110)
+            assert self.typed(ONE_SEGMENT, lines[-1])[1] == []
+            assert max(map(len, lines)) <= 110
         # The kinds are those that a breakpoint takes.
         for line in prompt.TOPICS[b'kinds'].splitlines()[1:-1]:
-            self.assertEqual(self.typed(ONE_SEGMENT, f'break kind {line.split()[0]}')[1], [])
-
-
-if __name__ == '__main__':
-    unittest.main()
+            assert self.typed(ONE_SEGMENT, f'break kind {line.split()[0]}')[1] == []

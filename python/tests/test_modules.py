@@ -7,7 +7,7 @@ import sys
 
 import pytest
 
-from paths import BIN, TOP
+from clone import BIN, TOP
 
 PYTHON = os.path.join(TOP, 'python')
 MOST_LINES = 400

@@ -1,26 +1,19 @@
-#!/usr/bin/env python3
 """Tests of tcpsim/scenario and tcpsim-net: every text of its grid is accepted and run to its end, by the program or, where
-that is not built, by the model.
-
-Usage: python/tests/test_net.py [--program PATH]. The last line is 'N passed, N failed'.
-"""
-import argparse
+that is not built, by the model."""
 import itertools
 import os
 import subprocess
 import sys
-import unittest
 
-import paths
-from paths import BIN, TOP
+import pytest
+
+from clone import BIN, PROGRAM, TOP
 from tcpsim.cli import net as command
 from tcpsim.scenario import net, units
 from tcpsim.curves import Run
 from tcpsim.scenario.text import Scenario
 
 BUILT = os.path.join(TOP, 'crates', 'tcpsim', 'out', 'tcpsim')
-MODEL = [sys.executable, paths.MODEL]
-RUNS = MODEL
 MS, US, S = 10**6, 10**3, 10**9
 
 # Two flows, round trips 40 ms and 80 ms. The bottleneck has a quarter of the least one each way, 10 ms, the
@@ -78,7 +71,7 @@ ALWAYS = '--segments', '12', '--end', '600s'
 
 
 def run(text):
-    return subprocess.run([*RUNS, 'run'], input=text.encode('ascii'), capture_output=True, check=False)
+    return subprocess.run([PROGRAM, 'run'], input=text.encode('ascii'), capture_output=True, check=False)
 
 
 def grid(shape):
@@ -106,147 +99,150 @@ def tool(*words, **more):
     return subprocess.run([sys.executable, os.path.join(BIN, 'tcpsim-net'), *words], capture_output=True, check=False, **more)
 
 
-class Units(unittest.TestCase):
-    """Words of rates, times, sizes and queues."""
-
-    def test_numbers(self):
-        for read, word, value in (
-                (units.rate, '10M', 10**7), (units.rate, '1.5M', 1_500_000), (units.rate, '800k', 800_000),
-                (units.rate, '1G', 10**9), (units.rate, '8000', 8_000), (units.time, '20ms', 20 * MS),
-                (units.time, '0.5s', S // 2), (units.time, '100us', 100 * US), (units.time, '7ns', 7),
-                (units.time, '0', 0), (units.size, '64k', 64_000), (units.count, '12', 12)):
-            with self.subTest(word):
-                self.assertEqual(read(word), value)
-
-    def test_wrong_numbers(self):
-        for read, word in ((units.rate, '10Mbps'), (units.rate, '1T'), (units.rate, '10m'), (units.rate, '-1M'),
-                           (units.rate, '0.5'), (units.rate, ''), (units.rate, '1e6'), (units.rate, '1,000'),
-                           (units.time, '10'), (units.time, '1h'), (units.time, '0.1ns'), (units.time, 'ms'),
-                           (units.time, '1 ms'), (units.size, '1.0001k'), (units.count, '1.5'), (units.count, '٣')):
-            with self.subTest(word):
-                self.assertRaises(units.Wrong, read, word)
-
-    def test_spelled(self):
-        for value, word in ((10**7, '10M'), (1_500_000, '1.5M'), (800_000, '800k'), (1_234, '1.234k'), (999, '999')):
-            self.assertEqual(units.spelled_rate(value), word)
-            self.assertEqual(units.rate(word), value)
-        for value, word in ((20 * MS, '20ms'), (S // 2, '500ms'), (1_500 * MS, '1.5s'), (1, '1ns'), (0, '0')):
-            self.assertEqual(units.spelled_time(value), word)
-            self.assertEqual(units.time(word), value)
-
-    def test_queues(self):
-        words = 'droptail:10,50,BDP,codel:5ms:100ms,1s:2s:7,1s:2s:1000:3k'
-        self.assertEqual([queue.words(1040, 9) for queue in units.queues(words)],
-                         ['droptail 10', 'droptail 50', 'droptail 9', 'codel 1000 5000000 100000000 1040',
-                          'codel 7 1000000000 2000000000 1040', 'codel 1000 1000000000 2000000000 3000'])
-        self.assertEqual([str(queue) for queue in units.queues(words)],
-                         ['droptail:10', 'droptail:50', 'droptail:BDP', 'codel:5ms:100ms', 'codel:1s:2s:7',
-                          'codel:1s:2s:1000:3000'])
-        for word in ('50', 'droptail', 'droptail:', 'droptail:x', 'droptail:1:2', 'codel:5ms', 'codel:5:100ms',
-                     'codel:5ms:100ms:', 'codel:5ms:100ms:1:', 'codel:5ms:100ms:1:2:3', 'codel:5ms:100ms:1:2ms', 'red:5', ''):
-            with self.subTest(word):
-                self.assertRaises(units.Wrong, units.queues, word)
-
-    def test_product(self):
-        # 8 Mbit/s times 40 ms are 40,000 bytes: 38 packets of 1,040 and 480 bytes
-        self.assertEqual(units.product(8 * 10**6, 40 * MS, 1040), 38)
-        self.assertEqual(units.product(1000, 1, 1500), 1)
+# ---- words of rates, times, sizes and queues
 
 
-class Texts(unittest.TestCase):
-    """What is written."""
-
-    def test_by_hand(self):
-        words = ('dumbbell --rate 8M --rtt 40ms,80ms --queue droptail:BDP --mss 1000 --segments 5,6 --start 0,0.5s --rwnd '
-                 '64k --delack 0 --access 100M --access-queue codel:1ms:10ms:77 --end 3s')
-        self.assertEqual(command.scenario(words.split()), DUMBBELL)
-        done = tool(*words.split())
-        self.assertEqual((done.stdout.decode(), done.stderr, done.returncode), (DUMBBELL, b'', 0))
-
-    def test_odd_round_trips(self):
-        for trip in (8, 9, 15, 81, 40 * MS + 1):
-            read = Scenario(command.scenario(['dumbbell', '--flows', '1', '--rtt', f'{trip}ns']))
-            self.assertEqual(sum(read.links[link].delay for way in read.ways[0] for link in way), trip)
-
-    def test_round_trips_and_ways(self):
-        """Each flow's delays add up to what was asked for, and it goes over the links that it should."""
-        for words, trips, hops in (
-                ('dumbbell --flows 3 --rtt 40ms,80ms', (40, 80, 40), 3),
-                ('asymmetric --flows 1 --uploads 1 --rtt 30ms,60ms', (30, 60), 3),
-                ('tree --leaves 2 --flows 3 --rtt 64ms,96ms', (64, 96, 64), 5),
-                # 3 hops of 10 ms and two cables of 1 ms, each way
-                ('chain --hops 3 --delay 10ms --access-delay 1ms', (64,), 5)):
-            read = Scenario(command.scenario(words.split()))
-            for (there, back), trip in zip(read.ways, trips):
-                with self.subTest(words):
-                    self.assertEqual(sum(read.links[link].delay for link in there + back), trip * MS)
-                    self.assertEqual((len(there), len(back)), (hops, hops))
-        read = Scenario(command.scenario('parking-lot --hops 3 --cross 2'.split()))
-        names = [[read.links[link].name for link in there[1:-1]] for there, _ in read.ways]
-        self.assertEqual(names, [['p0p1', 'p1p2', 'p2p3'], ['p0p1'], ['p0p1'], ['p1p2'], ['p1p2'], ['p2p3'], ['p2p3']])
-        read = Scenario(command.scenario('islands --islands 3 --flows 2 --crossing 1'.split()))
-        names = [[read.links[link].name for link in there[1:-1]] for there, _ in read.ways]
-        self.assertEqual(names, [['p1q1'], ['p2q2'], ['p3q3'], ['p1q1', 'q1p2', 'p2q2'],
-                                 ['p2q2', 'q2p3', 'p3q3'], ['p3q3', 'q3p1', 'p1q1']])
-        read = Scenario(command.scenario('asymmetric --uploads 1'.split()))
-        names = [[read.links[link].name for link in there[1:-1]] for there, _ in read.ways]
-        self.assertEqual(names, [['down'], ['up']])
-
-    def test_equal_the_model(self):
-        """Nets that are built by `Net` and by the model's own have the same text."""
-        from tcpsim_model import nets, text
-        from tcpsim_model.scenario import Flow
-        mine, other = net.Net(), nets.Net()
-        for kind in (net.ROUTER,) * 5 + (net.SENDER, net.RECEIVER) * 2:
-            mine.node(kind)
-            other.node(('sender', 'receiver', 'router').index(kind))
-        for a, b in ((0, 1), (1, 2), (0, 3), (3, 4), (4, 2), (2, 0), (5, 0), (2, 6), (7, 4), (8, 1)):
-            mine.cable(a, b, 10**7, MS * (a + 1), units.Queue('codel', 9, MS, 5 * MS))
-            other.cable(a, b, 10**7, MS * (a + 1), nets.codel(9, MS, 5 * MS, 1500))
-        for sender, receiver in ((5, 6), (7, 8)):
-            mine.flow(sender, receiver, 1460, 7, 3, 10**5, 4)
-            other.flows.append(Flow(sender, receiver, 1460, 7, 3, 10**5, 4))
-        for each in mine, other:
-            each.links[3].lose = [2, 5]
-        for every in False, True:
-            self.assertEqual(mine.text(S, notes=False, every_route=every).encode(),
-                             text.disassemble(other.scenario(S, every)).replace(b' reno iw3\n', b'\n'))
-
-    def test_groups_of_islands(self):
-        """The groups that the comment names are accepted and change nothing."""
-        text = command.scenario('islands --islands 3 --flows 2 --segments 20'.split())
-        options = next(line for line in text.splitlines() if '--groups' in line).partition('--')[2].split()
-        shared = subprocess.run([*RUNS, 'run', '--' + options[0], *options[1:]], input=text.encode(), capture_output=True,
-                                check=False)
-        self.assertEqual((shared.returncode, shared.stderr), (0, b''))
-        self.assertEqual(shared.stdout, run(text).stdout)
-
-    def test_whole_grid(self):
-        for shape in GRID:
-            for words in grid(shape):
-                with self.subTest(' '.join(words)):
-                    self._runs(words)
-
-    def _runs(self, words):
-        text = command.scenario(words)
-        self.assertIn(f'# Written by: tcpsim-net {" ".join(words)}\n', text)
-        done = run(text)
-        self.assertEqual((done.returncode, done.stderr), (0, b''))
-        runs = Run(Scenario(text), done.stdout.decode('ascii').splitlines())
-        self.assertTrue(runs.whole)
-        delivered = [flow.delivered() for flow in runs.flows]
-        if 'droptail:1' in words or len(runs.flows) > 16:       # then some may be locked out
-            self.assertEqual(max(delivered), 12 * 1460)
-        else:
-            self.assertEqual(delivered, [12 * 1460] * len(runs.flows))
-        # every route is one that some flow takes
-        read = runs.scenario
-        taken = {(read.links[link].source, read.links[way[-1]].to, link) for ways in read.ways for way in ways
-                 for link in way[1:]}
-        self.assertEqual({(*at, link) for at, link in read.routes.items()}, taken)
+def test_numbers():
+    for read, word, value in (
+            (units.rate, '10M', 10**7), (units.rate, '1.5M', 1_500_000), (units.rate, '800k', 800_000),
+            (units.rate, '1G', 10**9), (units.rate, '8000', 8_000), (units.time, '20ms', 20 * MS),
+            (units.time, '0.5s', S // 2), (units.time, '100us', 100 * US), (units.time, '7ns', 7),
+            (units.time, '0', 0), (units.size, '64k', 64_000), (units.count, '12', 12)):
+        assert read(word) == value
 
 
-class WrongWords(unittest.TestCase):
+def test_wrong_numbers():
+    for read, word in ((units.rate, '10Mbps'), (units.rate, '1T'), (units.rate, '10m'), (units.rate, '-1M'),
+                       (units.rate, '0.5'), (units.rate, ''), (units.rate, '1e6'), (units.rate, '1,000'),
+                       (units.time, '10'), (units.time, '1h'), (units.time, '0.1ns'), (units.time, 'ms'),
+                       (units.time, '1 ms'), (units.size, '1.0001k'), (units.count, '1.5'), (units.count, '٣')):
+        pytest.raises(units.Wrong, read, word)
+
+
+def test_spelled():
+    for value, word in ((10**7, '10M'), (1_500_000, '1.5M'), (800_000, '800k'), (1_234, '1.234k'), (999, '999')):
+        assert units.spelled_rate(value) == word
+        assert units.rate(word) == value
+    for value, word in ((20 * MS, '20ms'), (S // 2, '500ms'), (1_500 * MS, '1.5s'), (1, '1ns'), (0, '0')):
+        assert units.spelled_time(value) == word
+        assert units.time(word) == value
+
+
+def test_queues():
+    words = 'droptail:10,50,BDP,codel:5ms:100ms,1s:2s:7,1s:2s:1000:3k'
+    assert [queue.words(1040, 9) for queue in units.queues(words)] == ['droptail 10', 'droptail 50', 'droptail 9', 'codel 1000 5000000 100000000 1040',
+                      'codel 7 1000000000 2000000000 1040', 'codel 1000 1000000000 2000000000 3000']
+    assert [str(queue) for queue in units.queues(words)] == ['droptail:10', 'droptail:50', 'droptail:BDP', 'codel:5ms:100ms', 'codel:1s:2s:7',
+                      'codel:1s:2s:1000:3000']
+    for word in ('50', 'droptail', 'droptail:', 'droptail:x', 'droptail:1:2', 'codel:5ms', 'codel:5:100ms',
+                 'codel:5ms:100ms:', 'codel:5ms:100ms:1:', 'codel:5ms:100ms:1:2:3', 'codel:5ms:100ms:1:2ms', 'red:5', ''):
+        pytest.raises(units.Wrong, units.queues, word)
+
+
+def test_product():
+    # 8 Mbit/s times 40 ms are 40,000 bytes: 38 packets of 1,040 and 480 bytes
+    assert units.product(8 * 10**6, 40 * MS, 1040) == 38
+    assert units.product(1000, 1, 1500) == 1
+
+
+# ---- what is written
+
+
+def test_by_hand():
+    words = ('dumbbell --rate 8M --rtt 40ms,80ms --queue droptail:BDP --mss 1000 --segments 5,6 --start 0,0.5s --rwnd '
+             '64k --delack 0 --access 100M --access-queue codel:1ms:10ms:77 --end 3s')
+    assert command.scenario(words.split()) == DUMBBELL
+    done = tool(*words.split())
+    assert (done.stdout.decode(), done.stderr, done.returncode) == (DUMBBELL, b'', 0)
+
+
+def test_odd_round_trips():
+    for trip in (8, 9, 15, 81, 40 * MS + 1):
+        read = Scenario(command.scenario(['dumbbell', '--flows', '1', '--rtt', f'{trip}ns']))
+        assert sum(read.links[link].delay for way in read.ways[0] for link in way) == trip
+
+
+def test_round_trips_and_ways():
+    """Each flow's delays add up to what was asked for, and it goes over the links that it should."""
+    for words, trips, hops in (
+            ('dumbbell --flows 3 --rtt 40ms,80ms', (40, 80, 40), 3),
+            ('asymmetric --flows 1 --uploads 1 --rtt 30ms,60ms', (30, 60), 3),
+            ('tree --leaves 2 --flows 3 --rtt 64ms,96ms', (64, 96, 64), 5),
+            # 3 hops of 10 ms and two cables of 1 ms, each way
+            ('chain --hops 3 --delay 10ms --access-delay 1ms', (64,), 5)):
+        read = Scenario(command.scenario(words.split()))
+        for (there, back), trip in zip(read.ways, trips):
+            assert sum(read.links[link].delay for link in there + back) == trip * MS
+            assert (len(there), len(back)) == (hops, hops)
+    read = Scenario(command.scenario('parking-lot --hops 3 --cross 2'.split()))
+    names = [[read.links[link].name for link in there[1:-1]] for there, _ in read.ways]
+    assert names == [['p0p1', 'p1p2', 'p2p3'], ['p0p1'], ['p0p1'], ['p1p2'], ['p1p2'], ['p2p3'], ['p2p3']]
+    read = Scenario(command.scenario('islands --islands 3 --flows 2 --crossing 1'.split()))
+    names = [[read.links[link].name for link in there[1:-1]] for there, _ in read.ways]
+    assert names == [['p1q1'], ['p2q2'], ['p3q3'], ['p1q1', 'q1p2', 'p2q2'],
+                             ['p2q2', 'q2p3', 'p3q3'], ['p3q3', 'q3p1', 'p1q1']]
+    read = Scenario(command.scenario('asymmetric --uploads 1'.split()))
+    names = [[read.links[link].name for link in there[1:-1]] for there, _ in read.ways]
+    assert names == [['down'], ['up']]
+
+
+def test_equal_the_model():
+    """Nets that are built by `Net` and by the model's own have the same text."""
+    from tcpsim_model import nets, text
+    from tcpsim_model.scenario import Flow
+    mine, other = net.Net(), nets.Net()
+    for kind in (net.ROUTER,) * 5 + (net.SENDER, net.RECEIVER) * 2:
+        mine.node(kind)
+        other.node(('sender', 'receiver', 'router').index(kind))
+    for a, b in ((0, 1), (1, 2), (0, 3), (3, 4), (4, 2), (2, 0), (5, 0), (2, 6), (7, 4), (8, 1)):
+        mine.cable(a, b, 10**7, MS * (a + 1), units.Queue('codel', 9, MS, 5 * MS))
+        other.cable(a, b, 10**7, MS * (a + 1), nets.codel(9, MS, 5 * MS, 1500))
+    for sender, receiver in ((5, 6), (7, 8)):
+        mine.flow(sender, receiver, 1460, 7, 3, 10**5, 4)
+        other.flows.append(Flow(sender, receiver, 1460, 7, 3, 10**5, 4))
+    for each in mine, other:
+        each.links[3].lose = [2, 5]
+    for every in False, True:
+        assert mine.text(S, notes=False, every_route=every).encode() == \
+            text.disassemble(other.scenario(S, every)).replace(b' reno iw3\n', b'\n')
+
+
+def test_groups_of_islands():
+    """The groups that the comment names are accepted and change nothing."""
+    text = command.scenario('islands --islands 3 --flows 2 --segments 20'.split())
+    options = next(line for line in text.splitlines() if '--groups' in line).partition('--')[2].split()
+    shared = subprocess.run([PROGRAM, 'run', '--' + options[0], *options[1:]], input=text.encode(), capture_output=True,
+                            check=False)
+    assert (shared.returncode, shared.stderr) == (0, b'')
+    assert shared.stdout == run(text).stdout
+
+
+def test_whole_grid():
+    for shape in GRID:
+        for words in grid(shape):
+            _runs(words)
+
+
+def _runs(words):
+    text = command.scenario(words)
+    assert f'# Written by: tcpsim-net {" ".join(words)}\n' in text
+    done = run(text)
+    assert (done.returncode, done.stderr) == (0, b'')
+    runs = Run(Scenario(text), done.stdout.decode('ascii').splitlines())
+    assert runs.whole
+    delivered = [flow.delivered() for flow in runs.flows]
+    if 'droptail:1' in words or len(runs.flows) > 16:       # then some may be locked out
+        assert max(delivered) == 12 * 1460
+    else:
+        assert delivered == [12 * 1460] * len(runs.flows)
+    # every route is one that some flow takes
+    read = runs.scenario
+    taken = {(read.links[link].source, read.links[way[-1]].to, link) for ways in read.ways for way in ways
+             for link in way[1:]}
+    assert {(*at, link) for at, link in read.routes.items()} == taken
+
+
+class TestWrongWords:
     """Each gets one sentence."""
 
     CASES = {
@@ -268,54 +264,37 @@ class WrongWords(unittest.TestCase):
 
     def test_cases(self):
         for words, named in self.CASES.items():
-            with self.subTest(words):
-                done = tool(*words.split())
-                self.assertEqual((done.returncode, done.stdout), (2, b''))
-                lines = done.stderr.decode().splitlines()
-                self.assertEqual(len(lines), 1, lines)
-                self.assertTrue(lines[0].startswith('tcpsim-net: '), lines[0])
-                self.assertIn(named, lines[0])
+            done = tool(*words.split())
+            assert (done.returncode, done.stdout) == (2, b'')
+            lines = done.stderr.decode().splitlines()
+            assert len(lines) == 1, lines
+            assert lines[0].startswith('tcpsim-net: '), lines[0]
+            assert named in lines[0]
 
     def test_pipes(self):
         for reader in ('true', 'head -n 1 > /dev/null'):
             script = f'"$0" "$1" chain --hops 200 | {reader}'
             done = subprocess.run(['sh', '-c', script, sys.executable, os.path.join(BIN, 'tcpsim-net')], capture_output=True,
                                   check=False)
-            self.assertEqual(done.stderr, b'')
+            assert done.stderr == b''
         with open('/dev/full', 'w', encoding='ascii') as full:
             done = subprocess.run([sys.executable, os.path.join(BIN, 'tcpsim-net'), 'dumbbell'], stdout=full,
                                   stderr=subprocess.PIPE, check=False)
-        self.assertEqual(done.returncode, 1)
-        self.assertEqual(len(done.stderr.decode().splitlines()), 1)
+        assert done.returncode == 1
+        assert len(done.stderr.decode().splitlines()) == 1
 
     def test_help_to_a_reader_that_ends_and_to_a_full_disk(self):
         script = '"$0" "$1" --help | true'
         done = subprocess.run(['sh', '-c', script, sys.executable, os.path.join(BIN, 'tcpsim-net')], capture_output=True,
                               check=False)
-        self.assertEqual((done.returncode, done.stderr), (0, b''))
+        assert (done.returncode, done.stderr) == (0, b'')
         with open('/dev/full', 'w', encoding='ascii') as full:
             done = subprocess.run([sys.executable, os.path.join(BIN, 'tcpsim-net'), '--help'], stdout=full,
                                   stderr=subprocess.PIPE, check=False)
-        self.assertEqual((done.returncode, done.stderr), (1, b'tcpsim-net: standard output: No space left on device\n'))
+        assert (done.returncode, done.stderr) == (1, b'tcpsim-net: standard output: No space left on device\n')
 
     def test_help(self):
         for words in (['--help'], *([shape, '--help'] for shape in command.SHAPES)):
             done = tool(*words)
-            self.assertEqual((done.returncode, done.stderr), (0, b''))
-            self.assertTrue(done.stdout)
-
-
-def main():
-    words = argparse.ArgumentParser(description=__doc__.split('\n')[0])
-    words.add_argument('--program', help='else the built one, else the model')
-    given, rest = words.parse_known_args()
-    if given.program or os.path.exists(BUILT):
-        RUNS[:] = [given.program or BUILT]
-    done = unittest.main(argv=[sys.argv[0], *rest], exit=False).result
-    failed = len({getattr(test, 'test_case', test).id() for test, _ in done.failures + done.errors})
-    print(f'{done.testsRun - failed} passed, {failed} failed')
-    return 1 if failed else 0
-
-
-if __name__ == '__main__':
-    sys.exit(main())
+            assert (done.returncode, done.stderr) == (0, b'')
+            assert done.stdout

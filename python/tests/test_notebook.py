@@ -9,7 +9,7 @@ import sys
 
 import pytest
 
-from paths import TOP
+from clone import TOP
 from tcpsim.program import BUILT
 
 NOTEBOOK = os.path.join(TOP, 'examples', 'lecture.ipynb')

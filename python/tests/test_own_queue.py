@@ -11,7 +11,7 @@ from collections import Counter, deque
 
 import pytest
 
-from paths import TOP
+from clone import TOP
 
 import tcpsim
 from tcpsim.program import BUILT

@@ -1,4 +1,3 @@
-#!/usr/bin/env python3
 """Tests of bin/tcpsim-plot and of the pictures in docs/pictures. Wants matplotlib.
 
 Each picture of docs/ that tcpsim-plot draws is drawn anew and compared by the data of each artist, which its
@@ -13,24 +12,20 @@ import re
 import signal
 import subprocess
 import sys
-import tempfile
 import time
-import unittest
 from types import SimpleNamespace
 
-from paths import BIN, TOP
+import pytest
 
-try:
-    import pictures
-    from tcpsim import plot
-except ImportError as missing:
-    print(f'LEFT OUT, not passed: the tests of bin/tcpsim-plot ({missing}); '
-          'apt-get install python3-matplotlib and run them with Debian\'s python3')
-    sys.exit(0)
-import numpy as np
-from tcpsim.plot import choice, clock, points, style
-from test_trace import BY_HAND, TRACE
-from tcpsim.curves import read_run
+from clone import BIN, TOP, Folder
+
+pytest.importorskip('matplotlib', reason='no matplotlib: apt-get install python3-matplotlib')
+import numpy as np  # noqa: E402
+import pictures  # noqa: E402
+from tcpsim import plot  # noqa: E402
+from tcpsim.plot import choice, clock, points, style  # noqa: E402
+from test_trace import BY_HAND, TRACE  # noqa: E402
+from tcpsim.curves import read_run  # noqa: E402
 
 MS, S = 10**6, 10**9
 
@@ -47,38 +42,36 @@ end 6
 '''
 
 
-class Folder(unittest.TestCase):
+class Drawn(Folder):
     """Scenarios and traces in a folder of their own."""
 
-    def setUp(self):
-        self.folder = tempfile.TemporaryDirectory()
-        self.addCleanup(self.folder.cleanup)
+    def setup_method(self):
+        super().setup_method()
         self.hand = self.write('hand', BY_HAND, TRACE)
         self.stall = self.write('stall', STALL, STALL_TRACE)
 
+    def teardown_method(self):
+        plot.plt.close('all')
+        super().teardown_method()
+
     def write(self, name, text, trace):
-        paths = [os.path.join(self.folder.name, name + ending) for ending in ('.txt', '.trace')]
-        for path, content in zip(paths, (text, trace)):
-            with open(path, 'w', encoding='ascii') as file:
-                file.write(content)
-        return paths
+        return [self.put(f'{name}.txt', text), self.put(f'{name}.trace', trace)]
 
     def figure(self, *words):
         figure = plot.figure_of(plot.words_of([*words, '-o', 'x.png']))
-        self.addCleanup(plot.plt.close, figure)
         return figure
 
     def panels(self, *words):
         return {axes.get_title(loc='left'): axes for axes in self.figure(*words).get_axes() if axes.axison}
 
     def refused(self, status, note, *words):
-        file = os.path.join(self.folder.name, 'refused.png')
+        file = os.path.join(self.folder, 'refused.png')
         done = subprocess.run([sys.executable, os.path.join(BIN, 'tcpsim-plot'), *words, '-o', file],
                               capture_output=True, text=True, check=False)
-        self.assertEqual((done.returncode, done.stdout), (status, ''), done.stderr)
-        self.assertEqual(done.stderr.count('\n'), 1, done.stderr)
-        self.assertIn(note, done.stderr)
-        self.assertFalse(os.path.exists(file))
+        assert (done.returncode, done.stdout) == (status, ''), done.stderr
+        assert done.stderr.count('\n') == 1, done.stderr
+        assert note in done.stderr
+        assert not os.path.exists(file)
 
 
 def curves(axes):
@@ -96,68 +89,65 @@ def marks(axes):
     return found
 
 
-class PicturesOfTheDocuments(unittest.TestCase):
+class TestPicturesOfTheDocuments:
     def test_each_shows_what_is_drawn_anew(self):
         for name in pictures.PICTURES:
-            with self.subTest(name):
-                with open(pictures.file_of(name), encoding='utf-8') as file:
-                    stored = re.search(r'<dc:description>(.*?)</dc:description>', file.read(), re.S)
-                figure = pictures.figure_of(name)
-                shown = plot.drawn(figure)
-                plot.plt.close(figure)
-                self.assertGreater(len(shown), 10)
-                self.assertEqual(html.unescape(stored[1]).splitlines(), shown)
+            with open(pictures.file_of(name), encoding='utf-8') as file:
+                stored = re.search(r'<dc:description>(.*?)</dc:description>', file.read(), re.S)
+            figure = pictures.figure_of(name)
+            shown = plot.drawn(figure)
+            plot.plt.close(figure)
+            assert len(shown) > 10
+            assert html.unescape(stored[1]).splitlines() == shown
 
     def test_none_is_left_over(self):
         with open(os.path.join(TOP, 'docs', 'TUTORIAL.md'), encoding='utf-8') as file:
             named = set(re.findall(r'\(pictures/(\w+)\.svg\)', file.read()))
-        self.assertEqual(named - {'sweep', 'dumbbell'}, set(pictures.PICTURES))
+        assert named - {'sweep', 'dumbbell'} == set(pictures.PICTURES)
 
     def test_no_label_covers_another_or_a_span_that_is_left_out(self):
         for name in ('two_timeouts_in_a_row', 'a_lost_retransmission', 'sawtooth_of_congestion_avoidance'):
             figure = pictures.figure_of(name)
-            self.addCleanup(plot.plt.close, figure)
             figure.draw_without_rendering()
             renderer = figure.canvas.get_renderer()
             axes = next(axes for axes in figure.get_axes() if axes.get_title(loc='left').endswith('sequence numbers'))
             boxes = [text.get_window_extent(renderer) for text in axes.texts]
             lost = [box for box, text in zip(boxes, axes.texts) if ' lost' in text.get_text()]
-            self.assertGreater(len(lost), 1)
-            self.assertFalse([pair for n, pair in enumerate(boxes) for other in boxes[:n] if pair.overlaps(other)], name)
+            assert len(lost) > 1
+            assert not [pair for n, pair in enumerate(boxes) for other in boxes[:n] if pair.overlaps(other)], name
             hatched = [patch.get_window_extent() for patch in axes.patches if patch.get_hatch()]
-            self.assertEqual(bool(hatched), not name.startswith('saw'))
-            self.assertFalse([box for box in lost for span in hatched if box.overlaps(span)], name)
+            assert bool(hatched) == (not name.startswith('saw'))
+            assert not [box for box in lost for span in hatched if box.overlaps(span)], name
 
     def test_another_point_is_another_description(self):
         figure, axes = plot.plt.subplots()
-        self.addCleanup(plot.plt.close, figure)
         line, = axes.plot([0, 1, 2], [0, 5, 3])
         before = plot.drawn(figure)
         line.set_ydata([0, 4.9, 3])     # the ranges' ends and the axis stay as they are, but for the middle
         axes.set_ylim(*axes.get_ylim())
-        self.assertNotEqual(plot.drawn(figure), before)
+        assert plot.drawn(figure) != before
 
 
-class WhatIsShown(Folder):
+class TestWhatIsShown(Drawn):
     def test_axes_fit_what_is_shown(self):
         panels = self.panels(*self.hand, '--from', '8.5ms', '--to', '12ms')
         window, sequence = panels['flow f: congestion window'], panels['flow f: sequence numbers']
         # in sight: a recovery with cwnd 5500, then 2500; the axis goes by 2500 and 1.12 times that
-        self.assertTrue(np.allclose(window.get_ylim(), (-.25, 2.8)))
-        self.assertEqual(window.get_xlim(), (8500, 12000))
+        assert np.allclose(window.get_ylim(), (-.25, 2.8))
+        assert window.get_xlim() == (8500, 12000)
         # the segments from 3000, not yet acknowledged at the beginning, to 7000
         low, high = sequence.get_ylim()
-        self.assertTrue(2.5 < low < 3 and 7 < high < 7.5, (low, high))
+        assert 2.5 < low < 3 and 7 < high < 7.5, (low, high)
         # from 6.3 to 8.2 ms nothing is sent: 3000 is acknowledged, and what was sent before, up to 7000, is not in sight
         low, high = self.panels(*self.hand, '--from', '6.3ms', '--to', '8.2ms')['flow f: sequence numbers'].get_ylim()
-        self.assertTrue(2.5 < low < 3 < high < 3.5, (low, high))
+        assert 2.5 < low < 3 < high < 3.5, (low, high)
         # a's last packet began at 5.2 ms: its queue is empty in sight, and nothing is drawn above 0
         queue = panels['packets that wait in the queue']
-        self.assertEqual({y for points_ in curves(queue).values() for _, y in points_}, {0})
+        assert {y for points_ in curves(queue).values() for _, y in points_} == {0}
 
     def test_a_queue_in_sight_begins_with_what_waits(self):
         queue = self.panels(*self.hand, '--from', '1ms', '--to', '3ms', '--link', 'a')['packets that wait in the queue']
-        self.assertEqual(curves(queue)[style.BLUE], [(1000, 2), (1040, 1), (2080, 0), (3000, 0)])
+        assert curves(queue)[style.BLUE] == [(1000, 2), (1040, 1), (2080, 0), (3000, 0)]
 
     def test_nothing_is_drawn_where_nothing_was(self):
         self.refused(1, 'the last event is at 11.4 ms', *self.hand, '--from', '100s')
@@ -167,10 +157,10 @@ class WhatIsShown(Folder):
         self.refused(1, 'nothing happens before 2 ms', *later, '--partial', '--from', '0', '--to', '2ms')
 
     def test_a_window_in_which_no_packet_entered(self):
-        file = os.path.join(self.folder.name, 'small.png')
+        file = os.path.join(self.folder, 'small.png')
         done = subprocess.run([sys.executable, os.path.join(BIN, 'tcpsim-plot'), *self.hand, '-o', file, '--from', '6ms',
                                '--to', '6001us'], capture_output=True, text=True, check=False)
-        self.assertEqual((done.returncode, done.stderr), (0, ''))
+        assert (done.returncode, done.stderr) == (0, '')
 
     def test_a_trace_without_a_line(self):
         self.refused(1, 'is empty', *self.write('none', BY_HAND, ''))
@@ -183,38 +173,37 @@ class WhatIsShown(Folder):
                 (2, 'write --beside again', ('--beside', 'a', 'b', 'c')), (2, '2, and there are 1', ('--names', 'a,b')),
                 (1, 'no such', ('--beside', 'no such')),
                 (1, 'no program', ('--beside', self.hand[0], '--program', '/nowhere/tcpsim'))):
-            with self.subTest(words):
-                self.refused(status, note, *self.hand, *words)
+            self.refused(status, note, *self.hand, *words)
 
     def test_without_matplotlib_one_sentence_says_what_to_install(self):
-        folder = os.path.join(self.folder.name, 'none')
+        folder = os.path.join(self.folder, 'none')
         os.makedirs(os.path.join(folder, 'matplotlib'))
         with open(os.path.join(folder, 'matplotlib', '__init__.py'), 'w', encoding='ascii') as file:
             file.write('raise ImportError\n')
-        link = os.path.join(self.folder.name, 'tcpsim-plot')
+        link = os.path.join(self.folder, 'tcpsim-plot')
         os.symlink(os.path.join(BIN, 'tcpsim-plot'), link)
         done = subprocess.run([sys.executable, link, *self.hand, '-o', 'x.png'], capture_output=True, text=True, check=False,
                               env={**os.environ, 'PYTHONPATH': folder})
-        self.assertEqual((done.returncode, done.stdout, done.stderr.count('\n')), (1, '', 1), done.stderr)
-        self.assertTrue(done.stderr.startswith('tcpsim-plot: '), done.stderr)
-        self.assertIn('apt-get install python3-matplotlib', done.stderr)
+        assert (done.returncode, done.stdout, done.stderr.count('\n')) == (1, '', 1), done.stderr
+        assert done.stderr.startswith('tcpsim-plot: '), done.stderr
+        assert 'apt-get install python3-matplotlib' in done.stderr
 
     def test_an_interruption_is_quiet(self):
-        program, began = (os.path.join(self.folder.name, name) for name in ('sleeps', 'began'))
+        program, began = (os.path.join(self.folder, name) for name in ('sleeps', 'began'))
         with open(program, 'w', encoding='ascii') as file:
             file.write(f'#!/bin/sh\ntouch {began}\nexec sleep 60\n')
         os.chmod(program, 0o700)
         process = subprocess.Popen([sys.executable, os.path.join(BIN, 'tcpsim-plot'), self.hand[0], '--program', program, '-o',
-                                    os.path.join(self.folder.name, 'x.png')], stderr=subprocess.PIPE, start_new_session=True,
+                                    os.path.join(self.folder, 'x.png')], stderr=subprocess.PIPE, start_new_session=True,
                                    preexec_fn=lambda: signal.signal(signal.SIGINT, signal.SIG_DFL))
         until = time.monotonic() + 30
         while not os.path.exists(began) and time.monotonic() < until:
             time.sleep(.05)
         os.killpg(process.pid, signal.SIGINT)
-        self.assertEqual((process.communicate(timeout=20)[1], process.returncode), (b'', 130))
+        assert (process.communicate(timeout=20)[1], process.returncode) == (b'', 130)
 
     def test_a_picture_and_bytes_in_the_place_of_a_text(self):
-        path = os.path.join(self.folder.name, 'picture.png')
+        path = os.path.join(self.folder, 'picture.png')
         with open(path, 'wb') as file:
             file.write(b'\x89PNG\r\n\x1a\n\x00\xff')
         self.refused(1, 'tcpsim-plot: ', path, self.hand[1])
@@ -227,39 +216,39 @@ class WhatIsShown(Folder):
             .replace('data 0', 'data 1').replace('ack 0', 'ack 1').rpartition('end ')[0]
         other = self.write('two', text, trace)
         figure = self.figure(*other, '--partial', '--flow', 'f', '--panels', 'utilization')
-        self.assertIn('link a:', figure.subfigs[0]._suptitle.get_text())
+        assert 'link a:' in figure.subfigs[0]._suptitle.get_text()
         figure = self.figure(*other, '--partial', '--flow', 'g', '--panels', 'utilization')
-        self.assertTrue(figure.subfigs[0]._suptitle.get_text().startswith('links c:'))     # idle, as is d
+        assert figure.subfigs[0]._suptitle.get_text().startswith('links c:')     # idle, as is d
 
 
-class Windows(Folder):
+class TestWindows(Drawn):
     def test_inflation_is_thin_and_grey(self):
         window = self.panels(*self.hand)['flow f: congestion window']
         drawn = curves(window)
         cwnd = {x: y for x, y in drawn[style.BLUE]}
-        self.assertEqual(cwnd[7.24 if 7.24 in cwnd else 6.2], 7)
-        self.assertTrue(np.isnan(cwnd[8.28]))          # the recovery's
-        self.assertEqual(cwnd[11.36], 2.5)
-        self.assertEqual(dict(drawn[style.GREY])[8.28], 5.5)
-        self.assertLess(next(line.get_linewidth() for line in window.lines if line.get_color() == style.GREY), .7)
-        self.assertEqual(window.get_ylim(), (-.7, 7 * 1.12))
+        assert cwnd[7.24 if 7.24 in cwnd else 6.2] == 7
+        assert np.isnan(cwnd[8.28])          # the recovery's
+        assert cwnd[11.36] == 2.5
+        assert dict(drawn[style.GREY])[8.28] == 5.5
+        assert next(line.get_linewidth() for line in window.lines if line.get_color() == style.GREY) < .7
+        assert window.get_ylim() == (-.7, 7 * 1.12)
 
     def test_the_receivers_window_is_a_line_where_it_is_in_sight(self):
         small = self.write('small', BY_HAND.replace('64000', '7500'), TRACE.replace('64000', '7500'))
         window = self.panels(*small)['flow f: congestion window']
-        self.assertEqual([y for _, y in curves(window)[style.GREEN]], [7.5, 7.5])
-        self.assertNotIn(style.GREEN, curves(self.panels(*self.hand)['flow f: congestion window']))
+        assert [y for _, y in curves(window)[style.GREEN]] == [7.5, 7.5]
+        assert style.GREEN not in curves(self.panels(*self.hand)['flow f: congestion window'])
 
     def test_windows_of_two_runs_share_their_axis(self):
         other = self.write('other', BY_HAND, TRACE.replace('cwnd=7000', 'cwnd=9000'))
         figure = self.figure(*self.hand, '--beside', *other, '--panels', 'window,sequence')
         panels = {axes.get_title(loc='left'): axes for axes in figure.get_axes() if axes.axison}
-        self.assertEqual(list(panels), ['hand, flow f: congestion window', 'other, flow f: congestion window',
-                                        'hand, flow f: sequence numbers', 'other, flow f: sequence numbers'])
+        assert list(panels) == ['hand, flow f: congestion window', 'other, flow f: congestion window',
+                                        'hand, flow f: sequence numbers', 'other, flow f: sequence numbers']
         limits = [axes.get_ylim() for axes in panels.values()]
-        self.assertEqual(limits[0], limits[1])
-        self.assertAlmostEqual(limits[0][1], 9 * 1.12)
-        self.assertEqual(limits[2], limits[3])
+        assert limits[0] == limits[1]
+        assert limits[0][1] == pytest.approx(9 * 1.12, rel=0, abs=5e-8)
+        assert limits[2] == limits[3]
 
     def test_flows_that_are_far_apart_share_the_scale(self):
         """From 1 to 3.1 ms both flows acknowledge 1000 bytes, one from 0 on and one from 10,000 on; and in a third nothing
@@ -271,48 +260,48 @@ class Windows(Folder):
             for number, una in enumerate(([1, 1000], [10_000, 11_000], [5_000, 5_000]))]
         shown = SimpleNamespace(flows=views, window=(2, 9), sees=lambda time: True,
                                 seen=lambda *both: choice.Picture.seen(SimpleNamespace(window=(2, 9)), *both))
-        self.assertEqual(sequence_limits(shown), [(1, 1001, 'the same scale'), (10_000, 11_000, 'the same scale'),
-                                                  (5_000, 5_000, OWN)])
+        assert sequence_limits(shown) == [(1, 1001, 'the same scale'), (10_000, 11_000, 'the same scale'),
+                                                  (5_000, 5_000, OWN)]
         shown.flows = views[:1] * 2
-        self.assertEqual(sequence_limits(shown), [(1, 1000, None)] * 2)
+        assert sequence_limits(shown) == [(1, 1000, None)] * 2
 
     def test_no_run_is_dropped(self):
         words = [*self.hand, '--beside', *self.hand, '--beside', *self.stall, '--panels', 'delay,window', '--whole']
         figure = self.figure(*words)
         titles = [axes.get_title(loc='left') for axes in figure.get_axes() if axes.axison]
-        self.assertEqual(titles[:3], ['hand, flow f', 'hand 2, flow f', 'stall, flow f'])
+        assert titles[:3] == ['hand, flow f', 'hand 2, flow f', 'stall, flow f']
         delay = figure.get_axes()[-1]
-        self.assertEqual([text.get_text() for text in delay.get_legend().get_texts()], ['hand', 'hand 2', 'stall'])
+        assert [text.get_text() for text in delay.get_legend().get_texts()] == ['hand', 'hand 2', 'stall']
 
     def test_names_of_runs(self):
         figure = self.figure(*self.hand, '--beside', *self.stall, '--names', 'one,two', '--panels', 'delay,window')
         titles = [axes.get_title(loc='left') for axes in figure.get_axes() if axes.axison]
-        self.assertEqual(titles[:2], ['one, flow f: congestion window', 'two, flow f: congestion window'])
-        self.assertIn('one: 1 flow, 29 events; two: ', figure._suptitle.get_text())
+        assert titles[:2] == ['one, flow f: congestion window', 'two, flow f: congestion window']
+        assert 'one: 1 flow, 29 events; two: ' in figure._suptitle.get_text()
         texts = [text.get_text() for text in figure.get_axes()[-1].get_legend().get_texts()]
-        self.assertEqual(texts, ['one', 'two'])
+        assert texts == ['one', 'two']
 
     def test_the_key_says_what_is_above_the_panel(self):
         def key(*run):
             return [text.get_text() for text in self.figure(*run).get_axes()[0].get_legend().get_texts()]
-        self.assertIn('ssthresh', key(*self.hand))              # 2500 from the recovery on
-        self.assertIn('receiver\'s window: 64 kB, above', key(*self.hand))
+        assert 'ssthresh' in key(*self.hand)              # 2500 from the recovery on
+        assert 'receiver\'s window: 64 kB, above' in key(*self.hand)
         high = self.write('high', BY_HAND.replace('64000', str(2**30)), TRACE.replace('ssthresh=2500', 'ssthresh=64000'))
-        self.assertIn('ssthresh, above', key(*high))
-        self.assertIn('receiver\'s window: 1.074 GB, above', key(*high))
+        assert 'ssthresh, above' in key(*high)
+        assert 'receiver\'s window: 1.074 GB, above' in key(*high)
 
     def test_a_small_flow_has_an_axis_of_its_own(self):
         from tcpsim.plot.flow_panels import sharing
-        self.assertEqual(sharing([700, 69, 70]), [700, 69, 700])
+        assert sharing([700, 69, 70]) == [700, 69, 700]
 
 
-class Stalls(Folder):
+class TestStalls(Drawn):
     def test_they_are_the_spans_without_a_new_acknowledgement(self):
         flow = SimpleNamespace(flow=SimpleNamespace(start=100), una_times=[200, 700, 750], completed=None)
-        self.assertEqual(points.stalls(flow, 100, 2000), [(200, 700), (750, 2000)])
-        self.assertEqual(points.stalls(flow, 99, 2000), [(100, 200), (200, 700), (750, 2000)])
+        assert points.stalls(flow, 100, 2000) == [(200, 700), (750, 2000)]
+        assert points.stalls(flow, 99, 2000) == [(100, 200), (200, 700), (750, 2000)]
         flow.completed = 750
-        self.assertEqual(points.stalls(flow, 100, 2000), [(200, 700)])
+        assert points.stalls(flow, 100, 2000) == [(200, 700)]
 
     def test_they_are_those_that_stalls_py_lists(self):
         for name in ('two_timeouts_in_a_row', 'lock_out_at_equal_times', 'bufferbloat', 'four_flows_share_codel'):
@@ -323,86 +312,87 @@ class Stalls(Folder):
             run = read_run(*paths)
             spans = sorted((flow.flow.name, *span) for flow in run.flows
                            for span in points.stalls(flow, S // 5, choice.known_until(run)))
-            self.assertTrue(rows)
-            self.assertEqual(rows, spans, name)
+            assert rows
+            assert rows == spans, name
 
     def test_they_are_a_grey_band(self):
         panels = self.panels(*self.stall, '--whole')
         for title in ('flow f: congestion window', 'flow f: sequence numbers'):
             bands = [patch.get_xy()[:, 0] for patch in panels[title].patches
                      if patch.get_facecolor()[:3] == (0, 0, 0)]
-            self.assertEqual([(min(band), max(band)) for band in bands], [(0, 1.00308)])
+            assert [(min(band), max(band)) for band in bands] == [(0, 1.00308)]
         panels = self.panels(*self.stall, '--whole', '--longer', '1.1s')
-        self.assertFalse([patch for patch in panels['flow f: sequence numbers'].patches
-                          if patch.get_facecolor()[:3] == (0, 0, 0)])
+        assert not [patch for patch in panels['flow f: sequence numbers'].patches
+                          if patch.get_facecolor()[:3] == (0, 0, 0)]
 
     def test_the_idle_second_is_left_out(self):
         sequence = self.panels(*self.stall)['flow f: sequence numbers']
         left, right = sequence.get_xlim()
-        self.assertLess(right - left, 5)                # milliseconds, of 1003
-        self.assertIn('1,00', ''.join(text.get_text() for text in sequence.get_xticklabels()))
+        assert right - left < 5                # milliseconds, of 1003
+        assert '1,00' in ''.join(text.get_text() for text in sequence.get_xticklabels())
         texts = [text.get_text() for text in sequence.texts]
-        self.assertIn('0 lost', texts)
-        self.assertTrue([text for text in texts if text.endswith('without an event')], texts)
-        self.assertEqual(len(marks(sequence)['+']), 1)
-        self.assertEqual(len(marks(sequence)['o']), 1)
+        assert '0 lost' in texts
+        assert [text for text in texts if text.endswith('without an event')], texts
+        assert len(marks(sequence)['+']) == 1
+        assert len(marks(sequence)['o']) == 1
 
 
-class TheAxisOfTime(unittest.TestCase):
-    def test_units(self):
-        for width, unit in ((3_080_000, 'µs'), (10 * MS, 'ms'), (S - 1, 'ms'), (S, 's')):
-            self.assertEqual(clock.unit_of(width)[1], unit)
-
-    def test_idle_spans(self):
-        moments = [0, 10 * MS, 1000 * MS, 1010 * MS]
-        self.assertEqual(clock.idle_spans(moments, 0, 1010 * MS, S // 5), [(12 * MS, 998 * MS)])
-        self.assertEqual(clock.idle_spans(moments, 0, 1010 * MS, S), [])
-        self.assertEqual(clock.idle_spans([0, 300 * MS, 600 * MS, 900 * MS, 1100 * MS], 0, 2 * S, 2 * S), [])
-
-    def test_places_rise_and_come_back(self):
-        axis = clock.Clock((0, 1010 * MS), [(12 * MS, 998 * MS)])
-        moments = np.array([0, 5 * MS, 12 * MS, 500 * MS, 998 * MS, 1010 * MS])
-        places = axis.x(moments)
-        self.assertTrue((np.diff(places) > 0).all())
-        self.assertAlmostEqual(float(places[-1]), 24 + .09 * 24)
-        edges = axis.edges(100)
-        self.assertTrue(np.allclose(np.diff(axis.x(edges)), axis.x(1010 * MS) / 100))
+def test_units():
+    for width, unit in ((3_080_000, 'µs'), (10 * MS, 'ms'), (S - 1, 'ms'), (S, 's')):
+        assert clock.unit_of(width)[1] == unit
 
 
-class Links(Folder):
+def test_idle_spans():
+    moments = [0, 10 * MS, 1000 * MS, 1010 * MS]
+    assert clock.idle_spans(moments, 0, 1010 * MS, S // 5) == [(12 * MS, 998 * MS)]
+    assert clock.idle_spans(moments, 0, 1010 * MS, S) == []
+    assert clock.idle_spans([0, 300 * MS, 600 * MS, 900 * MS, 1100 * MS], 0, 2 * S, 2 * S) == []
+
+
+def test_places_rise_and_come_back():
+    axis = clock.Clock((0, 1010 * MS), [(12 * MS, 998 * MS)])
+    moments = np.array([0, 5 * MS, 12 * MS, 500 * MS, 998 * MS, 1010 * MS])
+    places = axis.x(moments)
+    assert (np.diff(places) > 0).all()
+    assert float(places[-1]) == pytest.approx(24 + .09 * 24, rel=0, abs=5e-8)
+    edges = axis.edges(100)
+    assert np.allclose(np.diff(axis.x(edges)), axis.x(1010 * MS) / 100)
+
+
+class TestLinks(Drawn):
     def test_delays_stand_at_the_moment_of_entry(self):
         delay = self.panels(*self.hand, '--link', 'a')['delay in the queue of each packet sent']
         found = sorted(marks(delay)['.'])
         # 0, 1000 and 2000 entered at 0, 4000 and 5000 at 3.08 ms, 6000 at 4.12, and 3000 at 8.28
         wanted = [(0, 0), (0, 1.04), (0, 2.08), (3.08, .04), (3.08, 1.08), (4.12, 1.08), (8.28, 0)]
-        self.assertTrue(np.allclose(found, wanted), found)
+        assert np.allclose(found, wanted), found
 
     def test_the_distribution(self):
         cdf = self.panels(*self.hand, '--link', 'a', '--panels', 'delay-cdf')['distribution of the delay in the queue']
         steps = curves(cdf)[style.BLUE]
         wanted = [(0, 0), (0, 200 / 7), (.04, 300 / 7), (1.04, 400 / 7), (1.08, 600 / 7), (2.08, 100)]
-        self.assertTrue(np.allclose(steps, wanted), steps)
-        self.assertEqual(cdf.get_legend().get_texts()[0].get_text(), 'a: median 1.04, 99th percentile 2.08 ms')
+        assert np.allclose(steps, wanted), steps
+        assert cdf.get_legend().get_texts()[0].get_text() == 'a: median 1.04, 99th percentile 2.08 ms'
 
     def test_an_envelope_by_hand(self):
         # 3 from 0 on, 5 from 10, 1 from 14, 4 from 20; in columns of ten
         least, greatest, mean = points.envelope([0, 10, 14, 20], [3, 5, 1, 4], [0, 10, 20, 30])
-        self.assertEqual([list(least), list(greatest)], [[3, 1, 4], [3, 5, 4]])
-        self.assertTrue(np.allclose(mean, [3, (4 * 5 + 6 * 1) / 10, 4]))
+        assert [list(least), list(greatest)] == [[3, 1, 4], [3, 5, 4]]
+        assert np.allclose(mean, [3, (4 * 5 + 6 * 1) / 10, 4])
         # from within a value on
         least, greatest, mean = points.envelope([0, 10], [2, 8], [5, 15])
-        self.assertEqual((least[0], greatest[0], mean[0]), (2, 8, 5))
+        assert (least[0], greatest[0], mean[0]) == (2, 8, 5)
 
     def test_a_queue_that_changes_often_is_an_envelope(self):
-        self.assertTrue(points.is_dense(range(0, 1000), (0, 1000)))
-        self.assertFalse(points.is_dense(range(0, 1000), (0, 300)))
+        assert points.is_dense(range(0, 1000), (0, 1000))
+        assert not points.is_dense(range(0, 1000), (0, 300))
 
     def test_one_sign_for_one_meaning(self):
         panels = self.panels(*self.hand)
         for title in ('flow f: congestion window', 'flow f: sequence numbers', 'packets that wait in the queue'):
-            self.assertEqual(len(marks(panels[title])['x']), 2, title)
-        self.assertEqual(len({sign[:2] for sign in style.SIGNS.values()}), 3)
-        self.assertNotIn(style.AGAIN['marker'], [sign[0] for sign in style.SIGNS.values()])
+            assert len(marks(panels[title])['x']) == 2, title
+        assert len({sign[:2] for sign in style.SIGNS.values()}) == 3
+        assert style.AGAIN['marker'] not in [sign[0] for sign in style.SIGNS.values()]
 
     def test_keys_cover_nothing(self):
         for words in (self.hand, self.stall, [*self.hand, '--beside', *self.stall]):
@@ -416,18 +406,14 @@ class Links(Folder):
                         inner = axes.get_window_extent()
                         across = min(box.x1, inner.x1) - max(box.x0, inner.x0)
                         up = min(box.y1, inner.y1) - max(box.y0, inner.y0)
-                        self.assertFalse(across > 1 and up > 1, axes.get_title(loc='left'))
+                        assert not (across > 1 and up > 1), axes.get_title(loc='left')
 
     def test_a_log_axis_keeps_zero(self):
         delay = self.panels(*self.hand, '--link', 'a', '--log')['delay in the queue of each packet sent']
-        self.assertEqual(delay.get_yscale(), 'symlog')
-        self.assertEqual(sum(y == 0 for _, y in marks(delay)['.']), 2)
+        assert delay.get_yscale() == 'symlog'
+        assert sum(y == 0 for _, y in marks(delay)['.']) == 2
 
     def test_progress(self):
         progress = self.panels(*self.stall, '--panels', 'progress', '--whole')['bytes acknowledged of each flow']
-        self.assertEqual(progress.get_legend().get_texts()[0].get_text(), 'f, done in 1 s')
-        self.assertEqual(curves(progress)[style.BLUE][:2], [(0, 0), (1.00308, 1000)])
-
-
-if __name__ == '__main__':
-    unittest.main()
+        assert progress.get_legend().get_texts()[0].get_text() == 'f, done in 1 s'
+        assert curves(progress)[style.BLUE][:2] == [(0, 0), (1.00308, 1000)]

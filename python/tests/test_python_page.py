@@ -13,7 +13,7 @@ import sys
 
 import pytest
 
-from paths import TOP
+from clone import TOP
 
 import tcpsim
 from tcpsim.api.answers import Move

@@ -1,12 +1,9 @@
-#!/usr/bin/env python3
-"""Tests of tcpsim-replay and its page: python/tests/test_replay.py [--pictures]. The last line is
-'N passed, N failed'.
+"""Tests of tcpsim-replay and its page.
 
 The pages of four examples are opened in headless Chromium. At 50 positions of each, forwards, backwards
 and by jumps, what the drawn elements say of themselves is compared with the dump of `tcpsim debug` at
 that position. The dumps come from the built program, and where it is not built from the model in
-python/tcpsim_model. Where there is no Chromium the tests in it are left out, and it says so. --pictures writes
-docs/pictures/replay_*.png.
+python/tcpsim_model. `python3 python/tests/test_replay.py` writes docs/pictures/replay_*.png.
 """
 import base64
 import csv
@@ -16,24 +13,23 @@ import json
 import math
 import os
 import random
+import re
 import shutil
 import subprocess
 import sys
 import tempfile
 import time
-import unittest
 
-from paths import BIN, MODEL, TOP
+import pytest
+
+from clone import BIN, CHROMIUM, EXAMPLES, PROGRAM, TOP, Folder, paths, tool
 from tcpsim.replay import page, recording
-from tcpsim.program import NoProgram, find_program
 from tcpsim.scenario import units
 from tcpsim.scenario.text import Scenario, Unreadable
 from tcpsim.curves import read_run
 
-EXAMPLES = os.path.join(TOP, 'examples')
 PICTURES = os.path.join(TOP, 'docs', 'pictures')
-CHROMIUM = next((path for path in map(shutil.which, ('chromium', 'chromium-browser', 'google-chrome')) if path), None)
-IN_BROWSER = unittest.skipUnless(CHROMIUM, 'no Chromium: apt-get install chromium')
+IN_BROWSER = pytest.mark.skipif(not CHROMIUM, reason='no Chromium: apt-get install chromium')
 # A queue that overflows, a timeout, CoDel, three routers; of each the events that its pictures show.
 COMPARED = {'slow_start_into_a_full_queue': 20, 'two_timeouts_in_a_row': 27, 'four_flows_share_codel': 2467,
             'parking_lot_of_three_routers': 1657}
@@ -201,27 +197,16 @@ class Browser:
 
 # ---- what the debugger says
 
-def example(name):
-    return os.path.join(EXAMPLES, name + '.txt'), os.path.join(EXAMPLES, name + '.trace')
-
-
-def program():
-    """The program's words: that named by TCPSIM, else the one that tcpsim-replay finds, else the model."""
-    try:
-        return [find_program(os.environ.get('TCPSIM'))]
-    except NoProgram:
-        return [sys.executable, MODEL]
-
 
 def dumps(name, positions):
     """The dump at each position, as the lines' words, from one session of the debugger."""
-    with open(example(name)[0], encoding='ascii') as file:
+    with open(paths(name)[0], encoding='ascii') as file:
         session = file.read() + '---\n'
     at = 0
     for position in positions:
         session += f'step {position - at}\n' if position >= at else f'back {at - position}\n'
         at = position
-    done = subprocess.run([*program(), 'debug'], input=session.encode(), capture_output=True, check=True)
+    done = subprocess.run([PROGRAM, 'debug'], input=session.encode(), capture_output=True, check=True)
     found = []
     for line in done.stdout.decode('ascii').splitlines():
         if line.startswith('at '):
@@ -255,23 +240,14 @@ end 7
 """
 
 
-class Folder(unittest.TestCase):
+class Files(Folder):
     """Tests that write into a folder of their own."""
 
-    def setUp(self):
-        self.folder = tempfile.mkdtemp(prefix='replay')
-        self.addCleanup(shutil.rmtree, self.folder, True)
-
     def path(self, name, text=None):
-        whole = os.path.join(self.folder, name)
-        if text is not None:
-            with open(whole, 'w', encoding='utf-8') as file:
-                file.write(text)
-        return whole
+        return os.path.join(self.folder, name) if text is None else self.put(name, text)
 
     def run_script(self, *words):
-        return subprocess.run([sys.executable, os.path.join(BIN, 'tcpsim-replay'), *words], cwd=self.folder,
-                              capture_output=True, text=True, check=False)
+        return tool('replay', *words, cwd=self.folder, text=True)
 
 
 def part_of(text, trace, begin=0, end=None):
@@ -279,85 +255,84 @@ def part_of(text, trace, begin=0, end=None):
 
 
 def scenario_of(name):
-    with open(example(name)[0], encoding='ascii') as file:
+    with open(paths(name)[0], encoding='ascii') as file:
         return Scenario(file.read())
 
 
-class Parts(unittest.TestCase):
-    def test_state_before_a_moment_by_hand(self):
-        part = part_of(BY_HAND, TRACE, begin=2040000)
-        self.assertEqual(part.first, 2)
-        self.assertEqual([line.split()[0] for line in part.lines], ['3', '4', '5', '6', '7'])
-        link = part.base['links'][0]
-        self.assertEqual((link['offered'], link['sent'], link['arrived'], link['busy']), (4, 2, 0, True))
-        self.assertEqual(link['waiting'], [[0, 0, 2000, 0, False]])
-        self.assertEqual(link['under_way'], [[0, 0, 0, 0, 2040000, False, 0], [0, 0, 1000, 1040000, 3080000, False, 0]])
-        flow = part.base['flows'][0]
-        self.assertEqual((flow['una'], flow['nxt'], flow['cwnd'], flow['ssthresh'], flow['next']), (0, 4000, 4000, 64000, 0))
-        self.assertEqual([part_of(BY_HAND, TRACE, begin=moment).base['flows'][0]['since'] for moment in (0, 2040000)],
-                         [None, 0])
-
-    def test_to_leaves_its_moment_out(self):
-        self.assertEqual(len(part_of(BY_HAND, TRACE, end=2080000).lines), 3)
-        self.assertEqual(len(part_of(BY_HAND, TRACE, end=2080001).lines), 5)
-
-    def test_states_are_the_debuggers(self):
-        for name in COMPARED:
-            scenario = scenario_of(name)
-            with open(example(name)[1], encoding='ascii') as file:
-                lines = file.read().splitlines()
-            moments = sorted({int(line.split()[1]) for line in lines[:-1]})
-            chosen = random.Random(name).sample(moments, min(20, len(moments)))
-            parts = [recording.Part(scenario, lines, moment) for moment in chosen]
-            for part, dump in zip(parts, dumps(name, [part.first for part in parts])):
-                self.compare(part, dump)
-
-    def compare(self, part, dump):
-        under_way = {(int(w[3]) - 1, int(w[1]), int(w[6]), int(w[5] == 'ack'), int(w[7]))
-                     for w in dump if w[0] == 'event' and w[3] != '0'}
-        self.assertEqual(under_way, {(n, p[4], *p[:3]) for n, link in enumerate(part.base['links'])
-                                     for p in link['under_way']})
-        for words in dump:
-            told = signs(words)
-            if words[0] == 'link':
-                link = part.base['links'][int(words[1])]
-                queue = ','.join(f'{p[0]}:{"da"[p[1]]}:{p[2]}@{p[3]}' for p in link['waiting']) or '-'
-                self.assertEqual((told['offered'], told['sent'], told['queue']),
-                                 (str(link['offered']), str(link['sent']), queue))
-            elif words[0] == 'node' and words[2] == 'sender':
-                flow = part.base['flows'][int(words[3])]
-                self.assertEqual([told[key] for key in ('una', 'nxt', 'high', 'cwnd', 'ssthresh', 'dups', 'fr')],
-                                 [str(int(flow[key])) for key in
-                                  ('una', 'nxt', 'high', 'cwnd', 'ssthresh', 'dups', 'recovering')])
-            elif words[0] == 'node' and words[2] == 'receiver':
-                flow = part.base['flows'][int(words[3])]
-                self.assertEqual((told['next'], told['held']),
-                                 (str(flow['next']), ','.join(map(str, flow['above'])) or '-'))
-
-    def test_every_example_is_taken_whole(self):
-        for name in sorted(file[:-6] for file in os.listdir(EXAMPLES) if file.endswith('.trace')):
-            with open(example(name)[1], encoding='ascii') as file:
-                lines = file.read().splitlines()
-            part = recording.Part(scenario_of(name), lines)
-            self.assertTrue(part.whole, name)
-            self.assertEqual(lines[:-1], part.lines, name)
+def test_state_before_a_moment_by_hand():
+    part = part_of(BY_HAND, TRACE, begin=2040000)
+    assert part.first == 2
+    assert [line.split()[0] for line in part.lines] == ['3', '4', '5', '6', '7']
+    link = part.base['links'][0]
+    assert (link['offered'], link['sent'], link['arrived'], link['busy']) == (4, 2, 0, True)
+    assert link['waiting'] == [[0, 0, 2000, 0, False]]
+    assert link['under_way'] == [[0, 0, 0, 0, 2040000, False, 0], [0, 0, 1000, 1040000, 3080000, False, 0]]
+    flow = part.base['flows'][0]
+    assert (flow['una'], flow['nxt'], flow['cwnd'], flow['ssthresh'], flow['next']) == (0, 4000, 4000, 64000, 0)
+    assert [part_of(BY_HAND, TRACE, begin=moment).base['flows'][0]['since'] for moment in (0, 2040000)] == [None, 0]
 
 
-class Refusals(Folder):
+def test_to_leaves_its_moment_out():
+    assert len(part_of(BY_HAND, TRACE, end=2080000).lines) == 3
+    assert len(part_of(BY_HAND, TRACE, end=2080001).lines) == 5
+
+
+def test_states_are_the_debuggers():
+    for name in COMPARED:
+        scenario = scenario_of(name)
+        with open(paths(name)[1], encoding='ascii') as file:
+            lines = file.read().splitlines()
+        moments = sorted({int(line.split()[1]) for line in lines[:-1]})
+        chosen = random.Random(name).sample(moments, min(20, len(moments)))
+        parts = [recording.Part(scenario, lines, moment) for moment in chosen]
+        for part, dump in zip(parts, dumps(name, [part.first for part in parts])):
+            compare(part, dump)
+
+
+def compare(part, dump):
+    under_way = {(int(w[3]) - 1, int(w[1]), int(w[6]), int(w[5] == 'ack'), int(w[7]))
+                 for w in dump if w[0] == 'event' and w[3] != '0'}
+    assert under_way == {(n, p[4], *p[:3]) for n, link in enumerate(part.base['links'])
+                                 for p in link['under_way']}
+    for words in dump:
+        told = signs(words)
+        if words[0] == 'link':
+            link = part.base['links'][int(words[1])]
+            queue = ','.join(f'{p[0]}:{"da"[p[1]]}:{p[2]}@{p[3]}' for p in link['waiting']) or '-'
+            assert (told['offered'], told['sent'], told['queue']) == (str(link['offered']), str(link['sent']), queue)
+        elif words[0] == 'node' and words[2] == 'sender':
+            flow = part.base['flows'][int(words[3])]
+            assert [told[key] for key in ('una', 'nxt', 'high', 'cwnd', 'ssthresh', 'dups', 'fr')] == [str(int(flow[key])) for key in
+                              ('una', 'nxt', 'high', 'cwnd', 'ssthresh', 'dups', 'recovering')]
+        elif words[0] == 'node' and words[2] == 'receiver':
+            flow = part.base['flows'][int(words[3])]
+            assert (told['next'], told['held']) == (str(flow['next']), ','.join(map(str, flow['above'])) or '-')
+
+
+def test_every_example_is_taken_whole():
+    for name in sorted(file[:-6] for file in os.listdir(EXAMPLES) if file.endswith('.trace')):
+        with open(paths(name)[1], encoding='ascii') as file:
+            lines = file.read().splitlines()
+        part = recording.Part(scenario_of(name), lines)
+        assert part.whole, name
+        assert lines[:-1] == part.lines, name
+
+
+class TestRefusals(Files):
     def refused(self, trace, *says, scenario=BY_HAND, words=()):
         given, lines, out = self.path('a.txt', scenario), self.path('a.trace', trace), self.path('a.html')
         if os.path.exists(out):
             os.remove(out)
         done = self.run_script(given, lines, '-o', out, *words)
-        self.assertEqual(done.returncode, 1, done)
-        self.assertEqual(done.stderr.count('\n'), 1, done.stderr)
+        assert done.returncode == 1, done
+        assert done.stderr.count('\n') == 1, done.stderr
         for word in says:
-            self.assertIn(word, done.stderr)
-        self.assertEqual(sorted(os.listdir(self.folder)), ['a.trace', 'a.txt'])
+            assert word in done.stderr
+        assert sorted(os.listdir(self.folder)) == ['a.trace', 'a.txt']
 
     def change(self, number, old, new):
         lines = TRACE.splitlines(True)
-        self.assertIn(old, lines[number - 1])
+        assert old in lines[number - 1]
         lines[number - 1] = lines[number - 1].replace(old, new, 1)
         return ''.join(lines)
 
@@ -372,14 +347,12 @@ class Refusals(Folder):
                 (4, '2080000', '2000000'), (5, 'free 1', 'free -1'), (5, 'next=1000', 'next=2000'),
                 (6, 'una=1000', 'una=2000'), (6, 'nxt=6000', 'nxt=7000'), (6, 'ack 0 1000', 'ack 0'),
                 (6, '6 3080000', '7 3080000'), (7, 'data 0 1000', 'data 0 2000'), (8, 'end 7', 'end 8'), (8, 'end 7', 'end')):
-            with self.subTest(f'{number}: {old} to {new}'):
-                self.refused(self.change(number, old, new), f'line {number} ')
+            self.refused(self.change(number, old, new), f'line {number} ')
 
     def test_cut_lines(self):
         whole = TRACE[:TRACE.index('end')]
         for cut in (1, 2, 9, 30, 45):
-            with self.subTest(cut):
-                self.refused(whole[:-cut], 'line 7 ')
+            self.refused(whole[:-cut], 'line 7 ')
 
     def test_empty_and_not_a_trace(self):
         self.refused('', 'line 1 ')
@@ -387,7 +360,7 @@ class Refusals(Folder):
         self.refused('PNG\u00e9\n', 'line 1 ')
 
     def test_other_scenario(self):
-        with open(example('four_flows_share_codel')[1], encoding='ascii') as file:
+        with open(paths('four_flows_share_codel')[1], encoding='ascii') as file:
             self.refused(file.read(), 'line 1 ')
 
     def test_no_scenario(self):
@@ -399,63 +372,61 @@ class Refusals(Folder):
 
     def test_files_that_are_not_there(self):
         done = self.run_script('nothing.txt', 'nothing.trace')
-        self.assertEqual((done.returncode, done.stderr.count('\n'), os.listdir(self.folder)), (1, 1, []))
+        assert (done.returncode, done.stderr.count('\n'), os.listdir(self.folder)) == (1, 1, [])
         given, lines = self.path('a.txt', BY_HAND), self.path('a.trace', TRACE)
         done = self.run_script(given, lines, '-o', os.path.join(self.folder, 'no', 'a.html'))
-        self.assertEqual((done.returncode, done.stderr.count('\n')), (1, 1), done.stderr)
+        assert (done.returncode, done.stderr.count('\n')) == (1, 1), done.stderr
         done = self.run_script(given, '--program', os.path.join(self.folder, 'no'))
-        self.assertEqual((done.returncode, done.stderr.count('\n')), (1, 1), done.stderr)
+        assert (done.returncode, done.stderr.count('\n')) == (1, 1), done.stderr
 
     def test_times_that_are_none(self):
         given, lines = self.path('a.txt', BY_HAND), self.path('a.trace', TRACE)
         done = self.run_script(given, lines, '--from', 'noon')
-        self.assertEqual(done.returncode, 2)
-        self.assertNotIn('Traceback', done.stderr)
+        assert done.returncode == 2
+        assert 'Traceback' not in done.stderr
 
     def test_too_many_events_name_what_fits(self):
         most, recording.MOST_EVENTS = recording.MOST_EVENTS, 4
         try:
-            with self.assertRaises(Unreadable) as refused:
+            with pytest.raises(Unreadable) as refused:
                 part_of(BY_HAND, TRACE)
             words = str(refused.exception).replace(',', '').split()
             spans = [units.moment(words[n + 1]) for n, word in enumerate(words) if word in ('--from', '--to')]
-            self.assertEqual(spans, [0, 2080000, 2080000])
-            self.assertEqual(len(part_of(BY_HAND, TRACE, spans[0], spans[1]).lines), 3)
-            self.assertEqual(len(part_of(BY_HAND, TRACE, spans[2]).lines), 4)
+            assert spans == [0, 2080000, 2080000]
+            assert len(part_of(BY_HAND, TRACE, spans[0], spans[1]).lines) == 3
+            assert len(part_of(BY_HAND, TRACE, spans[2]).lines) == 4
         finally:
             recording.MOST_EVENTS = most
 
 
-class Pages(Folder):
+class TestPages(Files):
     def test_size(self):
         for name in COMPARED:
             out = self.path('a.html')
-            done = self.run_script(*example(name), '-o', out)
-            self.assertEqual(done.returncode, 0, done.stderr)
+            done = self.run_script(*paths(name), '-o', out)
+            assert done.returncode == 0, done.stderr
             with open(out, encoding='utf-8') as file:
                 text = file.read()
-            self.assertNotIn('@@', text.partition('id="facts"')[2])
-            self.assertNotRegex(text, r'(src|href)=["\']?(https?:)?//')
+            assert '@@' not in text.partition('id="facts"')[2]
+            assert not re.search(r'(src|href)=["\']?(https?:)?//', text)
             packed = text.partition('id="trace">')[2].partition('</script>')[0]
             events = int(done.stdout.split(': ')[1].split()[0].replace(',', ''))
-            self.assertLessEqual(len(packed), 40 * events, name)
+            assert len(packed) <= 40 * events, name
 
+    @pytest.mark.built
     def test_program_is_run_without_a_trace(self):
-        named = program()
-        if len(named) > 1:
-            self.skipTest('the program is not built')
-        for words in ((), (example('two_timeouts_in_a_row')[1],)):
-            done = self.run_script(example('two_timeouts_in_a_row')[0], *words, '--program', named[0], '-o',
+        for words in ((), (paths('two_timeouts_in_a_row')[1],)):
+            done = self.run_script(paths('two_timeouts_in_a_row')[0], *words, '--program', PROGRAM, '-o',
                                    self.path(f'{len(words)}.html'))
-            self.assertEqual(done.returncode, 0, done.stderr)
+            assert done.returncode == 0, done.stderr
         with open(self.path('0.html'), 'rb') as one, open(self.path('1.html'), 'rb') as other:
-            self.assertEqual(one.read(), other.read())
-        self.refused_by_program(named[0])
+            assert one.read() == other.read()
+        self.refused_by_program(PROGRAM)
 
     def refused_by_program(self, named):
         done = self.run_script(self.path('a.txt', BY_HAND.replace('droptail 2', 'droptail 0')), '--program', named)
-        self.assertEqual((done.returncode, done.stderr.count('\n')), (1, 1), done.stderr)
-        self.assertIn('refused E5 line 4', done.stderr)
+        assert (done.returncode, done.stderr.count('\n')) == (1, 1), done.stderr
+        assert 'refused E5 line 4' in done.stderr
 
     def test_folder_of_pages(self):
         given, out = self.path('given'), self.path('pages')
@@ -465,32 +436,33 @@ class Pages(Folder):
         script = os.path.join(TOP, 'dev', 'pages.py')
         done = subprocess.run([sys.executable, script, '--examples', given, '-o', out], capture_output=True, text=True,
                               check=False)
-        self.assertEqual(done.returncode, 0, done.stderr)
-        self.assertEqual(sorted(os.listdir(out)), ['by_hand.html', 'index.html'])
+        assert done.returncode == 0, done.stderr
+        assert sorted(os.listdir(out)) == ['by_hand.html', 'index.html']
         with open(os.path.join(out, 'index.html'), encoding='utf-8') as file:
             text = file.read()
-        self.assertIn('href="by_hand.html"', text)
-        self.assertIn('One line, &lt;and&gt; another.', text)
+        assert 'href="by_hand.html"' in text
+        assert 'One line, &lt;and&gt; another.' in text
         self.path('given/by_hand.trace', TRACE.replace('una=1000', 'una=2000'))
         done = subprocess.run([sys.executable, script, '--examples', given, '-o', self.path('none')],
                               capture_output=True, text=True, check=False)
-        self.assertEqual((done.returncode, done.stderr.count('\n')), (1, 1), done.stderr)
-        self.assertIn('line 6', done.stderr)
+        assert (done.returncode, done.stderr.count('\n')) == (1, 1), done.stderr
+        assert 'line 6' in done.stderr
 
     def test_d3_is_brought_along(self):
         """Each page has the clone's d3 whole, and its license lies beside it."""
         with open(page.LIBRARY, encoding='utf-8') as file:
             library = file.read()
-        self.assertIn('version:"3.', library[:200])
+        assert 'version:"3.' in library[:200]
         with open(os.path.join(os.path.dirname(page.LIBRARY), 'LICENSE'), encoding='utf-8') as file:
-            self.assertIn('Michael Bostock', file.read())
+            assert 'Michael Bostock' in file.read()
         out = self.path('a.html')
-        self.assertEqual(self.run_script(*example('one_segment'), '-o', out).returncode, 0)
+        assert self.run_script(*paths('one_segment'), '-o', out).returncode == 0
         with open(out, encoding='utf-8') as file:
-            self.assertIn(library, file.read())
+            assert library in file.read()
 
 
 # ---- the page in a browser
+
 
 def positions_of(name, count):
     """50 positions: forwards in a row, backwards in a row, and jumps."""
@@ -544,16 +516,16 @@ PAGES = tempfile.TemporaryDirectory(prefix='replay')
 def page_of(name, *words):
     """The page of an example, made once; its path."""
     out = os.path.join(PAGES.name, f'{name}{"".join(words)}.html')
-    subprocess.run([sys.executable, os.path.join(BIN, 'tcpsim-replay'), *example(name), '-o', out, *words],
+    subprocess.run([sys.executable, os.path.join(BIN, 'tcpsim-replay'), *paths(name), '-o', out, *words],
                    check=True, capture_output=True)
     return out
 
 
-class WithBrowser(unittest.TestCase):
+class WithBrowser:
     """Tests that share one browser."""
 
     @classmethod
-    def setUpClass(cls):
+    def setup_class(cls):
         cls.folder = tempfile.mkdtemp(prefix='replay')
         cls.browser = Browser(os.path.join(cls.folder, 'profile'), cls.environment())
 
@@ -563,7 +535,7 @@ class WithBrowser(unittest.TestCase):
         return {}
 
     @classmethod
-    def tearDownClass(cls):
+    def teardown_class(cls):
         cls.browser.close()
         shutil.rmtree(cls.folder, True)
 
@@ -573,11 +545,11 @@ class WithBrowser(unittest.TestCase):
 
 
 @IN_BROWSER
-class InBrowser(WithBrowser):
+class TestInBrowser(WithBrowser):
     def compare(self, name, scenario, lines, position, shown, dump):
         where = f'{name}, event {position}'
-        self.assertEqual((shown['event'], shown['hash']), (str(position), f'#event={position}'), where)
-        self.assertEqual(shown['present'], [lines[position - 1]] if position else [], where)
+        assert (shown['event'], shown['hash']) == (str(position), f'#event={position}'), where
+        assert shown['present'] == ([lines[position - 1]] if position else []), where
         now = int(lines[position - 1].split(' ')[1]) if position else 0
         self.compare_packets(scenario, shown, dump, now, where)
         queues = {int(queue['link']): queue for queue in shown['queues']}
@@ -589,21 +561,20 @@ class InBrowser(WithBrowser):
                 number = int(words[1])
                 waiting = [] if told['queue'] == '-' else told['queue'].split(',')
                 queue, limit = queues[number], scenario.links[number].capacity
-                self.assertEqual((queue['length'], queue['limit'], queue['boxes'], queue['text']),
-                                 (str(len(waiting)), str(limit), waiting[:int(queue['most'])], f'{len(waiting):,}/{limit:,}'), where)
-                self.assertGreaterEqual(int(queue['most']), 8, where)
-                self.assertEqual(queue['words'], [word.split(':')[0] for word in queue['boxes']], where)
-                self.assertEqual((links[number]['offered'], links[number]['sent']), (told['offered'], told['sent']), where)
+                assert (queue['length'], queue['limit'], queue['boxes'], queue['text']) == \
+                    (str(len(waiting)), str(limit), waiting[:int(queue['most'])], f'{len(waiting):,}/{limit:,}'), where
+                assert int(queue['most']) >= 8, where
+                assert queue['words'] == [word.split(':')[0] for word in queue['boxes']], where
+                assert (links[number]['offered'], links[number]['sent']) == (told['offered'], told['sent']), where
             elif words[0] == 'node' and words[2] == 'sender':
                 node = nodes[int(words[1])]
-                self.assertEqual([words[3]] + [told[key] for key in ('una', 'nxt', 'high', 'cwnd', 'ssthresh', 'dups', 'fr')],
-                                 [node[key] for key in ('flow', 'una', 'nxt', 'high', 'cwnd', 'ssthresh', 'dups', 'recovery')],
-                                 where)
+                assert [words[3]] + [told[key] for key in ('una', 'nxt', 'high', 'cwnd', 'ssthresh', 'dups', 'fr')] == \
+                    [node[key] for key in ('flow', 'una', 'nxt', 'high', 'cwnd', 'ssthresh', 'dups', 'recovery')], where
             elif words[0] == 'node' and words[2] == 'receiver':
                 node = nodes[int(words[1])]
-                self.assertEqual((words[3], told['next']), (node['flow'], node['next']), where)
+                assert (words[3], told['next']) == (node['flow'], node['next']), where
         drops = [word[5:] for word in (lines[position - 1].split(' ') if position else []) if word.startswith('drop=')]
-        self.assertEqual(sorted(drops), sorted(f'{d["reason"]}:{d["flow"]}:{d["number"]}' for d in shown['drops']), where)
+        assert sorted(drops) == sorted(f'{d["reason"]}:{d["flow"]}:{d["number"]}' for d in shown['drops']), where
         self.compare_words_of_drops(shown['drops'], where)
 
     def compare_words_of_drops(self, drops, where):
@@ -614,35 +585,35 @@ class InBrowser(WithBrowser):
         for group in groups.values():
             more = f' +{len(group) - 1}' if len(group) > 1 else ''
             last = group[-1]
-            self.assertEqual([drop['text'] for drop in group if 'text' in drop],
-                             [f'\u2715 {last["reason"]} {last["flow"]}:{last["number"]}{more}'], where)
+            assert [drop['text'] for drop in group if 'text' in drop] == \
+                [f'\u2715 {last["reason"]} {last["flow"]}:{last["number"]}{more}'], where
 
     def compare_packets(self, scenario, shown, dump, now, where):
         told = sorted((int(w[3]) - 1, int(w[4]), int(w[6]), w[5], int(w[7]), int(w[1]))
                       for w in dump if w[0] == 'event' and w[3] != '0')
         drawn = {(int(p['link']), int(p['count']), int(p['flow']), p['sort'], int(p['number']), int(p['arrives'])): p
                  for p in shown['packets']}
-        self.assertEqual(told, sorted(drawn), where)
+        assert told == sorted(drawn), where
         ways = {int(link['link']): [tuple(map(float, point.split(','))) for point in link['way'].split(' ')]
                 for link in shown['links']}
         for (link, _, flow, sort, _, arrives), packet in drawn.items():
             size = 40 + (scenario.flows[flow].mss if sort == 'data' else 0)
             took = -(-size * 8 * 10**9 // scenario.links[link].rate) + scenario.links[link].delay
             part = (now - (arrives - took)) / took
-            self.assertAlmostEqual(float(packet['place']), part, places=5, msg=where)
+            assert float(packet['place']) == pytest.approx(part, rel=0, abs=5e-6), where
             at = tuple(map(float, packet['transform'][len('translate('):-1].split(',')))
             for found, told in zip(at, point_at(ways[link], part)):
-                self.assertAlmostEqual(found, told, delta=.02, msg=where)
-            self.assertEqual(packet['squares'], int(sort == 'data'), where)
-            self.assertEqual(packet['rings'], int(packet['again']), where)
-            self.assertEqual(packet['word'], str(flow), where)
+                assert found == pytest.approx(told, rel=0, abs=.02), where
+            assert packet['squares'] == int(sort == 'data'), where
+            assert packet['rings'] == int(packet['again']), where
+            assert packet['word'] == str(flow), where
 
     def walk(self, name):
         scenario = scenario_of(name)
-        with open(example(name)[1], encoding='ascii') as file:
+        with open(paths(name)[1], encoding='ascii') as file:
             lines = file.read().splitlines()[:-1]
         positions = positions_of(name, len(lines))
-        self.assertEqual(len(positions), POSITIONS)
+        assert len(positions) == POSITIONS
         self.browser.open(self.made(name), f'#event={positions[0]}')
         at = positions[0]
         for number, (position, dump) in enumerate(zip(positions, dumps(name, positions))):
@@ -655,75 +626,72 @@ class InBrowser(WithBrowser):
 
     def test_forwards_backwards_and_jumps(self):
         for name in COMPARED:
-            with self.subTest(name):
-                self.walk(name)
+            self.walk(name)
 
     def test_every_example_at_three_moments(self):
         """The other examples: one early, one in the middle, one late event."""
         for name in sorted(file[:-6] for file in os.listdir(EXAMPLES) if file.endswith('.trace')):
             scenario = scenario_of(name)
-            with open(example(name)[1], encoding='ascii') as file:
+            with open(paths(name)[1], encoding='ascii') as file:
                 lines = file.read().splitlines()[:-1]
             chosen = [len(lines) // 10 + 1, len(lines) // 2, len(lines)]
             self.browser.open(self.made(name))
             for position, dump in zip(chosen, dumps(name, chosen)):
-                with self.subTest(f'{name}, {position}'):
-                    self.browser.go(position)
-                    self.compare(name, scenario, lines, position, self.browser.shown(), dump)
+                self.browser.go(position)
+                self.compare(name, scenario, lines, position, self.browser.shown(), dump)
 
     def test_columns(self):
         """By hand: senders first, then the routers p, q, u in a row; rb is behind q, ra and rc behind u."""
         self.browser.open(self.made('parking_lot_of_three_routers'))
         columns = json.loads(self.browser.value('JSON.stringify(page.net.places.map(place => place.column))'))
-        self.assertEqual(columns, [1, 2, 3, 0, 4, 0, 3, 0, 4])
+        assert columns == [1, 2, 3, 0, 4, 0, 3, 0, 4]
 
     def test_ticks_draw_curves(self):
         self.browser.open(self.made('parking_lot_of_three_routers'))
         paths = 'document.querySelectorAll("{} path[stroke]").length'.format
-        self.assertEqual((self.browser.value(paths('#windows')), self.browser.value(paths('#lengths'))), (6, 2))
+        assert (self.browser.value(paths('#windows')), self.browser.value(paths('#lengths'))) == (6, 2)
         self.browser.click('document.querySelector("#flows input")')
         self.browser.click('document.querySelector("#links input")')
-        self.assertEqual((self.browser.value(paths('#windows')), self.browser.value(paths('#lengths'))), (4, 1))
+        assert (self.browser.value(paths('#windows')), self.browser.value(paths('#lengths'))) == (4, 1)
 
     def test_curves_are_the_traces(self):
         """cwnd at each sender's line, and the greatest length of each queue."""
         name = 'four_flows_share_codel'
-        run = read_run(*example(name))
+        run = read_run(*paths(name))
         self.browser.open(self.made(name))
         for number, flow in enumerate(run.flows):
             curve = json.loads(self.browser.value(
                 f'JSON.stringify(page.record.curve(page.record.ofFlow({number}, CWND)))'))
             changes = [(time, now) for time, now, before in zip(flow.times, flow.cwnd, [4000, *flow.cwnd])
                        if now != before]
-            self.assertEqual(list(zip(curve['times'], curve['values']))[1:], changes)
+            assert list(zip(curve['times'], curve['values']))[1:] == changes
         longest = json.loads(self.browser.value('JSON.stringify(page.record.longest)'))
-        self.assertEqual([max(link.queue, default=0) for link in run.links],
-                         json.loads(self.browser.value('JSON.stringify(page.facts.links.map((_, l) => '
-                                                       'd3.max(page.record.queueCurve(l).values)))')))
-        self.assertTrue(all(a >= max(link.queue, default=0) for a, link in zip(longest, run.links)))
+        assert [max(link.queue, default=0) for link in run.links] == json.loads(self.browser.value('JSON.stringify(page.facts.links.map((_, l) => '
+                                                       'd3.max(page.record.queueCurve(l).values)))'))
+        assert all(a >= max(link.queue, default=0) for a, link in zip(longest, run.links))
 
     def test_from_a_moment_on(self):
         name, scenario = 'four_flows_share_codel', scenario_of('four_flows_share_codel')
-        with open(example(name)[1], encoding='ascii') as file:
+        with open(paths(name)[1], encoding='ascii') as file:
             lines = file.read().splitlines()[:-1]
         self.browser.open(self.made(name, '--from', '2s', '--to', '3s'))
         first = sum(int(line.split()[1]) < 2 * 10**9 for line in lines)
         last = sum(int(line.split()[1]) < 3 * 10**9 for line in lines)
-        self.assertEqual(int(self.browser.shown()['event']), first)
+        assert int(self.browser.shown()['event']) == first
         chosen = sorted(random.Random(3).sample(range(first + 1, last + 1), 12), key=lambda n: n % 7)
         for position, dump in zip(chosen, dumps(name, chosen)):
             self.browser.go(position)
             self.compare(name, scenario, lines, position, self.browser.shown(), dump)
         for asked, found in ((0, first), (10**6, last)):
             self.browser.go(asked)
-            self.assertEqual(int(self.browser.shown()['event']), found)
+            assert int(self.browser.shown()['event']) == found
 
     def test_address_past_the_end_and_no_number(self):
         path = self.made('two_timeouts_in_a_row')
         self.browser.open(path, '#event=99999999')
-        self.assertEqual((self.browser.shown()['event'], self.browser.shown()['hash']), ('51', '#event=51'))
+        assert (self.browser.shown()['event'], self.browser.shown()['hash']) == ('51', '#event=51')
         self.browser.open(path, '#event=x')
-        self.assertEqual(self.browser.shown()['event'], '0')
+        assert self.browser.shown()['event'] == '0'
 
     def test_keys_find_drops_timeouts_and_stalls(self):
         """The example's hunt (docs/DEBUGGING.md): drops at 6, 10 and 26, timeouts at 26 and 27, and
@@ -735,11 +703,11 @@ class InBrowser(WithBrowser):
                 self.browser.press('Home')
             self.browser.press(key)
             found.append(int(self.browser.shown()['event']))
-        self.assertEqual(found[:3], [6, 10, 26])
-        self.assertEqual(found[3], 26)
-        self.assertEqual(found[4:8], [26, 27, 26, 10])
-        self.assertEqual(found[8], 18)         # una rose in line 18 and not again before line 31
-        self.assertIn('no new acknowledgement for 3.003080 s', self.browser.shown()['notice'])
+        assert found[:3] == [6, 10, 26]
+        assert found[3] == 26
+        assert found[4:8] == [26, 27, 26, 10]
+        assert found[8] == 18         # una rose in line 18 and not again before line 31
+        assert 'no new acknowledgement for 3.003080 s' in self.browser.shown()['notice']
 
     def visited(self, key):
         """The moments, in nanoseconds, to which a key leads from the page's first event on."""
@@ -757,18 +725,17 @@ class InBrowser(WithBrowser):
     def test_stalls_are_those_of_stalls_py(self):
         """`s` visits the moments from which tcpsim-stalls says that a flow stood still, in every example."""
         for name in sorted(file[:-6] for file in os.listdir(EXAMPLES) if file.endswith('.trace')):
-            with self.subTest(name):
-                rows = self.rows_of_stalls(name)
-                self.browser.open(self.made(name))
-                told = json.loads(self.browser.value('JSON.stringify(page.record.stalls.map(s => '
-                                                     '[page.facts.flows[s.flow].name, s.from, s.to]))'))
-                self.assertEqual(sorted(told), sorted(rows))
-                # Where there is no stall `s` stays before the first event, at 0.
-                self.assertEqual(self.visited('s'), sorted(row[1] for row in rows) or [0])
-                self.assertIn('no stall after this event', self.browser.shown()['notice'])
+            rows = self.rows_of_stalls(name)
+            self.browser.open(self.made(name))
+            told = json.loads(self.browser.value('JSON.stringify(page.record.stalls.map(s => '
+                                                 '[page.facts.flows[s.flow].name, s.from, s.to]))'))
+            assert sorted(told) == sorted(rows)
+            # Where there is no stall `s` stays before the first event, at 0.
+            assert self.visited('s') == (sorted(row[1] for row in rows) or [0])
+            assert 'no stall after this event' in self.browser.shown()['notice']
 
     def rows_of_stalls(self, name, *words):
-        done = subprocess.run([sys.executable, os.path.join(BIN, 'tcpsim-stalls'), *example(name), '--csv', *words],
+        done = subprocess.run([sys.executable, os.path.join(BIN, 'tcpsim-stalls'), *paths(name), '--csv', *words],
                               capture_output=True, text=True, check=True)
         return [[row['flow'], int(row['from']), int(row['to'])] for row in csv.DictReader(io.StringIO(done.stdout))]
 
@@ -781,8 +748,8 @@ class InBrowser(WithBrowser):
         last = self.browser.value('page.record.times[page.record.count]')
         rows = [[flow, since, min(to, last)] for flow, since, to in self.rows_of_stalls(name)
                 if begin <= since < end and min(to, last) - since > 2 * 10**8]
-        self.assertGreater(len(rows), 10)
-        self.assertEqual(sorted(told), sorted(rows))
+        assert len(rows) > 10
+        assert sorted(told) == sorted(rows)
 
     def test_clicks_say_words_and_commands(self):
         self.browser.open(self.made('two_timeouts_in_a_row'), '#event=27')
@@ -794,15 +761,15 @@ class InBrowser(WithBrowser):
                 ('document.querySelector(".queue .count")', ('0 of at most 10', 'of link a, drop-tail', 'step 27'))):
             self.browser.click(script)
             for word in says:
-                self.assertIn(word, self.browser.value(words))
+                assert word in self.browser.value(words)
         shown = self.browser.shown()['packets']
-        self.assertEqual([(p['number'], p['rings']) for p in shown], [('4000', 1)])
+        assert [(p['number'], p['rings']) for p in shown] == [('4000', 1)]
 
     def test_chart_goes_to_its_moment(self):
         self.browser.open(self.made('two_timeouts_in_a_row'))
         self.browser.click('document.querySelector("#windows .catch")')
         # The middle of 3.0..s lies between the last event before the first timeout and that timeout's second.
-        self.assertIn(int(self.browser.shown()['event']), (26,))
+        assert int(self.browser.shown()['event']) in (26,)
 
     def test_both_charts_go_to_their_moment(self):
         self.browser.open(self.made('two_flows_share_fairly'))
@@ -811,9 +778,9 @@ class InBrowser(WithBrowser):
             times = json.loads(self.browser.value('JSON.stringify([page.time, page.record.timeOf(page.record.at), '
                                                   'page.record.timeOf(page.record.at + 1), ...page.windows.x.domain()])'))
             middle = (times[3] + times[4]) / 2
-            self.assertAlmostEqual(times[0], middle, delta=(times[4] - times[3]) / 400)
-            self.assertLess(times[1], times[0])
-            self.assertLessEqual(times[0], times[2])
+            assert times[0] == pytest.approx(middle, rel=0, abs=(times[4] - times[3]) / 400)
+            assert times[1] < times[0]
+            assert times[0] <= times[2]
             self.browser.press('Home')
 
     def test_speed(self):
@@ -826,7 +793,7 @@ class InBrowser(WithBrowser):
         for unit, value, says in (('time', 0, '0.001 \u00d7'), ('time', 300, '1 \u00d7'), ('time', 400, '10 \u00d7'),
                                   ('events', 0, '1 a second'), ('events', 400, '10000 a second')):
             self.browser.value(f'set("{unit}", {value})')
-            self.assertEqual(self.browser.value(said), says)
+            assert self.browser.value(said) == says
         for unit, value, measure, pace in (('time', 100, 'page.time', 10**7), ('events', 150, 'page.record.at', 31.6)):
             self.browser.value(f'set("{unit}", {value})')
             at, asked = self.browser.value(measure), time.monotonic()
@@ -834,8 +801,8 @@ class InBrowser(WithBrowser):
             time.sleep(1.5)
             self.browser.press(' ')
             passed, moved = time.monotonic() - asked, self.browser.value(measure) - at
-            self.assertLess(moved, 1.1 * pace * passed)
-            self.assertGreater(moved, 0.3 * pace * passed)
+            assert moved < 1.1 * pace * passed
+            assert moved > 0.3 * pace * passed
 
     def test_space_plays_and_pauses(self):
         self.browser.open(self.made('slow_start_into_a_full_queue'))
@@ -843,9 +810,9 @@ class InBrowser(WithBrowser):
         time.sleep(.6)
         self.browser.press(' ')
         shown = int(self.browser.shown()['event'])
-        self.assertGreater(shown, 0)
+        assert shown > 0
         time.sleep(.2)
-        self.assertEqual(int(self.browser.shown()['event']), shown)
+        assert int(self.browser.shown()['event']) == shown
 
 
 class OneFont:
@@ -870,17 +837,15 @@ class OneFont:
         may want scrolling.)"""
         for name in sorted(file[:-6] for file in os.listdir(EXAMPLES) if file.endswith('.trace')):
             self.browser.open(self.made(name))
-            self.assertEqual([self.browser.families(css) for css in ('h1', '#windows .title', '#where')],
-                             [{self.sans}, {self.sans}, {self.mono}])
+            assert [self.browser.families(css) for css in ('h1', '#windows .title', '#where')] == \
+                [{self.sans}, {self.sans}, {self.mono}]
             for moment in json.loads(self.browser.value(MOMENTS)):
-                with self.subTest(f'{name}, event {moment}'):
-                    self.browser.go(moment)
-                    self.assertEqual(collisions(json.loads(self.browser.value(SEEN))), [])
+                self.browser.go(moment)
+                assert collisions(json.loads(self.browser.value(SEEN))) == []
             self.browser.press('Home')
             self.browser.press('s')
-            with self.subTest(f'{name}, stall'):
-                self.assertNotEqual(self.browser.shown()['notice'], '')
-                self.assertEqual(collisions(json.loads(self.browser.value(SEEN))), [])
+            assert self.browser.shown()['notice'] != ''
+            assert collisions(json.loads(self.browser.value(SEEN))) == []
 
     def test_axis_of_time_has_its_labels(self):
         """However wide they are: at least three, and the curves reach from the axis to the last moment."""
@@ -888,18 +853,18 @@ class OneFont:
             self.browser.open(self.made(name))
             labels = json.loads(self.browser.value('JSON.stringify(["#windows", "#lengths"].map(css => '
                                                    '[...document.querySelectorAll(css + " .axis:nth-of-type(2) text")].length))'))
-            self.assertTrue(all(count >= 3 for count in labels), (name, labels))
+            assert all(count >= 3 for count in labels), (name, labels)
 
 
 @IN_BROWSER
-@unittest.skipUnless(os.path.isdir('/usr/share/fonts/truetype/dejavu'), 'no DejaVu: apt-get install fonts-dejavu')
-class DejaVuAlone(OneFont, WithBrowser):
+@pytest.mark.skipif(not os.path.isdir('/usr/share/fonts/truetype/dejavu'), reason='no DejaVu: apt-get install fonts-dejavu')
+class TestDejaVuAlone(OneFont, WithBrowser):
     fonts, sans, mono = '/usr/share/fonts/truetype/dejavu', 'DejaVu Sans', 'DejaVu Sans Mono'
 
 
 @IN_BROWSER
-@unittest.skipUnless(os.path.isdir('/usr/share/fonts/truetype/liberation'), 'no Liberation: apt-get install fonts-liberation')
-class LiberationAlone(OneFont, WithBrowser):
+@pytest.mark.skipif(not os.path.isdir('/usr/share/fonts/truetype/liberation'), reason='no Liberation: apt-get install fonts-liberation')
+class TestLiberationAlone(OneFont, WithBrowser):
     fonts, sans, mono = '/usr/share/fonts/truetype/liberation', 'Liberation Sans', 'Liberation Mono'
 
 
@@ -910,7 +875,7 @@ def draw_pictures():
     try:
         for name, event in COMPARED.items():
             out = os.path.join(folder, 'a.html')
-            subprocess.run([sys.executable, os.path.join(BIN, 'tcpsim-replay'), *example(name), '-o', out],
+            subprocess.run([sys.executable, os.path.join(BIN, 'tcpsim-replay'), *paths(name), '-o', out],
                            check=True, capture_output=True)
             browser.open(out, f'#event={event}')
             browser.picture(os.path.join(PICTURES, f'replay_{name}.png'))
@@ -919,20 +884,5 @@ def draw_pictures():
         shutil.rmtree(folder, True)
 
 
-def main():
-    if '--pictures' in sys.argv:
-        if not CHROMIUM:
-            print('test_replay.py: no Chromium: apt-get install chromium', file=sys.stderr)
-            return 1
-        draw_pictures()
-        return 0
-    if not CHROMIUM:
-        print('LEFT OUT, not passed: the tests of the replay page in a browser (apt-get install chromium)')
-    result = unittest.main(argv=sys.argv, exit=False, verbosity=0).result
-    failed = len({getattr(test, 'test_case', test).id() for test, _ in result.failures + result.errors})
-    print(f'{result.testsRun - failed - len(result.skipped)} passed, {failed} failed')
-    return 1 if failed else 0
-
-
 if __name__ == '__main__':
-    sys.exit(main())
+    draw_pictures()

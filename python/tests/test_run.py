@@ -8,7 +8,7 @@ import sys
 
 import pytest
 
-from paths import BIN, MODEL, TOP
+from clone import BIN, MODEL, TOP
 from tcpsim import estimate
 
 ONE_SEGMENT = os.path.join(TOP, 'examples', 'one_segment.txt')

@@ -1,9 +1,6 @@
-#!/usr/bin/env python3
-"""Tests of tcpsim-stalls, tcpsim/causes.py and tcpsim/lives.py: python/tests/test_stalls.py [--program FILE]. The
+"""Tests of tcpsim-stalls, tcpsim/causes.py and tcpsim/lives.py. The
 spans are held against another reading of the traces in examples/, a few lines of regular expressions; the causes against
-what was found by hand. Nothing but Python's standard library is wanted; without the built program the
-model takes its place. The last line is `N passed, M failed`.
-"""
+what was found by hand."""
 import csv
 import io
 import os
@@ -11,21 +8,17 @@ import re
 import signal
 import subprocess
 import sys
-import tempfile
-import unittest
 
-from paths import BIN, MODEL, TOP
+import pytest
+
+from clone import BIN, EXAMPLES, NAMES, PROGRAM, TOP, Folder, example, paths, tool
 from tcpsim import causes, stalls
 from tcpsim.cli import stalls as cli_stalls
-from tcpsim.program import found, is_program
 from test_follow import moments_of, run_of
 from tcpsim.scenario.text import Scenario, Unreadable
 from tcpsim.trace import ACK, DATA
 
-EXAMPLES = os.path.join(TOP, 'examples')
-PROGRAM = MODEL
 MS = 10**6
-NAMES = sorted(name[:-6] for name in os.listdir(EXAMPLES) if name.endswith('.trace'))
 # Which example has which cause, among its spans longer than 200 ms.
 SHOWN = {
     'the receive window was full': 'acks_share_the_bottleneck',
@@ -46,13 +39,6 @@ link a s r 8000000 {delay} droptail 10
 link b r s 8000000 {delay} droptail 10
 flow f s r 1000 {segments} 0 64000 {delack}
 '''
-
-
-def example(name):
-    """The text and the trace's lines of an example."""
-    with open(os.path.join(EXAMPLES, name + '.txt'), encoding='ascii') as text, \
-            open(os.path.join(EXAMPLES, name + '.trace'), encoding='ascii') as trace:
-        return text.read(), trace.read().splitlines()
 
 
 def net(end=10**10, delay=5 * MS, segments=9, delack=0, lose=()):
@@ -125,6 +111,7 @@ def window_is_full(text, lines, name):
 
 # ---- another reading, by the moments of test_follow.py: what of a flow was where, and what became of each copy
 
+
 def stays(name, flow):
     """Of each packet of a flow that entered a queue: (link, state, from, to)."""
     moments, found = moments_of(name), []
@@ -171,264 +158,264 @@ def woken_by(lines, flow):
     return None
 
 
-class Examples(unittest.TestCase):
-    """All examples, at several lengths."""
-
-    def test_each_stall_has_one_cause(self):
-        """Some cause, and of the third to the last exactly one, whatever their order."""
-        partition, judged = {causes.name_of(cause) for cause in causes.PARTITION}, 0
-        for name in NAMES:
-            text, lines = example(name)
-            for longer in (200 * MS, 20 * MS, 2 * MS):
-                walk = Judging(Scenario(text), longer)
-                walk.read(iter(lines))
-                walk.finish()
-                for row, held in walk.judged:
-                    judged += 1
-                    self.assertEqual(row.cause, held[0], (name, row))
-                    self.assertEqual(sum(cause in partition for cause in held), 1, (name, row, held))
-        self.assertGreater(judged, 4000)
-        self.assertEqual(len(partition), len(causes.CAUSES) - 2)
-
-    def test_fewer_than_three_duplicates_came_where_the_timer_had_to_do(self):
-        """As their numbers are counted from the acknowledgements in the lines."""
-        seen = set()
-        for name in NAMES:
-            text, lines = example(name)
-            numbers = {flow: number for number, flow in enumerate(re.findall(r'^flow (\w+)', text, re.MULTILINE))}
-            for row in rows_of(text, lines):
-                if row.cause == 'a loss was left to the timer':
-                    una, came = map(int, re.match(r'segment (\d+) was .* and (\d) duplicates? came', row.found).groups())
-                    self.assertEqual(came, duplicates(lines, numbers[row.flow], una, row), (name, row))
-                    seen.add(came)
-        self.assertEqual(seen, {0, 1, 2})
-
-    def test_queues_are_those_of_another_reading(self):
-        """Its packets waited in one queue where they did, at that link and for that time."""
-        shown = 0
-        for name in NAMES:
-            text, lines = example(name)
-            links, flows, found = Scenario(text).links, [flow.name for flow in Scenario(text).flows], {}
-            for row in rows_of(text, lines):
-                if row.flow not in found:
-                    found[row.flow] = stays(name, flows.index(row.flow))
-                link, time = longest_queue(found[row.flow], row.begin, row.end)
-                if row.cause == 'its packets waited in one queue':
-                    told = f'all its packets waited at link {links[link].name} for {causes.seconds(time)} of it'
-                    self.assertEqual(row.found.partition(';')[0], told, (name, row))
-                    shown += 1
-                waited = 2 * time > row.length and row.cause != 'the receive window was full'
-                self.assertEqual(row.cause == 'its packets waited in one queue', waited, (name, row, time))
-        self.assertGreater(shown, 50)
-
-    def test_losses_are_those_of_another_reading(self):
-        """Of the stalls with another cause than the first two: whether the segment at una was lost, what sent it again,
-        and whether that was lost too."""
-        told = set()
-        for name in NAMES:
-            text, lines = example(name)
-            found = {span[:3]: span[3:] for span in spans(text, lines)}
-            flows = [flow.name for flow in Scenario(text).flows]
-            for row in rows_of(text, lines):
-                if row.cause in ('the receive window was full', 'its packets waited in one queue'):
-                    continue
-                first, last = found[row.flow, row.begin, row.end]
-                flow, una = flows.index(row.flow), int(re.search(r' una=(\d+) ', lines[first - 1])[1])
-                copies = copies_of(name, flow, una)
-                lost = all(fate in ('lost', 'full', 'codel') for time, fate in copies if time <= row.begin)
-                again = any(fate in ('lost', 'full', 'codel') for time, fate in copies if row.begin < time < row.end)
-                woken = woken_by(lines[first - 1:last - 1], flow)
-                if not lost:
-                    expected = {'the timer had doubled', 'an acknowledgement was lost', 'the way is longer',
-                                'a delayed acknowledgement was waited for'}
-                else:
-                    expected = {'a loss was left to the timer'} if woken != 'fr' else \
-                        {'a retransmission was lost'} if again else {'fast retransmit took a round trip'}
-                self.assertIn(row.cause, expected, (name, row, copies))
-                told.add(row.cause)
-        self.assertEqual(len(told), 7)
-
-    def test_full_windows_are_those_of_the_lines(self):
-        """In a span the window was full if it was by every line of the sender from its first to that before its last;
-        it is the cause but where that segment, or an acknowledgement, was lost."""
-        causes_of_full = set()
-        for name in NAMES:
-            text, lines = example(name)
-            found = {span[:3]: span[3:] for span in spans(text, lines)}
-            for row in rows_of(text, lines):
-                first, last = found[row.flow, row.begin, row.end]
-                full = window_is_full(text, lines[first - 1:last - 1], row.flow)
-                if full:
-                    causes_of_full.add(row.cause)
-                    self.assertEqual(row.cause == 'the receive window was full', ' was dropped (' not in row.found, (name, row))
-                self.assertTrue(full or row.cause != 'the receive window was full', (name, row))
-        self.assertEqual(causes_of_full, {'the receive window was full', 'fast retransmit took a round trip'})
-
-    def test_each_cause_has_an_example(self):
-        self.assertEqual(list(SHOWN), [causes.name_of(cause) for cause in causes.CAUSES])
-        for cause, name in SHOWN.items():
-            self.assertIn(cause, [row.cause for row in rows_of(*example(name))], name)
-
-    def test_spans_are_those_of_the_lines(self):
-        """Their first and last lines are among the positions that are told, the last one last."""
-        for name in NAMES:
-            text, lines = example(name)
-            found = sorted(spans(text, lines))
-            for longer in (200 * MS, 20 * MS, 0):
-                rows = sorted(rows_of(text, lines, longer))
-                expected = [span for span in found if span[2] - span[1] > longer]
-                self.assertEqual([(row.flow, row.begin, row.end) for row in rows], [span[:3] for span in expected], name)
-                for row, (_, begin, end, first, last) in zip(rows, expected):
-                    self.assertEqual(row.length, end - begin)
-                    self.assertIn(first, row.positions, (name, row))
-                    self.assertEqual(row.positions, sorted({*row.positions, last}), (name, row))
-                    self.assertEqual(row.positions[-1], last, (name, row))
-
-    def test_the_debugger_shows_the_span(self):
-        """Where the printed commands go, una is the same from the span's first line on, and more at its last."""
-        for name in ('a_lost_acknowledgement', 'a_timer_that_stays_doubled', 'an_answer_that_waits_for_its_alarm',
-                     'two_timeouts_in_a_row', 'a_lost_retransmission'):
-            text, lines = example(name)
-            first = {span[1]: span[3] for span in spans(text, lines)}
-            for row in rows_of(text, lines):
-                session = text + '---\n' + ''.join(f'{command}\n' for command in cli_stalls.commands(row.positions))
-                done = subprocess.run([PROGRAM, 'debug'], input=session.encode(), capture_output=True, check=True)
-                at, una = (list(map(int, re.findall(words, done.stdout.decode(), re.MULTILINE)))
-                           for words in (r'^at (\d+)$', r'^node \d+ sender 0 una=(\d+) '))
-                self.assertEqual(at, row.positions, name)
-                inside = una[at.index(first[row.begin]):-1]
-                self.assertEqual(set(inside), {inside[0]}, name)
-                self.assertGreater(una[-1], inside[0], name)
+# ---- all examples, at several lengths
 
 
-class ByHand(unittest.TestCase):
-    def check(self, text, longer, *expected):
-        rows = rows_of(text, run_by_program(text), longer)
-        self.assertEqual([(row.begin, row.end, row.cause, row.found, row.positions) for row in rows], list(expected))
-
-    def test_why_too_few_duplicates_came(self):
-        """Segment 0 is lost; the other three arrive from 7.08 ms on, and what they cause 5.04 ms later."""
-        late = 'the timer ended after 1 s'
-        self.check(net(segments=3, lose=['a 1']), 200 * MS, (
-            0, 1_011_080_000, 'a loss was left to the timer',
-            f'segment 0 was dropped (lost) and 2 duplicates came: too few were behind it (2 segments); {late}', [1, 10, 14]))
-        self.check(net(segments=4, lose=['a 1', 'a 4']), 200 * MS, (
-            0, 1_011_080_000, 'a loss was left to the timer',
-            f'segment 0 was dropped (lost) and 2 duplicates came: 1 of 3 segments behind it were lost too; {late}', [1, 10, 14]))
-        self.check(net(segments=4, lose=['a 1', 'b 2']), 200 * MS, (
-            0, 1_011_080_000, 'a loss was left to the timer',
-            f'segment 0 was dropped (lost) and 2 duplicates came: answers to those behind it were lost (1); {late}',
-            [1, 7, 12, 16]))
-        self.check(net(delay=600 * MS, segments=4, lose=['a 1']), 200 * MS, (
-            0, 2_201_080_000, 'a loss was left to the timer',
-            f'segment 0 was dropped (lost) and 0 duplicates came: those of the 3 segments behind it were still under way; '
-            f'{late}', [1, 11, 21]))
-
-    def test_a_full_window_is_no_cause_of_a_loss(self):
-        """A window of one segment is full while a lost acknowledgement, line 3, is waited for until the timer ends.
-        One of four segments is full until the first acknowledgement, at 11.08 ms, line 14. Where segment 0
-        is lost it is full too, up to 24.24 ms: the third duplicate comes at 13.16 ms, line 13."""
-        text = net(segments=9).replace(' 64000 ', ' 4000 ')
-        self.check(text.replace('sim 10000000000', 'sim 11500000'), 5 * MS, (
-            0, 11_080_000, 'the receive window was full', '4000 of 4000 bytes were on their way, and 5000 not yet sent', [1, 14]))
-        self.check(text + 'lose a 1\n', 15 * MS, (
-            0, 24_240_000, 'fast retransmit took a round trip',
-            'segment 0 was dropped (lost); the third duplicate came after 13.16 ms, and 11.08 ms went by after it', [1, 13, 17]))
-        self.check(net(segments=2, lose=['b 1']).replace(' 64000 ', ' 1000 '), 200 * MS, (
-            0, 1_011_080_000, 'an acknowledgement was lost',
-            'acknowledgement 1000 was dropped (lost), and the timer ended after 1 s', [1, 3, 4, 8]))
-
-    def test_a_partial_acknowledgement(self):
-        """Segments 1000 and 3000 of eight are lost. The third duplicate of 1000 comes at 6.2 ms, line 18; the
-        acknowledgement of 3000 alone, at 10.36 ms, line 33, sends that again at once. Where this is lost too the timer
-        ends, and where 9000 is, which is sent with it, duplicates of 9000 come from line 48 on and begin nothing."""
-        text = net(delay=MS, segments=20).replace(' 64000 0\n', ' 8000 0 newreno iw10\n') + 'lose a 2\nlose a 4\n'
-        ended = 'and 3.08 ms went by after it'
-        self.check(text.replace('sim 10000000000', 'sim 13440001').replace(' 20 0 8000', ' 10 0 8000'), 3 * MS, (
-            0, 3_080_000, 'the receive window was full', '8000 of 8000 bytes were on their way, and 2000 not yet sent', [1, 6]), (
-            3_080_000, 10_360_000, 'fast retransmit took a round trip',
-            'segment 1000 was dropped (lost); the third duplicate came after 3.12 ms, and 4.16 ms went by after it', [1, 6, 18, 33]), (
-            10_360_000, 13_440_000, 'fast retransmit took a round trip',
-            f'segment 3000 was dropped (lost); a partial acknowledgement sent it again at once, {ended}', [1, 33, 38]))
-        rows = rows_of(text + 'lose a 11\n', run_by_program(text + 'lose a 11\n'))
-        self.assertEqual([(row.begin, row.cause, row.found) for row in rows], [(
-            10_360_000, 'a retransmission was lost',
-            'segment 3000, sent again (partial acknowledgement), was dropped (lost); the timer ended after 1 s')])
-        rows = rows_of(text + 'lose a 12\n', run_by_program(text + 'lose a 12\n'))
-        self.assertEqual([(row.begin, row.cause, row.found) for row in rows], [(
-            13_440_000, 'a loss was left to the timer',
-            'segment 9000 was dropped (lost) and 5 duplicates came: none begins a recovery up to 9000, as far as was sent '
-            'when the last loss was noticed; the timer ended after 1 s')])
-
-    def test_a_queue_that_makes_a_loss_last(self):
-        """Where all waited in one queue, a segment that was lost is told besides, with the line of its drop."""
-        found = 0
-        for name in ('two_flows_share_fairly', 'four_flows_share_a_long_queue'):
-            text, lines = example(name)
-            for row in rows_of(text, lines):
-                lost = re.search(r'; segment (\d+) was dropped \((\w+)\) besides$', row.found)
-                if lost:
-                    self.assertEqual(row.cause, 'its packets waited in one queue')
-                    self.assertTrue(any(re.search(rf' drop={lost[2]}:\d+:{lost[1]}$', lines[at - 1]) for at in row.positions), row)
-                    found += 1
-        self.assertEqual(found, 6)
-
-    def test_spans_that_the_runs_end_cuts_off(self):
-        """Of nine segments the ninth is at the receiver at 22.32 ms, and its answer waits for 400 ms. Where
-        the acknowledgement of it is dropped instead, it is at 21.28 ms, line 31, that the last one came."""
-        self.check(net(end=200 * MS, delack=400 * MS), 100 * MS, (
-            26_320_000, 200 * MS, 'a delayed acknowledgement was waited for',
-            'the answer to segment 8000 waited for 177.68 ms when the run ended', [27]))
-        self.check(net(end=900 * MS, lose=['b 9']), 100 * MS, (
-            25_280_000, 900 * MS, 'an acknowledgement was lost', 'acknowledgement 9000 was dropped (lost)', [31, 35]))
-        self.check(net(end=900 * MS, segments=1, lose=['a 1']), 100 * MS, (
-            0, 900 * MS, 'a loss was left to the timer',
-            'segment 0 was dropped (lost) and 0 duplicates came: too few were behind it (0 segments)', [1]))
-        self.check(net(end=11 * MS, segments=1), 10 * MS, (
-            0, 11 * MS, 'the way is longer', 'from segment 0 to its acknowledgement it takes 11 ms at least', [1, 4]))
-
-    def test_a_trace_without_its_last_lines(self):
-        """Without `end` a span that is open ends with the last line."""
-        text, lines = example('a_lost_acknowledgement')
-        rows = rows_of(text, lines[:37], 500 * MS)
-        self.assertEqual([(row.begin, row.end) for row in rows], [(25_280_000, int(lines[36].split()[1]))])
-        self.assertEqual(rows_of(text, lines[:33]), [])
-
-    def test_a_loss_that_doubles_the_timer_until_it_is_measured(self):
-        """After a round trip of a segment sent once the timer is 1 s again: the second loss costs 1 s."""
-        lose = ['a 1', 'a 2', 'a 3', 'a 4', 'b 9']
-        rows = rows_of(net(segments=9, lose=lose), run_by_program(net(segments=9, lose=lose)))
-        self.assertEqual([row.cause for row in rows], ['a loss was left to the timer', 'an acknowledgement was lost'])
-        self.assertIn('after 1 s', rows[1].found)
+def test_each_stall_has_one_cause():
+    """Some cause, and of the third to the last exactly one, whatever their order."""
+    partition, judged = {causes.name_of(cause) for cause in causes.PARTITION}, 0
+    for name in NAMES:
+        text, lines = example(name)
+        for longer in (200 * MS, 20 * MS, 2 * MS):
+            walk = Judging(Scenario(text), longer)
+            walk.read(iter(lines))
+            walk.finish()
+            for row, held in walk.judged:
+                judged += 1
+                assert row.cause == held[0], (name, row)
+                assert sum(cause in partition for cause in held) == 1, (name, row, held)
+    assert judged > 4000
+    assert len(partition) == len(causes.CAUSES) - 2
 
 
-class Files(unittest.TestCase):
-    """The command, over files of a folder."""
+def test_fewer_than_three_duplicates_came_where_the_timer_had_to_do():
+    """As their numbers are counted from the acknowledgements in the lines."""
+    seen = set()
+    for name in NAMES:
+        text, lines = example(name)
+        numbers = {flow: number for number, flow in enumerate(re.findall(r'^flow (\w+)', text, re.MULTILINE))}
+        for row in rows_of(text, lines):
+            if row.cause == 'a loss was left to the timer':
+                una, came = map(int, re.match(r'segment (\d+) was .* and (\d) duplicates? came', row.found).groups())
+                assert came == duplicates(lines, numbers[row.flow], una, row), (name, row)
+                seen.add(came)
+    assert seen == {0, 1, 2}
 
-    def setUp(self):
-        folder = tempfile.TemporaryDirectory()
-        self.addCleanup(folder.cleanup)
-        self.folder = folder.name
-        self.text, self.lines = example('a_timer_that_stays_doubled')
-        self.scenario, self.trace = (os.path.join(EXAMPLES, 'a_timer_that_stays_doubled' + end) for end in ('.txt', '.trace'))
 
-    def put(self, name, data):
-        path = os.path.join(self.folder, name)
-        with open(path, 'wb') as file:
-            file.write(data.encode() if isinstance(data, str) else data)
-        return path
+def test_queues_are_those_of_another_reading():
+    """Its packets waited in one queue where they did, at that link and for that time."""
+    shown = 0
+    for name in NAMES:
+        text, lines = example(name)
+        links, flows, found = Scenario(text).links, [flow.name for flow in Scenario(text).flows], {}
+        for row in rows_of(text, lines):
+            if row.flow not in found:
+                found[row.flow] = stays(name, flows.index(row.flow))
+            link, time = longest_queue(found[row.flow], row.begin, row.end)
+            if row.cause == 'its packets waited in one queue':
+                told = f'all its packets waited at link {links[link].name} for {causes.seconds(time)} of it'
+                assert row.found.partition(';')[0] == told, (name, row)
+                shown += 1
+            waited = 2 * time > row.length and row.cause != 'the receive window was full'
+            assert (row.cause == 'its packets waited in one queue') == waited, (name, row, time)
+    assert shown > 50
+
+
+def test_losses_are_those_of_another_reading():
+    """Of the stalls with another cause than the first two: whether the segment at una was lost, what sent it again,
+    and whether that was lost too."""
+    told = set()
+    for name in NAMES:
+        text, lines = example(name)
+        found = {span[:3]: span[3:] for span in spans(text, lines)}
+        flows = [flow.name for flow in Scenario(text).flows]
+        for row in rows_of(text, lines):
+            if row.cause in ('the receive window was full', 'its packets waited in one queue'):
+                continue
+            first, last = found[row.flow, row.begin, row.end]
+            flow, una = flows.index(row.flow), int(re.search(r' una=(\d+) ', lines[first - 1])[1])
+            copies = copies_of(name, flow, una)
+            lost = all(fate in ('lost', 'full', 'codel') for time, fate in copies if time <= row.begin)
+            again = any(fate in ('lost', 'full', 'codel') for time, fate in copies if row.begin < time < row.end)
+            woken = woken_by(lines[first - 1:last - 1], flow)
+            if not lost:
+                expected = {'the timer had doubled', 'an acknowledgement was lost', 'the way is longer',
+                            'a delayed acknowledgement was waited for'}
+            else:
+                expected = {'a loss was left to the timer'} if woken != 'fr' else \
+                    {'a retransmission was lost'} if again else {'fast retransmit took a round trip'}
+            assert row.cause in expected, (name, row, copies)
+            told.add(row.cause)
+    assert len(told) == 7
+
+
+def test_full_windows_are_those_of_the_lines():
+    """In a span the window was full if it was by every line of the sender from its first to that before its last;
+    it is the cause but where that segment, or an acknowledgement, was lost."""
+    causes_of_full = set()
+    for name in NAMES:
+        text, lines = example(name)
+        found = {span[:3]: span[3:] for span in spans(text, lines)}
+        for row in rows_of(text, lines):
+            first, last = found[row.flow, row.begin, row.end]
+            full = window_is_full(text, lines[first - 1:last - 1], row.flow)
+            if full:
+                causes_of_full.add(row.cause)
+                assert (row.cause == 'the receive window was full') == (' was dropped (' not in row.found), (name, row)
+            assert full or row.cause != 'the receive window was full', (name, row)
+    assert causes_of_full == {'the receive window was full', 'fast retransmit took a round trip'}
+
+
+def test_each_cause_has_an_example():
+    assert list(SHOWN) == [causes.name_of(cause) for cause in causes.CAUSES]
+    for cause, name in SHOWN.items():
+        assert cause in [row.cause for row in rows_of(*example(name))], name
+
+
+def test_spans_are_those_of_the_lines():
+    """Their first and last lines are among the positions that are told, the last one last."""
+    for name in NAMES:
+        text, lines = example(name)
+        found = sorted(spans(text, lines))
+        for longer in (200 * MS, 20 * MS, 0):
+            rows = sorted(rows_of(text, lines, longer))
+            expected = [span for span in found if span[2] - span[1] > longer]
+            assert [(row.flow, row.begin, row.end) for row in rows] == [span[:3] for span in expected], name
+            for row, (_, begin, end, first, last) in zip(rows, expected):
+                assert row.length == end - begin
+                assert first in row.positions, (name, row)
+                assert row.positions == sorted({*row.positions, last}), (name, row)
+                assert row.positions[-1] == last, (name, row)
+
+
+def test_the_debugger_shows_the_span():
+    """Where the printed commands go, una is the same from the span's first line on, and more at its last."""
+    for name in ('a_lost_acknowledgement', 'a_timer_that_stays_doubled', 'an_answer_that_waits_for_its_alarm',
+                 'two_timeouts_in_a_row', 'a_lost_retransmission'):
+        text, lines = example(name)
+        first = {span[1]: span[3] for span in spans(text, lines)}
+        for row in rows_of(text, lines):
+            session = text + '---\n' + ''.join(f'{command}\n' for command in cli_stalls.commands(row.positions))
+            done = subprocess.run([PROGRAM, 'debug'], input=session.encode(), capture_output=True, check=True)
+            at, una = (list(map(int, re.findall(words, done.stdout.decode(), re.MULTILINE)))
+                       for words in (r'^at (\d+)$', r'^node \d+ sender 0 una=(\d+) '))
+            assert at == row.positions, name
+            inside = una[at.index(first[row.begin]):-1]
+            assert set(inside) == {inside[0]}, name
+            assert una[-1] > inside[0], name
+
+
+def check(text, longer, *expected):
+    rows = rows_of(text, run_by_program(text), longer)
+    assert [(row.begin, row.end, row.cause, row.found, row.positions) for row in rows] == list(expected)
+
+
+def test_why_too_few_duplicates_came():
+    """Segment 0 is lost; the other three arrive from 7.08 ms on, and what they cause 5.04 ms later."""
+    late = 'the timer ended after 1 s'
+    check(net(segments=3, lose=['a 1']), 200 * MS, (
+        0, 1_011_080_000, 'a loss was left to the timer',
+        f'segment 0 was dropped (lost) and 2 duplicates came: too few were behind it (2 segments); {late}', [1, 10, 14]))
+    check(net(segments=4, lose=['a 1', 'a 4']), 200 * MS, (
+        0, 1_011_080_000, 'a loss was left to the timer',
+        f'segment 0 was dropped (lost) and 2 duplicates came: 1 of 3 segments behind it were lost too; {late}', [1, 10, 14]))
+    check(net(segments=4, lose=['a 1', 'b 2']), 200 * MS, (
+        0, 1_011_080_000, 'a loss was left to the timer',
+        f'segment 0 was dropped (lost) and 2 duplicates came: answers to those behind it were lost (1); {late}',
+        [1, 7, 12, 16]))
+    check(net(delay=600 * MS, segments=4, lose=['a 1']), 200 * MS, (
+        0, 2_201_080_000, 'a loss was left to the timer',
+        f'segment 0 was dropped (lost) and 0 duplicates came: those of the 3 segments behind it were still under way; '
+        f'{late}', [1, 11, 21]))
+
+
+def test_a_full_window_is_no_cause_of_a_loss():
+    """A window of one segment is full while a lost acknowledgement, line 3, is waited for until the timer ends.
+    One of four segments is full until the first acknowledgement, at 11.08 ms, line 14. Where segment 0
+    is lost it is full too, up to 24.24 ms: the third duplicate comes at 13.16 ms, line 13."""
+    text = net(segments=9).replace(' 64000 ', ' 4000 ')
+    check(text.replace('sim 10000000000', 'sim 11500000'), 5 * MS, (
+        0, 11_080_000, 'the receive window was full', '4000 of 4000 bytes were on their way, and 5000 not yet sent', [1, 14]))
+    check(text + 'lose a 1\n', 15 * MS, (
+        0, 24_240_000, 'fast retransmit took a round trip',
+        'segment 0 was dropped (lost); the third duplicate came after 13.16 ms, and 11.08 ms went by after it', [1, 13, 17]))
+    check(net(segments=2, lose=['b 1']).replace(' 64000 ', ' 1000 '), 200 * MS, (
+        0, 1_011_080_000, 'an acknowledgement was lost',
+        'acknowledgement 1000 was dropped (lost), and the timer ended after 1 s', [1, 3, 4, 8]))
+
+
+def test_a_partial_acknowledgement():
+    """Segments 1000 and 3000 of eight are lost. The third duplicate of 1000 comes at 6.2 ms, line 18; the
+    acknowledgement of 3000 alone, at 10.36 ms, line 33, sends that again at once. Where this is lost too the timer
+    ends, and where 9000 is, which is sent with it, duplicates of 9000 come from line 48 on and begin nothing."""
+    text = net(delay=MS, segments=20).replace(' 64000 0\n', ' 8000 0 newreno iw10\n') + 'lose a 2\nlose a 4\n'
+    ended = 'and 3.08 ms went by after it'
+    check(text.replace('sim 10000000000', 'sim 13440001').replace(' 20 0 8000', ' 10 0 8000'), 3 * MS, (
+        0, 3_080_000, 'the receive window was full', '8000 of 8000 bytes were on their way, and 2000 not yet sent', [1, 6]), (
+        3_080_000, 10_360_000, 'fast retransmit took a round trip',
+        'segment 1000 was dropped (lost); the third duplicate came after 3.12 ms, and 4.16 ms went by after it', [1, 6, 18, 33]), (
+        10_360_000, 13_440_000, 'fast retransmit took a round trip',
+        f'segment 3000 was dropped (lost); a partial acknowledgement sent it again at once, {ended}', [1, 33, 38]))
+    rows = rows_of(text + 'lose a 11\n', run_by_program(text + 'lose a 11\n'))
+    assert [(row.begin, row.cause, row.found) for row in rows] == [(
+        10_360_000, 'a retransmission was lost',
+        'segment 3000, sent again (partial acknowledgement), was dropped (lost); the timer ended after 1 s')]
+    rows = rows_of(text + 'lose a 12\n', run_by_program(text + 'lose a 12\n'))
+    assert [(row.begin, row.cause, row.found) for row in rows] == [(
+        13_440_000, 'a loss was left to the timer',
+        'segment 9000 was dropped (lost) and 5 duplicates came: none begins a recovery up to 9000, as far as was sent '
+        'when the last loss was noticed; the timer ended after 1 s')]
+
+
+def test_a_queue_that_makes_a_loss_last():
+    """Where all waited in one queue, a segment that was lost is told besides, with the line of its drop."""
+    found = 0
+    for name in ('two_flows_share_fairly', 'four_flows_share_a_long_queue'):
+        text, lines = example(name)
+        for row in rows_of(text, lines):
+            lost = re.search(r'; segment (\d+) was dropped \((\w+)\) besides$', row.found)
+            if lost:
+                assert row.cause == 'its packets waited in one queue'
+                assert any(re.search(rf' drop={lost[2]}:\d+:{lost[1]}$', lines[at - 1]) for at in row.positions), row
+                found += 1
+    assert found == 6
+
+
+def test_spans_that_the_runs_end_cuts_off():
+    """Of nine segments the ninth is at the receiver at 22.32 ms, and its answer waits for 400 ms. Where
+    the acknowledgement of it is dropped instead, it is at 21.28 ms, line 31, that the last one came."""
+    check(net(end=200 * MS, delack=400 * MS), 100 * MS, (
+        26_320_000, 200 * MS, 'a delayed acknowledgement was waited for',
+        'the answer to segment 8000 waited for 177.68 ms when the run ended', [27]))
+    check(net(end=900 * MS, lose=['b 9']), 100 * MS, (
+        25_280_000, 900 * MS, 'an acknowledgement was lost', 'acknowledgement 9000 was dropped (lost)', [31, 35]))
+    check(net(end=900 * MS, segments=1, lose=['a 1']), 100 * MS, (
+        0, 900 * MS, 'a loss was left to the timer',
+        'segment 0 was dropped (lost) and 0 duplicates came: too few were behind it (0 segments)', [1]))
+    check(net(end=11 * MS, segments=1), 10 * MS, (
+        0, 11 * MS, 'the way is longer', 'from segment 0 to its acknowledgement it takes 11 ms at least', [1, 4]))
+
+
+def test_a_trace_without_its_last_lines():
+    """Without `end` a span that is open ends with the last line."""
+    text, lines = example('a_lost_acknowledgement')
+    rows = rows_of(text, lines[:37], 500 * MS)
+    assert [(row.begin, row.end) for row in rows] == [(25_280_000, int(lines[36].split()[1]))]
+    assert rows_of(text, lines[:33]) == []
+
+
+def test_a_loss_that_doubles_the_timer_until_it_is_measured():
+    """After a round trip of a segment sent once the timer is 1 s again: the second loss costs 1 s."""
+    lose = ['a 1', 'a 2', 'a 3', 'a 4', 'b 9']
+    rows = rows_of(net(segments=9, lose=lose), run_by_program(net(segments=9, lose=lose)))
+    assert [row.cause for row in rows] == ['a loss was left to the timer', 'an acknowledgement was lost']
+    assert 'after 1 s' in rows[1].found
+
+
+class Files(Folder):
+    text, lines = example('a_timer_that_stays_doubled')
+    scenario, trace = paths('a_timer_that_stays_doubled')
 
     def run_stalls(self, *words, **more):
-        return subprocess.run([sys.executable, os.path.join(BIN, 'tcpsim-stalls'), *words], capture_output=True, check=False,
-                              cwd=self.folder, timeout=120, **more)
+        return tool('stalls', *words, **more)
 
     def told(self, *words):
         done = self.run_stalls(*words)
-        self.assertEqual((done.returncode, done.stderr), (0, b''))
+        assert (done.returncode, done.stderr) == (0, b'')
         return done.stdout.decode()
 
 
-class Commands(Files):
+class TestCommands(Files):
     TABLE = '''flow            from s              to s          long s  cause
 f          0.000000000       1.011080000     1.011080000  a loss was left to the timer
         segment 0 was dropped (lost) and 0 duplicates came: 3 of 3 segments behind it were lost too; the timer ended after 1 s
@@ -440,8 +427,8 @@ f          1.023200000       3.034280000     2.011080000  the timer had doubled
 '''
 
     def test_table(self):
-        self.assertEqual(self.told(self.scenario, self.trace), self.TABLE)
-        self.assertEqual(self.told(self.scenario, '--program', PROGRAM), self.TABLE)
+        assert self.told(self.scenario, self.trace) == self.TABLE
+        assert self.told(self.scenario, '--program', PROGRAM) == self.TABLE
 
     def test_the_tutorials_lesson(self):
         """The blocks of the lesson are what its commands print."""
@@ -452,62 +439,61 @@ f          1.023200000       3.034280000     2.011080000  the timer had doubled
                                  '--byte', '3000'], capture_output=True, check=True, text=True)
         debug = subprocess.run([PROGRAM, 'debug'], input=self.text + '---\nstep 15\nstep 1\n', capture_output=True,
                                check=True, text=True)
-        self.assertEqual(blocks[1::2], [self.TABLE, follow.stdout, debug.stdout])
-        self.assertEqual([re.findall(r'bin/[\w-]+|--\w+ \w+|echo [^;]*|tcpsim debug', block) for block in blocks[::2]], [
+        assert blocks[1::2] == [self.TABLE, follow.stdout, debug.stdout]
+        assert [re.findall(r'bin/[\w-]+|--\w+ \w+|echo [^;]*|tcpsim debug', block) for block in blocks[::2]] == [
             ['bin/tcpsim-stalls'], ['bin/tcpsim-follow', '--flow f', '--byte 3000'],
-            ['echo ---', 'echo step 15', 'echo step 1', 'tcpsim debug']])
+            ['echo ---', 'echo step 15', 'echo step 1', 'tcpsim debug']]
 
     def test_longer(self):
         lines = self.told(self.scenario, self.trace, '--longer', '1.5s').splitlines()
-        self.assertEqual((len(lines), lines[-1]), (5, '1 stall longer than 1.5 s'))
+        assert (len(lines), lines[-1]) == (5, '1 stall longer than 1.5 s')
         lines = self.told(self.scenario, self.trace, '--longer', '2011080us').splitlines()
-        self.assertEqual(lines[1:], ['0 stalls longer than 2.01108 s'])
+        assert lines[1:] == ['0 stalls longer than 2.01108 s']
 
     def test_csv(self):
         rows = list(csv.reader(io.StringIO(self.told(self.scenario, self.trace, '--csv'))))
-        self.assertEqual(rows[0], ['flow', 'from', 'to', 'ns', 'cause', 'found', 'commands'])
-        self.assertEqual(rows[2], ['f', '1023200000', '3034280000', '2011080000', 'the timer had doubled',
+        assert rows[0] == ['flow', 'from', 'to', 'ns', 'cause', 'found', 'commands']
+        assert rows[2] == ['f', '1023200000', '3034280000', '2011080000', 'the timer had doubled',
                                    'acknowledgement 4000 was dropped (lost), and the timer had doubled to 2 s',
-                                   'step 15; step 1; step 1; step 4'])
-        self.assertEqual(len(rows), 3)
+                                   'step 15; step 1; step 1; step 4']
+        assert len(rows) == 3
 
     def test_csv_has_the_rows_of_the_table(self):
         for name in ('two_flows_share_fairly', 'four_flows_share_codel'):
             paths = [os.path.join(EXAMPLES, name + end) for end in ('.txt', '.trace')]
             rows = list(csv.DictReader(io.StringIO(self.told(*paths, '--csv'))))
-            self.assertEqual([(row['flow'], int(row['from']), int(row['to']), int(row['ns']), row['cause'], row['found'])
-                              for row in rows], [row[:6] for row in rows_of(*example(name))])
+            assert [(row['flow'], int(row['from']), int(row['to']), int(row['ns']), row['cause'], row['found'])
+                              for row in rows] == [row[:6] for row in rows_of(*example(name))]
 
     def test_pipes(self):
         """Both files can be pipes, which are read once, and the scenario standard input."""
         script = '"$1" "$2" <(cat "$3") <(cat "$4"); "$1" "$2" - "$4" < "$3"'
         done = subprocess.run(['bash', '-c', script, 'bash', sys.executable, os.path.join(BIN, 'tcpsim-stalls'), self.scenario,
                                self.trace], capture_output=True, check=True, text=True)
-        self.assertEqual((done.stdout, done.stderr), (2 * self.TABLE, ''))
+        assert (done.stdout, done.stderr) == (2 * self.TABLE, '')
 
     def test_one_flow(self):
         paths = [os.path.join(EXAMPLES, 'two_flows_share_fairly' + end) for end in ('.txt', '.trace')]
         whole = self.told(*paths, '--csv').splitlines()
         named, numbered = (self.told(*paths, '--csv', '--flow', flow).splitlines() for flow in ('fb', '1'))
-        self.assertEqual(named, [line for line in whole if not line.startswith('fa,')])
-        self.assertEqual(named, numbered)
-        self.assertLess(1, len(named))
+        assert named == [line for line in whole if not line.startswith('fa,')]
+        assert named == numbered
+        assert 1 < len(named)
 
     def test_rules(self):
         told = self.told('--causes')
-        self.assertEqual([line for line in told.splitlines() if not line.startswith(' ')], list(SHOWN))
-        self.assertEqual(len(told.splitlines()), 2 * len(SHOWN))
+        assert [line for line in told.splitlines() if not line.startswith(' ')] == list(SHOWN)
+        assert len(told.splitlines()) == 2 * len(SHOWN)
 
 
-class Refusals(Files):
+class TestRefusals(Files):
     def refused(self, note, *words, status=1, **more):
         """One sentence, with the note in it; nothing on standard output."""
         done = self.run_stalls(*words, **more)
         text = done.stderr.decode()
-        with self.subTest(note):
-            self.assertEqual((done.returncode, done.stdout), (status, b''), text)
-            self.assertIn(note, text)
-            self.assertEqual((text.count('\n'), text.startswith('tcpsim-stalls: ')), (1, True), text)
+        assert (done.returncode, done.stdout) == (status, b''), text
+        assert note in text
+        assert (text.count('\n'), text.startswith('tcpsim-stalls: ')) == (1, True), text
 
     def trace_refused(self, note, lines, end='\n'):
         self.refused(note, self.scenario, self.put('changed', '\n'.join(lines) + end))
@@ -515,7 +501,7 @@ class Refusals(Files):
     def with_line(self, number, old, new):
         """The lines, of one of which a part is another."""
         line = self.lines[number - 1]
-        self.assertIn(old, line)
+        assert old in line
         return self.lines[:number - 1] + [line.replace(old, new)] + self.lines[number:]
 
     def test_a_trace_that_is_not_the_scenarios(self):
@@ -575,15 +561,15 @@ class Refusals(Files):
         for words in ((*paths, '--longer', '0'), (*paths, '--longer', '0', '--csv'), ('--causes',)):
             done = subprocess.run(['bash', '-c', script, 'bash', sys.executable, os.path.join(BIN, 'tcpsim-stalls'), *words],
                                   capture_output=True, check=False)
-            self.assertIn(done.returncode, (0, 128 + signal.SIGPIPE), words)      # 0 where all was written before
-            self.assertEqual((done.stderr, done.stdout.count(b'\n')), (b'', 1), words)
+            assert done.returncode in (0, 128 + signal.SIGPIPE), words      # 0 where all was written before
+            assert (done.stderr, done.stdout.count(b'\n')) == (b'', 1), words
 
-    @unittest.skipUnless(os.path.exists('/dev/full'), 'no /dev/full')
+    @pytest.mark.skipif(not os.path.exists('/dev/full'), reason='no /dev/full')
     def test_a_full_device(self):
         with open('/dev/full', 'wb') as full:
             done = subprocess.run([sys.executable, os.path.join(BIN, 'tcpsim-stalls'), self.scenario, self.trace], stdout=full,
                                   stderr=subprocess.PIPE, check=False)
-        self.assertEqual((done.returncode, done.stderr.count(b'\n')), (1, 1), done.stderr)
+        assert (done.returncode, done.stderr.count(b'\n')) == (1, 1), done.stderr
 
     def test_any_word_that_is_changed(self):
         """No change of one word makes anything but a refusal that names a line, or another row."""
@@ -597,25 +583,5 @@ class Refusals(Files):
                         rows_of(self.text, self.lines[:number - 1] + [changed] + self.lines[number:])
                     except Unreadable as wrong:
                         refused += 1
-                        self.assertRegex(str(wrong), r'^line \d+ is no line of this scenario')
-        self.assertGreater(refused, 900)
-
-
-def main():
-    global PROGRAM
-    if sys.argv[1:2] == ['--program'] and len(sys.argv) == 3:
-        PROGRAM = os.path.abspath(sys.argv[2])
-    elif is_program(found()):
-        PROGRAM = found()
-    stream = io.StringIO()
-    result = unittest.TextTestRunner(stream=stream).run(unittest.defaultTestLoader.loadTestsFromModule(
-        sys.modules['__main__']))
-    failed = len({str(test).split(') [')[0] for test, _ in result.failures + result.errors})
-    if failed:
-        print(stream.getvalue())
-    print(f'{result.testsRun - failed} passed, {failed} failed')
-    return 1 if failed else 0
-
-
-if __name__ == '__main__':
-    sys.exit(main())
+                        assert re.search(r'^line \d+ is no line of this scenario', str(wrong))
+        assert refused > 900

@@ -1,6 +1,4 @@
-#!/usr/bin/env python3
-"""Tests of tcpsim/trace.py, tcpsim-flows and tcpsim-plot: python/tests/test_trace.py. The last line is
-'N passed, N failed'. Where matplotlib is missing nothing is tried, and it says so.
+"""Tests of tcpsim/trace.py, tcpsim-flows and tcpsim-plot.
 
 The first run is computed by hand, event by event. Data packets take 1.04 ms on link a (1,040 bytes at
 8 Mbit/s), acknowledgements 0.04 ms on link b; both delays are 1 ms, and a's queue holds two packets.
@@ -28,23 +26,15 @@ eight, over the same links; 1000 and 3000 are lost.
     11.40     9000 begins; 12.40: 3000 arrives, 9000 is next, acknowledged at 13.44: the recovery ends, cwnd 4000
     13.44     9000 arrives, acknowledged at 14.48: all is done, cwnd 4250
 """
-import io
 import math
 import os
 import subprocess
 import sys
-import tempfile
-import unittest
 
-from paths import BIN, TOP
+import pytest
 
-try:
-    from tcpsim import plot
-except ImportError as missing:
-    print(f'LEFT OUT, not passed: the tests of bin/tcpsim-plot and bin/tcpsim-flows ({missing}); '
-          'apt-get install python3-matplotlib and run them with Debian\'s python3')
-    print('0 passed, 0 failed')
-    sys.exit(0)
+from clone import BIN, TOP, Folder
+
 from tcpsim.cli.flows import table
 from tcpsim.figures import Figures, jain
 from tcpsim.samples import percentile
@@ -154,137 +144,135 @@ def rows_by_hand():
     return trace_figures(Figures(Scenario(BY_HAND), TRACE.splitlines()))
 
 
-class ByHand(unittest.TestCase):
-    """The run above: what is read out of its trace, and its figures."""
-
-    def test_figures(self):
-        figures = {(name, figure): value for _, name, figure, _, value in rows_by_hand()}
-        busy = 7 * 1.04 / 12
-        waited = 1.04 + 2.08 + 0.04 + 1.08 + 1.08      # packets times ms, of the five that waited
-        for name, figure, value in (
-                ('f', 'delivered', 7000), ('f', 'goodput', 7000 * 8 / .012), ('f', 'bottleneck', 'a'),
-                ('f', 'share of the bottleneck', 1), ('f', 'sent', 9),
-                ('f', 'sent again by fast retransmit', 1), ('f', 'sent again by timeout', 0),
-                ('f', 'timeouts', 0), ('f', 'data dropped as full at a', 2), ('f', 'completed', None),
-                # acknowledgements 1000, 2000, 3000 match segments sent at the beginning; 7000 comes
-                # after a resending and is no sample
-                ('f', 'least round trip', 3.08 * MS), ('f', 'median round trip', 4.12 * MS),
-                ('f', '99th percentile of round trips', 5.16 * MS),
-                ('a', 'utilization', busy), ('b', 'utilization', 7 * .04 / 12), ('a', 'dropped', 2),
-                ('a', 'greatest queue', 2), ('a', 'mean queue', waited / 12), ('b', 'greatest queue', 0),
-                # of 0, 1.04, 2.08, 0.04, 1.08, 1.08 and 0 ms
-                ('a', 'median delay in the queue', 1.04 * MS),
-                ('a', '99th percentile of delay in the queue', 2.08 * MS),
-                ('', 'Jain\'s index of goodput', 1), ('', 'span', 12 * MS)):
-            with self.subTest(figure, of=name):
-                if isinstance(value, float):
-                    self.assertTrue(math.isclose(figures[name, figure], value), figures[name, figure])
-                else:
-                    self.assertEqual(figures[name, figure], value)
-
-    def test_curves(self):
-        run = by_hand()
-        flow, link = run.flows[0], run.links[0]
-        self.assertEqual([entry / MS for entry in link.queue_times], [0, 1.04, 2.08, 3.08, 3.12, 4.12, 4.16, 5.2])
-        self.assertEqual(list(link.queue), [2, 1, 0, 2, 1, 2, 1, 0])
-        self.assertEqual([wait / MS for wait in link.waits], [0, 1.04, 2.08, .04, 1.08, 1.08, 0])
-        self.assertEqual(list(flow.sent), [0, 1000, 2000, 3000, 4000, 5000, 6000, 7000])
-        self.assertEqual((list(flow.again), list(flow.again_times)), ([3000], [8280000]))
-        self.assertEqual(flow.recoveries, [[8280000, 11360000]])
-        self.assertEqual(list(flow.next), [1000, 2000, 3000, 7000])
-        self.assertEqual([drop[:2] for drop in link.drops], [(0, 'full'), (4120000, 'full')])
-
-    def test_the_table_has_them(self):
-        lines = table(rows_by_hand())
-        self.assertEqual(lines[1].split(), 'f 7,000 4.667 100.0 a 9 22.22 0 1 0 3.080 4.120 5.160 -'.split())
-        self.assertIn('f     data dropped as full at a        2', lines)
-
-    def test_a_trace_of_another_scenario_is_refused(self):
-        lines = TRACE.splitlines()
-        for at, old, new in ((1, 'tx=0:0:1000', 'tx=0:0:2000'), (0, 'full:0:3000', 'full:0:5000'),
-                             (4, 'next=1000', 'next=1000 tx=1:0:5'), (2, 'data', 'date')):
-            changed = lines[:at] + [lines[at].replace(old, new)] + lines[at + 1:]
-            self.assertNotEqual(changed, lines)
-            with self.assertRaises(Unreadable, msg=new):
-                Run(Scenario(BY_HAND), changed)
+# ---- the run above: what is read out of its trace, and its figures
 
 
-class PartialByHand(unittest.TestCase):
+def test_figures():
+    figures = {(name, figure): value for _, name, figure, _, value in rows_by_hand()}
+    busy = 7 * 1.04 / 12
+    waited = 1.04 + 2.08 + 0.04 + 1.08 + 1.08      # packets times ms, of the five that waited
+    for name, figure, value in (
+            ('f', 'delivered', 7000), ('f', 'goodput', 7000 * 8 / .012), ('f', 'bottleneck', 'a'),
+            ('f', 'share of the bottleneck', 1), ('f', 'sent', 9),
+            ('f', 'sent again by fast retransmit', 1), ('f', 'sent again by timeout', 0),
+            ('f', 'timeouts', 0), ('f', 'data dropped as full at a', 2), ('f', 'completed', None),
+            # acknowledgements 1000, 2000, 3000 match segments sent at the beginning; 7000 comes
+            # after a resending and is no sample
+            ('f', 'least round trip', 3.08 * MS), ('f', 'median round trip', 4.12 * MS),
+            ('f', '99th percentile of round trips', 5.16 * MS),
+            ('a', 'utilization', busy), ('b', 'utilization', 7 * .04 / 12), ('a', 'dropped', 2),
+            ('a', 'greatest queue', 2), ('a', 'mean queue', waited / 12), ('b', 'greatest queue', 0),
+            # of 0, 1.04, 2.08, 0.04, 1.08, 1.08 and 0 ms
+            ('a', 'median delay in the queue', 1.04 * MS),
+            ('a', '99th percentile of delay in the queue', 2.08 * MS),
+            ('', 'Jain\'s index of goodput', 1), ('', 'span', 12 * MS)):
+        if isinstance(value, float):
+            assert math.isclose(figures[name, figure], value), figures[name, figure]
+        else:
+            assert figures[name, figure] == value
+
+
+def test_curves():
+    run = by_hand()
+    flow, link = run.flows[0], run.links[0]
+    assert [entry / MS for entry in link.queue_times] == [0, 1.04, 2.08, 3.08, 3.12, 4.12, 4.16, 5.2]
+    assert list(link.queue) == [2, 1, 0, 2, 1, 2, 1, 0]
+    assert [wait / MS for wait in link.waits] == [0, 1.04, 2.08, .04, 1.08, 1.08, 0]
+    assert list(flow.sent) == [0, 1000, 2000, 3000, 4000, 5000, 6000, 7000]
+    assert (list(flow.again), list(flow.again_times)) == ([3000], [8280000])
+    assert flow.recoveries == [[8280000, 11360000]]
+    assert list(flow.next) == [1000, 2000, 3000, 7000]
+    assert [drop[:2] for drop in link.drops] == [(0, 'full'), (4120000, 'full')]
+
+
+def test_the_table_has_them():
+    lines = table(rows_by_hand())
+    assert lines[1].split() == 'f 7,000 4.667 100.0 a 9 22.22 0 1 0 3.080 4.120 5.160 -'.split()
+    assert 'f     data dropped as full at a        2' in lines
+
+
+def test_a_trace_of_another_scenario_is_refused():
+    lines = TRACE.splitlines()
+    for at, old, new in ((1, 'tx=0:0:1000', 'tx=0:0:2000'), (0, 'full:0:3000', 'full:0:5000'),
+                         (4, 'next=1000', 'next=1000 tx=1:0:5'), (2, 'data', 'date')):
+        changed = lines[:at] + [lines[at].replace(old, new)] + lines[at + 1:]
+        assert changed != lines
+        with pytest.raises(Unreadable):
+            Run(Scenario(BY_HAND), changed)
+
+
+class TestPartialByHand:
     """The second run: an acknowledgement of less than all, in a recovery that goes on."""
 
     def test_curves(self):
         run = Run(Scenario(PARTIAL), PARTIAL_TRACE.splitlines())
         flow, link = run.flows[0], run.links[0]
-        self.assertEqual(list(zip(flow.again_times, flow.again)), [(6_200_000, 1000), (10_360_000, 3000)])
-        self.assertEqual((flow.by_fast_retransmit, flow.by_timeout), (2, 0))
-        self.assertEqual(flow.recoveries, [[6_200_000, 13_440_000]])
-        self.assertEqual(list(zip(flow.sent_times, flow.sent))[8:], [(3_080_000, 8000), (10_360_000, 9000)])
-        self.assertEqual([wait / MS for wait in link.waits], [0, 1.04, 2.08, 3.12, 4.16, 5.2, 3.16, 1.08, 0, 1.04])
-        self.assertEqual(list(flow.next), [1000, 3000, 9000, 10000])
-        self.assertEqual(flow.completed, 14_480_000)
+        assert list(zip(flow.again_times, flow.again)) == [(6_200_000, 1000), (10_360_000, 3000)]
+        assert (flow.by_fast_retransmit, flow.by_timeout) == (2, 0)
+        assert flow.recoveries == [[6_200_000, 13_440_000]]
+        assert list(zip(flow.sent_times, flow.sent))[8:] == [(3_080_000, 8000), (10_360_000, 9000)]
+        assert [wait / MS for wait in link.waits] == [0, 1.04, 2.08, 3.12, 4.16, 5.2, 3.16, 1.08, 0, 1.04]
+        assert list(flow.next) == [1000, 3000, 9000, 10000]
+        assert flow.completed == 14_480_000
 
     def test_figures(self):
         figures = {figure: value for _, name, figure, _, value in
                    trace_figures(Figures(Scenario(PARTIAL), PARTIAL_TRACE.splitlines())) if name == 'f'}
-        self.assertEqual([figures[name] for name in ('sent', 'sent again by fast retransmit', 'sent again by timeout')],
-                         [12, 2, 0])
+        assert [figures[name] for name in ('sent', 'sent again by fast retransmit', 'sent again by timeout')] == [12, 2, 0]
         # 9000, sent after a resending, is the last that is timed: from 10.36 to 14.48 ms
-        self.assertEqual((figures['least round trip'], figures['99th percentile of round trips']), (3.08 * MS, 4.12 * MS))
+        assert (figures['least round trip'], figures['99th percentile of round trips']) == (3.08 * MS, 4.12 * MS)
 
     def test_what_is_no_trace_of_it_is_refused(self):
         lines = PARTIAL_TRACE.splitlines()
         for text in (PARTIAL.replace('newreno', 'reno'), PARTIAL.replace(' newreno iw10', '')):
-            with self.assertRaises(Unreadable):
+            with pytest.raises(Unreadable):
                 Run(Scenario(text), lines)
         for old, new in (('nxt=10000 cwnd=9000 ssthresh=4000 phase=fr tx=0:0:3000', 'nxt=11000 cwnd=9000 ssthresh=4000 phase=fr tx=0:0:3000'),
                          ('tx=0:0:3000', 'tx=0:0:9000'), ('nxt=10000', 'nxt=9000')):
             changed = lines[:32] + [lines[32].replace(old, new)] + lines[33:]
-            self.assertNotEqual(changed, lines)
-            with self.assertRaises(Unreadable, msg=new):
+            assert changed != lines
+            with pytest.raises(Unreadable):
                 Run(Scenario(PARTIAL), changed)
 
 
-class Variants(unittest.TestCase):
-    def test_a_flow_has_both_words_or_neither(self):
-        for words, newreno, iw10 in (('', False, False), (' reno iw3', False, False), (' newreno iw3', True, False),
-                                     (' reno iw10', False, True), (' newreno iw10', True, True)):
-            flow = Scenario(PARTIAL.replace(' newreno iw10', words)).flows[0]
-            self.assertEqual((flow.delack, flow.newreno, flow.iw10), (0, newreno, iw10))
-        for words in (' reno', ' iw3', ' iw3 reno', ' reno iw5', ' Reno iw3', ' reno iw3 1', ' 1 2'):
-            with self.assertRaisesRegex(Unreadable, 'line 6', msg=words):
-                Scenario(PARTIAL.replace(' newreno iw10', words))
+def test_a_flow_has_both_words_or_neither():
+    for words, newreno, iw10 in (('', False, False), (' reno iw3', False, False), (' newreno iw3', True, False),
+                                 (' reno iw10', False, True), (' newreno iw10', True, True)):
+        flow = Scenario(PARTIAL.replace(' newreno iw10', words)).flows[0]
+        assert (flow.delack, flow.newreno, flow.iw10) == (0, newreno, iw10)
+    for words in (' reno', ' iw3', ' iw3 reno', ' reno iw5', ' Reno iw3', ' reno iw3 1', ' 1 2'):
+        with pytest.raises(Unreadable, match='line 6'):
+            Scenario(PARTIAL.replace(' newreno iw10', words))
 
 
-class Arithmetic(unittest.TestCase):
-    def test_percentiles_are_by_nearest_rank(self):
-        for values, percent, value in (([], 50, None), ([7], 99, 7), ([3, 1, 2], 50, 2), ([4, 1, 3, 2], 50, 2),
-                                       (range(1, 101), 99, 99), (range(1, 102), 99, 100)):
-            self.assertEqual(percentile(values, percent), value)
-
-    def test_jain(self):
-        for shares, index in (([5, 5], 1), ([1, 0], .5), ([4, 2, 0], .6), ([0, 0], None)):
-            self.assertEqual(jain(shares), index)
+def test_percentiles_are_by_nearest_rank():
+    for values, percent, value in (([], 50, None), ([7], 99, 7), ([3, 1, 2], 50, 2), ([4, 1, 3, 2], 50, 2),
+                                   (range(1, 101), 99, 99), (range(1, 102), 99, 100)):
+        assert percentile(values, percent) == value
 
 
-class Networks(unittest.TestCase):
-    """Networks: what is read out of a trace against the model's own queues, packet by packet."""
+def test_jain():
+    for shares, index in (([5, 5], 1), ([1, 0], .5), ([4, 2, 0], .6), ([0, 0], None)):
+        assert jain(shares) == index
 
-    def test_waits_are_those_of_the_model(self):
-        from tcpsim_model.simulate import Network, line_text
-        from tcpsim_model.text import assemble
-        for path in SCENARIOS:
-            with open(path, encoding='ascii') as file:
-                text = file.read()
-            net, lines = Network(assemble(text.encode())), []
-            for port in net.ports:
-                port.queue = Watched(port.queue)
-            while (line := net.step()) is not None:
-                lines.append(line_text(net.position, line))
-            run = Run(Scenario(text), lines)
-            with self.subTest(os.path.basename(path)):
-                self.assertGreater(len(lines), 4)
-                self.assertEqual([list(link.waits) for link in run.links],
-                                 [port.queue.waits for port in net.ports])
+
+# ---- networks: what is read out of a trace against the model's own queues, packet by packet
+
+
+def test_waits_are_those_of_the_model():
+    from tcpsim_model.simulate import Network, line_text
+    from tcpsim_model.text import assemble
+    for path in SCENARIOS:
+        with open(path, encoding='ascii') as file:
+            text = file.read()
+        net, lines = Network(assemble(text.encode())), []
+        for port in net.ports:
+            port.queue = Watched(port.queue)
+        while (line := net.step()) is not None:
+            lines.append(line_text(net.position, line))
+        run = Run(Scenario(text), lines)
+        assert len(lines) > 4
+        assert [list(link.waits) for link in run.links] == [port.queue.waits for port in net.ports]
 
 
 class Watched:
@@ -314,19 +302,14 @@ SCENARIOS = sorted(os.path.join(folder, name)
                    for name in os.listdir(folder) if name.endswith('.txt'))
 
 
-class Pictures(unittest.TestCase):
-    """Each kind of file is written, with what was asked for in it."""
-
-    def setUp(self):
-        self.folder = tempfile.TemporaryDirectory()
-        self.addCleanup(self.folder.cleanup)
-        self.scenario, self.trace = (os.path.join(self.folder.name, name) for name in ('run.txt', 'run.trace'))
-        for path, text in ((self.scenario, BY_HAND), (self.trace, TRACE)):
-            with open(path, 'w', encoding='ascii') as file:
-                file.write(text)
+class TestPictures(Folder):
+    def setup_method(self):
+        pytest.importorskip('matplotlib', reason='no matplotlib: apt-get install python3-matplotlib')
+        super().setup_method()
+        self.scenario, self.trace = self.put('run.txt', BY_HAND), self.put('run.trace', TRACE)
 
     def draw(self, ending, *words):
-        path = os.path.join(self.folder.name, 'picture' + ending)
+        path = os.path.join(self.folder, 'picture' + ending)
         done = subprocess.run([sys.executable, os.path.join(BIN, 'tcpsim-plot'), self.scenario, self.trace,
                                '-o', path, *words], capture_output=True, text=True, check=False)
         return done, path
@@ -334,9 +317,9 @@ class Pictures(unittest.TestCase):
     def test_files_begin_as_their_kind_does(self):
         for ending, begin in (('.png', b'\x89PNG'), ('.svg', b'<?xml'), ('.pdf', b'%PDF')):
             done, path = self.draw(ending)
-            self.assertEqual((done.returncode, done.stderr), (0, ''))
+            assert (done.returncode, done.stderr) == (0, '')
             with open(path, 'rb') as file:
-                self.assertTrue(file.read().startswith(begin))
+                assert file.read().startswith(begin)
 
     def test_words_that_are_refused(self):
         for ending, words, status, note in (('.gif', (), 2, '.png, .svg or .pdf'), ('.png', ('--flows', 'x'), 1, 'x'),
@@ -345,11 +328,12 @@ class Pictures(unittest.TestCase):
                                             ('.png', ('--beside', 'a', 'b', 'c'), 2, '--beside'),
                                             ('.png', ('--beside', 'no such'), 1, 'no such')):
             done, path = self.draw(ending, *words)
-            self.assertEqual(done.returncode, status, done.stderr)
-            self.assertIn(note, done.stderr)
-            self.assertFalse(os.path.exists(path))
+            assert done.returncode == status, done.stderr
+            assert note in done.stderr
+            assert not os.path.exists(path)
 
     def panels(self, *words):
+        from tcpsim import plot
         given = plot.words_of([self.scenario, self.trace, '-o', 'x.png', *words])
         figure = plot.draw(plot.picture_of(given, read_run(self.scenario, self.trace)), given.panels, 'a title')
         axes = [a for a in figure.get_axes() if a.axison]
@@ -358,58 +342,45 @@ class Pictures(unittest.TestCase):
 
     def test_panels_have_units_and_the_run(self):
         panels = self.panels()
-        self.assertEqual({title: axes.get_ylabel() for title, axes in panels.items()},
-                         {'flow f: congestion window': 'kB', 'flow f: sequence numbers': 'byte number, kB',
+        assert {title: axes.get_ylabel() for title, axes in panels.items()} == {'flow f: congestion window': 'kB', 'flow f: sequence numbers': 'byte number, kB',
                           'packets that wait in the queue': 'packets', 'delay in the queue of each packet sent': 'ms',
-                          'utilization, in steps of 0.24 ms': '%'})
+                          'utilization, in steps of 0.24 ms': '%'}
         curves = [list(line.get_ydata()) for line in panels['flow f: congestion window'].lines]
-        self.assertIn([4, 5, 6, 7, 7, 7, 5.5, 2.5, 2.5], curves)
-        self.assertIn([-.35, -.35], curves)     # two losses, below the curves
-        self.assertEqual(panels['flow f: sequence numbers'].get_xlabel(), 'time, ms')
+        assert [4, 5, 6, 7, 7, 7, 5.5, 2.5, 2.5] in curves
+        assert [-.35, -.35] in curves     # two losses, below the curves
+        assert panels['flow f: sequence numbers'].get_xlabel() == 'time, ms'
 
     def test_panels_that_are_asked_for(self):
-        self.assertEqual(list(self.panels('--panels', 'queue,window', '--links', 'b')),
-                         ['flow f: congestion window', 'packets that wait in the queue'])
+        assert list(self.panels('--panels', 'queue,window', '--links', 'b')) == \
+            ['flow f: congestion window', 'packets that wait in the queue']
 
     def test_two_runs_in_the_same_panels(self):
-        other = os.path.join(self.folder.name, 'other.txt')
+        other = os.path.join(self.folder, 'other.txt')
         with open(other, 'w', encoding='ascii') as file:
             file.write(BY_HAND.replace('droptail 2', 'codel 2 1000000 9000000 1040', 1))
+        from tcpsim import plot
         given = plot.words_of([self.scenario, self.trace, '--beside', other, self.trace, '--panels', 'delay,utilization',
                                '-o', 'x.png'])
         figure = plot.figure_of(given)
         delay, utilization = figure.get_axes()
         plot.plt.close(figure)
-        self.assertEqual([text.get_text() for text in delay.get_legend().get_texts()], ['run', 'other'])
+        assert [text.get_text() for text in delay.get_legend().get_texts()] == ['run', 'other']
         waits = [list(line.get_ydata()) for line in delay.lines]
-        self.assertEqual(waits[:2], [[0, 1.04, 2.08, .04, 1.08, 1.08, 0]] * 2)
-        self.assertEqual(waits[2], [1, 1])      # the target of the one that has it
-        self.assertEqual(utilization.get_xlabel(), 'time, ms')
+        assert waits[:2] == [[0, 1.04, 2.08, .04, 1.08, 1.08, 0]] * 2
+        assert waits[2] == [1, 1]      # the target of the one that has it
+        assert utilization.get_xlabel() == 'time, ms'
 
     def test_fewer_points_keep_the_extremes(self):
+        from tcpsim import plot
         times = range(0, 10**6)
         values = [0] * 10**6
         values[123456], values[654321] = 77, -5
         kept = list(plot.steps(times, values, (0, 10**6))[1])
-        self.assertLess(len(kept), 5000)
-        self.assertTrue(77 in kept and -5 in kept)
+        assert len(kept) < 5000
+        assert 77 in kept and -5 in kept
 
     def test_busy_parts(self):
+        from tcpsim import plot
         edges, parts = plot.busy_parts(by_hand().links[0], (0, 12 * MS))
-        self.assertTrue(math.isclose(sum(parts) * 12 / 50, 7 * 1.04))
-        self.assertEqual((len(edges), parts[0], parts[-1]), (51, 1, 0))
-
-
-def main():
-    stream = io.StringIO()
-    result = unittest.TextTestRunner(stream=stream).run(unittest.defaultTestLoader.loadTestsFromModule(
-        sys.modules['__main__']))
-    failed = len({str(test).split(') [')[0] for test, _ in result.failures + result.errors})
-    if failed:
-        print(stream.getvalue())
-    print(f'{result.testsRun - failed} passed, {failed} failed')
-    return 1 if failed else 0
-
-
-if __name__ == '__main__':
-    sys.exit(main())
+        assert math.isclose(sum(parts) * 12 / 50, 7 * 1.04)
+        assert (len(edges), parts[0], parts[-1]) == (51, 1, 0)

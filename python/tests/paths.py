@@ -1,8 +1,0 @@
-"""Where the clone has what tests use. Importing it puts python/ on sys.path, where the packages are, and dev/."""
-import os
-import sys
-
-TOP = os.path.dirname(os.path.dirname(os.path.dirname(os.path.abspath(__file__))))
-BIN = os.path.join(TOP, 'bin')
-MODEL = os.path.join(BIN, 'tcpsim-model')       # runs scenarios in the program's place
-sys.path[1:1] = [os.path.join(TOP, 'python'), os.path.join(TOP, 'dev')]
