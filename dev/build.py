@@ -1,7 +1,7 @@
 #!/usr/bin/env python3
 """Proves the program with all its libraries, and builds it.
 
-    dev/build.py [--jobs N] [--ready]
+    dev/build.py [--jobs N] [--ready | --module]
 
 Each crate is proved once, by `rattle build`, the prover behind `rt`, as soon as those that it stands on
 are: up to three crates side by side. The one on which most others stand gets the processors that the
@@ -9,7 +9,11 @@ others leave, for as many functions at once; each of the others gets one, since 
 by four jobs than by one. Of a library
 its statements are kept (crates/tcpsim/out/libs), so that what stands on it does not read its proofs;
 after a change the changed crate and those that stand on it are proved again. `rt ci` trusts nothing of
-it. Beside them NAME.cost says what each cost, for the table of bench/gate.py. With --ready it only says
+it. The same run of the prover that makes the program keeps the LLVM module that it is made of, as
+crates/tcpsim/out/tcpsim.bc, with a record that names both by their sums: of that module `make page` makes
+the program for a browser. With --module it sees to it that module and record are there and fit the program,
+and proves no more than it has to: the last crate alone, over what `make run` or `rt ci` left of the others.
+Beside them NAME.cost says what each cost, for the table of bench/gate.py. With --ready it only says
 whether the toolchain is the one that is wanted, whether every file is in the layout that `rt fmt` gives,
 and whether a module has a library's name, as `rt ci` asks.
 """
@@ -19,6 +23,7 @@ import hashlib
 import json
 import os
 import re
+import shlex
 import shutil
 import signal
 import subprocess
@@ -29,6 +34,8 @@ TOP = os.path.dirname(os.path.dirname(os.path.abspath(__file__)))
 PROGRAM = "tcpsim"
 KEPT = f"{TOP}/crates/{PROGRAM}/out/libs"
 MADE = f"{TOP}/crates/{PROGRAM}/out/{PROGRAM}"
+# The program's LLVM module, and what says of which proof and which program it is.
+MODULE, RECORD = f"{MADE}.bc", f"{MADE}.module"
 PARTS = ("src", "specs", "proofs")
 # How many crates are proved side by side.
 CRATES_AT_ONCE = 3
@@ -129,19 +136,87 @@ def sum_of(name, kit, sums, libraries):
     return taken.hexdigest()
 
 
-def words_of(name, kit, jobs, libraries):
-    """The command that proves a crate and writes what is kept of it."""
+def keeping_toolchain(kit):
+    """A folder like the toolchain's own, whose clang keeps the module that it is given."""
+    made = f"{KEPT}/toolchain"
+    shutil.rmtree(made, ignore_errors=True)
+    os.makedirs(f"{made}/bin")
+    os.symlink(f"{kit}/toolchain/lib", f"{made}/lib")
+    for it in os.listdir(f"{kit}/toolchain/bin"):
+        if it != "clang":
+            os.symlink(f"{kit}/toolchain/bin/{it}", f"{made}/bin/{it}")
+    with open(f"{made}/bin/clang", "w", encoding="utf-8") as file:
+        file.write(f"""#!/bin/sh
+for it in "$@"; do
+  case $it in *.bc) cp -- "$it" {shlex.quote(MODULE)} || exit 1;; esac
+done
+exec {shlex.quote(f"{kit}/toolchain/bin/clang")} "$@"
+""")
+    os.chmod(f"{made}/bin/clang", 0o755)
+    return made
+
+
+def sum_of_file(path):
+    """The SHA-256 of a file, in hexadecimal digits."""
+    with open(path, "rb") as file:
+        return hashlib.sha256(file.read()).hexdigest()
+
+
+def forget_module():
+    """Takes module and record away, before the program is made anew."""
+    for it in (MODULE, RECORD):
+        with contextlib.suppress(FileNotFoundError):
+            os.remove(it)
+
+
+def keep_record(stamp):
+    """Writes what the prover said of the run that made the program and its module, and the sums of both."""
+    with open(f"{KEPT}/{PROGRAM}.log", encoding="utf-8", errors="replace") as log:
+        verdicts = [line.strip() for line in log if line.startswith("logic=proved ")]
+    if not verdicts:
+        raise Refused("the prover gave no verdict `logic=proved` on the program")
+    found = {"verdict": verdicts[-1], "sources": stamp, "module": sum_of_file(MODULE), "program": sum_of_file(MADE)}
+    with open(RECORD, "w", encoding="utf-8") as file:
+        json.dump(found, file, indent=1)
+
+
+def module_record(stamp=None):
+    """The record of the module, where module, program and, if given, the sum of the sources are those that it names.
+    Raises Refused with what does not fit."""
+    try:
+        with open(RECORD, encoding="utf-8") as file:
+            found = json.load(file)
+        if not found["verdict"].startswith("logic=proved "):
+            raise Refused("the module was not proved")
+        for what, path in (("module", MODULE), ("program", MADE)):
+            if sum_of_file(path) != found[what]:
+                raise Refused(f"{os.path.relpath(path, TOP)} is not the {what} of that proof")
+        if stamp is not None and found["sources"] != stamp:
+            raise Refused("the sources have changed since the module was proved")
+    except FileNotFoundError as gone:
+        raise Refused(f"{os.path.relpath(gone.filename, TOP)} is not there") from gone
+    except (KeyError, ValueError, AttributeError) as wrong:
+        raise Refused(f"{os.path.relpath(RECORD, TOP)} is no record of a module") from wrong
+    return found
+
+
+def words_of(name, kit, jobs, libraries, kept=None, tools=None):
+    """The command that proves a crate and writes what is kept of it. The statements of the crates below are where `kept`
+    says of each, in KEPT where it says nothing; `tools` is the folder of the compiler, else the toolchain's."""
     is_program = name == PROGRAM
+    kept = kept or {}
     words = [f"{kit}/bin/rattle", "build", "--crate-name", name]
     words.append(f"{TOP}/crates/{name}/src/{'main' if is_program else 'lib'}.rt")
     for it in dict.fromkeys(["core", "std", *libraries[name]]):
-        place = KEPT if it in libraries else f"{kit}/rlibs"
+        place = kept.get(it, KEPT) if it in libraries else f"{kit}/rlibs"
         words += ["--extern", f"{it}={place}/{it}.rlib"]
-    words += ["-L", f"dependency={kit}/rlibs", "-L", f"dependency={KEPT}"]
+    words += ["-L", f"dependency={kit}/rlibs"]
+    for it in kept.values() if kept else [KEPT]:
+        words += ["-L", f"dependency={it}"]
     words += ["--antt-project", f"{kit}/rattle/logic/antt-project.json", "--logic-built", f"{kit}/logic_built"]
     words += ["--links", f"{name}=", "--jobs", str(jobs)]
     if is_program:
-        return [*words, "--toolchain", f"{kit}/toolchain", "--backend", "llvm", "-o", f"{KEPT}/{name}.o"]
+        return [*words, "--toolchain", tools or f"{kit}/toolchain", "--backend", "llvm", "-o", f"{KEPT}/{name}.o"]
     return [*words, "--statements", "-o", f"{KEPT}/{name}.rlib"]
 
 
@@ -161,6 +236,14 @@ def keep_cost(name, kind, seconds, memory):
         json.dump(costs, file)
 
 
+def has_module(stamp):
+    """Whether the module of the program is there, of the sources with this sum."""
+    try:
+        return bool(module_record(stamp))
+    except Refused:
+        return False
+
+
 class Crate:
     """One crate: what it waits for, and its prover while that runs."""
 
@@ -175,7 +258,7 @@ class Crate:
 
     def is_kept(self):
         with contextlib.suppress(FileNotFoundError), open(self.mark(), encoding="utf-8") as file:
-            return file.read() == self.stamp
+            return file.read() == self.stamp and (self.name != PROGRAM or has_module(self.stamp))
         return False
 
     def start(self, words, gives_way):
@@ -254,34 +337,98 @@ def link(kit):
     return linked.returncode
 
 
-def crates_of(kit, libraries):
-    """The program's crates, each behind those that it stands on."""
-    names, sums = [*below(PROGRAM, libraries), PROGRAM], {}
+def sums_of(names, kit, libraries):
+    """The sum of each of the crates, which come each behind those that it stands on."""
+    sums = {}
     for name in names:
         sums[name] = sum_of(name, kit, sums, libraries)
+    return sums
+
+
+def crates_of(names, libraries, sums):
+    """The program's crates, each behind those that it stands on."""
     return [Crate(name, libraries, sums[name]) for name in names]
 
 
 def is_built():
     """Whether the program was built here of the crates as they stand, all proved, by this toolchain."""
     try:
-        crates = crates_of(toolchain(), declared())
+        kit, libraries = toolchain(), declared()
+        names = [*below(PROGRAM, libraries), PROGRAM]
+        crates = crates_of(names, libraries, sums_of(names, kit, libraries))
     except Refused:
         return False
     return os.path.isfile(MADE) and all(it.is_kept() for it in crates)
 
 
+def left_by_the_gate(name, libraries):
+    """Where `rt ci` left the statements of the crates below, by name; None where one is not there, or older than a file of
+    its crate."""
+    places, newest = {}, 0
+    for it in below(name, libraries):
+        places[it] = f"{TOP}/crates/{it}/out/rlib"
+        files = [f"{at}/{file}" for part in PARTS for at, _, files in os.walk(f"{TOP}/crates/{it}/{part}") for file in files]
+        newest = max([newest, *map(os.path.getmtime, files)])
+        found = [f"{at}/{file}" for at, _, files in os.walk(f"{places[it]}/{it}.rlib") for file in files]
+        if not found or max(map(os.path.getmtime, found)) < newest:
+            return None
+    return places
+
+
+def prove_last(kit, libraries, stamp, places, asked):
+    """Proves the program's crate alone, over statements that are there; answers the status."""
+    name = PROGRAM
+    os.makedirs(KEPT, exist_ok=True)
+    before = sum_of_file(MADE) if os.path.isfile(MADE) else None
+    forget_module()
+    crate = Crate(name, libraries, stamp)
+    crate.start(words_of(name, kit, jobs_at_once(asked), libraries, places, keeping_toolchain(kit)), False)
+    print(f"Proving {name} over the statements of the crates below it, for its module.", flush=True)
+    try:
+        while not crate.has_ended():
+            time.sleep(0.1)
+    finally:
+        crate.stop()
+    if crate.prover.returncode:
+        print(crate.said(), end="")
+        print(f"{name} is not proved, and no module is kept")
+        return 1
+    if link(kit):
+        return 1
+    keep_record(stamp)
+    crate.keep()
+    same = "the same as" if before == sum_of_file(MADE) else "in the place of" if before else "and no"
+    print(f"{name} is proved ({time.time() - crate.begun:.0f} s): its module is kept; the program is {same} the one before")
+    return 0
+
+
+def make_module(asked):
+    """Sees to it that the program's module is there, and of the program's proof; answers the status."""
+    kit, libraries = toolchain(), declared()
+    names = [*below(PROGRAM, libraries), PROGRAM]
+    sums = sums_of(names, kit, libraries)
+    if has_module(sums[PROGRAM]):
+        return 0
+    if all(Crate(it, libraries, sums[it]).is_kept() for it in names[:-1]):
+        return build(asked)
+    places = left_by_the_gate(PROGRAM, libraries)
+    return prove_last(kit, libraries, sums[PROGRAM], places, asked) if places else build(asked)
+
+
 def build(asked):
     """Proves and builds the program; answers the status to end with."""
     kit, libraries = toolchain(), declared()
-    crates = crates_of(kit, libraries)
+    names = [*below(PROGRAM, libraries), PROGRAM]
+    sums = sums_of(names, kit, libraries)
+    crates = crates_of(names, libraries, sums)
     # First those on which most others stand.
     crates.sort(key=lambda it: -it.above)
     left = sum(not it.is_kept() for it in crates)
     if not left and os.path.isfile(MADE):
         return 0
     os.makedirs(KEPT, exist_ok=True)
-    jobs = jobs_at_once(asked)
+    forget_module()
+    jobs, tools = jobs_at_once(asked), keeping_toolchain(kit)
     print(f"Proving {left} of {len(crates)} crates; what is proved is kept for the next time.", flush=True)
 
     def stop(number, _):
@@ -291,25 +438,29 @@ def build(asked):
 
     for it in (signal.SIGINT, signal.SIGTERM, signal.SIGHUP):
         signal.signal(it, stop)
-    refused = prove(crates, len(crates), jobs, lambda name, most: words_of(name, kit, most, libraries))
+    refused = prove(crates, len(crates), jobs, lambda name, most: words_of(name, kit, most, libraries, tools=tools))
     if refused:
         for it in crates:
             it.stop()
         print(refused.said(), end="")
         print(f"{refused.name} is not proved, and nothing was built")
         return 1
-    return 1 if link(kit) else 0
+    if link(kit):
+        return 1
+    keep_record(sums[PROGRAM])
+    return 0
 
 
 def main():
     reader = argparse.ArgumentParser(description="Proves the program with all its libraries, and builds it.")
     reader.add_argument("--jobs", type=int, default=0, help="functions at once in all (left out: one a processor)")
     reader.add_argument("--ready", action="store_true", help="only say whether the toolchain, the layout and the modules' names are right")
+    reader.add_argument("--module", action="store_true", help="see that the program's module is there, and of its proof")
     words = reader.parse_args()
     try:
         if words.ready:
             return look_at_layout(toolchain()) or look_at_names()
-        return build(words.jobs)
+        return make_module(words.jobs) if words.module else build(words.jobs)
     except Refused as why:
         print(f"tcpsim cannot be built: {why}", file=sys.stderr)
         return 1

@@ -15,7 +15,9 @@ from tcpsim.scenario.text import Scenario
 
 HERE = os.path.dirname(os.path.realpath(__file__))
 PARTS = os.path.join(HERE, 'web')
-SCRIPTS = ('record.js', 'words.js', 'layout.js', 'net.js', 'charts.js', 'page.js')
+# What shows a run, here and in the page with the simulator (dev/page.py); behind it what opens this page.
+SCRIPTS = ('trace.js', 'record.js', 'words.js', 'layout.js', 'net.js', 'charts.js', 'page.js')
+OPENING = 'boot.js'
 LIBRARY = os.path.join(PARTS, 'vendor', 'd3.v3.min.js')
 
 
@@ -46,6 +48,11 @@ def read_part(name: str) -> str:
         return file.read()
 
 
+def scripts() -> str:
+    """The scripts that show a run, in their order."""
+    return '\n'.join(read_part(os.path.join(PARTS, name)) for name in SCRIPTS)
+
+
 def page(title: str, scenario: Scenario, part: Part) -> str:
     """The whole page's text."""
     packed = base64.b64encode(zlib.compress('\n'.join(part.lines).encode('ascii'), 3)).decode('ascii')
@@ -57,6 +64,7 @@ def page(title: str, scenario: Scenario, part: Part) -> str:
         'LIBRARY': read_part(LIBRARY).replace('</script', '<\\/script'),
         'FACTS': for_script(facts),
         'TRACE': packed,
-        'SCRIPT': '\n'.join(read_part(os.path.join(PARTS, name)) for name in SCRIPTS)}
+        'VIEW': read_part(os.path.join(PARTS, 'view.html')).replace('@@TITLE@@', html.escape(title)),
+        'SCRIPT': scripts() + '\n' + read_part(os.path.join(PARTS, OPENING))}
     return re.sub(r'@@([A-Z0-9]+)@@', lambda found: holes[found.group(1)],
                   read_part(os.path.join(PARTS, 'page.html')))

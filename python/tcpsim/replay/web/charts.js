@@ -8,11 +8,12 @@ const DASHES = ['', '7 3', '2 3', '9 3 2 3'];
 
 // Points of a curve of steps: of each column of the picture the first, least, greatest and last value.
 function thinned(curve, scale) {
-  const points = [], {times, values} = curve;
+  const points = [], {times, values} = curve, [[begin, end], [left, right]] = [scale.domain(), scale.range()];
+  const across = (right - left) / (end - begin);
   let column = -1, low = 0, high = 0, last = 0;
   const close = () => { if (column >= 0) for (const k of [...new Set([low, high, last])].sort((a, b) => a - b)) points.push(k); };
   for (let k = 0; k < times.length; k++) {
-    const x = Math.floor(scale(times[k]));
+    const x = Math.floor(left + (times[k] - begin) * across);
     if (x !== column) { close(); column = x; low = high = last = k; points.push(k); }
     if (values[k] < values[low]) low = k;
     if (values[k] > values[high]) high = k;

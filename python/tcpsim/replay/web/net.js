@@ -42,9 +42,14 @@ class Net {
 
   // The width of the longest words of a drop.
   widestReason() {
-    const longest = d3.max(this.record.drops, drop => reasonOf(drop, 99).length);
-    return d3.max(this.record.drops.filter(drop => reasonOf(drop, 99).length === longest).slice(0, 99),
-      drop => textWidth(reasonOf(drop, 99), 'bold 12px sans-serif')) || 0;
+    const letters = drop => drop.reason.length + String(drop.flow).length + String(drop.number).length;
+    let longest = 0, ones = [];
+    for (const drop of this.record.drops) {
+      const length = letters(drop);
+      if (length > longest) { longest = length; ones = []; }
+      if (length === longest && ones.length < 99) ones.push(drop);
+    }
+    return d3.max(ones, drop => textWidth(reasonOf(drop, 99), 'bold 12px sans-serif')) || 0;
   }
 
   // A link's line: the way of its packets, where its queue begins and where its boxes go, where its drops

@@ -24,7 +24,9 @@ function fit(element) {
 }
 
 class Page {
+  // Shows a record in the elements of view.html, until `end`.
   constructor(record) {
+    this.ended = new AbortController();
     Object.assign(this, {record, facts: record.facts, time: record.times[0], playing: false, picked: null, frames: 0});
     this.makeTicks();
     this.keepRoom();
@@ -34,9 +36,12 @@ class Page {
     this.lengths = new Chart(d3.select('#lengths'), record, ['packets that wait'], time => this.goTo(time));
     this.drawFlows(); this.drawLinks(); this.makeLines(); this.makeControls();
     this.fromAddress();
-    window.addEventListener('hashchange', () => this.fromAddress());
-    window.addEventListener('keydown', event => this.key(event));
+    this.onWindow('hashchange', () => this.fromAddress());
+    this.onWindow('keydown', event => this.key(event));
   }
+  onWindow(what, does) { window.addEventListener(what, does, {signal: this.ended.signal}); }
+  // Leaves its elements: no key, no frame and no address moves it any more.
+  end() { this.playing = false; this.ended.abort(); }
 
   // What changes its words keeps room for the longest, so that nothing else moves.
   keepRoom() {
@@ -106,7 +111,7 @@ class Page {
       this.letters = Math.floor((this.list.clientWidth - 14) / textWidth('0', getComputedStyle(this.list).font));
     };
     measure();
-    window.addEventListener('resize', () => { measure(); this.windows.resize(); this.lengths.resize(); this.show(); });
+    this.onWindow('resize', () => { measure(); this.windows.resize(); this.lengths.resize(); this.show(); });
     this.rows = d3.range(41).map(() => {
       const row = document.createElement('li');
       row.tabIndex = -1;
@@ -273,6 +278,7 @@ class Page {
 
   key(event) {
     if (event.ctrlKey || event.altKey || event.metaKey) return;
+    if (event.target !== document.body && !document.getElementById('replay').contains(event.target)) return;
     const tag = event.target.tagName;
     if ((tag === 'INPUT' && event.target.type === 'range' || tag === 'SELECT') && event.key !== ' ') return;
     if (event.key === ' ' && (tag === 'BUTTON' || tag === 'SELECT' || tag === 'INPUT' && event.target.type === 'checkbox')) return;
@@ -335,16 +341,3 @@ class Page {
     requestAnimationFrame(then => this.frame(then));
   }
 }
-
-(async () => {
-  const facts = JSON.parse(document.getElementById('facts').textContent);
-  const begun = performance.now();
-  try {
-    const lines = await unpack(document.getElementById('trace').textContent);
-    window.page = new Page(new Record(facts, lines));
-    document.documentElement.dataset.ready = Math.round(performance.now() - begun);
-  } catch (wrong) {
-    document.getElementById('notice').textContent = `This browser cannot show the page: ${wrong.message}`;
-    document.documentElement.dataset.failed = wrong.stack || wrong.message;
-  }
-})();

@@ -1,16 +1,11 @@
 'use strict';
 // The run: the trace's lines, and the state after any number of events. A state is one row of numbers;
-// each event sets some of them. Every SNAPSHOT events the whole row is kept.
+// each event sets some of them. Every SNAPSHOT events, or a row's length where that is more, the whole row is kept.
+// Lines are taken one after another; `close` is called behind the last.
 
 const SNAPSHOT = 256, DATA = 0, ACK = 1, HEADER_BYTES = 40;
 const OFFERED = 0, ENTERED = 1, TAKEN = 2, SENT = 3, ARRIVED = 4, BUSY = 5, OF_LINK = 6;
 const UNA = 0, NXT = 1, HIGH = 2, CWND = 3, SSTHRESH = 4, RECOVERY = 5, DUPS = 6, NEXT = 7, OF_FLOW = 8;
-
-async function unpack(packed) {
-  const bytes = Uint8Array.from(atob(packed.trim()), c => c.charCodeAt(0));
-  const plain = new Blob([bytes]).stream().pipeThrough(new DecompressionStream('deflate'));
-  return (await new Response(plain).text()).split('\n');
-}
 
 // Packets that entered a link's queue, one entry each, in order, and which of them were sent and when.
 class Track {
@@ -27,15 +22,18 @@ class Track {
 }
 
 class Record {
-  constructor(facts, lines) {
-    this.facts = facts; this.lines = lines;
-    this.first = facts.first; this.count = lines.length; this.last = this.first + this.count;
+  constructor(facts) {
+    this.facts = facts; this.lines = new Lines();
+    this.first = facts.first; this.count = 0; this.last = this.first;
     this.L = facts.links.length;
     this.row = new Float64Array(this.L * OF_LINK + facts.flows.length * OF_FLOW);
     this.tracks = facts.links.map(() => new Track());
-    this.times = new Float64Array(this.count + 1);
-    this.opAt = new Uint32Array(this.count + 1);
-    this.slots = []; this.values = [];
+    this.times = [];
+    this.opAt = new Column(Uint32Array);
+    this.slots = new Column(Uint16Array); this.values = new Column(Float64Array);
+    this.every = Math.max(SNAPSHOT, this.row.length);
+    this.curves = [];         // of some numbers of the row: {times, values}, where they changed
+    this.touched = [];        // links whose queue this event may have changed
     this.drops = [];          // {event, time, link, flow, sort, number, reason, again}
     this.timeouts = [];       // event numbers
     // [event, time] of each flow's start and of each rise of una; without an event where that is before the page.
@@ -47,22 +45,34 @@ class Record {
     this.endOf = facts.nodes.map(() => -1);
     facts.flows.forEach((flow, f) => { this.endOf[flow.sender] = f; this.endOf[flow.receiver] = f; });
     this.opening();
-    for (let k = 0; k < this.count; k++) this.read(k);
-    this.slots = Int32Array.from(this.slots); this.values = Float64Array.from(this.values);
+  }
+  // Takes the next line. `end N` says that the trace is whole.
+  take(line) {
+    if (line.startsWith('end ')) { this.facts.whole = true; return; }
+    this.read(line.split(' '), this.count);
+    this.count += 1; this.last += 1;
+    if (this.count % this.every === 0) this.snapshots.push(this.row.slice());
+  }
+  // Behind the last line: what the whole trace says, and the state before its first.
+  close() {
     this.findStalls();
-    this.findLongest();
     this.at = this.first;
     this.row = this.snapshots[0].slice();
   }
   hopKey(node, flow, sort) { return (node * 256 + flow) * 2 + sort; }
   ofLink(link, what) { return link * OF_LINK + what; }
   ofFlow(flow, what) { return this.L * OF_LINK + flow * OF_FLOW + what; }
-  set(slot, value) { this.row[slot] = value; this.slots.push(slot); this.values.push(value); }
+  set(slot, value) {
+    this.row[slot] = value; this.slots.push(slot); this.values.push(value);
+    const curve = this.curves[slot];
+    if (curve) { curve.times.push(this.now.time); curve.values.push(value); }
+  }
 
   // The state before the first line.
   opening() {
     const base = this.facts.base, row = this.row;
-    this.times[0] = base.time;
+    this.times.push(base.time);
+    this.opAt.push(0);
     base.links.forEach((link, l) => {
       const track = this.tracks[l];
       for (const [flow, sort, number, begun, arrives, again, entered] of link.under_way) {
@@ -86,18 +96,25 @@ class Record {
       this.answers.push({above: new Set(flow.above), waits: flow.answer_waits});
     });
     this.snapshots.push(row.slice());
+    const begun = value => ({times: [base.time], values: [value]});
+    base.flows.forEach((flow, f) => [CWND, SSTHRESH].forEach(what => {
+      const slot = this.ofFlow(f, what);
+      this.curves[slot] = begun(row[slot]);
+    }));
+    this.queues = base.links.map(link => begun(link.waiting.length));
+    this.longest = base.links.map(link => link.waiting.length);
   }
 
-  read(k) {
-    const words = this.lines[k].split(' '), time = +words[1], node = +words[2], kind = words[5];
+  read(words, k) {
+    const time = +words[1], node = +words[2], kind = words[5];
     const name = +words[6], facts = this.facts, event = this.first + k + 1;
-    this.opAt[k] = this.slots.length;
-    this.times[k + 1] = time;
+    this.times.push(time);
     this.now = {time, event};
+    this.touched.length = 0;
     if (kind === 'free') {
       const state = {sender: 5, receiver: 1, router: 0}[facts.nodes[node].kind];
       this.set(this.ofLink(name, BUSY), 0);
-      this.take(name, words, 7 + state);
+      this.takeNext(name, words, 7 + state);
     } else {
       const sort = kind === 'data' ? DATA : ACK;
       let again = false;
@@ -107,8 +124,15 @@ class Record {
       } else if (facts.nodes[node].kind === 'sender') this.sender(name, kind, words);
       else this.receiver(name, kind, words);
     }
-    this.opAt[k + 1] = this.slots.length;
-    if ((k + 1) % SNAPSHOT === 0) this.snapshots.push(this.row.slice());
+    this.opAt.push(this.slots.length);
+    for (const l of this.touched) this.noteQueue(l, time);
+  }
+  // The length of a queue, where the event changed it.
+  noteQueue(l, time) {
+    const {times, values} = this.queues[l], length = this.row[this.ofLink(l, ENTERED)] - this.row[this.ofLink(l, TAKEN)];
+    if (length === values[values.length - 1]) return;
+    times.push(time); values.push(length);
+    if (length > this.longest[l]) this.longest[l] = length;
   }
 
   // A packet is at its link's end; answers whether it was one sent again.
@@ -156,6 +180,7 @@ class Record {
 
   // `again` where it is known; a sender's segments are sent again below `high`.
   offer(link, numbers, flow, sort, words, at, again, high) {
+    this.touched.push(link);
     for (const number of numbers) {
       const packet = {flow, sort, number, again: again === null ? number < high : again};
       this.set(this.ofLink(link, OFFERED), this.row[this.ofLink(link, OFFERED)] + 1);
@@ -170,7 +195,7 @@ class Record {
       } else {
         this.set(this.ofLink(link, ENTERED), this.tracks[link].enter(packet, this.now.time));
         if (own) at = this.dropHeads(link, words, at);
-        if (!this.row[this.ofLink(link, BUSY)]) at = this.take(link, words, at);
+        if (!this.row[this.ofLink(link, BUSY)]) at = this.takeNext(link, words, at);
       }
     }
   }
@@ -189,7 +214,8 @@ class Record {
     return at;
   }
 
-  take(link, words, at) {
+  takeNext(link, words, at) {
+    this.touched.push(link);
     const track = this.tracks[link], taken = this.ofLink(link, TAKEN);
     at = this.dropHeads(link, words, at);
     if (at >= words.length || this.row[taken] >= this.row[this.ofLink(link, ENTERED)]) return at;
@@ -207,21 +233,6 @@ class Record {
 
   dropped(link, packet, reason) {
     this.drops.push({event: this.now.event, time: this.now.time, link, reason, ...packet});
-  }
-
-  // The greatest length of each queue after any event.
-  findLongest() {
-    const row = this.snapshots[0].slice(), length = l => row[this.ofLink(l, ENTERED)] - row[this.ofLink(l, TAKEN)];
-    this.longest = this.tracks.map((_, l) => length(l));
-    const limit = this.L * OF_LINK;
-    for (let k = 0; k < this.count; k++) {
-      for (let op = this.opAt[k]; op < this.opAt[k + 1]; op++) row[this.slots[op]] = this.values[op];
-      for (let op = this.opAt[k]; op < this.opAt[k + 1]; op++)
-        if (this.slots[op] < limit && this.slots[op] % OF_LINK === ENTERED) {
-          const l = (this.slots[op] - ENTERED) / OF_LINK;
-          if (length(l) > this.longest[l]) this.longest[l] = length(l);
-        }
-    }
   }
 
   // Spans of a flow without a new acknowledgement that are longer than this, by the rule of stalls.py: from
@@ -249,20 +260,21 @@ class Record {
     return this.first + low;
   }
   timeOf(event) { return this.times[event - this.first]; }
-  line(event) { return this.lines[event - this.first - 1]; }
+  line(event) { return this.lines.text(event - this.first - 1); }
 
   // Makes `row` the state after `event` events.
   go(event) {
     event = Math.min(this.last, Math.max(this.first, Math.round(event)));
     const k = event - this.first, now = this.at - this.first;
-    if (event < this.at || k - now > SNAPSHOT) {
-      const snapshot = Math.floor(k / SNAPSHOT);
-      if (event < this.at || snapshot * SNAPSHOT > now) {
+    if (event < this.at || k - now > this.every) {
+      const snapshot = Math.floor(k / this.every);
+      if (event < this.at || snapshot * this.every > now) {
         this.row.set(this.snapshots[snapshot]);
-        this.at = this.first + snapshot * SNAPSHOT;
+        this.at = this.first + snapshot * this.every;
       }
     }
-    for (let op = this.opAt[this.at - this.first]; op < this.opAt[k]; op++) this.row[this.slots[op]] = this.values[op];
+    const end = this.opAt.at(k);
+    for (let op = this.opAt.at(this.at - this.first); op < end; op++) this.row[this.slots.at(op)] = this.values.at(op);
     this.at = event;
   }
 
@@ -281,23 +293,7 @@ class Record {
     return {flow: t.flow[entry], sort: t.sort[entry], number: t.number[entry], entered: t.entered[entry],
       again: t.again[entry]};
   }
-  // [time, value] where a number of the row changed, over the whole page.
-  curve(slot) {
-    const times = [this.times[0]], values = [this.snapshots[0][slot]];
-    for (let k = 0; k < this.count; k++)
-      for (let op = this.opAt[k]; op < this.opAt[k + 1]; op++)
-        if (this.slots[op] === slot) { times.push(this.times[k + 1]); values.push(this.values[op]); }
-    return {times, values};
-  }
-  queueCurve(l) {
-    const entered = this.ofLink(l, ENTERED), taken = this.ofLink(l, TAKEN);
-    let e = this.snapshots[0][entered], t = this.snapshots[0][taken], length = e - t;
-    const times = [this.times[0]], values = [length];
-    for (let k = 0; k < this.count; k++) {
-      for (let op = this.opAt[k]; op < this.opAt[k + 1]; op++)
-        if (this.slots[op] === entered) e = this.values[op]; else if (this.slots[op] === taken) t = this.values[op];
-      if (e - t !== length) { length = e - t; times.push(this.times[k + 1]); values.push(length); }
-    }
-    return {times, values};
-  }
+  // [time, value] where cwnd or ssthresh of a flow changed, over the whole page; `slot` is of the row.
+  curve(slot) { return this.curves[slot]; }
+  queueCurve(l) { return this.queues[l]; }
 }

@@ -1,0 +1,121 @@
+#!/usr/bin/env python3
+"""Writes the page with the simulator: one file that works from a disk, with the proved program, the tutorial's lessons and
+the runs of the examples in it (`make page`).
+
+Usage: dev/page.py [-o FILE]
+
+The file is out/page/tcpsim.html where none is named. The program in it is made of the module that dev/build.py keeps of the
+native program's proof; another one is refused. It wants libjs-codemirror and python3-markdown of Debian.
+"""
+import base64
+import hashlib
+import html
+import json
+import os
+import re
+import sys
+import zlib
+
+import page_lessons
+import page_module
+from paths import TOP
+from tcpsim.command_line import Refused, Words, run
+from tcpsim.output import opened, written
+from tcpsim.replay import page as replay
+
+WEB = os.path.join(TOP, 'page', 'web')
+SCRIPTS = ('engine.js', 'scenario.js', 'editor.js', 'figures.js', 'trace_list.js', 'prompt.js', 'lessons.js', 'simulator.js')
+EXAMPLES = os.path.join(TOP, 'examples')
+GRAMMAR = os.path.join(TOP, 'editors', 'vscode', 'syntaxes', 'tcpsim.tmLanguage.json')
+CODEMIRROR = '/usr/share/javascript/codemirror/lib'
+LICENSES = '/usr/share/doc/libjs-codemirror/copyright', os.path.join(os.path.dirname(replay.LIBRARY), 'LICENSE')
+# What the page may do: its own scripts and style, by their sums, the program, workers and pictures that it makes itself.
+POLICY = ("default-src 'none'; script-src {scripts} 'wasm-unsafe-eval'; style-src {style}; worker-src blob:; img-src blob:; "
+          "base-uri 'none'; form-action 'none'")
+
+
+def read(*path):
+    """A file's text."""
+    with open(os.path.join(*path), encoding='utf-8') as file:
+        return file.read()
+
+
+def library(name):
+    """A file of CodeMirror. Raises Refused where it is not there."""
+    try:
+        return read(CODEMIRROR, name)
+    except FileNotFoundError:
+        raise Refused(f'{CODEMIRROR}/{name} is not there: apt-get install libjs-codemirror') from None
+
+
+def packed(data):
+    """Bytes as they stand in the page: deflated, in base64."""
+    return base64.b64encode(zlib.compress(data, 9)).decode('ascii')
+
+
+def summed(text):
+    """A source of a content security policy: the text's sum."""
+    return f"'sha256-{base64.b64encode(hashlib.sha256(text.encode()).digest()).decode('ascii')}'"
+
+
+def held(name, text, kind='text/plain'):
+    """Data that the page holds, which no browser runs."""
+    return f'<script type="{kind}" id="{name}">{text}</script>'
+
+
+def examples():
+    """The examples' texts and traces by name, in the order of their names."""
+    names = sorted(it[:-4] for it in os.listdir(EXAMPLES) if it.endswith('.txt'))
+    return {name: (read(EXAMPLES, f'{name}.txt'), read(EXAMPLES, f'{name}.trace')) for name in names}
+
+
+def data_of(program, record, lessons):
+    """What the page holds as data."""
+    ones = examples()
+    about = {**record, 'wasm': hashlib.sha256(program).hexdigest()}
+    yield held('about', replay.for_script(about), 'application/json')
+    yield held('grammar', replay.for_script(json.loads(read(GRAMMAR))), 'application/json')
+    yield held('examples', replay.for_script({name: text for name, (text, _) in ones.items()}), 'application/json')
+    yield held('lessons', replay.for_script([it.facts() for it in lessons]), 'application/json')
+    yield held('licenses', replay.for_script([read(it) for it in LICENSES]), 'application/json')
+    yield held('host', read(WEB, 'host.js').replace('</script', '<\\/script'))
+    for name, (_, trace) in ones.items():
+        yield held(f'trace-{name}', packed(trace.encode('ascii')))
+    for name in sorted({name for it in lessons for name in it.pictures}):
+        yield held(f'picture-{name}', packed(read(TOP, 'docs', 'pictures', f'{name}.svg').encode()))
+    yield held('program', packed(program))
+
+
+def page(program, record):
+    """The whole page's text, of the program's bytes and the record of its proof."""
+    lessons = page_lessons.lessons()
+    style = '\n'.join(('', library('codemirror.css'), read(replay.PARTS, 'page.css'), read(WEB, 'simulator.css')))
+    scripts = [f'\n{text}\n'.replace('</script', '<\\/script') for text in (
+        read(replay.LIBRARY), library('codemirror.js'), replay.scripts() + '\n' + '\n'.join(read(WEB, it) for it in SCRIPTS))]
+    view = read(replay.PARTS, 'view.html').replace('@@TITLE@@', '')
+    holes = {
+        'POLICY': html.escape(POLICY.format(scripts=' '.join(map(summed, scripts)), style=summed(style)), quote=True).replace('&#x27;', "'"),
+        'STYLE': style, 'VIEW': view, 'LESSONS': '\n'.join(it.template() for it in lessons),
+        'DATA': '\n'.join(data_of(program, record, lessons)),
+        'SCRIPTS': '\n'.join(f'<script>{text}</script>' for text in scripts)}
+    return re.sub(r'@@([A-Z]+)@@', lambda found: holes[found.group(1)], read(WEB, 'simulator.html'))
+
+
+def main():
+    words = Words(description='The page with the simulator, of the proved program.')
+    words.add_argument('-o', dest='out', metavar='FILE', help='else out/page/tcpsim.html')
+    given = words.parse_args()
+    program, record = page_module.program()
+    text = page(program, record)
+    out = given.out or os.path.join(page_module.OUT, 'tcpsim.html')
+    if not given.out:
+        os.makedirs(page_module.OUT, exist_ok=True)
+    with written(out) as file:
+        file.write(text)
+    said = f'{os.path.relpath(out)}: {len(text.encode()):,} bytes, the program {len(program):,} of them before packing\n'
+    with opened() as file:
+        file.write(said)
+
+
+if __name__ == '__main__':
+    sys.exit(run('__main__'))

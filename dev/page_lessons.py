@@ -1,0 +1,70 @@
+"""The lessons of docs/TUTORIAL.md as the page with the simulator has them: text, scenarios, pictures, and the lines of the
+trace that the text names, which lead to their events.
+"""
+import html
+import os
+import re
+
+from paths import TOP
+from tcpsim.command_line import Refused
+
+TUTORIAL = os.path.join(TOP, 'docs', 'TUTORIAL.md')
+# `line 12`, `lines 244 and 1657`, `lines 98, 104, 108`, `Lines 4140 to 4190`.
+LINES = re.compile(r'\b([Ll]ines?) (\d+(?:(?:, and |, | and | to )\d+)*)(?![\d.])')
+
+
+class Lesson:
+    """A lesson: number, title, names of the examples that it opens, of its pictures, and its text as HTML."""
+
+    def __init__(self, number, title, text):
+        self.number, self.title = number, title
+        self.examples = list(dict.fromkeys(re.findall(r'examples/(\w+)\.txt', text)))
+        self.pictures = []
+        self.text = self._html(text)
+
+    def _html(self, text):
+        try:
+            import markdown
+        except ImportError:
+            raise Refused('the lessons want python3-markdown: apt-get install python3-markdown, and use /usr/bin/python3') from None
+        made = markdown.markdown(text, extensions=['fenced_code', 'tables'])
+        made = re.sub(r'<img alt="([^"]*)" src="pictures/(\w+)\.svg" ?/>', self._picture, made)
+        made = re.sub(r'<a href="[^"]*">(.*?)</a>', r'\1', made)
+        if re.search(r'<(script|iframe|object|embed|style)|\son\w+=', made):
+            raise Refused(f'lesson {self.number} of {TUTORIAL} has more than text in it')
+        return re.sub(r'(<pre>.*?</pre>|<[^>]*>)|' + LINES.pattern, self._lines, made, flags=re.S)
+
+    def _picture(self, found):
+        self.pictures.append(found.group(2))
+        return f'<img alt="{found.group(1)}" data-picture="{found.group(2)}">'
+
+    @staticmethod
+    def _lines(found):
+        if found.group(1):
+            return found.group(1)
+        return f'{found.group(2)} ' + re.sub(r'\d+', lambda one: f'<span data-line="{one.group()}">{one.group()}</span>', found.group(3))
+
+    def facts(self):
+        """What the page's script has to know of it."""
+        return {'number': self.number, 'title': self.title, 'examples': self.examples}
+
+    def template(self):
+        """Its text, for the page to copy."""
+        return f'<template id="lesson-{self.number}">{self.text}</template>'
+
+
+def lessons():
+    """All lessons, in order. A part without a number is the beginning of the lesson behind it."""
+    with open(TUTORIAL, encoding='utf-8') as file:
+        parts = re.split(r'^## (.*)\n', file.read(), flags=re.M)[1:]
+    found, before = [], ''
+    for head, text in zip(parts[::2], parts[1::2]):
+        numbered = re.fullmatch(r'(\d+)\. (.*)', head)
+        if numbered:
+            found.append(Lesson(int(numbered.group(1)), html.unescape(numbered.group(2)), before + text))
+            before = ''
+        else:
+            before = f'### {head}\n{text}\n'
+    if not found:
+        raise Refused(f'{TUTORIAL} has no lesson')
+    return found

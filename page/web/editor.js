@@ -1,0 +1,147 @@
+'use strict';
+// The scenario's editor: line numbers, the colours of editors/vscode, and what the program says of the text as it is typed.
+
+const JUDGE_AFTER = 250;                // ms after the last key
+// The scopes of the grammar, and the colours of the editor.
+const LOOKS = [['comment', 'comment'], ['invalid', 'error'], ['keyword', 'keyword'], ['entity', 'def'], ['storage', 'type'],
+  ['constant', 'number']];
+const lookOf = scope => (LOOKS.find(([begin]) => scope.startsWith(begin)) || [])[1] || null;
+
+// A line in parts of one look each: [end, look]. The earliest match counts, of those the first of the grammar.
+function partsOf(line, patterns) {
+  const parts = [];
+  for (let at = 0; at < line.length;) {
+    let first = null;
+    for (const {name, match, captures} of patterns) {
+      match.lastIndex = at;
+      const found = match.exec(line);
+      if (found && found[0] && (!first || found.index < first.found.index)) first = {name, captures, found};
+    }
+    if (!first) break;
+    const {found, name, captures} = first, end = found.index + found[0].length;
+    if (found.index > at) parts.push([found.index, null]);
+    if (name) parts.push([end, lookOf(name)]);
+    else {
+      for (const number of Object.keys(captures)) {
+        const [begin, close] = found.indices[number];
+        parts.push([begin, null], [close, lookOf(captures[number].name)]);
+      }
+      parts.push([end, null]);
+    }
+    at = end;
+  }
+  parts.push([line.length, null]);
+  return parts;
+}
+function defineColours(grammar) {
+  const patterns = grammar.patterns.map(pattern => ({...pattern, match: new RegExp(pattern.match, 'gd')}));
+  CodeMirror.defineMode('tcpsim', () => ({
+    startState: () => ({parts: []}),
+    token(stream, state) {
+      if (stream.sol()) state.parts = partsOf(stream.string, patterns);
+      while (state.parts.length > 1 && state.parts[0][0] <= stream.pos) state.parts.shift();
+      const [end, look] = state.parts[0];
+      stream.pos = Math.max(stream.pos + 1, Math.min(end, stream.string.length));
+      return look;
+    },
+  }));
+}
+
+// Where byte `at` of a line stands among its letters.
+function letterOf(line, at) {
+  let bytes = 0, k = 0;
+  for (const letter of line) {
+    if (bytes >= at) break;
+    bytes += toBytes(letter).length;
+    k += letter.length;
+  }
+  return k;
+}
+// The span of letters that carets show, of a line that may be shown in part: [begin, end].
+function spanOf(line, shown, carets) {
+  const begin = carets.indexOf('^'), end = carets.lastIndexOf('^') + 1;
+  const asShown = [...toBytes(line)].map(byte => byte < 32 || byte > 126 ? '?' : String.fromCharCode(byte)).join('');
+  const offset = Math.max(0, asShown.indexOf(shown));
+  return [letterOf(line, offset + begin), letterOf(line, offset + end)];
+}
+// What a note of the program says with --explain: code, line (or null), the rest's lines, and the span under its carets.
+function readNote(note, text) {
+  const [head, ...rest] = note.replace(/\n$/, '').split('\n');
+  const found = /^refused ([A-Z]+\d*)(?: line (\d+))?$/.exec(head);
+  if (!found) return {head, rest, code: null, line: null, span: null};
+  const line = found[2] && +found[2] ? +found[2] : null;
+  const span = line && rest.length > 1 && /^ *\^+$/.test(rest[1]) ? spanOf(text.split('\n')[line - 1] || '', rest[0], rest[1]) : null;
+  return {head, rest, code: found[1], line, span};
+}
+
+class Editor {
+  // `judged` is told what the program says of the present text, once it has said it.
+  constructor(place, grammar, run) {
+    defineColours(grammar);
+    this.run = run;
+    this.marks = [];
+    this.box = CodeMirror(place, {lineNumbers: true, mode: 'tcpsim', gutters: ['CodeMirror-linenumbers', 'faults'],
+      lineWrapping: true, inputStyle: 'textarea', extraKeys: {Tab: false, 'Shift-Tab': false}});
+    this.box.getInputField().setAttribute('aria-label', 'the scenario');
+    this.box.on('change', () => { clearTimeout(this.timer); this.timer = setTimeout(() => this.judge(), JUDGE_AFTER); });
+    this.verdict = document.getElementById('verdict');
+    this.explained = document.getElementById('explained');
+    this.meaning = document.getElementById('meaning');
+    this.meaning.addEventListener('toggle', () => this.explain());
+  }
+  get text() { return this.box.getValue(); }
+  set text(text) { this.box.setValue(text); this.box.scrollTo(0, 0); }
+
+  // Asks the program, with the text as it stands when it is free.
+  async judge() {
+    if (!this.run) return;
+    if (this.judging) { this.again = true; return; }
+    this.judging = true;
+    do {
+      this.again = false;
+      const text = this.text, {status, note} = await this.run(['asm', '--explain'], toBytes(text));
+      if (!this.again && text === this.text) this.show(status, note, text);
+    } while (this.again);
+    this.judging = false;
+  }
+  show(status, note, text) {
+    this.clear();
+    document.documentElement.dataset.judged = status;
+    this.verdict.className = status ? 'bad' : 'good';
+    if (!status) {
+      const count = statement => text.split('\n').filter(line => words(line)[0] === statement).length;
+      const of = (number, name) => `${number} ${name}${number === 1 ? '' : 's'}`;
+      this.verdict.textContent = `a scenario: ${of(count('node'), 'node')}, ${of(count('link'), 'link')}, ${of(count('flow'), 'flow')}`;
+      return;
+    }
+    const {head, rest, code, line, span} = readNote(note || '', text);
+    this.verdict.textContent = head || 'the program could not judge the text';
+    this.explained.textContent = rest.join('\n');
+    this.code = code;
+    this.meaning.hidden = !code || code === 'I1';
+    this.meaning.firstElementChild.textContent = `what ${code} means`;
+    if (this.meaning.open) this.explain();
+    if (!line || line > this.box.lineCount()) return;
+    const mark = document.createElement('span');
+    mark.className = 'fault';
+    mark.textContent = '\u25cf';
+    mark.title = rest[rest.length - 1] || head;
+    this.box.setGutterMarker(line - 1, 'faults', mark);
+    this.box.addLineClass(line - 1, 'background', 'faulty');
+    this.faulty = line - 1;
+    if (span) this.marks.push(this.box.markText({line: line - 1, ch: span[0]}, {line: line - 1, ch: span[1]}, {className: 'wrong'}));
+  }
+  clear() {
+    this.box.clearGutter('faults');
+    if (this.faulty !== undefined) this.box.removeLineClass(this.faulty, 'background', 'faulty');
+    this.marks.forEach(mark => mark.clear());
+    this.marks = [];
+    this.explained.textContent = '';
+    this.meaning.hidden = true;
+  }
+  async explain() {
+    if (!this.meaning.open || !this.code || !this.run) return;
+    const {bytes} = await this.run(['explain', this.code], new Uint8Array(0));
+    this.meaning.lastElementChild.textContent = new TextDecoder('latin1').decode(bytes);
+  }
+}

@@ -1,0 +1,47 @@
+'use strict';
+// The lessons of docs/TUTORIAL.md: their text, their pictures, and the scenarios that they open.
+
+class Lessons {
+  // `open` is given the name of an example, `go` the number of an event.
+  constructor(place, lessons, open, go) {
+    Object.assign(this, {place, lessons, open, go, now: null});
+    place.addEventListener('click', event => {
+      const {example, event: number} = event.target.dataset;
+      if (example) this.open(example); else if (number) this.go(+number, this.now);
+    });
+  }
+  show(lesson) {
+    this.now = lesson;
+    this.place.textContent = '';
+    this.place.hidden = !lesson;
+    if (!lesson) return;
+    const head = document.createElement('h2');
+    head.textContent = `${lesson.number}. ${lesson.title}`;
+    this.place.append(head);
+    if (lesson.examples.length) {
+      const row = document.createElement('p');
+      row.append('Scenario: ');
+      lesson.examples.forEach(name => row.append(this.button(name.replace(/_/g, ' '), 'example', name), ' '));
+      this.place.append(row);
+    }
+    const text = document.getElementById(`lesson-${lesson.number}`).content.cloneNode(true);
+    text.querySelectorAll('img').forEach(image => this.picture(image));
+    text.querySelectorAll('[data-line]').forEach(span =>
+      span.replaceWith(this.button(span.textContent, 'event', span.dataset.line)));
+    this.place.append(text);
+    this.place.scrollTop = 0;
+  }
+  button(text, kind, value) {
+    const made = document.createElement('button');
+    made.textContent = text;
+    made.dataset[kind] = value;
+    made.className = kind;
+    made.title = kind === 'event' ? `to event ${value} of the run` : `opens ${value}.txt`;
+    return made;
+  }
+  async picture(image) {
+    const packed = document.getElementById(`picture-${image.dataset.picture}`).textContent;
+    image.src = URL.createObjectURL(new Blob([await bytesOf(packed)], {type: 'image/svg+xml'}));
+    image.addEventListener('load', () => URL.revokeObjectURL(image.src), {once: true});
+  }
+}

@@ -1,0 +1,296 @@
+'use strict';
+// The page: a scenario is opened and edited, run by the program, and shown.
+
+const MOST_KEPT = 5000000;              // events of a trace that are kept without a question
+const byId = id => document.getElementById(id);
+const dataOf = id => JSON.parse(byId(id).textContent);
+const nameOfFile = title => title.replace(/[^\w.-]+/g, '_') || 'scenario';
+
+class Simulator {
+  constructor() {
+    this.examples = dataOf('examples');
+    this.lessons = new Lessons(byId('lesson'), dataOf('lessons'), name => this.openExample(name), event => this.goFromLesson(event));
+    this.editor = new Editor(byId('editor'), dataOf('grammar'), null);
+    this.title = 'scenario';
+    this.makeChoice();
+    this.makeButtons();
+    this.showTab('net');
+  }
+
+  // ---- opening
+
+  makeChoice() {
+    const choose = byId('choose'), group = (label, ones) => {
+      const made = document.createElement('optgroup');
+      made.label = label;
+      for (const [value, text] of ones) made.append(new Option(text, value));
+      choose.append(made);
+    };
+    group('Lessons', this.lessons.lessons.map(lesson => [`lesson ${lesson.number}`, `${lesson.number}. ${lesson.title}`]));
+    group('Examples', Object.keys(this.examples).map(name => [`example ${name}`, name.replace(/_/g, ' ')]));
+    choose.addEventListener('change', () => {
+      const [kind, name] = choose.value.split(' ');
+      if (kind === 'lesson') this.openLesson(+name); else { this.lessons.show(null); this.openExample(name); }
+    });
+  }
+  openLesson(number) {
+    const lesson = this.lessons.lessons.find(one => one.number === number);
+    this.lessons.show(lesson);
+    byId('choose').value = `lesson ${number}`;
+    if (lesson.examples.length) this.openExample(lesson.examples[0]);
+  }
+  openExample(name) {
+    this.title = name;
+    this.say('');
+    this.editor.text = this.examples[name];
+    if (!this.engine) this.showCarried();
+  }
+  async openFile(file) {
+    const bytes = new Uint8Array(await file.arrayBuffer());
+    const other = otherThanAScenario(bytes);
+    if (other) { this.say(`${file.name} is ${other}, and no scenario: nothing was opened`); return; }
+    const title = file.name.replace(/\.(txt|tcb)$/, '');
+    if (bytes[0] === 84 && bytes[1] === 67 && bytes[2] === 66) {       // an image
+      const {status, note, bytes: text} = await this.engine.run(['dis', '--explain'], bytes);
+      if (status) { this.say(`${file.name}: ${note.trim().replace(/\n/g, '; ')}`); return; }
+      this.editor.text = new TextDecoder('latin1').decode(text);
+      this.say(`${file.name} is an image: this is its canonical text, in which names are numbers`);
+    } else {
+      if (this.engine && bytes.length > 16777216) {
+        const {note} = await this.engine.run(['asm'], bytes);
+        this.say(`${file.name}: ${note.trim()}`);
+        return;
+      }
+      const text = new TextDecoder().decode(bytes);
+      this.editor.text = text;
+      this.say(text.includes('\r') ? `the lines of ${file.name} end as those of Windows, which the program refuses; here they end with a line feed` : '');
+    }
+    this.title = title;
+    this.lessons.show(null);
+    byId('choose').selectedIndex = -1;
+  }
+  save(name, parts, type) {
+    const link = document.createElement('a');
+    link.href = URL.createObjectURL(new Blob(parts, {type}));
+    link.download = name;
+    link.click();
+    setTimeout(() => URL.revokeObjectURL(link.href), 1000);
+  }
+
+  // ---- the program
+
+  async begin() {
+    const root = document.documentElement;
+    this.openLesson(1);
+    root.dataset.shown = Math.round(performance.now());
+    if (!hasMemory64()) { this.say(NO_MEMORY64); this.withoutProgram(); return; }
+    try {
+      this.engine = await Engine.of(byId('program').textContent, byId('host').textContent);
+    } catch (wrong) {
+      this.say(`The program could not be made ready: ${wrong.message}`);
+      this.withoutProgram();
+      return;
+    }
+    this.editor.run = (words, input) => this.engine.run(words, input);
+    this.enable(false);
+    root.dataset.ready = Math.round(performance.now());
+    this.editor.judge();
+  }
+  // Without the program only runs that the page carries are shown.
+  withoutProgram() {
+    document.documentElement.dataset.ready = 'without';
+    for (const id of ['run', 'figures', 'save-image']) byId(id).disabled = true;
+    this.editor.box.setOption('readOnly', true);
+    byId('verdict').textContent = '';
+    this.showCarried();
+  }
+  enable(running) {
+    byId('run').disabled = byId('figures').disabled = running;
+    byId('stop').disabled = !running;
+    byId('progress').hidden = !running;
+  }
+  // The run of an example whose trace the page has.
+  async showCarried() {
+    const mine = this.run = {}, title = this.title, packed = byId(`trace-${title}`).textContent;
+    const record = new Record(factsOf(this.examples[title], title));
+    await fill(record, unpacked(packed), () => {}, () => this.run === mine);
+    if (this.run === mine) this.showRun(record, title);
+  }
+
+  // Runs the scenario: its trace, and its figures beside it.
+  async start({trace = true, most = MOST_KEPT} = {}) {
+    const text = this.editor.text, input = toBytes(text), title = this.title;
+    this.stop();
+    this.clear();
+    const mine = this.run = {text, title, begun: performance.now()};
+    const wanted = () => this.run === mine;
+    this.enable(true);
+    this.say(trace ? 'running' : 'counting');
+    const figures = this.countFigures(input, mine);
+    const said = trace ? await this.keepTrace(input, mine, most, wanted) : '';
+    if (!wanted()) return;
+    if (said === null) { this.ask(mine); return; }
+    const counted = await figures;
+    if (!wanted()) return;
+    this.enable(false);
+    if (counted.why || counted.status) this.say(said || this.reason(counted));
+    else this.say(said || `done in ${((performance.now() - mine.begun) / 1000).toFixed(2)} s`);
+    document.documentElement.dataset.run = +(document.documentElement.dataset.run || 0) + 1;
+  }
+  reason({status, note, why}) {
+    if (why === 'ended') return 'ended';
+    return why || (note || '').trim().split('\n')[0] || `the program ended with status ${status}`;
+  }
+  async countFigures(input, mine) {
+    const run = mine.figures = this.engine.start(['figures'], input), parts = [];
+    for await (const piece of run.pieces) parts.push(piece);
+    const counted = await run.ended;
+    if (this.run !== mine || counted.status) return counted;
+    mine.csv = await new Blob(parts).text();
+    drawFigures(byId('figures-table'), mine.csv, factsOf(mine.text, mine.title));
+    byId('save-figures').disabled = false;
+    if (!mine.record) this.showTab('figures');
+    return counted;
+  }
+  // Keeps the trace, and shows it. Answers what is to be said, '' where there is nothing, null where there were too many events.
+  async keepTrace(input, mine, most, wanted) {
+    const run = mine.trace = this.engine.start(['run'], input, {most});
+    const told = record => {
+      const part = record.times[record.count] / record.facts.end;
+      byId('progress').value = part;
+      byId('how-far').textContent = `${number(record.count)} events, ${(100 * part).toFixed(0)} % of ${seconds(record.facts.end, 3)}`;
+    };
+    const pieces = run.pieces[Symbol.asyncIterator](), first = await pieces.next();
+    if (!wanted()) return '';
+    if (first.done) return this.reason(await run.ended);
+    let record = mine.record = new Record(factsOf(mine.text, mine.title)), lacks = false;
+    try {
+      const all = (async function* () { yield first.value; yield* pieces; })();
+      await fill(record, all, told, wanted);
+    } catch (wrong) {
+      if (!(wrong instanceof RangeError)) throw wrong;
+      run.stop();
+      lacks = true;
+    }
+    if (!wanted()) return '';
+    const ended = await run.ended;
+    byId('how-far').textContent = '';
+    if (lacks) { record = mine.record = null; return 'no memory in this page for the trace: figures alone want none'; }
+    if (ended.why === 'long') { mine.record = null; return null; }
+    if (record.count) this.showRun(record, mine.title);
+    return ended.why || ended.status ? `${this.reason(ended)}: what is shown ends at ${seconds(record.times[record.count])}` : '';
+  }
+  // A run that has more events than are kept unasked.
+  ask(mine) {
+    const dialog = byId('ask');
+    byId('ask-text').textContent = `This run has more than ${number(MOST_KEPT)} events, and its whole trace may take more memory than ` +
+      'the page can have. Its figures want none of it.';
+    dialog.returnValue = '';
+    dialog.onclose = async () => {
+      if (this.run !== mine) return;
+      if (dialog.returnValue === 'keep') { this.start({most: Infinity}); return; }
+      if (dialog.returnValue !== 'figures') { this.stop(); return; }
+      this.say('counting');
+      const counted = await mine.figures.ended;
+      if (this.run !== mine) return;
+      this.enable(false);
+      this.say(counted.why || counted.status ? this.reason(counted) : `figures alone, in ${((performance.now() - mine.begun) / 1000).toFixed(2)} s`);
+    };
+    dialog.showModal();
+  }
+  // Ends what runs; what was read of the trace is shown.
+  stop() {
+    const {run} = this;
+    if (!run || byId('stop').disabled) return;
+    if (run.figures) run.figures.stop();
+    if (run.trace) run.trace.stop();
+    this.enable(false);
+    this.say('ended');
+  }
+
+  // ---- what is shown
+
+  say(text) { byId('said').textContent = text; }
+  clear() {
+    if (this.page) this.page.end();
+    if (this.list) this.list.end();
+    this.page = this.list = window.page = null;
+    for (const id of ['tab-net', 'all-lines', 'figures-table', 'debugger']) byId(id).textContent = '';
+    byId('save-trace').disabled = byId('save-figures').disabled = true;
+    byId('progress').value = 0;
+    if (/^#event=/.test(location.hash)) history.replaceState(null, '', location.pathname + location.search);
+  }
+  showRun(record, title) {
+    if (this.page) this.page.end();
+    this.showTab('net');
+    const place = byId('tab-net');
+    place.textContent = '';
+    place.append(byId('view').content.cloneNode(true));
+    place.querySelector('h1').textContent = title.replace(/_/g, ' ');
+    this.page = window.page = new Page(record);
+    this.list = new TraceList(byId('all-lines'), record, event => this.goTo(event));
+    byId('save-trace').disabled = false;
+    if (this.engine) this.prompt = new Prompt(byId('debugger'), this.engine, this.editor.text);
+  }
+  goTo(event) {
+    if (!this.page) return;
+    this.page.jump(event);
+    this.list.show(this.page.record.at);
+  }
+  goFromLesson(event) {
+    if (!this.page) { this.say('run the scenario first: then a line of the text leads to its event'); return; }
+    this.showTab('net');
+    this.goTo(event);
+    byId('right').scrollIntoView({block: 'nearest'});
+  }
+  showTab(name) {
+    for (const tab of document.querySelectorAll('[role=tab]')) {
+      const chosen = tab.dataset.tab === name;
+      tab.setAttribute('aria-selected', chosen);
+      tab.tabIndex = chosen ? 0 : -1;
+      byId(`tab-${tab.dataset.tab}`).hidden = !chosen;
+    }
+    if (name === 'trace' && this.list) this.list.show(this.page.record.at);
+  }
+
+  // ---- buttons and keys
+
+  makeButtons() {
+    const on = (id, does) => byId(id).addEventListener('click', does), file = byId('file');
+    on('run', () => this.start());
+    on('figures', () => this.start({trace: false}));
+    on('stop', () => this.stop());
+    on('open', () => file.click());
+    file.addEventListener('change', () => { if (file.files[0]) this.openFile(file.files[0]); file.value = ''; });
+    on('save', () => this.save(`${nameOfFile(this.title)}.txt`, [this.editor.text], 'text/plain'));
+    on('save-image', async () => {
+      const {status, note, bytes} = await this.engine.run(['asm'], toBytes(this.editor.text));
+      if (status) this.say(note.trim()); else this.save(`${nameOfFile(this.title)}.tcb`, [bytes], 'application/octet-stream');
+    });
+    on('save-trace', () => this.save(`${nameOfFile(this.title)}.trace`, this.page.record.lines.pieces, 'text/plain'));
+    on('save-figures', () => this.save(`${nameOfFile(this.title)}.csv`, [this.run.csv], 'text/csv'));
+    for (const choice of ['figures', 'keep', 'leave']) on(`ask-${choice}`, () => byId('ask').close(choice));
+    const tabs = [...document.querySelectorAll('[role=tab]')];
+    tabs.forEach((tab, k) => {
+      tab.addEventListener('click', () => this.showTab(tab.dataset.tab));
+      tab.addEventListener('keydown', event => {
+        const by = {ArrowRight: 1, ArrowLeft: -1}[event.key];
+        if (!by) return;
+        const next = tabs[(k + by + tabs.length) % tabs.length];
+        next.focus();
+        this.showTab(next.dataset.tab);
+        event.preventDefault();
+      });
+    });
+    this.editor.box.setOption('extraKeys', {'Ctrl-Enter': () => byId('run').click(), 'Cmd-Enter': () => byId('run').click()});
+    document.addEventListener('dragover', event => event.preventDefault());
+    document.addEventListener('drop', event => {
+      event.preventDefault();
+      if (event.dataTransfer.files[0]) this.openFile(event.dataTransfer.files[0]);
+    });
+    window.addEventListener('hashchange', () => { if (this.list && this.page) this.list.show(this.page.record.at); });
+  }
+}
+
+window.simulator = new Simulator();
+simulator.begin();

@@ -1,0 +1,86 @@
+'use strict';
+// All lines of a trace in a list that scrolls; only those that are seen are elements. A click leads to the line's event.
+
+const LINE = 18, MOST_TALL = 8e6;       // pixels: a line's height, and what a browser lets an element be high
+
+class TraceList {
+  constructor(place, record, go) {
+    Object.assign(this, {place, record, go, at: 0, rows: []});
+    place.textContent = '';
+    this.box = document.createElement('div');
+    this.box.className = 'lines';
+    this.box.tabIndex = 0;
+    this.box.setAttribute('aria-label', 'all lines of the trace');
+    this.space = document.createElement('div');
+    this.seen = document.createElement('div');
+    this.seen.className = 'seen';
+    this.space.append(this.seen);
+    this.box.append(this.space);
+    const find = document.createElement('form'), word = this.word = document.createElement('input');
+    word.type = 'search';
+    word.placeholder = 'find words, as drop=full';
+    word.setAttribute('aria-label', 'words of a line');
+    const button = document.createElement('button');
+    button.textContent = 'find next';
+    this.told = document.createElement('output');
+    find.append(word, button, this.told);
+    find.addEventListener('submit', event => { event.preventDefault(); this.find(word.value); });
+    place.append(find, this.box);
+    this.tall = Math.min(MOST_TALL, record.count * LINE);
+    this.space.style.height = `${this.tall}px`;
+    this.box.addEventListener('scroll', () => this.draw());
+    this.sized = new ResizeObserver(() => this.draw());
+    this.sized.observe(this.box);
+    this.box.addEventListener('click', event => {
+      const row = event.target.closest('[data-event]');
+      if (row) this.go(+row.dataset.event);
+    });
+  }
+  end() { this.sized.disconnect(); this.searching = null; }
+  // The first line that is seen, and how many are.
+  get room() { return Math.max(1, Math.ceil(this.box.clientHeight / LINE)); }
+  get top() {
+    const most = Math.max(1, this.tall - this.box.clientHeight);
+    return Math.round(Math.min(1, this.box.scrollTop / most) * Math.max(0, this.record.count - this.room));
+  }
+  draw() {
+    const {record, top} = this, many = Math.min(this.room, record.count);
+    while (this.rows.length < many) this.rows.push(this.seen.appendChild(document.createElement('div')));
+    this.seen.style.transform = `translateY(${Math.min(this.box.scrollTop, Math.max(0, this.tall - many * LINE))}px)`;
+    this.rows.forEach((row, k) => {
+      row.hidden = k >= many;
+      if (k >= many) { delete row.dataset.event; return; }
+      const event = record.first + top + k + 1, line = record.line(event);
+      row.textContent = line;
+      row.dataset.event = event;
+      row.className = (event === this.at ? 'present' : '') + (line.includes(' drop=') ? ' dropping' : '');
+    });
+  }
+  // Shows an event's line, in the middle where it was not seen.
+  show(event) {
+    this.at = event;
+    const k = event - this.record.first - 1, {top, room} = this;
+    if (k < top || k >= top + room - 1) {
+      const most = Math.max(1, this.record.count - room), wanted = Math.max(0, Math.min(most, k - (room >> 1)));
+      this.box.scrollTop = wanted / most * Math.max(0, this.tall - this.box.clientHeight);
+    }
+    this.draw();
+  }
+  // Goes to the next line that has these words, from the present one on and then from the first on.
+  async find(text) {
+    const {record} = this, token = this.searching = {};
+    if (!text || !record.count) return;
+    const start = Math.max(this.at, record.first), count = record.count;
+    let begun = performance.now();
+    for (let k = 0; k < count; k++) {
+      const event = record.first + (start - record.first + k) % count + 1;
+      if (record.line(event).includes(text)) { this.told.textContent = `line ${number(event)}`; this.go(event); return; }
+      if (k % 64 || performance.now() - begun < TURN) continue;
+      this.told.textContent = `looked at ${number(k)} lines`;
+      await pause();
+      if (this.searching !== token) return;
+      begun = performance.now();
+    }
+    this.told.textContent = `no line has ${text}`;
+  }
+}
