@@ -18,7 +18,7 @@ import zlib
 
 import page_lessons
 import page_module
-from paths import TOP
+from clone import TOP
 from tcpsim.command_line import Refused, Words, run
 from tcpsim.output import opened, written
 from tcpsim.replay import page as replay

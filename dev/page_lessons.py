@@ -5,7 +5,7 @@ import html
 import os
 import re
 
-from paths import TOP
+from clone import TOP
 from tcpsim.command_line import Refused
 
 TUTORIAL = os.path.join(TOP, 'docs', 'TUTORIAL.md')

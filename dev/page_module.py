@@ -11,7 +11,7 @@ import subprocess
 import tempfile
 
 import build
-from paths import TOP
+from clone import TOP
 from tcpsim.command_line import Refused
 
 LIBC = os.path.join(TOP, 'page', 'libc.c')

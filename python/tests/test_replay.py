@@ -390,7 +390,7 @@ class TestRefusals(Files):
         try:
             with pytest.raises(Unreadable) as refused:
                 part_of(BY_HAND, TRACE)
-            words = str(refused.exception).replace(',', '').split()
+            words = str(refused.value).replace(',', '').split()
             spans = [units.moment(words[n + 1]) for n, word in enumerate(words) if word in ('--from', '--to')]
             assert spans == [0, 2080000, 2080000]
             assert len(part_of(BY_HAND, TRACE, spans[0], spans[1]).lines) == 3
