@@ -21,6 +21,7 @@ import hashlib
 import os
 import re
 import shutil
+import signal
 import subprocess
 import sys
 import tempfile
@@ -33,7 +34,7 @@ from tcpsim import VERSIONS, __version__  # noqa: E402
 SUITE, ARCHIVE = 'bookworm', 'http://deb.debian.org/debian'
 PATIENCE = 3600
 ENVIRONMENT = {'PATH': '/usr/sbin:/usr/bin:/sbin:/bin', 'DEBIAN_FRONTEND': 'noninteractive', 'LC_ALL': 'C.UTF-8', 'HOME': '/root'}
-APT = 'apt-get', '-q', '-y', '-o', 'APT::Sandbox::User=root', '-o', 'Dpkg::Use-Pty=0'
+APT = 'apt-get', '-q', '-y', '-o', 'APT::Sandbox::User=root', '-o', 'Dpkg::Use-Pty=0', '-o', 'Dpkg::Options::=--force-unsafe-io'
 USER = 'student'
 # What apt, dpkg, ldconfig and man-db write of their own when a package comes and goes.
 KEEPS_BOOKS = re.compile(r'/(var/(lib/(dpkg|apt)|log|cache)|etc/ld\.so\.cache|tmp|proc|sys|dev|home|root)(/|$)')
@@ -257,7 +258,9 @@ def a_removal_leaves_nothing(root, _dist):
 
 
 def a_picture_with_what_is_recommended(root, _dist):
-    root.run(*APT, 'install', '/tmp/tcpsim.deb')
+    recommended = root.run('dpkg-deb', '-f', '/tmp/tcpsim.deb', 'Recommends').replace(',', ' ').split()
+    same(recommended, ['python3-matplotlib'], 'what is recommended')
+    root.run(*APT, 'install', '--no-install-recommends', '/tmp/tcpsim.deb', *recommended)       # and no more than that
     home = f'/home/{USER}'
     for ending, begin in (('png', b'\x89PNG'), ('svg', b'<?xml'), ('pdf', b'%PDF')):
         root.run('tcpsim-plot', f'{EXAMPLES}/sawtooth_of_congestion_avoidance.txt', '-o', f's.{ending}', user=USER, cwd=home,
@@ -301,6 +304,8 @@ def main():
     if os.geteuid() or not (words.base or shutil.which('debootstrap')):
         print('try_dist: this wants root and debootstrap: apt-get install debootstrap', file=sys.stderr)
         return 2
+    for number in (signal.SIGTERM, signal.SIGHUP):
+        signal.signal(number, lambda number, _: sys.exit(128 + number))         # the root is taken away
     failed = 0
     try:
         with debian(words.base, words.keep) as root:
