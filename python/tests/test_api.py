@@ -16,6 +16,7 @@ from paths import BIN, TOP
 
 import tcpsim
 from tcpsim.api.answers import WaitingPacket
+from tcpsim.api.events import Names, events_of
 from tcpsim.program import BUILT
 
 EXAMPLES = os.path.join(TOP, 'examples')
@@ -137,6 +138,15 @@ def test_records_say_what_the_lines_say(engine):
         drops += len(event.drops)
     assert drops == sum(line.count('drop=') for line in lines) > 0
     assert next(run.trace.drops())[1] == tcpsim.Drop('lost', 'a', 'f', 19000)
+
+
+def test_records_are_read_fast():
+    """Of this processor's time, ten times what a usual machine takes."""
+    scenario = tcpsim.read(example('sawtooth_of_congestion_avoidance')).parsed
+    lines = trace_of('sawtooth_of_congestion_avoidance')
+    begun = time.process_time()
+    assert sum(1 for _ in events_of([lines], Names(scenario))) == len(lines) - 1
+    assert (time.process_time() - begun) / len(lines) < 30e-6
 
 
 def test_drops_name_the_link_before_which_they_are():
