@@ -231,7 +231,7 @@ def test_a_hunt(engine):
         assert at.reverse().position == 6
         assert at.until('2s').position == 26
         assert [event.kind for event in at.lines(2)] == ['ack', 'rto']
-        assert at.reverse(byte=4000, drop=True).event.drops == (tcpsim.Drop('lost', 'a', 'f', 4000),)
+        assert at.reverse(byte=4000, drop=True).event.drops[0] == tcpsim.Drop('lost', 'a', 'f', 4000)
         assert at.reverse(kind='rto').position == 0
         assert (at.step(3).position, at.back(2).position, at.step().event.n) == (3, 1, 2)
 

@@ -178,7 +178,7 @@ def test_a_page_in_a_browser_reads_its_drops(tmp_path, queue):
     done = subprocess.run([CHROMIUM, '--headless', '--no-sandbox', '--virtual-time-budget=5000', f'--user-data-dir={tmp_path}/profile',
                            '--dump-dom', f'file://{page.path}#event={last.n}'], capture_output=True, text=True, check=True, timeout=300)
     drop = last.drops[0]
-    assert 'This browser cannot show the page' not in done.stdout
+    assert re.search(rf'<html [^>]*data-event="{last.n}" data-ready=', done.stdout)
     assert f'{drop.reason} {drop.flow[1:]}:{drop.number}' in done.stdout
     assert f'is dropped: {drop.reason}' in done.stdout or drop.reason == 'full'
     assert f'{waiting}/20' in done.stdout

@@ -16,6 +16,7 @@ from tcpsim.figures import jain
 from tcpsim.output import aligned
 
 DROPPED = 'dropped '            # how the names of figures begin that count drops
+WHICH = 'least', 'median', '99th percentile of', 'greatest'
 WORDS = {'dropped as lost': 'lost', 'dropped as full': 'full', 'dropped by CoDel': 'codel'}
 
 
@@ -80,9 +81,10 @@ FLOW_COLUMNS = (('flow', 'name', '{}', 1), ('goodput Mbit/s', 'goodput', '{:.3f}
                 ('timeout retransmits', 'timeout_retransmits', '{:,}', 1), ('timeouts', 'timeouts', '{:,}', 1),
                 ('RTT ms: min', 'rtt_min_ns', '{:.3f}', 1e6), ('median', 'rtt_median_ns', '{:.3f}', 1e6),
                 ('99th', 'rtt_p99_ns', '{:.3f}', 1e6), ('completed s', 'completed_ns', '{:.6f}', 1e9))
-LINK_COLUMNS = (('link', 'name', '{}', 1), ('utilization %', 'utilization', '{:.1f}', .01), ('queue: mean', 'queue_mean', '{:.2f}', 1),
-                ('max', 'queue_max', '{:,}', 1), ('delay ms: median', 'delay_median_ns', '{:.3f}', 1e6),
-                ('99th', 'delay_p99_ns', '{:.3f}', 1e6), ('sent', 'packets_sent', '{:,}', 1), ('dropped', 'packets_dropped', '{:,}', 1),
+LINK_COLUMNS = (('link', 'name', '{}', 1), ('utilization %', 'utilization', '{:.1f}', .01),
+                ('queue: mean', 'queue_mean', '{:.2f}', 1), ('max', 'queue_max', '{:,}', 1),
+                ('delay ms: median', 'delay_median_ns', '{:.3f}', 1e6), ('99th', 'delay_p99_ns', '{:.3f}', 1e6),
+                ('sent', 'packets_sent', '{:,}', 1), ('dropped', 'packets_dropped', '{:,}', 1),
                 ('loss %', 'loss', '{:.2f}', .01))
 
 
@@ -108,7 +110,8 @@ class Table(Mapping, Generic[Row]):
     def shown(self, only: Callable[[Row], bool] = lambda row: True) -> list[list[str]]:
         """The table in words, its titles first."""
         return [[title for title, *_ in self._columns]] + [
-            [in_words(getattr(row, name), form, scale) for _, name, form, scale in self._columns] for row in self._rows if only(row)]
+            [in_words(getattr(row, name), form, scale) for _, name, form, scale in self._columns]
+            for row in self._rows if only(row)]
 
     def to_pandas(self):
         """A pandas DataFrame with a row for each flow or link and a column for each figure."""
@@ -201,7 +204,7 @@ def flow_result(run: EngineRun, number: int, used: list[float | None]) -> FlowRe
     """The figures of a flow, from the program's table."""
     values, way = run.flows[number], run.scenario.ways[number][0]
     busiest = max(way, key=lambda link: -1 if used[link] is None else used[link])       # the first where equal
-    trips = [values[f'{which} round trip{"s" * (which[0] == "9")}', 'ns'] for which in ('least', 'median', '99th percentile of', 'greatest')]
+    trips = [values[f'{which} round trip{"s" * (which[0] == "9")}', 'ns'] for which in WHICH]
     return FlowResult(run.scenario.flows[number].name, values['start', 'ns'], values['delivered', 'bytes'], run.goodput(number),
                       None if used[busiest] is None else run.scenario.links[busiest].name, values['sent', 'segments'],
                       values['sent again by fast retransmit', 'segments'], values['sent again by timeout', 'segments'],
@@ -211,7 +214,9 @@ def flow_result(run: EngineRun, number: int, used: list[float | None]) -> FlowRe
 def link_result(run: EngineRun, number: int, used: list[float | None]) -> LinkResult:
     """The figures of a link, from the program's table."""
     values = run.links[number]
-    drops = {WORDS.get(figure, figure.rpartition(' ')[2]): count for (figure, _), count in values.items() if figure.startswith(DROPPED)}
-    delays = [values[f'{which} delay in the queue', 'ns'] for which in ('median', '99th percentile of', 'greatest')]
+    drops = {WORDS.get(figure, figure.rpartition(' ')[2]): count for (figure, _), count in values.items()
+             if figure.startswith(DROPPED)}
+    delays = [values[f'{which} delay in the queue', 'ns'] for which in WHICH[1:]]
     return LinkResult(run.scenario.links[number].name, used[number], values['offered', 'packets'], values['sent', 'packets'],
-                      values['sent', 'bytes'], drops, run.over_span(number, WAITED), values['greatest queue', 'packets'], *delays)
+                      values['sent', 'bytes'], drops, run.over_span(number, WAITED), values['greatest queue', 'packets'],
+                      *delays)
