@@ -125,6 +125,7 @@ def test_drops_bear_the_words_of_the_class(queue, words):
     counted = Counter((drop.link, drop.reason) for _, drop in run.trace.drops())
     assert set(link.drops) == {'lost', 'full', 'codel', *words}
     assert {('pq', word): count for word, count in link.drops.items() if count} == counted
+    assert all(f'as {word}' in repr(run.figures) and f'<th>as {word}</th>' in run.figures._repr_html_() for word in words if link.drops[word])
     assert link.packets_offered - link.packets_sent - link.packets_dropped in range(22)
     assert sum(run.series('1s').links['pq'].queue_mean) > 5
     own = [stall for stall in run.stalls('100ms') if any(f'({word})' in stall.found for word in words)]

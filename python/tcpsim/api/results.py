@@ -75,7 +75,7 @@ class LinkResult:
 
 
 Row = TypeVar('Row', FlowResult, LinkResult)
-# Columns of the tables that are shown: title, how a row's value is shown.
+# Columns of the tables that are shown: title, a figure's name or what gives it, how it is shown.
 FLOW_COLUMNS = (('flow', 'name', '{}', 1), ('goodput Mbit/s', 'goodput', '{:.3f}', 1e6), ('bottleneck', 'bottleneck', '{}', 1),
                 ('sent', 'segments_sent', '{:,}', 1), ('fast retransmits', 'fast_retransmits', '{:,}', 1),
                 ('timeout retransmits', 'timeout_retransmits', '{:,}', 1), ('timeouts', 'timeouts', '{:,}', 1),
@@ -110,7 +110,7 @@ class Table(Mapping, Generic[Row]):
     def shown(self, only: Callable[[Row], bool] = lambda row: True) -> list[list[str]]:
         """The table in words, its titles first."""
         return [[title for title, *_ in self._columns]] + [
-            [in_words(getattr(row, name), form, scale) for _, name, form, scale in self._columns]
+            [in_words(name(row) if callable(name) else getattr(row, name), form, scale) for _, name, form, scale in self._columns]
             for row in self._rows if only(row)]
 
     def to_pandas(self):
@@ -150,7 +150,8 @@ class Results:
         self._run = run
         used = [run.over_span(number, BUSY) for number in range(len(run.links))]
         self.flows: Table[FlowResult] = Table([flow_result(run, n, used) for n in range(len(run.flows))], FLOW_COLUMNS)
-        self.links: Table[LinkResult] = Table([link_result(run, n, used) for n in range(len(run.links))], LINK_COLUMNS)
+        links = [link_result(run, n, used) for n in range(len(run.links))]
+        self.links: Table[LinkResult] = Table(links, (*LINK_COLUMNS, *drop_columns(links)))
         self.events: int = run.events
         self.begin_ns: int = run.begin
         self.end_ns: int = run.end
@@ -183,6 +184,12 @@ class Results:
 
     def _repr_html_(self) -> str:
         return f'{self.flows._repr_html_()}{html_table(self.links.shown(is_used))}<p>{html.escape(self._last_line())}</p>'
+
+
+def drop_columns(links: list[LinkResult]) -> list[tuple]:
+    """A column for each word by which any of these links dropped."""
+    words = dict.fromkeys(word for link in links for word, count in link.drops.items() if count)
+    return [(f'as {word}', lambda link, word=word: link.drops.get(word, 0), '{:,}', 1) for word in words]
 
 
 def is_used(link: LinkResult) -> bool:

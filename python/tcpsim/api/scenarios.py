@@ -61,7 +61,7 @@ class ScenarioText:
             file.write(self.text)
 
     def __repr__(self) -> str:
-        head = re.findall(r'^# (.*)', self.text, re.M)[:1]
+        head = re.findall(r'\A# (.*\.)$', self.text, re.M)
         what = f'{many(self.flows, "flow")} over {many(self.links, "link")}, {spelled_time(self.end_ns)}'
         return f'<{self.name}: {"; ".join([what, *head])}>'
 
