@@ -10,14 +10,21 @@ import importlib
 from typing import TYPE_CHECKING
 
 if TYPE_CHECKING:
-    from tcpsim.api import *  # noqa: F403
+    from tcpsim.api.errors import Error, NoProgram, NotInstalled, Refused, Wrong, WrongQueue
+    from tcpsim.api.events import Drop, Event, Sent, Trace
+    from tcpsim.api.results import FlowResult, LinkResult, Results
+    from tcpsim.api.scenarios import (ScenarioText, access_line, asymmetric, chain, dumbbell, from_text, islands, parking_lot,
+                                      read, tree)
+    from tcpsim.api.series import TimeSeries
+    from tcpsim.api.session import DebugSession, debug
+    from tcpsim.api.simulation import Simulation, run
 
 __version__ = '0.2.0'
 FORMATS = {'trace': 1, 'image': 2, 'figures': 1, 'prompt': 8}
 VERSIONS = f'{__version__} ({", ".join(f"{name} {number}" for name, number in FORMATS.items())})'   # of --version
 
 # Of each public name the module of `api` that has it.
-PUBLIC = {
+_MODULES = {
     'dumbbell': 'scenarios', 'chain': 'scenarios', 'parking_lot': 'scenarios', 'tree': 'scenarios', 'access_line': 'scenarios',
     'asymmetric': 'scenarios', 'islands': 'scenarios', 'read': 'scenarios', 'from_text': 'scenarios', 'ScenarioText': 'scenarios',
     'run': 'simulation', 'Simulation': 'simulation', 'debug': 'session', 'DebugSession': 'session', 'Event': 'events',
@@ -25,13 +32,15 @@ PUBLIC = {
     'LinkResult': 'results', 'Error': 'errors', 'Refused': 'errors', 'Wrong': 'errors', 'WrongQueue': 'errors',
     'NotInstalled': 'errors', 'NoProgram': 'errors',
 }
-__all__ = ['__version__', *PUBLIC]
+__all__ = ['__version__', 'dumbbell', 'chain', 'parking_lot', 'tree', 'access_line', 'asymmetric', 'islands', 'read', 'from_text',
+           'ScenarioText', 'run', 'Simulation', 'debug', 'DebugSession', 'Event', 'Sent', 'Drop', 'Trace', 'TimeSeries', 'Results',
+           'FlowResult', 'LinkResult', 'Error', 'Refused', 'Wrong', 'WrongQueue', 'NotInstalled', 'NoProgram']
 
 
 def __getattr__(name: str) -> object:
-    if name not in PUBLIC:
+    if name not in _MODULES:
         raise AttributeError(f'module {__name__!r} has no attribute {name!r}')
-    return getattr(importlib.import_module(f'tcpsim.api.{PUBLIC[name]}'), name)
+    return getattr(importlib.import_module(f'tcpsim.api.{_MODULES[name]}'), name)
 
 
 def __dir__() -> list[str]:

@@ -135,7 +135,8 @@ class Own:
         if packet is not None:
             self.leave(packet, 'gave')
         elif self.waiting:
-            raise WrongQueue(f'{self.name()} gave no packet, and {len(self.waiting)} wait: a queue gives one as long as it has any')
+            raise WrongQueue(f'{self.name()} gave no packet, and {len(self.waiting)} wait: a queue gives one as long as it has '
+                             'any')
         return self.dropped, packet
 
     def drop(self, packet, word=None):

@@ -16,6 +16,7 @@ from clone import BIN, TOP
 
 import tcpsim
 from tcpsim.api.answers import WaitingPacket
+from tcpsim.api.events import Names, events_of
 from tcpsim.program import BUILT
 
 EXAMPLES = os.path.join(TOP, 'examples')
@@ -139,6 +140,15 @@ def test_records_say_what_the_lines_say(engine):
     assert next(run.trace.drops())[1] == tcpsim.Drop('lost', 'a', 'f', 19000)
 
 
+def test_records_are_read_fast():
+    """Of this processor's time, ten times what a usual machine takes."""
+    scenario = tcpsim.read(example('sawtooth_of_congestion_avoidance')).parsed
+    lines = trace_of('sawtooth_of_congestion_avoidance')
+    begun = time.process_time()
+    assert sum(1 for _ in events_of([lines], Names(scenario))) == len(lines) - 1
+    assert (time.process_time() - begun) / len(lines) < 30e-6
+
+
 def test_drops_name_the_link_before_which_they_are():
     run = tcpsim.run(example('four_flows_before_a_full_queue'), engine='model')
     by_link = {}
@@ -221,7 +231,7 @@ def test_a_hunt(engine):
         assert at.reverse().position == 6
         assert at.until('2s').position == 26
         assert [event.kind for event in at.lines(2)] == ['ack', 'rto']
-        assert at.reverse(byte=4000, drop=True).event.drops == (tcpsim.Drop('lost', 'a', 'f', 4000),)
+        assert at.reverse(byte=4000, drop=True).event.drops[0] == tcpsim.Drop('lost', 'a', 'f', 4000)
         assert at.reverse(kind='rto').position == 0
         assert (at.step(3).position, at.back(2).position, at.step().event.n) == (3, 1, 2)
 

@@ -85,5 +85,11 @@ def test_tools_find_the_model_and_their_files(installed, tmp_path):
     assert [swept.returncode, swept.stdout.count('\n')] == [0, 3]
 
 
+def test_it_is_imported(installed):
+    done = installed('python', '-c', 'import tcpsim; run = tcpsim.run(tcpsim.dumbbell(rate="1M", end="1s")); '
+                     'print(run.engine, run.figures.events == sum(1 for _ in run.trace))')
+    assert done.stdout == 'model True\n', done.stderr
+
+
 if __name__ == '__main__':
     sys.exit(pytest.main([__file__, '-q', '-rs', *sys.argv[1:]]))

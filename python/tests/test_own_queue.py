@@ -6,6 +6,8 @@ import glob
 import os
 import random
 import re
+import shutil
+import subprocess
 import sys
 from collections import Counter, deque
 
@@ -18,6 +20,7 @@ from tcpsim.program import BUILT
 
 EXAMPLES = os.path.join(TOP, 'examples')
 built = pytest.mark.skipif(not os.path.exists(BUILT) and not os.environ.get('CI'), reason='the program is not built: make run')
+CHROMIUM = shutil.which('chromium')
 NET = tcpsim.dumbbell(flows=2, rate='2M', rtt=['40ms', '80ms'], queue='droptail:20', end='6s')
 
 
@@ -122,6 +125,7 @@ def test_drops_bear_the_words_of_the_class(queue, words):
     counted = Counter((drop.link, drop.reason) for _, drop in run.trace.drops())
     assert set(link.drops) == {'lost', 'full', 'codel', *words}
     assert {('pq', word): count for word, count in link.drops.items() if count} == counted
+    assert all(f'as {word}' in repr(run.figures) and f'<th>as {word}</th>' in run.figures._repr_html_() for word in words if link.drops[word])
     assert link.packets_offered - link.packets_sent - link.packets_dropped in range(22)
     assert sum(run.series('1s').links['pq'].queue_mean) > 5
     own = [stall for stall in run.stalls('100ms') if any(f'({word})' in stall.found for word in words)]
@@ -161,6 +165,24 @@ def test_pages_have_the_word(tmp_path):
     with pytest.raises(tcpsim.Error, match='whose packets leave in the order in which they came, and that of link pq has another'):
         tcpsim.run(NET, queues={'pq': Fair}).replay(tmp_path / 'fair.html')
     assert os.listdir(tmp_path) == ['page.html']
+
+
+@pytest.mark.skipif(not CHROMIUM and not os.environ.get('CI'), reason='chromium is not there: apt-get install chromium')
+@pytest.mark.parametrize('queue', [Red, DropHead])
+def test_a_page_in_a_browser_reads_its_drops(tmp_path, queue):
+    run = tcpsim.run(NET, queues={'pq': queue})
+    page = run.replay(tmp_path / 'page.html')
+    last = [event for event in run.trace if event.drops][-1]
+    with tcpsim.debug(NET, queues={'pq': queue}) as at:
+        at.step(last.n)
+        waiting = len(at.state.links['pq'].queue)
+    done = subprocess.run([CHROMIUM, '--headless', '--no-sandbox', '--virtual-time-budget=5000', f'--user-data-dir={tmp_path}/profile',
+                           '--dump-dom', f'file://{page.path}#event={last.n}'], capture_output=True, text=True, check=True, timeout=300)
+    drop = last.drops[0]
+    assert re.search(rf'<html [^>]*data-event="{last.n}" data-ready=', done.stdout)
+    assert f'{drop.reason} {drop.flow[1:]}:{drop.number}' in done.stdout
+    assert f'is dropped: {drop.reason}' in done.stdout or drop.reason == 'full'
+    assert f'{waiting}/20' in done.stdout
 
 
 def test_the_debugger_goes_backwards_over_it():

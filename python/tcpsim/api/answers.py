@@ -32,7 +32,8 @@ def move_of(text: str, before: int, last: str, names: Names) -> Move:
     found = WHERE.search(text)
     position, time, where = found.groups()
     event = next(events_of([[last]], names)) if last else None
-    return Move(int(position), int(time), event, int(position) - before, '\nbreak ' in text[found.start():], where == ', the end', text)
+    matched = '\nbreak ' in text[found.start():]
+    return Move(int(position), int(time), event, int(position) - before, matched, where == ', the end', text)
 
 
 # ---- why
@@ -202,15 +203,19 @@ def none_or_int(word: str) -> int | None:
 def sender_of(of: dict[str, str]) -> SenderNow:
     """The sender of a dump's words."""
     timing = None if of['timing'] == '-' else tuple(map(int, of['timing'].split('@')))
-    return SenderNow(*(int(of[name]) for name in ('una', 'nxt', 'high', 'cwnd', 'ssthresh', 'dups', 'lt')), of['fr'] == '1', timing,
-                     none_or_int(of['srtt']), int(of['rttvar']), int(of['rto']), of['resent'] == '1')
+    numbers = (int(of[name]) for name in ('una', 'nxt', 'high', 'cwnd', 'ssthresh', 'dups', 'lt'))
+    return SenderNow(*numbers, of['fr'] == '1', timing, none_or_int(of['srtt']), int(of['rttvar']), int(of['rto']),
+                     of['resent'] == '1')
 
 
 def queue_of(of: dict[str, str], names: Names) -> QueueNow:
     """The link of a dump's words."""
     found = re.findall(r'(\d+):([da]):(\d+)@(\d+)', of['queue'])
-    packets = tuple(QueuedPacket(names.flows[flow], SORTS[sort], int(number), int(entered)) for flow, sort, number, entered in found)
-    codel = CoDelNow(none_or_int(of['first']), int(of['next']), int(of['count']), int(of['last']), of['drop'] == '1') if 'first' in of else None
+    packets = tuple(QueuedPacket(names.flows[flow], SORTS[sort], int(number), int(entered))
+                    for flow, sort, number, entered in found)
+    codel = None
+    if 'first' in of:
+        codel = CoDelNow(none_or_int(of['first']), int(of['next']), int(of['count']), int(of['last']), of['drop'] == '1')
     return QueueNow(int(of['offered']), int(of['sent']), packets, codel)
 
 

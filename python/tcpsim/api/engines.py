@@ -79,12 +79,15 @@ def check_own(name: str | None, text: str) -> None:
             check_time([text])
         except NoProgram as wrong:
             long = str(wrong).partition(':')[0]
-            raise Error(f'{long}, and queues of one\'s own run by the model alone: say engine="model", or take a shorter run') from None
+            raise Error(f'{long}, and queues of one\'s own run by the model alone: say engine="model", or take a shorter '
+                        'run') from None
 
 
 def in_python(sentence: str) -> str:
     """A sentence of the tools with the words of the API in the place of their options."""
-    return sentence.replace('say --model', 'say engine="model"').replace('name it with --program, or give a trace', 'say engine="model"')
+    for words in ('say --model', 'name it with --program, or give a trace'):
+        sentence = sentence.replace(words, 'say engine="model"')
+    return sentence
 
 
 def ends_with_parent() -> Callable[[], None] | None:

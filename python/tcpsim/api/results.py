@@ -16,6 +16,7 @@ from tcpsim.figures import jain
 from tcpsim.output import aligned
 
 DROPPED = 'dropped '            # how the names of figures begin that count drops
+WHICH = 'least', 'median', '99th percentile of', 'greatest'
 WORDS = {'dropped as lost': 'lost', 'dropped as full': 'full', 'dropped by CoDel': 'codel'}
 
 
@@ -74,15 +75,16 @@ class LinkResult:
 
 
 Row = TypeVar('Row', FlowResult, LinkResult)
-# Columns of the tables that are shown: title, how a row's value is shown.
+# Columns of the tables that are shown: title, a figure's name or what gives it, how it is shown.
 FLOW_COLUMNS = (('flow', 'name', '{}', 1), ('goodput Mbit/s', 'goodput', '{:.3f}', 1e6), ('bottleneck', 'bottleneck', '{}', 1),
                 ('sent', 'segments_sent', '{:,}', 1), ('fast retransmits', 'fast_retransmits', '{:,}', 1),
                 ('timeout retransmits', 'timeout_retransmits', '{:,}', 1), ('timeouts', 'timeouts', '{:,}', 1),
                 ('RTT ms: min', 'rtt_min_ns', '{:.3f}', 1e6), ('median', 'rtt_median_ns', '{:.3f}', 1e6),
                 ('99th', 'rtt_p99_ns', '{:.3f}', 1e6), ('completed s', 'completed_ns', '{:.6f}', 1e9))
-LINK_COLUMNS = (('link', 'name', '{}', 1), ('utilization %', 'utilization', '{:.1f}', .01), ('queue: mean', 'queue_mean', '{:.2f}', 1),
-                ('max', 'queue_max', '{:,}', 1), ('delay ms: median', 'delay_median_ns', '{:.3f}', 1e6),
-                ('99th', 'delay_p99_ns', '{:.3f}', 1e6), ('sent', 'packets_sent', '{:,}', 1), ('dropped', 'packets_dropped', '{:,}', 1),
+LINK_COLUMNS = (('link', 'name', '{}', 1), ('utilization %', 'utilization', '{:.1f}', .01),
+                ('queue: mean', 'queue_mean', '{:.2f}', 1), ('max', 'queue_max', '{:,}', 1),
+                ('delay ms: median', 'delay_median_ns', '{:.3f}', 1e6), ('99th', 'delay_p99_ns', '{:.3f}', 1e6),
+                ('sent', 'packets_sent', '{:,}', 1), ('dropped', 'packets_dropped', '{:,}', 1),
                 ('loss %', 'loss', '{:.2f}', .01))
 
 
@@ -108,7 +110,8 @@ class Table(Mapping, Generic[Row]):
     def shown(self, only: Callable[[Row], bool] = lambda row: True) -> list[list[str]]:
         """The table in words, its titles first."""
         return [[title for title, *_ in self._columns]] + [
-            [in_words(getattr(row, name), form, scale) for _, name, form, scale in self._columns] for row in self._rows if only(row)]
+            [in_words(name(row) if callable(name) else getattr(row, name), form, scale) for _, name, form, scale in self._columns]
+            for row in self._rows if only(row)]
 
     def to_pandas(self):
         """A pandas DataFrame with a row for each flow or link and a column for each figure."""
@@ -147,7 +150,8 @@ class Results:
         self._run = run
         used = [run.over_span(number, BUSY) for number in range(len(run.links))]
         self.flows: Table[FlowResult] = Table([flow_result(run, n, used) for n in range(len(run.flows))], FLOW_COLUMNS)
-        self.links: Table[LinkResult] = Table([link_result(run, n, used) for n in range(len(run.links))], LINK_COLUMNS)
+        links = [link_result(run, n, used) for n in range(len(run.links))]
+        self.links: Table[LinkResult] = Table(links, (*LINK_COLUMNS, *drop_columns(links)))
         self.events: int = run.events
         self.begin_ns: int = run.begin
         self.end_ns: int = run.end
@@ -182,6 +186,12 @@ class Results:
         return f'{self.flows._repr_html_()}{html_table(self.links.shown(is_used))}<p>{html.escape(self._last_line())}</p>'
 
 
+def drop_columns(links: list[LinkResult]) -> list[tuple]:
+    """A column for each word by which any of these links dropped."""
+    words = dict.fromkeys(word for link in links for word, count in link.drops.items() if count)
+    return [(f'as {word}', lambda link, word=word: link.drops.get(word, 0), '{:,}', 1) for word in words]
+
+
 def is_used(link: LinkResult) -> bool:
     """Whether a link has carried or dropped anything."""
     return bool(link.packets_sent or link.packets_dropped)
@@ -201,7 +211,7 @@ def flow_result(run: EngineRun, number: int, used: list[float | None]) -> FlowRe
     """The figures of a flow, from the program's table."""
     values, way = run.flows[number], run.scenario.ways[number][0]
     busiest = max(way, key=lambda link: -1 if used[link] is None else used[link])       # the first where equal
-    trips = [values[f'{which} round trip{"s" * (which[0] == "9")}', 'ns'] for which in ('least', 'median', '99th percentile of', 'greatest')]
+    trips = [values[f'{which} round trip{"s" * (which[0] == "9")}', 'ns'] for which in WHICH]
     return FlowResult(run.scenario.flows[number].name, values['start', 'ns'], values['delivered', 'bytes'], run.goodput(number),
                       None if used[busiest] is None else run.scenario.links[busiest].name, values['sent', 'segments'],
                       values['sent again by fast retransmit', 'segments'], values['sent again by timeout', 'segments'],
@@ -211,7 +221,9 @@ def flow_result(run: EngineRun, number: int, used: list[float | None]) -> FlowRe
 def link_result(run: EngineRun, number: int, used: list[float | None]) -> LinkResult:
     """The figures of a link, from the program's table."""
     values = run.links[number]
-    drops = {WORDS.get(figure, figure.rpartition(' ')[2]): count for (figure, _), count in values.items() if figure.startswith(DROPPED)}
-    delays = [values[f'{which} delay in the queue', 'ns'] for which in ('median', '99th percentile of', 'greatest')]
+    drops = {WORDS.get(figure, figure.rpartition(' ')[2]): count for (figure, _), count in values.items()
+             if figure.startswith(DROPPED)}
+    delays = [values[f'{which} delay in the queue', 'ns'] for which in WHICH[1:]]
     return LinkResult(run.scenario.links[number].name, used[number], values['offered', 'packets'], values['sent', 'packets'],
-                      values['sent', 'bytes'], drops, run.over_span(number, WAITED), values['greatest queue', 'packets'], *delays)
+                      values['sent', 'bytes'], drops, run.over_span(number, WAITED), values['greatest queue', 'packets'],
+                      *delays)

@@ -61,9 +61,9 @@ class ScenarioText:
             file.write(self.text)
 
     def __repr__(self) -> str:
-        head = re.findall(r'^# (.*)', self.text, re.M)[:1]
-        return f'<{self.name}: {many(self.flows, "flow")} over {many(self.links, "link")}, {spelled_time(self.end_ns)}' + ''.join(
-            f'; {line}' for line in head) + '>'
+        head = re.findall(r'\A# (.*\.)$', self.text, re.M)
+        what = f'{many(self.flows, "flow")} over {many(self.links, "link")}, {spelled_time(self.end_ns)}'
+        return f'<{self.name}: {"; ".join([what, *head])}>'
 
 
 def many(things: Mapping, what: str) -> str:
@@ -134,8 +134,8 @@ def shaped(function: Callable[..., ScenarioText]) -> Callable[..., ScenarioText]
     """Gives a builder the signature and the documentation of its shape's options."""
     shape = function.__name__.replace('_', '-')
     shape = {'access-line': 'asymmetric'}.get(shape, shape)
-    options = {SHAPES_RATES.get(option, option): given for option, given in net.OPTIONS.items() if option in net.SHAPES[shape][1]}
-    lines = [f'    {name}: {options[option]["help"]}' for name, option in option_names(shape).items()]
+    texts = {SHAPES_RATES.get(option, option): net.OPTIONS[option]['help'] for option in net.SHAPES[shape][1]}
+    lines = [f'    {name}: {texts[option]}' for name, option in option_names(shape).items()]
     function.__doc__ = '\n'.join([function.__doc__ or '', '', 'Options, those of tcpsim-net:', *lines, '',
                                   'A list gives each flow, or hop, its own value, as rtt=["40ms", "80ms"]. Wrong where a word '
                                   'cannot be read or is out of range.'])

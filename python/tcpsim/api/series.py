@@ -49,7 +49,7 @@ class TimeSeries:
         return len(self.begin_s)
 
     def to_pandas(self):
-        """A pandas DataFrame with a row for each step, by its begin in seconds, and columns as `f0 cwnd` and `pq queue_mean`."""
+        """A pandas DataFrame with a row for each step, by its begin in seconds; columns are as `f0 cwnd`, `pq queue_mean`."""
         columns = {f'{name} {figure}': values for table in (self.flows, self.links) for name, of in table.items()
                    for figure, values in vars(of).items()}
         pandas = wanted('pandas')

@@ -162,8 +162,8 @@ class DebugSession:
         return self._to('run', conditions)
 
     def reverse(self, **conditions: str | int | bool) -> Move:
-        """Back to the last event before this one that meets the conditions of `run_to`, or else to the beginning; where none are
-        given, those of the last call."""
+        """Back to the last event before this one that meets the conditions of `run_to`, or else to the beginning; where none
+        are given, those of the last call."""
         return self._to('reverse', conditions or self._conditions)
 
     def _to(self, move, conditions):
@@ -231,4 +231,5 @@ class DebugSession:
         return list(events_of([self.ask(f'lines {count}').splitlines()], self.names))
 
     def __repr__(self) -> str:
-        return f'<at {self.position} of the run by the {self.engine}, {self.time_ns / 1e9:.9f} s{", the end" if self.at_end else ""}>'
+        end = ', the end' if self.at_end else ''
+        return f'<at {self.position} of the run by the {self.engine}, {self.time_ns / 1e9:.9f} s{end}>'

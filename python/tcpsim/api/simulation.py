@@ -12,7 +12,7 @@ from tcpsim.api.engines import Engine, check_own, engine_of, reads_of
 from tcpsim.api.errors import wanted
 from tcpsim.api.events import Names, Trace
 from tcpsim.api.results import Results
-from tcpsim.api.scenarios import ScenarioText, scenario_of
+from tcpsim.api.scenarios import ScenarioText, as_word, scenario_of
 from tcpsim.api.series import TimeSeries
 from tcpsim.api.shown import PlottedRun, ReplayPage
 from tcpsim.engine import EngineRun
@@ -157,7 +157,8 @@ class Simulation:
         pyplot.close(figure)                        # it is shown where it is asked for, and not by the end of a cell
         return PlottedRun(figure)
 
-    def replay(self, file: str | os.PathLike | None = None, begin: str | int | None = None, end: str | int | None = None) -> ReplayPage:
+    def replay(self, file: str | os.PathLike | None = None, begin: str | int | None = None,
+               end: str | int | None = None) -> ReplayPage:
         """A page on which the run moves, which a notebook shows, and which is written to `file` where that is given. It
         shows the events from `begin` on and before `end`, 200,000 at most."""
         from tcpsim.replay.page import page
@@ -174,9 +175,9 @@ class Simulation:
     # ---- in words
 
     def __repr__(self) -> str:
-        own = f', with {", ".join(f"{name} at {self._parsed().links[number].name}" for number, name in self._own.names.items())}' \
-            if self._own else ''
-        return f'<a run by the {self.engine}{own} of {self.scenario!r}>'
+        own, links = self._own.names if self._own else {}, self.scenario.parsed.links
+        queues = ''.join(f', {name} at {links[number].name}' for number, name in own.items())
+        return f'<a run by the {self.engine}{queues}, of {self.scenario!r}>'
 
     def _repr_html_(self) -> str:
         return self.figures._repr_html_()
@@ -206,6 +207,5 @@ def words_of_plot(panels: tuple[str, ...], options: Mapping[str, object]) -> lis
         if value is True:
             words.append(option)
         elif value is not None and value is not False:
-            word = ','.join(value) if isinstance(value, (list, tuple)) else f'{value}ns' if isinstance(value, int) else str(value)
-            words.append(f'{option}={word}')
+            words.append(f'{option}={value}ns' if isinstance(value, int) else f'{option}={as_word(value)}')
     return words
