@@ -5,15 +5,19 @@
 # of one crate;
 # `make bench` measures the built program and writes bench/RESULTS.md (python3 and valgrind);
 # `make pictures` draws the pictures of README.md and docs/TUTORIAL.md (python3 and matplotlib);
+# `make page` writes the page with the simulator, out/page/tcpsim.html, of the module of the program's proof (chromium or
+# firefox-esr open it; libjs-codemirror and python3-markdown of Debian);
 # `make pages` writes the replay of every example and a list of them into pages/;
 # `make install PREFIX=DIR` puts the program, the tools tcpsim-NAME, their man pages, the documents with
 # the examples, and completions for bash, zsh and fish below DIR, /usr/local if none is given, and
 # `make uninstall PREFIX=DIR` takes them away.
-.PHONY: run test test-tools setup wrong-bodies bench pictures pages install uninstall
+.PHONY: run test test-tools setup wrong-bodies bench pictures page pages install uninstall
 
 # A python3 that has matplotlib: the one that is found first, or Debian's own.
 PYTHON = $(shell for python in python3 /usr/bin/python3; do \
 	$$python -c 'import matplotlib' 2>/dev/null && { echo $$python; break; }; done)
+WITH_MARKDOWN = $(shell for python in python3 /usr/bin/python3; do \
+	$$python -c 'import markdown' 2>/dev/null && { echo $$python; break; }; done)
 PROGRAM = crates/tcpsim/out/tcpsim
 PREFIX = /usr/local
 # The crates of `make wrong-bodies`, all where none is named.
@@ -31,6 +35,7 @@ test: setup
 	@python3 dev/build.py --ready
 	@python3 dev/wrong_bodies.py --check
 	rt ci
+	@python3 dev/build.py --module
 	@python3 dev/run_tests.py --python '$(PYTHON)'
 
 setup:
@@ -53,6 +58,13 @@ pictures:
 	@[ -n '$(PYTHON)' ] || { echo 'no python3 with matplotlib: apt-get install python3-matplotlib'; exit 1; }
 	@'$(PYTHON)' dev/pictures.py
 	@'$(PYTHON)' python/tests/test_replay.py --pictures
+
+# The prover runs where no module is kept that is of the program's proof: after `make run` it has nothing to do, after
+# `rt ci` alone the last crate.
+page:
+	@[ -n '$(WITH_MARKDOWN)' ] || { echo 'no python3 with markdown: apt-get install python3-markdown'; exit 1; }
+	@python3 dev/build.py --module
+	@'$(WITH_MARKDOWN)' dev/page.py
 
 pages:
 	@python3 dev/pages.py -o pages

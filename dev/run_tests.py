@@ -28,7 +28,7 @@ import build
 TOP = os.path.dirname(os.path.dirname(os.path.abspath(__file__)))
 DRAWING = ('python/tests/test_trace.py', 'python/tests/test_plot.py')
 # Those that take longest, which are begun first.
-LONG = ('python/tests/test_ends.py', 'python/tests/test_inputs.py', 'dev/try_shell.sh', 'dev/test_systematic.py',
+LONG = ('dev/test_page.py', 'python/tests/test_ends.py', 'python/tests/test_inputs.py', 'dev/try_shell.sh', 'dev/test_systematic.py',
         'python/tests/test_sweep.py', 'python/tests/test_trace.py', 'python/tests/test_plot.py', 'dev/test_bounds.py',
         'dev/refuse_tests.sh', 'dev/test_helgrind.py')
 PYTEST = '-m', 'pytest', '-q', '-rs', '--no-header', '-p', 'no:cacheprovider'
