@@ -43,6 +43,16 @@ TRY = '''async cases => {
 }'''
 
 
+# Some ten thousand packets under way at once, which want more memory than a run is given below.
+MANY_UNDER_WAY = """sim 260000000
+node s sender
+node r receiver
+link a s r 10000000000 10000000 droptail 65535
+link b r s 10000000000 10000000 droptail 65535
+flow f s r 1000 100000 0 1073741824 0 newreno iw10
+"""
+
+
 def wanted(condition, why):
     """Leaves a test out where something lacks; where CI=true it has failed."""
     if not condition:
@@ -358,13 +368,16 @@ def test_long_runs_are_asked_about(browser):
 
 
 def test_want_of_memory_is_told_and_the_page_lives(browser):
-    choose(browser, 'example bufferbloat')
+    browser.value(f'simulator.editor.text = {json.dumps(MANY_UNDER_WAY)}')
     browser.value('simulator.mostPages = 33')
     try:
         assert run(browser).startswith('no memory')
+        kept = browser.value('page.record.count')
+        assert kept > 1000
     finally:
         browser.value('simulator.mostPages = MOST_PAGES')
     assert run(browser).startswith('done in')
+    assert browser.value('page.record.count') > kept
     told = browser.json('simulator.engine.run(["run"], toBytes(simulator.editor.text), {pages: 33}).then(it => [it.status, it.note])')
     assert told == [4, 'no memory\n']
 

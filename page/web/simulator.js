@@ -112,7 +112,7 @@ class Simulator {
   }
   // The run of an example whose trace the page has.
   async showCarried() {
-    const mine = this.run = {}, title = this.title, packed = byId(`trace-${title}`).textContent;
+    const title = this.title, mine = this.run = {text: this.examples[title], title}, packed = byId(`trace-${title}`).textContent;
     const record = new Record(factsOf(this.examples[title], title));
     await fill(record, unpacked(packed), () => {}, () => this.run === mine);
     if (this.run === mine) this.showRun(record, title);
