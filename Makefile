@@ -5,6 +5,8 @@
 # of one crate;
 # `make bench` measures the built program and writes bench/RESULTS.md (python3 and valgrind);
 # `make pictures` draws the pictures of README.md and docs/TUTORIAL.md (python3 and matplotlib);
+# `make page` writes the page with the simulator, out/page/tcpsim.html, of the module of the program's proof (chromium or
+# firefox-esr open it; libjs-codemirror and python3-markdown of Debian);
 # `make pages` writes the replay of every example and a list of them into pages/;
 # `make install PREFIX=DIR` puts the program, the tools tcpsim-NAME, their man pages, the documents with
 # the examples, and completions for bash, zsh and fish below DIR, /usr/local if none is given, and
@@ -12,13 +14,14 @@
 # `make dist` writes what is installed elsewhere, from the built program, into out/dist: a tarball, a .deb, a wheel, the
 # page where out/page has it, a MANIFEST and SHA256SUMS;
 # `make test-dist` tries each of them, the .deb in a Debian 12 of its own (root, debootstrap, and a network).
-.PHONY: run test test-tools setup wrong-bodies bench pictures pages install uninstall dist test-dist
+.PHONY: run test test-tools setup wrong-bodies bench pictures page pages install uninstall dist test-dist
 
 # A python3 that has these modules: the one that is found first, or Debian's own.
 python_with = $(shell for python in python3 /usr/bin/python3; do \
 	$$python -c 'import $(1)' 2>/dev/null && { echo $$python; break; }; done)
 PYTHON = $(call python_with,matplotlib)
 PYTEST = $(or $(call python_with,pytest; import matplotlib),$(call python_with,pytest))
+WITH_MARKDOWN = $(call python_with,markdown)
 PROGRAM = crates/tcpsim/out/tcpsim
 PREFIX = /usr/local
 # The crates of `make wrong-bodies`, all where none is named.
@@ -36,6 +39,7 @@ test: setup
 	@python3 dev/build.py --ready
 	@python3 dev/wrong_bodies.py --check
 	@python3 dev/pass_gate.py
+	@python3 dev/build.py --module
 	@python3 dev/run_tests.py --python '$(PYTEST)'
 
 setup:
@@ -58,6 +62,13 @@ pictures:
 	@[ -n '$(PYTHON)' ] || { echo 'no python3 with matplotlib: apt-get install python3-matplotlib'; exit 1; }
 	@'$(PYTHON)' dev/pictures.py
 	@'$(PYTHON)' python/tests/test_replay.py
+
+# The prover runs where no module is kept that is of the program's proof: after `make run` it has nothing to do, after
+# `rt ci` alone the last crate.
+page:
+	@[ -n '$(WITH_MARKDOWN)' ] || { echo 'no python3 with markdown: apt-get install python3-markdown'; exit 1; }
+	@python3 dev/build.py --module
+	@'$(WITH_MARKDOWN)' dev/page.py
 
 pages:
 	@python3 dev/pages.py -o pages

@@ -148,7 +148,8 @@ class Chromium(Browser):
         self.wait('location.href !== "about:blank" && document.readyState === "complete"')
 
     def value(self, script):
-        answer = self.call('Runtime.evaluate', expression=script, awaitPromise=True, returnByValue=True)
+        answer = self.call('Runtime.evaluate', expression=script, awaitPromise=True, returnByValue=True,
+                           allowUnsafeEvalBlockedByCSP=False)
         if 'exceptionDetails' in answer:
             raise Gone(json.dumps(answer['exceptionDetails'])[:800])
         return answer['result'].get('value')

@@ -2,9 +2,9 @@
 """Writes the page with the simulator: one file that works from a disk, with the proved program, the tutorial's lessons and
 the runs of the examples in it (`make page`).
 
-Usage: dev/page.py [-o FILE]
+Usage: dev/page.py [-o FILE] [--picture FILE]
 
-The file is out/page/tcpsim.html where none is named. The program in it is made of the module that dev/build.py keeps of the
+--picture writes the picture of README.md, of lesson 17, by headless Chromium. The file is out/page/tcpsim.html where none is named. The program in it is made of the module that dev/build.py keeps of the
 native program's proof; another one is refused. It wants libjs-codemirror and python3-markdown of Debian.
 """
 import base64
@@ -14,6 +14,7 @@ import json
 import os
 import re
 import sys
+import tempfile
 import zlib
 
 import page_lessons
@@ -101,9 +102,28 @@ def page(program, record):
     return re.sub(r'@@([A-Z]+)@@', lambda found: holes[found.group(1)], read(WEB, 'simulator.html'))
 
 
+def draw(path, picture):
+    """Writes a picture of the page with a run of lesson 17, where two queues are full."""
+    import browsers     # only this wants python3-websockets
+    with tempfile.TemporaryDirectory() as folder:
+        browser = browsers.Chromium(folder)
+        try:
+            browser.open(f'file://{os.path.abspath(path)}')
+            browser.wait('document.documentElement.dataset.ready')
+            browser.value('simulator.openLesson(17)')
+            browser.value('simulator.start()')
+            browser.value('simulator.goTo(1657)')
+            browser.value('document.getElementById("lesson").scrollTop = 330')
+            browser.wait('[...document.images].every(it => it.complete)')
+            browser.picture(picture)
+        finally:
+            browser.close()
+
+
 def main():
     words = Words(description='The page with the simulator, of the proved program.')
     words.add_argument('-o', dest='out', metavar='FILE', help='else out/page/tcpsim.html')
+    words.add_argument('--picture', metavar='FILE', help='a picture of it besides, as PNG')
     given = words.parse_args()
     program, record = page_module.program()
     text = page(program, record)
@@ -112,6 +132,8 @@ def main():
         os.makedirs(page_module.OUT, exist_ok=True)
     with written(out) as file:
         file.write(text)
+    if given.picture:
+        draw(out, given.picture)
     said = f'{os.path.relpath(out)}: {len(text.encode()):,} bytes, the program {len(program):,} of them before packing\n'
     with opened() as file:
         file.write(said)

@@ -25,7 +25,8 @@ import build
 
 TOP = os.path.dirname(os.path.dirname(os.path.abspath(__file__)))
 # Those that take longest, which are begun first.
-LONG = ('python/tests/test_ends.py', 'python/tests/test_inputs.py', 'dev/try_shell.sh', 'dev/test_systematic.py', 'dev/test_compare.py',
+LONG = ('dev/test_page.py', 'python/tests/test_ends.py', 'python/tests/test_inputs.py', 'dev/try_shell.sh', 'dev/test_systematic.py',
+        'dev/test_compare.py',
         'python/tests/test_sweep.py', 'python/tests/test_trace.py', 'python/tests/test_plot.py', 'dev/test_bounds.py',
         'dev/refuse_tests.sh', 'dev/test_helgrind.py', 'dev/test_dist.py')
 LEFT_OUT = 'LEFT OUT', 'SKIPPED'            # how a line begins that says so: ours, and pytest's

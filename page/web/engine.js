@@ -57,9 +57,11 @@ class Engine {
   // where it has more than `most` events, 'ended' where it was ended by `stop`, else a sentence.
   start(words, input, {files = new Map(), pages = MOST_PAGES, most = Infinity} = {}) {
     const worker = this.take(), number = this.count++, pieces = new Pieces();
-    let stop;
+    let stop, left = false;
     const ended = new Promise(done => {
       const leave = (answer, keep) => {
+        if (left) return;           // its worker may be at another run already
+        left = true;
         worker.onmessage = worker.onerror = null;
         if (keep && this.idle.length < 3) this.idle.push(worker); else worker.terminate();
         pieces.close();
@@ -70,7 +72,7 @@ class Engine {
         if (data.bytes) pieces.push(data.bytes); else leave(data.ended, true);
       };
       worker.onerror = wrong => { wrong.preventDefault(); leave({why: `the program was stopped: ${wrong.message}`}, false); };
-      stop = () => leave({why: 'ended'}, false);
+      stop = () => { pieces.waiting = []; leave({why: 'ended'}, false); };
     });
     worker.postMessage({number, words, input, files, pages, most});
     return {pieces, ended, stop};

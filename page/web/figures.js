@@ -8,12 +8,13 @@ function readFigures(csv) {
     return {what, number, figure, unit, value};
   });
 }
-// A value in the unit that suits it.
+const UNITS_IN_CELLS = ['ns', 'packet-ns'];
+// A value, of times in the unit that suits it.
 function inUnits(value, unit) {
   if (value === '-') return '-';
   if (unit === 'ns') return +value >= 1e9 ? `${+(value / 1e9).toPrecision(7)} s` : +value ? `${+(value / 1e6).toPrecision(6)} ms` : '0 s';
   if (unit === 'packet-ns') return `${+(value / 1e9).toPrecision(6)} packet-s`;
-  return `${number(value)} ${unit === 'times' ? '\u00d7' : unit}`;
+  return number(value);
 }
 
 function drawFigures(place, csv, facts) {
@@ -40,7 +41,7 @@ function drawFigures(place, csv, facts) {
     const body = table.createTBody();
     for (const kind of kinds) {
       const row = body.insertRow();
-      make(row, 'th', kind.figure).scope = 'row';
+      make(row, 'th', UNITS_IN_CELLS.includes(kind.unit) ? kind.figure : `${kind.figure} (${kind.unit})`).scope = 'row';
       for (const value of values.get(`${kind.figure}|${kind.unit}`))
         make(row, 'td', inUnits(value, kind.unit)).title = value === '-' ? 'there is none' : `${number(value)} ${kind.unit}`;
     }

@@ -87,7 +87,8 @@ function runProgram(module, {words, input, files, pages, most}, send) {
   } catch (thrown) {
     if (thrown instanceof Ended) return flush({status: thrown.status, note});
     if (thrown instanceof TooLong) return {why: 'long', note};
-    if (thrown instanceof RangeError && !(thrown.message || '').includes('call stack')) return {status: 4, note: 'no memory\n'};
+    // The browser gave no memory for the run, or for a piece of its output.
+    if (thrown instanceof RangeError && /alloc|memory/i.test(thrown.message)) return {status: 4, note: 'no memory\n'};
     return {why: `the program was stopped: ${thrown.message || thrown}`, note};
   }
 }

@@ -1,13 +1,14 @@
 'use strict';
 // The page: a scenario is opened and edited, run by the program, and shown.
 
-const MOST_KEPT = 5000000;              // events of a trace that are kept without a question
 const byId = id => document.getElementById(id);
 const dataOf = id => JSON.parse(byId(id).textContent);
 const nameOfFile = title => title.replace(/[^\w.-]+/g, '_') || 'scenario';
 
 class Simulator {
   constructor() {
+    this.mostKept = 5000000;            // events of a trace that are kept without a question
+    this.mostPages = MOST_PAGES;        // of 64 KiB each, of memory that a run may have
     this.examples = dataOf('examples');
     this.lessons = new Lessons(byId('lesson'), dataOf('lessons'), name => this.openExample(name), event => this.goFromLesson(event));
     this.editor = new Editor(byId('editor'), dataOf('grammar'), null);
@@ -111,14 +112,14 @@ class Simulator {
   }
   // The run of an example whose trace the page has.
   async showCarried() {
-    const mine = this.run = {}, title = this.title, packed = byId(`trace-${title}`).textContent;
+    const title = this.title, mine = this.run = {text: this.examples[title], title}, packed = byId(`trace-${title}`).textContent;
     const record = new Record(factsOf(this.examples[title], title));
     await fill(record, unpacked(packed), () => {}, () => this.run === mine);
     if (this.run === mine) this.showRun(record, title);
   }
 
   // Runs the scenario: its trace, and its figures beside it.
-  async start({trace = true, most = MOST_KEPT} = {}) {
+  async start({trace = true, most = this.mostKept} = {}) {
     const text = this.editor.text, input = toBytes(text), title = this.title;
     this.stop();
     this.clear();
@@ -142,7 +143,7 @@ class Simulator {
     return why || (note || '').trim().split('\n')[0] || `the program ended with status ${status}`;
   }
   async countFigures(input, mine) {
-    const run = mine.figures = this.engine.start(['figures'], input), parts = [];
+    const run = mine.figures = this.engine.start(['figures'], input, {pages: this.mostPages}), parts = [];
     for await (const piece of run.pieces) parts.push(piece);
     const counted = await run.ended;
     if (this.run !== mine || counted.status) return counted;
@@ -154,7 +155,7 @@ class Simulator {
   }
   // Keeps the trace, and shows it. Answers what is to be said, '' where there is nothing, null where there were too many events.
   async keepTrace(input, mine, most, wanted) {
-    const run = mine.trace = this.engine.start(['run'], input, {most});
+    const run = mine.trace = this.engine.start(['run', '--explain'], input, {most, pages: this.mostPages});
     const told = record => {
       const part = record.times[record.count] / record.facts.end;
       byId('progress').value = part;
@@ -165,7 +166,11 @@ class Simulator {
     if (first.done) return this.reason(await run.ended);
     let record = mine.record = new Record(factsOf(mine.text, mine.title)), lacks = false;
     try {
-      const all = (async function* () { yield first.value; yield* pieces; })();
+      const all = (async function* () {
+        yield first.value;
+        yield* pieces;
+        if ((await run.ended).why) record.lines.forgetRest();
+      })();
       await fill(record, all, told, wanted);
     } catch (wrong) {
       if (!(wrong instanceof RangeError)) throw wrong;
@@ -183,7 +188,7 @@ class Simulator {
   // A run that has more events than are kept unasked.
   ask(mine) {
     const dialog = byId('ask');
-    byId('ask-text').textContent = `This run has more than ${number(MOST_KEPT)} events, and its whole trace may take more memory than ` +
+    byId('ask-text').textContent = `This run has more than ${number(this.mostKept)} events, and its whole trace may take more memory than ` +
       'the page can have. Its figures want none of it.';
     dialog.returnValue = '';
     dialog.onclose = async () => {
@@ -230,7 +235,21 @@ class Simulator {
     this.page = window.page = new Page(record);
     this.list = new TraceList(byId('all-lines'), record, event => this.goTo(event));
     byId('save-trace').disabled = false;
-    if (this.engine) this.prompt = new Prompt(byId('debugger'), this.engine, this.editor.text);
+    if (this.engine) this.prompt = new Prompt(byId('debugger'), this.engine, this.run.text);
+  }
+  // Of which proof the program is, and the licenses of what the page has besides.
+  showAbout() {
+    const {verdict, module, program, wasm} = dataOf('about');
+    byId('about-text').textContent = `The program in this page and the native one are made of one module, of which the prover said:
+
+${verdict}
+
+SHA-256 of the module          ${module}
+SHA-256 of the native program  ${program}
+SHA-256 of the WebAssembly     ${wasm}
+
+${dataOf('licenses').join('\n\n')}`;
+    byId('about-dialog').showModal();
   }
   goTo(event) {
     if (!this.page) return;
@@ -269,6 +288,8 @@ class Simulator {
     });
     on('save-trace', () => this.save(`${nameOfFile(this.title)}.trace`, this.page.record.lines.pieces, 'text/plain'));
     on('save-figures', () => this.save(`${nameOfFile(this.title)}.csv`, [this.run.csv], 'text/csv'));
+    on('about-open', () => this.showAbout());
+    on('about-close', () => byId('about-dialog').close());
     for (const choice of ['figures', 'keep', 'leave']) on(`ask-${choice}`, () => byId('ask').close(choice));
     const tabs = [...document.querySelectorAll('[role=tab]')];
     tabs.forEach((tab, k) => {

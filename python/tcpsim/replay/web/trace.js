@@ -46,6 +46,8 @@ class Lines {
     for (const line of lines) { this.starts.push(at); at += line.length + 1; }
     return lines;
   }
+  // A trace that was cut: what came of a last line is none.
+  forgetRest() { this.rest = new Uint8Array(0); }
   // The last line, where no newline ends it.
   close() { return this.rest.length ? this.add(Uint8Array.of(NEWLINE)) : []; }
 

@@ -1,0 +1,162 @@
+#!/usr/bin/env python3
+"""Measures the page with the simulator beside the native program and writes bench/PAGE.md:
+bench/page.py [--page FILE] [--rounds N] [--print]
+
+Both do the same in turn in each round, on the same machine, and the least of all rounds counts. The browser is headless
+Chromium. A freeze is the longest task of the page's own thread while a run is read and shown (the Long Tasks API); memory is
+what the page's process holds more than before the run. With --print nothing is written.
+"""
+import argparse
+import json
+import os
+import subprocess
+import sys
+import tempfile
+import time
+
+sys.path.insert(1, os.path.join(os.path.dirname(os.path.dirname(os.path.abspath(__file__))), 'dev'))
+import browsers
+from results import BENCH, ENVIRONMENT, PROGRAM, TOP, processor, saved, table
+from scenarios import dumbbell, one_flow
+from tcpsim_model.text import disassemble
+
+PAGE = os.path.join(BENCH, 'PAGE.md')
+MADE = os.path.join(TOP, 'out', 'page', 'tcpsim.html')
+# What is wanted: seconds of the first view and of the module, times the native seconds, seconds of a freeze, bytes beside twice the trace.
+FIRST_VIEW, MODULE, FIGURES, RUN, FREEZE, MEMORY = 1.0, 4.0, 4, 8, 0.1, 64 * 2**20
+TASKS = '''window.longest = 0;
+new PerformanceObserver(list => { for (const task of list.getEntries()) longest = Math.max(longest, task.duration); }).observe({type: 'longtask'});'''
+READ = '''(async text => {
+  const begun = performance.now(), run = simulator.engine.start(['run'], toBytes(text)), record = new Record(factsOf(text, 'x'));
+  await fill(record, run.pieces);
+  const {status} = await run.ended;
+  return [status, record.count, record.lines.bytes, (performance.now() - begun) / 1000];
+})'''
+COUNT = '''(async text => {
+  const begun = performance.now(), {status} = await simulator.engine.run(['figures'], toBytes(text));
+  return [status, (performance.now() - begun) / 1000];
+})'''
+SHOW = '''(async text => {
+  simulator.editor.text = text;
+  await new Promise(done => setTimeout(done, 3000));
+  longest = 0;
+  await simulator.start();
+  await new Promise(done => setTimeout(done, 500));
+  return [simulator.page ? simulator.page.record.count : 0, longest / 1000];
+})'''
+
+
+def native(words, path):
+    """The seconds of a run of the native program, its output written to a file in memory."""
+    with open(path, 'rb') as given, tempfile.TemporaryFile(dir='/dev/shm') as out:
+        begin = time.perf_counter()
+        subprocess.run([PROGRAM, *words], stdin=given, stdout=out, env=ENVIRONMENT, check=True)
+        return time.perf_counter() - begin
+
+
+def held(browser):
+    """What the page's process holds, in bytes, behind a collection."""
+    browser.call('HeapProfiler.collectGarbage')
+    session, browser.session = browser.session, None
+    ones = browser.call('SystemInfo.getProcessInfo')['processInfo']
+    browser.session = session
+    most = 0
+    for it in ones:
+        if it['type'] == 'renderer':
+            with open(f'/proc/{it["id"]}/smaps_rollup', encoding='ascii') as file:
+                most = max(most, sum(1024 * int(line.split()[1]) for line in file if line.startswith(('Private_Dirty', 'Private_Clean'))))
+    return most
+
+
+def opened(path, folder):
+    browser = browsers.Chromium(folder, before=TASKS)
+    browser.open(f'file://{path}')
+    browser.wait('document.documentElement.dataset.ready')
+    return browser
+
+
+def measured(path, rounds):
+    """The rows of both tables."""
+    texts = {'examples/bufferbloat.txt': open(f'{TOP}/examples/bufferbloat.txt', encoding='ascii').read(),
+             'one flow': disassemble(one_flow(130_000)).decode(), 'dumbbell of 8 flows': disassemble(dumbbell(8, 20_000, 50)).decode()}
+    first, ready, rows = [], [], []
+    for _ in range(rounds):
+        with tempfile.TemporaryDirectory() as folder:
+            browser = opened(path, folder)
+            shown, done = (int(browser.value(f'document.documentElement.dataset.{it}')) / 1000 for it in ('shown', 'ready'))
+            first.append(shown)
+            ready.append(done - shown)
+            browser.close()
+    for name, text in texts.items():
+        given, best = saved(f'page {name}', text), {}
+        with tempfile.TemporaryDirectory() as folder:
+            browser = opened(path, folder)
+            words = json.dumps(text)
+            for _ in range(rounds):
+                figures, run = native(['figures'], given), native(['run'], given)
+                status, counted = browser.json(f'({COUNT})({words})')
+                status_of_run, events, size, read = browser.json(f'({READ})({words})')
+                assert status == status_of_run == 0
+                for key, value in (('figures', figures), ('run', run), ('page figures', counted), ('page run', read)):
+                    best[key] = min(value, best.get(key, value))
+            browser.close()
+        with tempfile.TemporaryDirectory() as folder:
+            browser = opened(path, folder)
+            before = held(browser)
+            shown, longest = browser.json(f'({SHOW})({words})')
+            assert shown == events, (shown, events)
+            more = held(browser) - before
+            browser.close()
+        rows.append((name, events, size, best, longest, more))
+    return min(first), min(ready), rows
+
+
+def judged(value, most, text):
+    return text if value <= most else f'**{text}**'
+
+
+def written(path, rounds):
+    first, ready, rows = measured(path, rounds)
+    version = subprocess.run([browsers.CHROMIUM, '--version'], capture_output=True, text=True, check=True).stdout.strip()
+    commit = subprocess.run(['git', '-C', TOP, 'rev-parse', '--short', 'HEAD'], capture_output=True, text=True, check=True).stdout.strip()
+    yield '# The page with the simulator, beside the native program'
+    yield ''
+    yield f'The least of {rounds} rounds, in which both do the same in turn. What is above what was wanted is bold. `bench/page.py` writes this page.'
+    yield ''
+    yield f'{time.strftime("%Y-%m-%d")}, commit {commit}, {processor()}, {os.cpu_count()} processors, load {os.getloadavg()[0]:.1f}; {version}, headless.'
+    yield ''
+    yield from table(('Of opening the page', 'Seconds', 'At most'), (
+        ('until the first view', judged(first, FIRST_VIEW, f'{first:.2f}'), f'{FIRST_VIEW:.0f}'),
+        ('from there until the program is compiled', judged(ready, MODULE, f'{ready:.2f}'), f'{MODULE:.0f}')))
+    yield from table(('Run', 'Events', 'Trace, MB', '`figures` native, s', 'in the page, s', 'times', '`run` native, s', 'in the page, read, s', 'times'), (
+        (name, f'{events:,}', f'{size / 1e6:.1f}', f'{best["figures"]:.3f}', f'{best["page figures"]:.3f}',
+         judged(best['page figures'], FIGURES * best['figures'], f'{best["page figures"] / best["figures"]:.1f}'),
+         f'{best["run"]:.3f}', f'{best["page run"]:.3f}', judged(best['page run'], RUN * best['run'], f'{best["page run"] / best["run"]:.1f}'))
+        for name, events, size, best, _, _ in rows))
+    yield f'Wanted are at most {FIGURES} and {RUN} times.'
+    yield ''
+    yield from table(('Shown with its figures', 'Longest task, ms', 'Memory more than before, MB', 'of that beyond twice the trace'), (
+        (name, judged(longest, FREEZE, f'{1000 * longest:.0f}'), f'{more / 1e6:.0f}', judged(more - 2 * size, MEMORY, f'{(more - 2 * size) / 1e6:.0f}'))
+        for name, _, size, _, longest, more in rows))
+    yield f'Wanted are at most {1000 * FREEZE:.0f} ms, and {MEMORY / 2**20:.0f} MiB beyond twice the trace.'
+
+
+def main():
+    reader = argparse.ArgumentParser(description='The page with the simulator beside the native program.')
+    reader.add_argument('--page', default=MADE)
+    reader.add_argument('--rounds', type=int, default=5)
+    reader.add_argument('--print', action='store_true')
+    words = reader.parse_args()
+    if not os.path.exists(words.page):
+        sys.exit(f'{words.page} is not there: make page')
+    lines = []
+    for line in written(os.path.abspath(words.page), words.rounds):
+        print(line, flush=True)
+        lines.append(line)
+    if not words.print:
+        with open(PAGE, 'w', encoding='utf-8') as file:
+            file.write('\n'.join(lines).rstrip('\n') + '\n')
+
+
+if __name__ == '__main__':
+    main()

@@ -1,0 +1,466 @@
+#!/usr/bin/env python3
+"""Tests of the page with the simulator (`make page`), in headless Chromium and Firefox: python3 -m pytest dev/test_page.py.
+
+The program in the page and the native one are asked the same, and what both answer is compared byte for byte. Then the page
+is used as a person would. The page is made of the module that dev/build.py keeps of the native program's proof.
+"""
+import base64
+import functools
+import json
+import os
+import shutil
+import subprocess
+import sys
+import time
+
+import pytest
+
+sys.path.insert(0, os.path.dirname(os.path.abspath(__file__)))
+import browsers
+import build
+import page
+import page_cases
+import page_module
+from paths import TOP
+from tcpsim.command_line import Refused
+from tcpsim.replay.page import about
+from tcpsim.scenario.text import Scenario
+
+IN_CI = os.environ.get('CI') == 'true'
+DRAWN = 2000            # cases
+AT_ONCE = 200           # cases that are handed to the page in one message
+PICTURES = os.environ.get('PAGE_PICTURES')      # a folder for pictures of what the tests see
+KINDS = {'Chromium': browsers.CHROMIUM, 'Firefox': browsers.FIREFOX}
+TRY = '''async cases => {
+  const told = [];
+  const hex = buffer => [...new Uint8Array(buffer)].map(byte => byte.toString(16).padStart(2, '0')).join('');
+  for (const [words, input, file] of cases) {
+    const files = file === null ? new Map() : new Map([['FILE', await bytesOf(file)]]);
+    const {status, note, why, bytes: out} = await simulator.engine.run(words, await bytesOf(input), {files});
+    told.push([why || status, note, out.length, hex(await crypto.subtle.digest('SHA-256', out))]);
+  }
+  return told;
+}'''
+
+
+# Some ten thousand packets under way at once, which want more memory than a run is given below.
+MANY_UNDER_WAY = """sim 260000000
+node s sender
+node r receiver
+link a s r 10000000000 10000000 droptail 65535
+link b r s 10000000000 10000000 droptail 65535
+flow f s r 1000 100000 0 1073741824 0 newreno iw10
+"""
+
+
+def wanted(condition, why):
+    """Leaves a test out where something lacks; where CI=true it has failed."""
+    if not condition:
+        if IN_CI:
+            pytest.fail(why)
+        pytest.skip(why)
+
+
+@pytest.fixture(scope='session')
+def made(tmp_path_factory):
+    """The page's file, and the record of the proof."""
+    try:
+        program, record = page_module.program()
+    except Refused as why:
+        wanted(False, str(why))
+    path = tmp_path_factory.mktemp('page') / 'tcpsim.html'
+    path.write_text(page.page(program, record), encoding='utf-8')
+    return path, record
+
+
+@pytest.fixture(scope='session')
+def opened(made, tmp_path_factory):
+    """A browser of a kind with the page ready; each is started once."""
+    started = {}
+
+    def of(kind):
+        if kind not in started:
+            wanted(KINDS[kind], f'no {kind}: apt-get install {"chromium" if kind == "Chromium" else "firefox-esr"}')
+            try:
+                import websockets  # noqa: F401
+            except ImportError:
+                wanted(False, 'no websockets: apt-get install python3-websockets')
+            browser = started[kind] = getattr(browsers, kind)(str(tmp_path_factory.mktemp(kind)))
+            browser.open(f'file://{made[0]}')
+            browser.wait('document.documentElement.dataset.ready')
+        return started[kind]
+    yield of
+    for browser in started.values():
+        browser.close()
+
+
+@pytest.fixture(params=list(KINDS))
+def browser(opened, request):
+    return opened(request.param)
+
+
+@pytest.fixture
+def chromium(opened):
+    return opened('Chromium')
+
+
+# ---- byte for byte
+
+@functools.lru_cache(maxsize=None)
+def answers(case):
+    """What the native program says; the same for each browser."""
+    return page_cases.native(case, most=page_cases.MOST_BYTES)
+
+
+def in_page(browser, cases):
+    """What the page answers to the cases, in order."""
+    code = lambda data: None if data is None else page.packed(data)
+    for begin in range(0, len(cases), AT_ONCE):
+        some = [[list(it.words), code(it.input), code(it.file)] for it in cases[begin:begin + AT_ONCE]]
+        for told in browser.json(f'({TRY})({json.dumps(some)})'):
+            yield page_cases.Answer(*told)
+
+
+def differences(browser, cases):
+    """The cases that the page answers otherwise than the native program, and how many were compared."""
+    cases = [it for it in cases if answers(it) is not None]
+    found = [(case, answers(case), told) for case, told in zip(cases, in_page(browser, cases))
+             if answers(case) != told]
+    return found, len(cases)
+
+
+def same(browser, cases, least):
+    found, count = differences(browser, cases)
+    assert not found, (len(found), str(found[0])[:2000])
+    assert count >= least
+
+
+def test_examples_by_every_command(browser):
+    same(browser, list(page_cases.of_examples()), 300)
+
+
+def test_words_without_a_scenario(browser):
+    same(browser, list(page_cases.of_words()), 30)
+
+
+def test_every_refusal_of_formats_at_its_word(browser):
+    pairs = list(page_cases.of_formats())
+    codes = {note.split()[1] for _, note in pairs}
+    assert codes >= {*(f'E{k}' for k in range(1, 11)), 'L3', 'L5', 'L7', 'L8', 'I1', 'groups'}
+    for (case, note), told in zip(pairs, in_page(browser, [case for case, _ in pairs])):
+        assert (told.note, told.length) == (f'{note}\n', 0), case.words
+        assert told == answers(case)
+
+
+def test_refusals_of_texts_images_and_sessions(browser):
+    cases = list(page_cases.of_refusals())
+    same(browser, cases, 300)
+    notes = ' '.join(answers(it).note for it in cases)
+    for code in ('L1', 'L2', 'L4', 'L6', 'B1', 'B2', 'B3', 'B5'):
+        assert f'refused {code}' in notes, code
+
+
+def test_drawn_scenarios(browser):
+    same(browser, list(page_cases.drawn(DRAWN + 60)), DRAWN - 40)
+
+
+def test_a_page_of_another_module_is_found(made, tmp_path):
+    """A program that is wrong in one byte of what it writes is seen by the comparison."""
+    program = page_module.program()[0]
+    assert program.count(b' ssthresh=') + program.count(b'ssthresh=') >= 1
+    wrong = program.replace(b'ssthresh=', b'ssthrash=')
+    path = tmp_path / 'wrong.html'
+    path.write_text(page.page(wrong, made[1]), encoding='utf-8')
+    wanted(browsers.CHROMIUM, 'no Chromium: apt-get install chromium')
+    browser = browsers.Chromium(str(tmp_path))
+    try:
+        browser.open(f'file://{path}')
+        browser.wait('document.documentElement.dataset.ready')
+        found, count = differences(browser, list(page_cases.of_examples())[:12])
+        assert count == 12 and found
+    finally:
+        browser.close()
+
+
+def test_a_module_that_is_not_of_the_native_proof_is_refused(made, tmp_path, monkeypatch):
+    for name in ('MODULE', 'RECORD', 'MADE'):
+        copy = str(tmp_path / name)
+        shutil.copy(getattr(build, name), copy)
+        monkeypatch.setattr(build, name, copy)
+    assert build.module_record() == made[1]
+    for name, change in (('MODULE', b'x'), ('MADE', b'x'), ('RECORD', b'{}')):
+        path = getattr(build, name)
+        before = open(path, 'rb').read()
+        with open(path, 'wb') as file:
+            file.write(change if name == 'RECORD' else before + change)
+        with pytest.raises(Refused, match='no page is made'):
+            page_module.program()
+        with open(path, 'wb') as file:
+            file.write(before)
+    record = json.loads(open(build.RECORD).read())
+    with open(build.RECORD, 'w') as file:
+        json.dump({**record, 'verdict': 'logic=assumed'}, file)
+    with pytest.raises(Refused, match='not proved'):
+        page_module.program()
+    os.remove(build.RECORD)
+    with pytest.raises(Refused, match='is not there'):
+        page_module.program()
+
+
+def test_the_page_says_of_which_proof_it_is(chromium, made):
+    said = chromium.json('JSON.parse(document.getElementById("about").textContent)')
+    assert {key: said[key] for key in made[1]} == made[1]
+    assert said['program'] == build.sum_of_file(page_cases.PROGRAM)
+
+
+# ---- what is shown
+
+def test_facts_are_those_of_the_package(chromium):
+    """Names, numbers and ways, as python/tcpsim reads them of every example."""
+    for name in chromium.json('Object.keys(simulator.examples)'):
+        with open(f'{TOP}/examples/{name}.txt', encoding='ascii') as file:
+            told = json.loads(json.dumps(about(Scenario(file.read()))))
+        found = chromium.json(f'factsOf(simulator.examples[{json.dumps(name)}], "x")')
+        assert {key: found[key] for key in told} == told, name
+
+
+def element(css):
+    return f'document.querySelector({json.dumps(css)})'
+
+
+def text_of(browser, css):
+    return browser.value(f'{element(css)}.textContent')
+
+
+def look(browser, name):
+    if PICTURES:
+        os.makedirs(PICTURES, exist_ok=True)
+        browser.picture(os.path.join(PICTURES, f'{type(browser).__name__}_{name}.png'))
+
+
+def run(browser, button='run'):
+    """Presses a button, and waits until the run is done; answers what the page says of it."""
+    before = browser.value('document.documentElement.dataset.run || 0')
+    browser.click(element(f'#{button}'))
+    browser.wait(f'(document.documentElement.dataset.run || 0) != {before}')
+    return text_of(browser, '#said')
+
+
+def choose(browser, value):
+    browser.value(f'(() => {{ const e = {element("#choose")}; e.value = {json.dumps(value)}; e.dispatchEvent(new Event("change")); }})()')
+    browser.wait('document.documentElement.dataset.judged === "0"')
+
+
+def test_lesson_3_as_a_new_user(browser):
+    """The lesson is opened, run, its lines followed; its queue is made longer, as it proposes, and nothing is lost."""
+    browser.size(1280, 800)
+    choose(browser, 'lesson 3')
+    assert text_of(browser, '#lesson h2') == '3. Slow start into a full queue'
+    assert 'done in' in run(browser)
+    with open(f'{TOP}/examples/slow_start_into_a_full_queue.trace', encoding='ascii') as file:
+        lines = file.read().splitlines()
+    assert browser.value('page.record.count') == len(lines) - 1
+    browser.click('[...document.querySelectorAll("#lesson button.event")].find(e => e.textContent === "62")')
+    assert browser.value('page.record.at') == 62
+    assert text_of(browser, '#lines li.present') == lines[61]
+    look(browser, 'lesson_3')
+    browser.click(element('.packet'))
+    assert 'of f' in text_of(browser, '#words')
+    # A line of all, found by its words, leads to its event.
+    browser.click(element('[data-tab=trace]'))
+    browser.click(element('#all-lines input'))
+    browser.type('drop=full')
+    browser.click(element('#all-lines form button'))
+    browser.wait('page.record.at !== 62')
+    at = browser.value('page.record.at')
+    assert 'drop=full' in lines[at - 1] and text_of(browser, '.seen .present') == lines[at - 1]
+    look(browser, 'trace')
+    browser.click(f'document.querySelector(\'.seen [data-event="{at + 1}"]\')')
+    assert browser.value('page.record.at') == at + 1
+    browser.click(element('[data-tab=figures]'))
+    rows = browser.json('[...document.querySelectorAll("#figures-table tr")].map(row => [...row.cells].map(cell => cell.textContent))')
+    assert ['figure', 'f'] in rows and ['figure', 'a', 'b'] in rows
+    assert ['dropped as full (packets)', '1', '0'] in rows and ['greatest round trip', '11.08 ms'] in rows
+    look(browser, 'figures')
+    # "To try: give link a a queue of 20 packets, and nothing is lost."
+    browser.value('''(() => { const box = simulator.editor.box, line = box.getValue().split('\\n').findIndex(it => it.startsWith('link a '));
+      window.line = line; box.focus(); box.setCursor({line, ch: box.getLine(line).length}); })()''')
+    browser.press('Backspace')
+    browser.type('20')
+    assert browser.value('simulator.editor.box.getLine(line)').endswith('droptail 20')
+    browser.press('Enter', 2) if isinstance(browser, browsers.Chromium) else browser.click(element('#run'))
+    browser.wait('page && page.record.last > 0 && !page.record.drops.length && document.getElementById("said").textContent.startsWith("done")')
+    browser.click(element('[data-tab=debug]'))
+    browser.click(element('#debugger input'))
+    browser.type('step 3')
+    browser.press('Enter')
+    browser.wait('document.querySelector("#debugger pre").textContent.includes("at 3")')
+    look(browser, 'debugger')
+
+
+def test_a_text_is_judged_as_it_is_typed(browser):
+    choose(browser, 'example one_segment')
+    browser.value("(() => { const box = simulator.editor.box; box.focus(); box.replaceRange('droptial', {line: 5, ch: 27}, {line: 5, ch: 35}); })()")
+    browser.wait('document.documentElement.dataset.judged === "1"')
+    line = browser.value('simulator.editor.box.getLine(5)')
+    done = subprocess.run([page_cases.PROGRAM, 'asm', '--explain'], input=browser.value('simulator.editor.text'), text=True,
+                          capture_output=True, check=False)
+    head, *rest = done.stderr.rstrip('\n').split('\n')
+    assert head == 'refused E4 line 6' == text_of(browser, '#verdict')
+    assert text_of(browser, '#explained').split('\n') == rest
+    marked = browser.json('[...document.querySelectorAll(".wrong")].map(e => e.textContent).join("")')
+    assert marked == 'droptial' and 'droptial' in line
+    browser.click(element('#meaning summary'))
+    means = subprocess.run([page_cases.PROGRAM, 'explain', 'E4'], capture_output=True, text=True, check=True).stdout
+    browser.wait('document.querySelector("#meaning pre").textContent')
+    assert text_of(browser, '#meaning pre') == means
+    look(browser, 'refused')
+    browser.click(element('#meaning summary'))
+    assert 'refused E4 line 6' in run(browser)
+    choose(browser, 'example one_segment')
+    assert browser.value('!document.querySelector(".wrong")')
+    looks = browser.json('[...document.querySelectorAll(".CodeMirror-line")].find(e => e.textContent.startsWith("link a")).querySelectorAll("[class^=cm]").length')
+    assert looks == 6       # the statement, its name, rate, delay, the queue, and its places
+    assert browser.value('document.querySelectorAll(".CodeMirror-linenumber").length') >= 8
+
+
+def opened_file(browser, name, data):
+    """Opens a file as by the button; answers what the page says."""
+    browser.value(f'''(async () => {{ const bytes = Uint8Array.from(atob({json.dumps(base64.b64encode(data).decode())}), c => c.charCodeAt(0));
+      await simulator.openFile(new File([bytes], {json.dumps(name)})); }})()''')
+    return text_of(browser, '#said')
+
+
+def test_files_that_are_no_scenario(browser):
+    choose(browser, 'example one_segment')
+    before = browser.value('simulator.editor.text')
+    with open(f'{TOP}/docs/pictures/replay_two_timeouts_in_a_row.png', 'rb') as file:
+        picture = file.read(3000)
+    for name, data, says in (('a.png', picture, 'a.png is a picture (PNG)'), ('b.trace', page_cases.read('examples', 'one_segment.trace'), 'b.trace is a trace of a run'),
+                             ('c.csv', b'what,number,figure,unit,value\n', 'a table of figures'), ('d.html', b'<!DOCTYPE html>', 'a web page'),
+                             ('e.svg', b'<?xml version="1.0"?><svg>', 'a picture (SVG)'), ('f.bin', b'a\0b', 'no text')):
+        assert says in (said := opened_file(browser, name, data)) and 'no scenario' in said
+        assert browser.value('simulator.editor.text') == before
+    image = page_cases.FIRST_IMAGE
+    assert 'is an image' in opened_file(browser, 'g.tcb', image)
+    assert browser.value('simulator.editor.text').startswith('sim 1000000000\nnode n0 sender\n')
+    assert 'refused L1' in opened_file(browser, 'h.tcb', image[:-1])
+
+
+def test_long_runs_are_asked_about(browser):
+    choose(browser, 'example bufferbloat')
+    browser.value('simulator.mostKept = 1000')
+    try:
+        browser.click(element('#run'))
+        browser.wait('document.getElementById("ask").open')
+        assert 'more than 1,000 events' in text_of(browser, '#ask-text')
+        look(browser, 'asked')
+        browser.click(element('#ask-figures'))
+        browser.wait('document.getElementById("said").textContent.startsWith("figures alone, in")')
+        assert browser.value('!page && document.querySelectorAll("#figures-table table").length === 3')
+        browser.click(element('#run'))
+        browser.wait('document.getElementById("ask").open')
+        browser.click(element('#ask-keep'))
+        browser.wait('window.page && document.getElementById("said").textContent.startsWith("done")')
+        assert browser.value('page.record.count') == 8583
+    finally:
+        browser.value('simulator.mostKept = 5000000')
+
+
+def test_want_of_memory_is_told_and_the_page_lives(browser):
+    browser.value(f'simulator.editor.text = {json.dumps(MANY_UNDER_WAY)}')
+    browser.value('simulator.mostPages = 33')
+    try:
+        assert run(browser).startswith('no memory')
+        kept = browser.value('page.record.count')
+        assert kept > 1000
+    finally:
+        browser.value('simulator.mostPages = MOST_PAGES')
+    assert run(browser).startswith('done in')
+    assert browser.value('page.record.count') > kept
+    told = browser.json('simulator.engine.run(["run"], toBytes(simulator.editor.text), {pages: 33}).then(it => [it.status, it.note])')
+    assert told == [4, 'no memory\n']
+
+
+def test_a_run_can_be_ended(browser):
+    """A long one, by the button; the next run is whole."""
+    net = subprocess.run([sys.executable, f'{TOP}/bin/tcpsim-net', 'dumbbell', '--flows', '10', '--rate', '1G', '--rtt', '10ms', '--queue',
+                          'droptail:100', '--end', '1000s'], capture_output=True, text=True, check=True).stdout
+    browser.value(f'simulator.editor.text = {json.dumps(net)}')
+    browser.click(element('#run'))
+    browser.wait('simulator.run.record && simulator.run.record.count > 500')
+    browser.click(element('#stop'))
+    browser.wait('window.page && window.page.record.count > 0')
+    assert 'ended' in text_of(browser, '#said')
+    choose(browser, 'example one_segment')
+    assert run(browser).startswith('done in')
+    assert browser.value('page.record.count') == 5
+
+
+# ---- nothing from outside
+
+def test_texts_names_and_addresses_are_never_html(chromium, made):
+    evil = '<img src=x onerror="window.hit=1"><script>window.hit=1</script>'
+    text = f'# {evil}\n' + page_cases.read('examples', 'one_segment.txt').decode()
+    opened_file(chromium, f'{evil}.txt'.replace('/', '_'), text.encode())
+    assert run(chromium).startswith('done in')
+    for tab in ('figures', 'trace', 'debug', 'net'):
+        chromium.click(element(f'[data-tab={tab}]'))
+    chromium.value(f'location.hash = {json.dumps("#event=" + evil)}')
+    opened_file(chromium, f'{evil}.png', b'\x89PNG')
+    chromium.click(element('[data-tab=debug]'))
+    chromium.click(element('#debugger input'))
+    chromium.type(evil)
+    chromium.press('Enter')
+    chromium.wait('document.querySelector("#debugger pre").textContent.includes("refused B1")')
+    time.sleep(.3)
+    assert chromium.json('[typeof window.hit, document.querySelectorAll("img[src=x]").length]') == ['undefined', 0]
+    # The policy itself: neither a script of the page's own elements nor anything from outside is taken.
+    told = chromium.json('''(async () => {
+      const seen = [];
+      document.addEventListener('securitypolicyviolation', event => seen.push(event.effectiveDirective));
+      const script = document.createElement('script'); script.textContent = 'window.hit = 1'; document.body.append(script);
+      const place = document.createElement('div'); place.innerHTML = '<img src="x" onerror="window.hit=1">'; document.body.append(place);
+      let failed = 0;
+      try { await fetch('https://example.org/'); } catch { failed = 1; }
+      try { (0, eval)('window.hit = 1'); } catch { failed += 1; }
+      await new Promise(done => setTimeout(done, 300));
+      script.remove(); place.remove();
+      return [typeof window.hit, failed, seen];
+    })()''')
+    assert told[:2] == ['undefined', 2] and len(told[2]) >= 3, told
+    page_text = made[0].read_text(encoding='utf-8')
+    assert "default-src 'none'" in page_text and 'unsafe-inline' not in page_text.partition('</head>')[0]
+    for word in ('<link', '<base', '<iframe'):
+        assert word not in page_text.partition('<template id="view">')[0]
+
+
+def test_a_browser_without_64_bit_memory(made, tmp_path):
+    """It is told so, with the versions that have it, and shows the runs that the page carries."""
+    wanted(browsers.CHROMIUM, 'no Chromium: apt-get install chromium')
+    browser = browsers.Chromium(str(tmp_path), before='WebAssembly.validate = () => false;')
+    try:
+        browser.open(f'file://{made[0]}')
+        browser.wait('document.documentElement.dataset.ready === "without" && window.page')
+        said = text_of(browser, '#said')
+        assert 'version 133' in said and 'version 134' in said
+        browser.value('(() => { const e = document.querySelector("#choose"); e.value = "lesson 10"; e.dispatchEvent(new Event("change")); })()')
+        browser.wait('window.page.record.count === 8583')
+        assert browser.value('document.getElementById("run").disabled')
+    finally:
+        browser.close()
+
+
+def test_on_a_phone(chromium):
+    """390 pixels wide: nothing leaves the page to the side, and a lesson can be run."""
+    chromium.size(390, 844, mobile=True)
+    try:
+        choose(chromium, 'lesson 3')
+        assert run(chromium).startswith('done in')
+        for tab in ('net', 'figures', 'trace', 'debug'):
+            chromium.click(element(f'[data-tab={tab}]'))
+            wide = chromium.json('[document.documentElement.scrollWidth, innerWidth]')
+            assert wide[0] <= 390, (tab, wide)
+            look(chromium, f'phone_{tab}')
+    finally:
+        chromium.size(1280, 800)
