@@ -16,7 +16,7 @@ BUILT = os.path.join(TOP, 'crates', 'tcpsim', 'out', 'tcpsim')
 # What runs scenarios in tests: `pytest --program FILE` names another.
 PROGRAM = BUILT if os.path.exists(BUILT) else MODEL
 CHROMIUM = next(filter(None, map(shutil.which, ('chromium', 'chromium-browser', 'google-chrome'))), None)
-PATIENCE = 120      # seconds in which a process ends
+PATIENCE = 600      # seconds in which a process ends, on a machine that is busy
 NAMES = sorted(name[:-6] for name in os.listdir(EXAMPLES) if name.endswith('.trace'))
 # Four parts with a bottleneck each, joined by cables of 40 ms: each has thousands of events in a window.
 WIDE = ('islands', '--islands', '4', '--flows', '10', '--rate', '200M', '--between', '40ms', '--end')

@@ -12,7 +12,7 @@ import tempfile
 from collections import namedtuple
 
 import compare
-from paths import TOP
+from clone import TOP
 from tcpsim_model import image, spelling
 from tcpsim_model.text import assemble
 from whole.images import CHANGED, FIRST_IMAGE, IN_VERSION_1

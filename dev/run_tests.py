@@ -25,7 +25,7 @@ import build
 
 TOP = os.path.dirname(os.path.dirname(os.path.abspath(__file__)))
 # Those that take longest, which are begun first.
-LONG = ('dev/test_page.py', 'python/tests/test_ends.py', 'python/tests/test_inputs.py', 'dev/try_shell.sh', 'dev/test_systematic.py',
+LONG = ('dev/test_page.py', 'python/tests/test_ends.py', 'python/tests/test_inputs.py', 'dev/test_shell.py', 'dev/test_systematic.py',
         'dev/test_compare.py',
         'python/tests/test_sweep.py', 'python/tests/test_trace.py', 'python/tests/test_plot.py', 'dev/test_bounds.py',
         'dev/refuse_tests.sh', 'dev/test_helgrind.py', 'dev/test_dist.py')
@@ -37,7 +37,7 @@ GRACE = 5
 def all_tests():
     found = [os.path.relpath(it, TOP) for place in ('dev', 'python/tests')
              for it in sorted(glob.glob(f'{TOP}/{place}/test_*.py'))]
-    return ['dev/refuse_tests.sh', *found, 'dev/try_shell.sh']
+    return ['dev/refuse_tests.sh', *found]
 
 
 class Test:

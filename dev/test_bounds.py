@@ -142,7 +142,7 @@ def test_a_cut_text_has_its_fault_or_runs():
 def test_a_byte_out_of_range_is_told_by_its_line():
     all_expected(
         ((at, byte), ('run',), FIRST[:at] + byte + FIRST[at + 1:], refused(f'E1 line {1 + FIRST[:at].count(10)}'))
-        for at in range(len(FIRST)) for byte in (b'\0', b'\t', b'\r', b'\x7f', b'\x80', b'\xff'))
+        for at in range(len(FIRST)) for byte in (b'\0', b'\t', b'\r', b'\x1f', b'\x7f', b'\x80', b'\xff'))
 
 
 def test_a_cut_image_has_too_few_bytes():

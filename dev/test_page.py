@@ -21,7 +21,7 @@ import build
 import page
 import page_cases
 import page_module
-from paths import TOP
+from clone import TOP
 from tcpsim.command_line import Refused
 from tcpsim.replay.page import about
 from tcpsim.scenario.text import Scenario

@@ -28,7 +28,7 @@ from tcpsim_model.command_line import read as scenario_in
 
 pytestmark = pytest.mark.built
 PROMPT = b'(tcpsim) '
-LONGEST = 60        # seconds that a session may take
+LONGEST = 300       # seconds that a session may take, on a machine that is busy
 MOST_LINE = 65_536  # bytes of a line
 STEPS = clone.STEPS or prompt.BUILT
 # What is noted of a line that is refused as no command.

@@ -248,17 +248,6 @@ def test_a_fault_is_shown_at_its_place():
             expect_faults('asm', [((before + line).encode(), f'{code} line {number}', None)])
 
 
-def test_a_cut_text_has_its_fault_or_runs():
-    rows = [(FIRST[:size], fault, TRACE) for least, most, fault in texts.CUTS for size in range(least, most + 1)]
-    assert [len(it) for it, _, _ in rows] == [*range(len(FIRST) + 1)]
-    expect_faults('run', rows)
-
-
-def test_a_byte_out_of_range_is_told_by_its_line():
-    expect_faults('run', [
-        (FIRST[:place] + bytes([byte]) + FIRST[place + 1:], f'E1 line {FIRST.count(10, 0, place) + 1}', None)
-        for place in range(len(FIRST)) for byte in texts.OUTSIDE])
-
 # ---- images
 
 
@@ -290,21 +279,6 @@ def test_images_of_version_1_have_their_faults():
 def test_a_sender_has_one_byte():
     expect([(['asm'], FIRST.rstrip() + f'{words}\n'.encode(), 0, b'', images.FIRST_IMAGE[:-1] + bytes([byte]))
             for words, byte in images.SENDERS])
-
-
-def test_lost_packets_have_their_faults():
-    rows = [([*range(first, last + 1)], fault) for first, last, fault in images.LOST]
-    rows += [(numbers, 'L3') for numbers in images.NOT_RISING]
-    made = [(b''.join(it.to_bytes(4, 'big') for it in numbers), len(numbers), fault) for numbers, fault in rows]
-    made = [(images.FIRST_IMAGE[:65] + bytes([count]) + lost + images.FIRST_IMAGE[66:], fault)
-            for lost, count, fault in made]
-    expect_faults('asm', [(it, fault, it) for it, fault in made])
-
-
-def test_a_cut_image_has_too_few_bytes():
-    notes = {0: b'refused E10 line 0\n', 1: b'refused E2 line 1\n', 2: b'refused E2 line 1\n'}
-    expect([(['run'], image[:size], 1, notes.get(size, b'refused L1\n'), b'')
-            for image in (images.FIRST_IMAGE, images.IN_VERSION_1) for size in range(len(image))])
 
 
 def test_images_of_many_records_have_their_faults():

@@ -139,20 +139,6 @@ COUNTS = [
 # The words of a flow's sender in a text, and its byte in the image.
 SENDERS = [('', 0), (' reno iw3', 0), (' newreno iw3', 1), (' reno iw10', 2), (' newreno iw10', 3)]
 
-# From which number to which the first link loses each packet, and the fault of the image with these losses.
-LOST = [
-    (0, 0, 'L3'),
-    (1, 1, RIGHT),
-    (1_000_000_000, 1_000_000_000, RIGHT),
-    (1_000_000_001, 1_000_000_001, 'L3'),
-    (1, 64, RIGHT),
-    (1, 65, 'L3'),
-    (1, 255, 'L3'),
-]
-
-# Losses that do not rise.
-NOT_RISING = [[2, 2], [2, 1], [1_000_000_000, 1_000_000_000]]
-
 # The numbers of a link behind its ends, and of a flow; the same at their greatest, the link's with 64 lost
 # packets.
 LINK = bytes.fromhex('00000000007a1200 00000000000f4240 00 000a 0000000000000000 0000000000000000 0000 00')

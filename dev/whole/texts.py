@@ -331,31 +331,6 @@ NAMED = [
     (7, 'lose abcdefghijklmnop 1', 'E4', 7),
 ]
 
-# How many bytes of the first text are left, from and to, and the fault that the text then has.
-CUTS = [
-    (0, 0, 'E10 line 0'),
-    (1, 2, 'E2 line 1'),
-    (3, 4, 'E3 line 1'),
-    (5, 15, 'L3 line 0'),
-    (16, 18, 'E2 line 2'),
-    (19, 22, 'E3 line 2'),
-    (23, 27, 'E4 line 2'),
-    (28, 29, 'L3 line 0'),
-    (30, 32, 'E2 line 3'),
-    (33, 36, 'E3 line 3'),
-    (37, 43, 'E4 line 3'),
-    (44, 45, 'L3 line 0'),
-    (46, 48, 'E2 line 4'),
-    (49, 81, 'E3 line 4'),
-    (82, 84, 'L3 line 0'),
-    (85, 87, 'E2 line 5'),
-    (88, 120, 'E3 line 5'),
-    (121, 123, 'L3 line 0'),
-    (124, 126, 'E2 line 6'),
-    (127, 149, 'E3 line 6'),
-    (150, 151, RIGHT),
-]
-
 # What is declared many times behind the first text, the place of one more line, that line, and the fault and
 # the line of that text.
 COUNTED = [
@@ -389,7 +364,3 @@ LONG = [
     ('', '#' * 16, 1_048_576, 'refused E10 line 0'),
     ('#', '#' * 16, 1_048_576, 'refused I1'),
 ]
-
-# Bytes that no line may have: of the lowest and the highest, the next to those that it may have, and two
-# that elsewhere part words or end lines.
-OUTSIDE = [0x00, 0x09, 0x0d, 0x1f, 0x7f, 0x80, 0xff]

@@ -1,19 +1,18 @@
 """Tests of the shells' completions and of the man pages. bash is asked by
 `compgen` through the functions, and bash and zsh by a terminal of their own in which a line is typed; fish by
 `complete -C`. The words of each subcommand are those of its `--help`, in each shell and in the man page. A
-shell that is not there is left out, which is said. The last line is `N passed, M failed`.
+shell that is not there is left out, which is said.
 """
 import os
-import pty
 import re
-import select
 import subprocess
 import sys
-import time
 
 import pytest
 
-from clone import BIN, PROGRAM, TOP, Folder
+pexpect = pytest.importorskip('pexpect', reason='no pexpect: apt-get install python3-pexpect')
+
+from clone import BIN, PROGRAM, TOP, Folder  # noqa: E402
 
 COMPLETIONS = os.path.join(TOP, 'completions')
 SUBCOMMANDS = ('asm', 'debug', 'dis', 'explain', 'figures', 'run')
@@ -243,59 +242,21 @@ class TestCompgen(Shelf):
             sorted(['tcpsim'] + [f'tcpsim-{tool}' for tool in TOOLS])
 
 
-class Terminal:
-    """A shell in a terminal of its own."""
-
-    def __init__(self, words, folder, environment):
-        self.process, self.file = pty.fork()
-        if self.process == 0:
-            os.chdir(folder)
-            os.execvpe(words[0], words, environment)
-        self.text = ''
-
-    def type(self, text):
-        os.write(self.file, text.encode())
-
-    def wait_for(self, wanted, quiet=None):
-        """Reads until the pattern has come; where there is none, until nothing more comes for `quiet` seconds."""
-        until = time.monotonic() + PATIENCE
-        while time.monotonic() < until:
-            if wanted and re.search(wanted, self.text):
-                return True
-            if not select.select([self.file], [], [], quiet or .2)[0]:
-                if wanted is None:
-                    return True
-                continue
-            try:
-                self.text += os.read(self.file, 65_536).decode('utf-8', 'replace')
-            except OSError:
-                return False
-        return False
-
-    def completed(self, line):
-        """What a line becomes by the key for completion: it is put into a variable in the place of being run."""
-        self.text = ''
-        self.type('\x15' + line + '\t')
-        self.wait_for(None, quiet=.3)
-        self.type('\x07')       # the shell prints the line as it is, behind the mark
-        found = self.wait_for(re.escape(MARK) + r'<[^\r\n]*>')
-        return re.search(re.escape(MARK) + r'<([^\r\n]*)>', self.text)[1] if found else f'nothing: {self.text!r}'
-
-    def close(self):
-        os.close(self.file)
-        os.waitpid(self.process, 0)
-
-
 class TestInATerminal(Shelf):
     """Lines that are typed, in bash and in zsh."""
 
-    def lines(self, terminal):
-        self.addCleanup(terminal.close)
-        terminal.type(f'echo {MARK[:3]}""{MARK[3:]}\n')
-        assert terminal.wait_for(re.escape(MARK)), terminal.text
-        for line, completed in LINES:
-            # What may follow an option, a space or `=`, is the shell's own affair.
-            assert terminal.completed(line).rstrip(' =') == completed.rstrip(' =')
+    def lines(self, *words, **environment):
+        with pexpect.spawn(words[0], list(words[1:]), cwd=self.folder, env={**self.environment, **environment}, encoding='utf-8',
+                           codec_errors='replace', timeout=PATIENCE) as shell:
+            shell.sendline(f'echo {MARK[:3]}""{MARK[3:]}')
+            shell.expect_exact(MARK)
+            for line, completed in LINES:
+                shell.send('\x15' + line + '\t')
+                shell.expect(pexpect.TIMEOUT, timeout=.3)
+                shell.send('\x07')      # the shell prints the line as it is, behind the mark
+                shell.expect(re.escape(MARK) + r'<([^\r\n]*)>')
+                # What may follow an option, a space or `=`, is the shell's own affair.
+                assert shell.match[1].rstrip(' =') == completed.rstrip(' =')
 
     def test_bash(self):
         start = os.path.join(self.folder, '..', 'start')
@@ -303,7 +264,7 @@ class TestInATerminal(Shelf):
             file.write(f'source {COMPLETIONS}/tcpsim.bash\nPS1="$ "\n'
                        f'show() {{ printf "\\n{MARK}<%s>\\n" "$READLINE_LINE"; }}\nbind -x \'"\\C-g": show\'\n'
                        'bind "set bell-style none"\nbind "set enable-bracketed-paste off"\n')
-        self.lines(Terminal(['bash', '--noprofile', '--rcfile', start, '-i'], self.folder, self.environment))
+        self.lines('bash', '--noprofile', '--rcfile', start, '-i')
 
     @pytest.mark.wants(zsh='zsh')
     def test_zsh(self):
@@ -311,7 +272,7 @@ class TestInATerminal(Shelf):
             file.write(f'fpath=({COMPLETIONS} $fpath)\nautoload -Uz compinit\ncompinit -u -D\nPS1="$ "\n'
                        'unsetopt beep prompt_sp\n'
                        f'show() {{ print -r -- "\n{MARK}<$BUFFER>" }}\nzle -N show\nbindkey -e\nbindkey "^G" show\n')
-        self.lines(Terminal(['zsh', '-i'], self.folder, {**self.environment, 'ZDOTDIR': self.environment['HOME']}))
+        self.lines('zsh', '-i', ZDOTDIR=self.environment['HOME'])
 
 
 class TestFish(Shelf):

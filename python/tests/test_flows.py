@@ -86,8 +86,7 @@ class TestSpans:
     def check(self, expected, **span):
         got = rows(**span)
         for key, value in expected.items():
-            self.assertAlmostEqual(got[key], value, 9) if isinstance(value, float) else \
-                self.assertEqual(got[key], value)
+            assert got[key] == (pytest.approx(value, rel=0, abs=5e-10) if isinstance(value, float) else value), key
 
     def test_from(self):
         """From 4.14 ms: of a, 2000 is on its way until 4.16, 5000 and 6000 wait from 3.08 and 4.12; sent are
