@@ -23,7 +23,7 @@ from tcpsim_model.text import assemble  # noqa: E402
 from whole.tables import ONE_SEGMENT  # noqa: E402
 
 PROGRAM = os.path.join(TOP, 'crates', 'tcpsim', 'out', 'tcpsim')
-# What the program says until its crate `sessions` is proved with the version of all.
+# What the program says until its crate `sessions` is proved with VERSIONS in command_line.rt; then this goes.
 BEHIND = '0.1.0'
 SAMPLES = 'three_losses', 'newreno_in_a_network', 'codel_drops_before_it_sends', 'two_flows_over_a_router', 'delayed_acknowledgement'
 # Of each format, what its samples come to under each number that it had. A row stays; a change adds one.
@@ -116,9 +116,9 @@ def test_the_program_says_what_its_source_has():
     assert said(PROGRAM, '--version') == said(PROGRAM, '-V') == f'tcpsim {in_source()}\n'
 
 
-@pytest.mark.xfail(in_source() == BEHIND, strict=True, reason=f'the program says {BEHIND}: a proof run has to change it')
-def test_the_program_has_the_version_of_all():
-    assert in_source() == VERSIONS
+def test_the_program_has_the_version_of_all_or_is_known_to_be_behind():
+    assert in_source() in (VERSIONS, BEHIND)
+    assert f'`tcpsim --version` prints `tcpsim {in_source()}`' in read('docs', 'FORMATS.md')
 
 
 @pytest.mark.parametrize('page', ['CHANGELOG.md', 'SECURITY.md'])
