@@ -287,9 +287,15 @@ def test_lesson_3_as_a_new_user(browser):
       window.line = line; box.focus(); box.setCursor({line, ch: box.getLine(line).length}); })()''')
     browser.press('Backspace')
     browser.type('20')
-    assert browser.value('simulator.editor.box.getLine(line)').endswith('droptail 20')
+    browser.wait('simulator.editor.box.getLine(line).endsWith("droptail 20")')
+    # And a link of half the rate.
+    browser.value('(() => { const box = simulator.editor.box; box.focus(); box.setCursor({line: window.line, ch: 12}); })()')
+    browser.press('Backspace')
+    browser.type('4')
+    browser.wait('simulator.editor.box.getLine(line).startsWith("link a s r 4000000 ")')
     browser.press('Enter', 2) if isinstance(browser, browsers.Chromium) else browser.click(element('#run'))
     browser.wait('page && page.record.last > 0 && !page.record.drops.length && document.getElementById("said").textContent.startsWith("done")')
+    assert browser.json('[page.facts.links[0].rate, page.facts.links[1].rate, page.facts.links[0].limit]') == [4000000, 8000000, 20]
     browser.click(element('[data-tab=debug]'))
     browser.click(element('#debugger input'))
     browser.type('step 3')
