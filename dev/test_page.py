@@ -471,6 +471,7 @@ def test_on_a_phone(chromium):
     try:
         choose(chromium, 'lesson 3')
         assert run(chromium).startswith('done in')
+        assert chromium.value('document.getElementById("runs").getBoundingClientRect().top') < 100
         for tab in ('net', 'figures', 'trace', 'debug'):
             chromium.click(element(f'[data-tab={tab}]'))
             wide = chromium.json('[document.documentElement.scrollWidth, innerWidth]')
