@@ -17,7 +17,7 @@ import time
 sys.path.insert(1, os.path.join(os.path.dirname(os.path.dirname(os.path.abspath(__file__))), 'dev'))
 import browsers
 from results import BENCH, ENVIRONMENT, PROGRAM, TOP, processor, saved, table
-from scenarios import dumbbell, one_flow
+from scenarios import droptail, dumbbell, one_flow
 from tcpsim_model.text import disassemble
 
 PAGE = os.path.join(BENCH, 'PAGE.md')
@@ -78,7 +78,7 @@ def opened(path, folder):
 def measured(path, rounds):
     """The rows of both tables."""
     texts = {'examples/bufferbloat.txt': open(f'{TOP}/examples/bufferbloat.txt', encoding='ascii').read(),
-             'one flow': disassemble(one_flow(130_000)).decode(), 'dumbbell of 8 flows': disassemble(dumbbell(8, 20_000, 50)).decode()}
+             'one flow': disassemble(one_flow(130_000)).decode(), 'dumbbell of 8 flows': disassemble(dumbbell(8, 20_000, droptail(50))).decode()}
     first, ready, rows = [], [], []
     for _ in range(rounds):
         with tempfile.TemporaryDirectory() as folder:

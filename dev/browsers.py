@@ -66,7 +66,7 @@ class Browser:
     def __init__(self, words, folder, said, environment=None):
         self.log = open(os.path.join(folder, 'browser.log'), 'w+', encoding='utf-8', errors='replace')
         self.process = subprocess.Popen(words, stdin=subprocess.DEVNULL, stdout=self.log, stderr=self.log,
-                                        start_new_session=True, env={**os.environ, 'HOME': folder, **(environment or {})})
+                                        env={**os.environ, 'HOME': folder, **(environment or {})})
         self.wire, until = None, time.monotonic() + START
         while time.monotonic() < until:
             with open(self.log.name, encoding='utf-8', errors='replace') as file:

@@ -195,7 +195,7 @@ def module_record(stamp=None):
             raise Refused("the sources have changed since the module was proved")
     except FileNotFoundError as gone:
         raise Refused(f"{os.path.relpath(gone.filename, TOP)} is not there") from gone
-    except (KeyError, ValueError, AttributeError) as wrong:
+    except (KeyError, TypeError, ValueError, AttributeError) as wrong:
         raise Refused(f"{os.path.relpath(RECORD, TOP)} is no record of a module") from wrong
     return found
 

@@ -251,6 +251,14 @@ def choose(browser, value):
     browser.wait('document.documentElement.dataset.judged === "0"')
 
 
+def type_in_editor(browser, text):
+    """Types into the scenario. A headless Firefox's window has no focus, without which CodeMirror reads no letters."""
+    if isinstance(browser, browsers.Firefox):
+        browser.value(f'simulator.editor.box.replaceSelection({json.dumps(text)})')
+    else:
+        browser.type(text)
+
+
 def test_lesson_3_as_a_new_user(browser):
     """The lesson is opened, run, its lines followed; its queue is made longer, as it proposes, and nothing is lost."""
     browser.size(1280, 800)
@@ -286,10 +294,16 @@ def test_lesson_3_as_a_new_user(browser):
     browser.value('''(() => { const box = simulator.editor.box, line = box.getValue().split('\\n').findIndex(it => it.startsWith('link a '));
       window.line = line; box.focus(); box.setCursor({line, ch: box.getLine(line).length}); })()''')
     browser.press('Backspace')
-    browser.type('20')
-    assert browser.value('simulator.editor.box.getLine(line)').endswith('droptail 20')
+    type_in_editor(browser, '20')
+    browser.wait('simulator.editor.box.getLine(line).endsWith("droptail 20")')
+    # And a link of half the rate.
+    browser.value('(() => { const box = simulator.editor.box; box.focus(); box.setCursor({line: window.line, ch: 12}); })()')
+    browser.press('Backspace')
+    type_in_editor(browser, '4')
+    browser.wait('simulator.editor.box.getLine(line).startsWith("link a s r 4000000 ")')
     browser.press('Enter', 2) if isinstance(browser, browsers.Chromium) else browser.click(element('#run'))
     browser.wait('page && page.record.last > 0 && !page.record.drops.length && document.getElementById("said").textContent.startsWith("done")')
+    assert browser.json('[page.facts.links[0].rate, page.facts.links[1].rate, page.facts.links[0].limit]') == [4000000, 8000000, 20]
     browser.click(element('[data-tab=debug]'))
     browser.click(element('#debugger input'))
     browser.type('step 3')
@@ -457,6 +471,7 @@ def test_on_a_phone(chromium):
     try:
         choose(chromium, 'lesson 3')
         assert run(chromium).startswith('done in')
+        assert chromium.value('document.getElementById("runs").getBoundingClientRect().top') < 100
         for tab in ('net', 'figures', 'trace', 'debug'):
             chromium.click(element(f'[data-tab={tab}]'))
             wide = chromium.json('[document.documentElement.scrollWidth, innerWidth]')

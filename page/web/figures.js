@@ -41,7 +41,7 @@ function drawFigures(place, csv, facts) {
     const body = table.createTBody();
     for (const kind of kinds) {
       const row = body.insertRow();
-      make(row, 'th', UNITS_IN_CELLS.includes(kind.unit) ? kind.figure : `${kind.figure} (${kind.unit})`).scope = 'row';
+      make(row, 'th', UNITS_IN_CELLS.includes(kind.unit) || kind.unit === kind.figure ? kind.figure : `${kind.figure} (${kind.unit})`).scope = 'row';
       for (const value of values.get(`${kind.figure}|${kind.unit}`))
         make(row, 'td', inUnits(value, kind.unit)).title = value === '-' ? 'there is none' : `${number(value)} ${kind.unit}`;
     }

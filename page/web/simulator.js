@@ -235,6 +235,8 @@ class Simulator {
     this.page = window.page = new Page(record);
     this.list = new TraceList(byId('all-lines'), record, event => this.goTo(event));
     byId('save-trace').disabled = false;
+    // Where all stands below each other, the run is brought into view.
+    if (this.engine && matchMedia('(max-width: 900px)').matches) byId('right').scrollIntoView();
     if (this.engine) this.prompt = new Prompt(byId('debugger'), this.engine, this.run.text);
   }
   // Of which proof the program is, and the licenses of what the page has besides.

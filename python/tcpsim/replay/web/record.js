@@ -7,6 +7,25 @@ const SNAPSHOT = 256, DATA = 0, ACK = 1, HEADER_BYTES = 40;
 const OFFERED = 0, ENTERED = 1, TAKEN = 2, SENT = 3, ARRIVED = 4, BUSY = 5, OF_LINK = 6;
 const UNA = 0, NXT = 1, HIGH = 2, CWND = 3, SSTHRESH = 4, RECOVERY = 5, DUPS = 6, NEXT = 7, OF_FLOW = 8;
 
+// A line's words: `split`, in half the time for lines that are each seen once.
+function wordsOf(line) {
+  const words = [];
+  let at = 0;
+  for (let end = line.indexOf(' '); end >= 0; end = line.indexOf(' ', at)) {
+    words.push(line.slice(at, end));
+    at = end + 1;
+  }
+  words.push(line.slice(at));
+  return words;
+}
+
+// How long a link of this rate sends so many bytes, in ns, rounded up: without BigInt where doubles are exact.
+function timeOnLink(size, rate) {
+  const bits = size * 8e9;
+  if (bits + rate < Number.MAX_SAFE_INTEGER) return Math.floor((bits + rate - 1) / rate);
+  return Number((BigInt(size) * 8000000000n + BigInt(rate) - 1n) / BigInt(rate));
+}
+
 // Packets that entered a link's queue, one entry each, in order, and which of them were sent and when.
 class Track {
   constructor() {
@@ -30,7 +49,7 @@ class Record {
     this.tracks = facts.links.map(() => new Track());
     this.times = [];
     this.opAt = new Column(Uint32Array);
-    this.slots = new Column(Uint16Array); this.values = new Column(Float64Array);
+    this.slots = new Column(Uint16Array); this.values = new Counts();
     this.every = Math.max(SNAPSHOT, this.row.length);
     this.curves = [];         // of some numbers of the row: {times, values}, where they changed
     this.touched = [];        // links whose queue this event may have changed
@@ -49,7 +68,7 @@ class Record {
   // Takes the next line. `end N` says that the trace is whole.
   take(line) {
     if (line.startsWith('end ')) { this.facts.whole = true; return; }
-    this.read(line.split(' '), this.count);
+    this.read(wordsOf(line), this.count);
     this.count += 1; this.last += 1;
     if (this.count % this.every === 0) this.snapshots.push(this.row.slice());
   }
@@ -145,7 +164,7 @@ class Record {
 
   sender(f, kind, words) {
     const at = kind === 'ack' ? 8 : 7, flow = this.facts.flows[f], row = this.row;
-    const [una, nxt, cwnd, ssthresh] = [4, 4, 5, 9].map((cut, i) => +words[at + i].slice(cut));
+    const una = +words[at].slice(4), nxt = +words[at + 1].slice(4), cwnd = +words[at + 2].slice(5), ssthresh = +words[at + 3].slice(9);
     const recovery = words[at + 4] === 'phase=fr' ? 1 : 0, of = what => row[this.ofFlow(f, what)];
     const ack = kind === 'ack' ? +words[7] : 0;
     let numbers = [], dups = of(DUPS);
@@ -160,10 +179,9 @@ class Record {
     const high = of(HIGH);
     const link = this.hops.get(this.hopKey(flow.sender, f, DATA));
     this.offer(link, numbers, f, DATA, words, at + 5, null, high);
-    [[UNA, una], [NXT, nxt], [HIGH, Math.max(high, nxt)], [CWND, cwnd], [SSTHRESH, ssthresh],
-      [RECOVERY, recovery], [DUPS, dups]].forEach(([what, value]) => {
-      if (of(what) !== value) this.set(this.ofFlow(f, what), value);
-    });
+    const change = (what, value) => { if (of(what) !== value) this.set(this.ofFlow(f, what), value); };
+    change(UNA, una); change(NXT, nxt); change(HIGH, Math.max(high, nxt)); change(CWND, cwnd); change(SSTHRESH, ssthresh);
+    change(RECOVERY, recovery); change(DUPS, dups);
   }
 
   receiver(f, kind, words) {
@@ -224,7 +242,7 @@ class Record {
     const {rate, delay} = this.facts.links[link];
     track.sent.push(entry);
     track.begun.push(this.now.time);
-    track.arrives.push(this.now.time + Number((BigInt(size) * 8000000000n + BigInt(rate) - 1n) / BigInt(rate)) + delay);
+    track.arrives.push(this.now.time + timeOnLink(size, rate) + delay);
     this.set(taken, entry + 1);
     this.set(this.ofLink(link, SENT), this.row[this.ofLink(link, SENT)] + 1);
     this.set(this.ofLink(link, BUSY), 1);

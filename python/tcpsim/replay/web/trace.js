@@ -18,6 +18,20 @@ class Column {
   at(k) { return this.parts[k >>> 16][k & IN_PART]; }
 }
 
+// Whole numbers from 0 on, in four bytes each; those that have no room there stand aside.
+const FULL = 0xffffffff;
+class Counts extends Column {
+  constructor() { super(Uint32Array); this.aside = new Map(); }
+  push(value) {
+    if (value >= FULL) this.aside.set(this.length, value);
+    super.push(value < FULL ? value : FULL);
+  }
+  at(k) {
+    const value = this.parts[k >>> 16][k & IN_PART];
+    return value === FULL ? this.aside.get(k) : value;
+  }
+}
+
 // The lines of a trace, kept as the bytes that came.
 class Lines {
   constructor() {

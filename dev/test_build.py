@@ -1,0 +1,90 @@
+#!/usr/bin/env python3
+"""Tests of what dev/build.py keeps for the page with the simulator, without the prover: python3 -m pytest dev/test_build.py."""
+import json
+import os
+import subprocess
+import sys
+
+import pytest
+
+sys.path.insert(0, os.path.dirname(os.path.abspath(__file__)))
+import build
+
+
+@pytest.fixture
+def clone(tmp_path, monkeypatch):
+    """A clone of two crates below the program's, in which nothing is made yet."""
+    top = build.TOP
+    for name in ('TOP', 'KEPT', 'MADE', 'MODULE', 'RECORD'):
+        monkeypatch.setattr(build, name, getattr(build, name).replace(top, str(tmp_path), 1))
+    os.makedirs(build.KEPT)
+    for crate in ('low', 'high', build.PROGRAM):
+        os.makedirs(tmp_path / 'crates' / crate / 'src')
+        (tmp_path / 'crates' / crate / 'src' / 'lib.rt').write_text(f'// {crate}\n')
+    return tmp_path
+
+
+LIBRARIES = {'low': ['std'], 'high': ['low'], build.PROGRAM: ['high']}
+
+
+def test_the_compiler_keeps_its_module(clone):
+    """It is called with the words that it was given, and its module is kept; the other tools are the toolchain's."""
+    kit = clone / "a kit's"
+    tools = kit / 'toolchain' / 'bin'
+    os.makedirs(tools)
+    os.makedirs(kit / 'toolchain' / 'lib')
+    (tools / 'clang').write_text('#!/bin/sh\nprintf "%s\\n" "$@"\nexit 3\n')
+    (tools / 'ld.lld').write_text('#!/bin/sh\n')
+    os.chmod(tools / 'clang', 0o755)
+    made = build.keeping_toolchain(str(kit))
+    module = clone / 'some module.bc'
+    module.write_bytes(b'BC\xc0\xde')
+    done = subprocess.run([f'{made}/bin/clang', '-x', 'ir', str(module), '-o', 'a.o'], capture_output=True, text=True, check=False)
+    assert (done.returncode, done.stdout.splitlines()) == (3, ['-x', 'ir', str(module), '-o', 'a.o'])
+    with open(build.MODULE, 'rb') as file:
+        assert file.read() == b'BC\xc0\xde'
+    assert os.path.realpath(f'{made}/bin/ld.lld') == str(tools / 'ld.lld')
+
+
+def test_a_record_names_what_is_there(clone):
+    for path, data in ((build.MODULE, b'module'), (build.MADE, b'program')):
+        with open(path, 'wb') as file:
+            file.write(data)
+    log = f'{build.KEPT}/{build.PROGRAM}.log'
+    with open(log, 'w', encoding='utf-8') as file:
+        file.write('so far: 3\n')
+    with pytest.raises(build.Refused, match='no verdict'):
+        build.keep_record('sum')
+    with open(log, 'a', encoding='utf-8') as file:
+        file.write('logic=proved functions=7 sum=1\n')
+    build.keep_record('sum')
+    assert build.module_record('sum')['verdict'] == 'logic=proved functions=7 sum=1'
+    assert build.has_module('sum') and not build.has_module('another')
+    with open(build.MADE, 'ab') as file:
+        file.write(b'!')
+    with pytest.raises(build.Refused, match='tcpsim is not the program of that proof'):
+        build.module_record()
+    with open(build.RECORD, 'w', encoding='utf-8') as file:
+        json.dump([], file)
+    with pytest.raises(build.Refused, match='no record'):
+        build.module_record()
+    build.forget_module()
+    with pytest.raises(build.Refused, match='is not there'):
+        build.module_record()
+
+
+def test_what_the_gate_left_is_used_while_it_is_newer(clone):
+    """Statements are taken that are newer than their crate and those below it."""
+    assert build.left_by_the_gate(build.PROGRAM, LIBRARIES) is None
+    places = {it: f'{build.TOP}/crates/{it}/out/rlib' for it in ('low', 'high')}
+    for name, place in places.items():
+        os.makedirs(f'{place}/{name}.rlib')
+        with open(f'{place}/{name}.rlib/statements', 'w', encoding='utf-8'):
+            pass
+    assert build.left_by_the_gate(build.PROGRAM, LIBRARIES) == places
+    words = build.words_of(build.PROGRAM, '/kit', 1, LIBRARIES, places, '/tools')
+    assert f'high={places["high"]}/high.rlib' in words and f'dependency={places["low"]}' in words
+    assert words[words.index('--toolchain') + 1] == '/tools' and f'dependency={build.KEPT}' not in words
+    later = os.path.getmtime(f'{places["high"]}/high.rlib/statements') + 5
+    os.utime(f'{build.TOP}/crates/low/src/lib.rt', (later, later))
+    assert build.left_by_the_gate(build.PROGRAM, LIBRARIES) is None
