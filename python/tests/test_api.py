@@ -3,6 +3,7 @@
 trace's lines, the debugger beside its prompt, what is refused, and that processes end. Usage: python/tests/test_api.py, or
 pytest."""
 import csv
+import importlib.util
 import io
 import os
 import signal
@@ -41,6 +42,13 @@ def ran(*words, **more):
 @pytest.fixture(params=ENGINES)
 def engine(request):
     return request.param
+
+
+def test_no_module_has_the_name_of_what_is_public():
+    """Where such a module is imported it takes the name's place."""
+    assert [name for name in tcpsim.__all__ if name[0] != '_' and importlib.util.find_spec(f'tcpsim.{name}')] == []
+    assert set(dir(tcpsim)) == set(tcpsim.__all__)
+    assert all(getattr(tcpsim, name) for name in tcpsim.__all__)
 
 
 # ---- nets

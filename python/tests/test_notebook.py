@@ -31,6 +31,18 @@ def cells(path):
         return [cell for cell in json.load(file)['cells'] if cell['cell_type'] == 'code']
 
 
+def executed(notebook, **environment):
+    """The code cells of a notebook after its run in its folder, whose parent is home."""
+    if lacks() and not os.environ.get('CI'):
+        pytest.skip(f'not there: {", ".join(lacks())}')
+    folder = notebook.parent
+    done = subprocess.run([NBCONVERT, '--to', 'notebook', '--execute', '--ExecutePreprocessor.timeout=900', '--output', 'ran.ipynb',
+                           notebook.name], cwd=folder, capture_output=True, text=True, check=False,
+                          env={**os.environ, 'HOME': str(folder.parent), **environment})
+    assert done.returncode == 0, done.stderr
+    return cells(folder / 'ran.ipynb')
+
+
 def shown(cell):
     """The kinds of what a cell shows, and its text."""
     kinds, texts = set(), []
@@ -46,19 +58,14 @@ def test_it_is_kept_without_outputs():
 
 @pytest.fixture(scope='module')
 def run(tmp_path_factory):
-    """The cells after a run in a clone's examples/, of which it has the scenarios."""
-    if lacks() and not os.environ.get('CI'):
-        pytest.skip(f'not there: {", ".join(lacks())}')
+    """The cells after a run in a clone's examples/, from where it finds python/, with the program on PATH."""
     folder = tmp_path_factory.mktemp('clone')
     shutil.copytree(os.path.join(TOP, 'python'), folder / 'python', ignore=shutil.ignore_patterns('tests', '__pycache__'))
     shutil.copytree(os.path.join(TOP, 'examples'), folder / 'examples', ignore=shutil.ignore_patterns('*.trace'))
-    done = subprocess.run([NBCONVERT, '--to', 'notebook', '--execute', '--ExecutePreprocessor.timeout=900', '--output', 'ran.ipynb',
-                           'lecture.ipynb'], cwd=folder / 'examples', capture_output=True, text=True, check=False,
-                          env={**os.environ, 'PATH': f'{os.path.dirname(BUILT)}:{os.environ["PATH"]}', 'HOME': str(folder)})
-    assert done.returncode == 0, done.stderr
+    ran = executed(folder / 'examples' / 'lecture.ipynb', PATH=f'{os.path.dirname(BUILT)}:{os.environ["PATH"]}', PYTHONPATH='')
     assert {name for name in os.listdir(folder / 'examples') if not name.endswith('.txt')} == {
         'lecture.ipynb', 'ran.ipynb', 'codel_enters_drop_state.commands', 'two_timeouts_in_a_row.commands'}
-    return cells(folder / 'examples' / 'ran.ipynb')
+    return ran
 
 
 def test_it_runs_from_top_to_end(run):
@@ -76,6 +83,20 @@ def test_pictures_and_the_page_are_shown_once(run):
             assert '<iframe srcdoc=' in ''.join(cell['outputs'][0]['data']['text/html'])
     assert sum('.plot(' in ''.join(cell['source']) for cell in run) == 5
     assert sum('text/html' in shown(cell)[0] for cell in run) == 2
+
+
+def test_a_picture_is_shown_once_in_a_cell_and_again_in_another(tmp_path):
+    sources = ['import tcpsim; import matplotlib.pyplot as plt; run = tcpsim.run(tcpsim.dumbbell(flows=1, rate="1M", end="1s"))',
+               'picture = run.plot("queue"); 1', 'picture', 'run.plot("queue")', 'run', 'figure = plt.figure(); plt.plot([1, 2])']
+    new = {'cells': [{'cell_type': 'code', 'id': f'c{at}', 'metadata': {}, 'source': source, 'outputs': [], 'execution_count': None}
+                     for at, source in enumerate(sources)],
+           'metadata': {'kernelspec': {'display_name': 'Python 3', 'language': 'python', 'name': 'python3'}}, 'nbformat': 4, 'nbformat_minor': 5}
+    (tmp_path / 'here').mkdir()
+    (tmp_path / 'here' / 'mine.ipynb').write_text(json.dumps(new))
+    ran = executed(tmp_path / 'here' / 'mine.ipynb', PYTHONPATH=os.path.join(TOP, 'python'))
+    kinds = [[kind for output in cell['outputs'] for kind in output.get('data', {}) if kind != 'text/plain'] for cell in ran]
+    # The last is a picture of the notebook's own, which the package leaves to the notebook.
+    assert kinds == [[], ['image/png'], ['image/png'], ['image/png'], ['text/html'], ['image/png']]
 
 
 def test_it_says_what_the_text_says(run):

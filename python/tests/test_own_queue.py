@@ -178,10 +178,9 @@ def test_a_page_in_a_browser_reads_its_drops(tmp_path, queue):
         waiting = len(at.state.links['pq'].queue)
     done = subprocess.run([CHROMIUM, '--headless', '--no-sandbox', '--virtual-time-budget=5000', f'--user-data-dir={tmp_path}/profile',
                            '--dump-dom', f'file://{page.path}#event={last.n}'], capture_output=True, text=True, check=True, timeout=300)
-    drop = last.drops[0]
     assert re.search(rf'<html [^>]*data-event="{last.n}" data-ready=', done.stdout)
-    assert f'{drop.reason} {drop.flow[1:]}:{drop.number}' in done.stdout
-    assert f'is dropped: {drop.reason}' in done.stdout or drop.reason == 'full'
+    assert any(f'{drop.reason} {drop.flow[1:]}:{drop.number}' in done.stdout for drop in last.drops)
+    assert f'is dropped: {last.drops[0].reason}' in done.stdout
     assert f'{waiting}/20' in done.stdout
 
 
@@ -233,7 +232,7 @@ def test_what_no_queue_can_do(queue, words):
 @pytest.mark.parametrize('call, error, words', [
     (lambda: tcpsim.run(NET, engine='program', queues={'pq': Red}), tcpsim.Wrong, 'the program has no queues but drop-tail and CoDel'),
     (lambda: tcpsim.run(NET, queues={'zz': Red}), tcpsim.Wrong, "names the link 'zz', and the scenario has pq, qp"),
-    (lambda: tcpsim.run(NET, queues={'pq': deque}), tcpsim.Wrong, 'the queue of link pq, deque, has no method offer'),
+    (lambda: tcpsim.run(NET, queues={'pq': type('Odd', (), {})}), tcpsim.Wrong, 'the queue of link pq, Odd, has no method offer'),
     (lambda: tcpsim.run('sim 1\n', queues={'pq': Red}), tcpsim.Refused, 'L3 line 0'),
     (lambda: tcpsim.run(tcpsim.dumbbell(rate='10G', end='1000s'), queues={'pq': Red}), tcpsim.Error, 'say engine="model"'),
 ])
