@@ -197,17 +197,19 @@ def test_flows_are_spread():
     assert min(len({*trips}), len({flow.mss for flow in one.flows}), len({flow.start for flow in one.flows})) >= 7
 
 
-def test_mice_are_short_and_begin_over_the_run():
-    text = text_of('dumbbell --flows 2 --mice 20 --end 10s')
+def test_mice_have_one_small_segment_in_flight():
+    text = text_of('dumbbell --flows 2 --mice 20 --end 10s --variant newreno')
     read = Scenario(text)
     assert len(read.flows) == 22
     assert [(flow.mss, flow.segments, flow.start) for flow in read.flows[:2]] == [(1460, 10**9, 0)] * 2
-    for at, mouse in enumerate(read.flows[2:]):
-        assert 100 <= mouse.mss <= 500
-        assert 5 <= mouse.segments <= 20
-        assert at * 5 * 10**8 <= mouse.start < (at + 1) * 5 * 10**8
+    for mouse in read.flows[2:]:
+        assert 25 <= mouse.mss <= 125
+        assert (mouse.rwnd, mouse.delack) == (mouse.mss, 0)
+        assert 0 <= mouse.start <= 10**9
+    assert len({mouse.start for mouse in read.flows[2:]}) == 20
     assert sum(node.kind == 'router' for node in read.nodes) == 2 + 2 * 2
-    assert engine(text).flows[2]['completed', 'ns'] is not None
+    sent = [flow['sent', 'segments'] for flow in engine(text).flows[2:]]
+    assert min(sent) > 20
 
 
 # ---- sweeps

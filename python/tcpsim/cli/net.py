@@ -73,7 +73,7 @@ OPTIONS = {
                      help='flows differ by small amounts that are drawn from the number N: delays of the senders\' cables, '
                      'segments and starts'),
     '--mice': dict(type=between(0, MOST_FLOWS - 1), metavar='K', default=0,
-                   help='K short flows of small segments more, begun over the run; 0 if none'),
+                   help='K flows more, each with one small segment in flight; 0 if none'),
     '--end': dict(type=number('end'), metavar='TIME', default=20 * 10**9, help='of the run; 20s if none'),
     '--hops': dict(type=between(1, 250), metavar='N', default=3, help='links between routers; 3 if none'),
     '--cross': dict(type=between(1, 7), metavar='N', default=1, help='flows over each hop alone; 1 if none'),

@@ -11,12 +11,13 @@ from math import ceil
 from tcpsim.command_line import Wrong
 from tcpsim.scenario import units
 from tcpsim.scenario.net import Flow, Net
-from tcpsim.scenario.units import HEADER_BYTES
+from tcpsim.scenario.units import HEADER_BYTES, OPEN_WINDOW
 
 VARIANTS, INITIAL_WINDOWS = ('reno', 'newreno'), (3, 10)
 MOST_LOSSES, LAST_LOSS = 64, 10**9      # of one link (docs/FORMATS.md)
 WIDER = Fraction(5, 4)
 PART_OF_TRIP, PART_OF_SEGMENT = 20, 10
+MOUSE = 25, 125         # bytes of a mouse's segments
 
 
 def variant(word: str) -> str:
@@ -73,11 +74,11 @@ def lose_packets(net: Net, given: Sequence[tuple[str, list[int]]]) -> None:
 def bound_windows(net: Net) -> Sequence[str]:
     """Gives each newreno flow a receiver's window of 1.25 times what its way holds, and says so: lines of a comment.
     In a long recovery an open window lets a NewReno sender send several times as much as that (docs/MODEL.md section 3)."""
-    bounded, rooms = [flow for flow in net.flows if flow.variant == 'newreno'], {}
+    bounded, rooms = [flow for flow in net.flows if flow.variant == 'newreno' and flow.rwnd == OPEN_WINDOW], {}
     if not bounded:
         return ()
     for flow, ways in zip(net.flows, net.ways()):
-        if flow.variant == 'newreno':
+        if flow in bounded:
             slowest = min(ways[0], key=lambda link: net.links[link].rate)       # the first where equal
             if slowest not in rooms:
                 rooms[slowest] = net.room(slowest)
@@ -122,14 +123,13 @@ def spread(net: Net, number: int, end: int) -> Sequence[str]:
 
 
 def make_mice(net: Net, count: int, number: int, end: int) -> Sequence[str]:
-    """Makes the last `count` flows of a net mice: 5 to 20 segments of 100 to 500 bytes, each begun in a part of its own of
-    the run. What differs is drawn from a number."""
-    for at, flow in enumerate(net.flows[len(net.flows) - count:]):
-        begin, after = end * at // count, end * (at + 1) // count
-        flow.mss = 100 + drawn(number, flow.name, 'segment', 400)
-        flow.segments = 5 + drawn(number, flow.name, 'segments', 15)
-        flow.start = begin + drawn(number, flow.name, 'start', max(after - begin - 1, 0))
+    """Makes the last `count` flows of a net mice: each has one small segment in flight for the whole run, of 25 to 125 bytes,
+    and begins in the first second. What differs is drawn from a number."""
+    for flow in net.flows[len(net.flows) - count:]:
+        flow.mss = flow.rwnd = MOUSE[0] + drawn(number, flow.name, 'segment', MOUSE[1] - MOUSE[0])
+        flow.segments, flow.delack = units.RANGES['segments'][1], 0
+        flow.start = drawn(number, flow.name, 'start', min(units.TIME_UNITS['s'], end - 1))
         flow.note = f'a mouse, from {units.spelled_time(flow.start)} on'
     names = f'{net.flows[-count].name} to {net.flows[-1].name}'
-    return (f'The last {count} flows, {names}, are mice: 5 to 20 segments of 100 to 500 bytes, drawn as --spread draws, from '
-            f'{number}.',)
+    return (f'The last {count} flows, {names}, are mice: one segment of {MOUSE[0]} to {MOUSE[1]} bytes in flight, drawn as '
+            f'--spread draws, from {number}.',)

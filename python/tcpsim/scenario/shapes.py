@@ -8,10 +8,9 @@ from collections.abc import Sequence
 
 from tcpsim.command_line import Wrong
 from tcpsim.scenario.net import MOST_ROUTER_LINKS, RECEIVER, ROUTER, SENDER, Net
-from tcpsim.scenario.units import Queue, spelled_rate, spelled_time
+from tcpsim.scenario.units import OPEN_WINDOW, Queue, spelled_rate, spelled_time
 
 LONG = Queue('droptail', 1_000)
-OPEN_WINDOW = 2**30         # bytes: a receiver's window that bounds nothing
 OF_FLOWS = 'start', 'segments', 'variant', 'iw'     # lists whose values go to the flows by turns
 
 
