@@ -4,7 +4,7 @@
 # `make wrong-bodies` tries the wrong bodies that stand beside the gate, `make wrong-bodies NAME=aqm` those
 # of one crate;
 # `make bench` measures the built program and writes bench/RESULTS.md (python3 and valgrind);
-# `make pictures` draws the pictures of README.md and docs/TUTORIAL.md (python3 and matplotlib);
+# `make pictures` draws the pictures of README.md and docs/ (python3 and matplotlib);
 # `make pages` writes the replay of every example and a list of them into pages/;
 # `make install PREFIX=DIR` puts the program, the tools tcpsim-NAME, their man pages, the documents with
 # the examples, and completions for bash, zsh and fish below DIR, /usr/local if none is given, and
@@ -52,6 +52,7 @@ bench:
 pictures:
 	@[ -n '$(PYTHON)' ] || { echo 'no python3 with matplotlib: apt-get install python3-matplotlib'; exit 1; }
 	@'$(PYTHON)' dev/pictures.py
+	@'$(PYTHON)' dev/validate.py --pictures
 	@'$(PYTHON)' python/tests/test_replay.py --pictures
 
 pages:

@@ -12,14 +12,15 @@ TICK = 1_000            # ns
 SWITCHES = {
     'half of cwnd': (
         'at a loss ssthresh is half of min(cwnd, rwnd), not of what is in flight; after a recovery cwnd is that half',
-        'RFC 5681, 3.1: ssthresh = max (FlightSize / 2, 2*SMSS); "an easy mistake to make is to simply use cwnd, rather than '
+        'RFC 5681, 3.1: ssthresh = max (FlightSize / 2, 2*SMSS); "An easy mistake to make is to simply use cwnd, rather than '
         'FlightSize"', 'tcpsim'),
     'the ACK that ends recovery opens cwnd': (
         'the acknowledgement that ends a recovery also adds 1/cwnd',
         'RFC 5681, 3.2 step 6: "a TCP MUST set cwnd to ssthresh"', 'tcpsim'),
     'cwnd is real': (
         'cwnd grows by 1/cwnd segments in doubles, not by whole bytes',
-        'RFC 5681, 3.1, equation 3: cwnd += SMSS*SMSS/cwnd, "in integer arithmetic .. rounded up to 1 byte"', 'tcpsim'),
+        'RFC 5681, 3.1, equation 3: cwnd += SMSS*SMSS/cwnd; "If the above formula yields 0, the result SHOULD be rounded up to 1 '
+        'byte"', 'both'),
     'limited transmit below the highest sent': (
         'the first two duplicates send the next segment even where it was sent before a timeout',
         'RFC 5681, 3.2 step 1: "SHOULD send a segment of previously unsent data"', 'tcpsim'),
@@ -43,10 +44,11 @@ SWITCHES = {
         'RFC 6298, 3 (Karn): "RTT samples MUST NOT be made using segments that were retransmitted"', 'both'),
     'no recovery, but the window': (
         'Newreno: a third duplicate that begins no recovery, and later ones, send what the window has room for',
-        'RFC 6582, 3.2 step 2: "Do not enter fast retransmit"', 'both'),
+        'RFC 6582, 3.2 step 2: "the TCP does not enter fast retransmit and does not reset ssthresh"', 'both'),
     'deflated at the exit': (
         'Newreno: partial acknowledgements take from cwnd what they do not find as duplicates, and so much is missing at the exit',
-        'RFC 6582, 3.2 step 3: a full acknowledgement sets cwnd to ssthresh or min (ssthresh, FlightSize + SMSS)', 'tcpsim'),
+        'RFC 6582, 3.2 step 3: a full acknowledgement sets cwnd to ssthresh, or to min (ssthresh, max(FlightSize, SMSS) + SMSS)',
+        'tcpsim'),
     'segment 0 waits for the timer': (
         'Newreno: recover begins as segment 0, so that a loss of segment 0 has no fast retransmit; at segment 1 one is always allowed',
         'RFC 6582, 3.2: recover begins as the initial send sequence number', 'both'),
@@ -56,15 +58,15 @@ SWITCHES = {
         'RFC 6298, 2: SRTT and RTTVAR of the measured R, with a clock granularity G; 5: an implementation MAY clear both', 'tcpsim'),
     'an acknowledgement before the link that becomes free': (
         'at one moment an acknowledgement comes first, and what it sends may find the queue full; as moments are doubles, it is '
-        'not always so', 'no rule of an RFC', 'both'),
+        'not always so', 'no rule of an RFC', '-'),
     'segment 0 has no header': (
-        'the packet of segment 0 is 40 bytes smaller where there is no SYN', 'no rule of an RFC', 'tcpsim'),
+        'the packet of segment 0 is 40 bytes smaller where there is no SYN', 'no rule of an RFC', '-'),
     'an acknowledgement where all is acknowledged': (
         'a duplicate counts also where nothing is in flight',
         'RFC 5681, 2: a duplicate acknowledgement comes where "the receiver of the ACK has outstanding data"', 'tcpsim'),
     'a copy of the last segment is acknowledged late': (
         'a delayed acknowledgement also waits where the last segment in order comes again',
-        'RFC 5681, 4.2: "out-of-order data segments SHOULD be acknowledged immediately"', 'both'),
+        'RFC 5681, 4.2: "Out-of-order data segments SHOULD be acknowledged immediately"', 'both'),
 }
 ALL, TIE = frozenset(SWITCHES), 'an acknowledgement before the link that becomes free'
 

@@ -29,9 +29,10 @@ def count(rows, key):
 def rules(kept):
     numbers, lines = kept['numbers'], [made(kept), '']
     names = [name for name in ('Reno', 'NewReno', 'Fall and Floyd, Reno', 'Fall and Floyd, NewReno') if name in numbers]
-    lines += table(('Scenarios', 'How many', 'Same sends, tcpsim as it is', 'Same sends, with ns-2\'s rules', 'With timeouts',
-                    'Same timeouts, with ns-2\'s rules'),
+    lines += table(('Scenarios', 'How many', 'Same sends, tcpsim as it is', 'Same sends, with ns-2\'s rules', 'And with equal moments turned',
+                    'With timeouts', 'Same timeouts, with ns-2\'s rules'),
                    [(name, len(rows := numbers[name]), count(rows, 'plain'), count(rows, 'ruled'),
+                     sum(row['ruled'] or row.get('ties') is not None for row in rows),
                      sum(row['timeouts'] > 0 for row in rows),
                      sum(row['timeouts'] > 0 and row['timeouts ruled'] for row in rows)) for name in names])
     tried = [row['needs'] for rows in numbers.values() for row in rows if 'needs' in row]

@@ -14,10 +14,10 @@ from validation import laws, rules, stored      # noqa: E402
 
 FOLDER = os.path.join(os.path.dirname(os.path.dirname(os.path.dirname(os.path.abspath(__file__)))), 'docs', 'pictures')
 MS, S = 10**6, 10**9
-BLUE, ORANGE, GREEN, GREY, PINK = '#0072B2', '#E69F00', '#009E73', '#777777', '#CC79A7'
+BLUE, ORANGE, GREEN, GREY, PINK, SKY = '#0072B2', '#E69F00', '#009E73', '#777777', '#CC79A7', '#56B4E9'
 SAVED = {'metadata': {'Date': None}, 'bbox_inches': 'tight'}
 OPEN = ['dumbbell', '--flows', '1', '--rate', '10M', '--rtt', '20ms', '--queue', 'droptail:24', '--variant', 'newreno', '--mss', '1000',
-        '--delack', '0', '--end', '6s']
+        '--delack', '0', '--end', '4s']
 
 
 def path(name):
@@ -96,15 +96,15 @@ def utilization_by_buffer():
 def phases():
     """Jain's index of each dumbbell, a group of bars."""
     rows = stored.load('phases')['numbers']
-    names = {'tcpsim': BLUE, 'ns-2': ORANGE, 'ns-2 with overhead_': PINK, '--spread': GREY, '--mice 20': GREEN}
+    names = {'tcpsim': BLUE, 'ns-2': ORANGE, 'ns-2 with overhead_': PINK, '--spread': GREY, '--mice 20': GREEN, '--spread --mice 20': SKY}
     figure, axes = plt.subplots(figsize=(11, 5))
     for at, (name, colour) in enumerate(names.items()):
-        axes.bar([n + (at - 2) * .16 for n in range(len(rows))], [row.get(name, 0) for row in rows], .15, color=colour, label=name)
+        axes.bar([n + (at - 2.5) * .14 for n in range(len(rows))], [row.get(name, 0) for row in rows], .13, color=colour, label=name)
     axes.set_xticks(range(len(rows)), [row['name'].replace(', queue', ',\nqueue').replace(' flows, ', ' flows,\n') for row in rows],
                     fontsize=9)
     axes.set_ylabel('Jain\'s index')
     axes.set_ylim(0, 1.02)
-    axes.legend(frameon=False, ncols=5, loc='lower center', bbox_to_anchor=(.5, 1))
+    axes.legend(frameon=False, ncols=6, loc='lower center', bbox_to_anchor=(.5, 1))
     bare(axes)
     axes.grid(False, axis='x')
     return save(figure, 'phases')

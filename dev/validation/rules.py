@@ -67,8 +67,9 @@ def drawn(newreno, number):
 class Logged(Network):
     """The model's network that keeps what the sender sends, (ns, segment), and its timeouts, ns."""
 
-    def __init__(self, case, on=None):
+    def __init__(self, case, on=None, other_way=frozenset()):
         super().__init__(case.scenario())
+        self.ties, self.other_way = [], other_way       # moments, ns; those of them that go the other way
         flow, self.on, self.sends, self.timeouts = self.flows[0], on or frozenset(), [], []
         if self.on - SET_UP:
             self.ends[0] = Ns2Sender(flow.mss, flow.segments, flow.rwnd, flow.newreno, flow.iw10, on)
@@ -78,9 +79,13 @@ class Logged(Network):
     def due(self):
         """The event that is next; with ns-2's rule an acknowledgement goes before the link that becomes free at its moment."""
         event = super().due()
-        if TIE in self.on and event is not None and event[2] == 0 and event[3] >= FIRST_FREE:
+        if event is not None and event[:3] == (event[0], 0, 0) and event[3] >= FIRST_FREE:
             for at, other in enumerate(self.pending):
                 if other[:2] == event[:2] and other[2] > 0:
+                    if not self.ties or self.ties[-1] != event[0]:
+                        self.ties.append(event[0])
+                    if (TIE in self.on) == (event[0] in self.other_way):
+                        break
                     self.pending[at] = (*other[:2], -1, *other[3:])
                     heapify(self.pending)
                     return self.least()
@@ -157,10 +162,32 @@ def compared(case, wanted=True):
         ruled = Logged(case, ALL).run()
         at = first_other(ruled.sends, sends)
         row['first'] = [at, len(sends), ruled.sends[at:at + 1], sends[at:at + 1]]
+        row['ties'] = ties_that_differ(case, sends)
     elif wanted and not row['plain']:
         row['needs'] = [name for name in SWITCHES if name in on - SET_UP and not same(Logged(case, on - {name}).run().sends, sends)]
     row['timeouts ruled'] = same(ruled.timeouts, timeouts)
     return row
+
+
+def ties_that_differ(case, sends):
+    """How many moments at which an acknowledgement comes as the link becomes free have to go the other way for the model, with
+    ns-2's rules, to send what ns-2 does; None where none were found. Each step turns the one that leads furthest."""
+    other_way = frozenset()
+    for _ in range(12):
+        run = Logged(case, ALL, other_way).run()
+        far = first_other(run.sends, sends)
+        if far is None:
+            return len(other_way)
+        ahead = {}
+        until = max(send[far][0] for send in (run.sends, sends) if far < len(send))
+        for moment in [time for time in run.ties if time <= until][-30:]:
+            turned = other_way ^ {moment}
+            reached = first_other(Logged(case, ALL, turned).run().sends, sends)
+            ahead[turned] = 10**9 if reached is None else reached
+        if not ahead or max(ahead.values()) <= far:
+            return None
+        other_way = max(ahead, key=ahead.get)
+    return None
 
 
 def version():
