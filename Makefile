@@ -4,7 +4,7 @@
 # `make wrong-bodies` tries the wrong bodies that stand beside the gate, `make wrong-bodies NAME=aqm` those
 # of one crate;
 # `make bench` measures the built program and writes bench/RESULTS.md (python3 and valgrind);
-# `make pictures` draws the pictures of README.md and docs/TUTORIAL.md (python3 and matplotlib);
+# `make pictures` draws the pictures of README.md and docs/ (python3 and matplotlib);
 # `make page` writes the page with the simulator, out/page/tcpsim.html, of the module of the program's proof (chromium or
 # firefox-esr open it; libjs-codemirror and python3-markdown of Debian);
 # `make pages` writes the replay of every example and a list of them into pages/;
@@ -61,6 +61,7 @@ bench:
 pictures:
 	@[ -n '$(PYTHON)' ] || { echo 'no python3 with matplotlib: apt-get install python3-matplotlib'; exit 1; }
 	@'$(PYTHON)' dev/pictures.py
+	@'$(PYTHON)' dev/validate.py --pictures
 	@'$(PYTHON)' python/tests/test_replay.py
 
 # The prover runs where no module is kept that is of the program's proof: after `make run` it has nothing to do, after

@@ -13,6 +13,8 @@ from collections.abc import Iterable, Sequence
 from itertools import islice
 
 from tcpsim import output
+from tcpsim.cycle import Cycle, cycle_of
+from tcpsim.cycle import figures_of as cycle_figures
 from tcpsim.engine import BUSY, REASONS, WAITED, EngineRun
 from tcpsim.samples import Sample
 from tcpsim.scenario.text import Flow, Link, Scenario, Unreadable
@@ -45,6 +47,7 @@ class FlowFigures(FlowState):
         self.expected_before, self.high_before = self.expected, self.high
         self.by_fast_retransmit = self.by_timeout = self.timeouts = 0
         self.drops = Counter()          # of each reason, sort and link
+        self.flights = []               # bytes in flight at each timeout
         del self.round_trips[:]
 
     def on_again(self, _time: int, _number: int, by_dups: bool) -> None:
@@ -55,8 +58,9 @@ class FlowFigures(FlowState):
             self.by_timeout += 1
 
     def on_timeout(self, _time: int) -> None:
-        """Counts a timeout."""
+        """Counts a timeout, and keeps what was in flight."""
         self.timeouts += 1
+        self.flights.append(self.nxt - self.last_una)
 
     def on_drop(self, _time: int, link: int, reason: str, sort: int, _number: int) -> None:
         """Counts a packet that was dropped."""
@@ -264,6 +268,12 @@ def part(count: int, of: int) -> float | None:
     return count / of if of else None
 
 
+def cycles(run: Figures) -> list[Cycle]:
+    """The flows that are in a cycle of timeouts."""
+    found = [cycle_of(run.scenario, flow.number, flow.flights) for flow in run.flows]
+    return [cycle for cycle in found if cycle is not None]
+
+
 def flow_figures(run: Figures, number: int, used: Sequence[float]) -> list[tuple]:
     """The figures of a flow: (figure, unit, value), value None where there is none."""
     flow, trips = run.flows[number], run.trips[number]
@@ -286,6 +296,7 @@ def flow_figures(run: Figures, number: int, used: Sequence[float]) -> list[tuple
             ('completed', 'ns', flow.completed)]
     drops = sorted((reason, 'ack' if sort == ACK else 'data', run.links[at].link.name, n)
                    for (reason, sort, at), n in flow.drops.items())
+    rows += cycle_figures(cycle_of(run.scenario, number, flow.flights))
     return rows + [(f'{sort} dropped as {reason} at {at}', 'packets', n) for reason, sort, at, n in drops]
 
 

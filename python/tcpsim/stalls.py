@@ -7,6 +7,7 @@ from collections import namedtuple
 from collections.abc import Iterable
 
 from tcpsim.causes import cause_of, name_of
+from tcpsim.cycle import Cycle, cycle_of
 from tcpsim.lives import ACK, DATA, PARTIAL, FlowState, Packet, Port, Watch
 from tcpsim.scenario.text import Scenario
 from tcpsim.walk import Walk
@@ -40,6 +41,7 @@ class Watched(Watch):
         places = {}
         for hop in flow.hops():
             hop.place = places.setdefault(hop.port, Place(flow, hop.port))
+        self.flights = []       # bytes in flight at each first timeout of a span
         self.places, self.flying = set(), 0         # where some of its packets are; how many are under way
         self.at, self.since, self.line = None, 0, 0     # the place where all wait, since when
         self.queued = {}
@@ -196,6 +198,7 @@ class Stalls(Walk):
             span.full = span.full and is_full(flow)
             span.nxt = max(span.nxt, flow.nxt)
             if kind == 'rto':
+                watched.flights += [span.nxt - span.una] * (not span.timers)
                 span.timers.append(Timer(self.time, self.line, *self.expired))
             elif not span.timers:
                 span.duplicates = flow.dups
@@ -228,8 +231,19 @@ class Stalls(Walk):
         return sorted(self.rows, key=lambda row: (order[row.flow], row.begin))
 
 
+    def cycles(self) -> list[Cycle]:
+        """The flows that are in a cycle of timeouts; a timeout that follows another with nothing acknowledged is none more."""
+        found = [cycle_of(self.scenario, number, watched.flights) for number, watched in enumerate(self.watched)]
+        return [cycle for cycle in found if cycle is not None]
+
+
 def stalls_of(scenario: Scenario, lines: Iterable[str], longer: int = LONGER) -> list[Row]:
     """The rows of all stalls of a run."""
+    return stalls_and_cycles(scenario, lines, longer)[0]
+
+
+def stalls_and_cycles(scenario: Scenario, lines: Iterable[str], longer: int = LONGER) -> tuple[list[Row], list[Cycle]]:
+    """The rows of all stalls of a run, and its cycles of timeouts."""
     walk = Stalls(scenario, longer)
     walk.read(lines)
-    return walk.finish()
+    return walk.finish(), walk.cycles()

@@ -20,15 +20,16 @@ from tcpsim.command_line import ENDS, Refused, Wrong, note
 from tcpsim.engine import BUSY, EngineRun, written_table
 from tcpsim.figures import Figures, figures, jain
 from tcpsim.scenario import units
+from tcpsim.scenario.senders import initial_window, variant
 from tcpsim.scenario.text import Scenario, Unreadable
 from tcpsim.scenario.units import HEADER_BYTES, spelled_rate, spelled_time
 from tcpsim.whole_trace import BLOCK, PROGRAMS, ProgramFailed, Rest, Running, blocks, running
 
 MS = 10**6
 MOST_RUNS, MOST_PANELS = 100_000, 12
-# Where in a statement's words a field stands; `lose` has statements of its own.
+# Where in a statement's words a field stands; `lose` has statements of its own. A flow's last two words may be left out.
 WHERE = {'link': {'rate': 4, 'delay': 5, 'queue': 6, 'lose': None},
-         'flow': {'mss': 4, 'segments': 5, 'start': 6, 'rwnd': 7, 'delack': 8}, 'sim': {'end': 1}}
+         'flow': {'mss': 4, 'segments': 5, 'start': 6, 'rwnd': 7, 'delack': 8, 'variant': 9, 'iw': 10}, 'sim': {'end': 1}}
 FIGURES = ('goodput_bit_s', 'utilization', 'wait_median_ns', 'wait_p99_ns', 'loss_percent', 'timeouts', 'jain')
 
 
@@ -80,7 +81,7 @@ class Pattern:
                 elif setting.field == 'lose':
                     lose(lines, name, value)
                 else:
-                    self._put(lines, name, setting.field, [str(value)])
+                    self._put(lines, name, setting.field, [f'iw{value}' if setting.field == 'iw' else str(value)])
         packet = greatest_packet(lines)
         for product in (False, True):           # the delays of all queues' links stand before a product is asked for
             for name, queue in queues:
@@ -93,6 +94,8 @@ class Pattern:
         words, sign, comment = line.partition('#')
         words = words.split()
         at = WHERE[self.sorts[name]][field]
+        if field in ('variant', 'iw') and len(words) == WHERE['flow']['variant']:
+            words += ['reno', 'iw3']
         if field == 'queue':
             words[at:] = values
         else:
@@ -160,14 +163,14 @@ def setting(word: str, pattern: Pattern) -> Setting:
 
 
 EXAMPLES = {'queue': 'droptail:10,50,codel:5ms:100ms', 'rate': '1M,10M', 'delay': '20ms,100ms',
-            'lose': 'none,5,5+6', 'mss': '536,1460',
-            'segments': '100,1000', 'start': '0,1s', 'rwnd': '64000,1M', 'delack': '0,40ms', 'end': '20s'}
+            'lose': 'none,5,5+6', 'mss': '536,1460', 'segments': '100,1000', 'start': '0,1s', 'rwnd': '64000,1M',
+            'delack': '0,40ms', 'variant': 'reno,newreno', 'iw': '3,10', 'end': '20s'}
 
 
 def values_of(word: str, field: str, values) -> list:
     """The values of a word of --set, or Wrong."""
     try:
-        reader = {**units.READERS, 'lose': losses}.get(field)
+        reader = {**units.READERS, 'lose': losses, 'variant': variant, 'iw': initial_window}.get(field)
         read = units.queues(values) if field == 'queue' else [reader(value) for value in values.split(',')]
     except Wrong as wrong:
         raise Wrong(f'--set {word!r}: {wrong}') from None

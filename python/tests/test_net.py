@@ -59,7 +59,7 @@ route q r1 qr1
 
 QUEUES = 'droptail:1', 'droptail:50', 'droptail:BDP', 'codel:5ms:100ms', 'codel:100us:1ms:20', 'codel:5ms:50ms:30:3000'
 GRID = {
-    'dumbbell': [('--flows', '1', '2', '4', '15'), ('--rtt', '20ms', '8ns', '7ms,33ms'), ('--rate', '1M', '2.5M')],
+    'dumbbell': [('--flows', '1', '2', '4', '15', '20'), ('--rtt', '20ms', '8ns', '7ms,33ms'), ('--rate', '1M', '2.5M')],
     'parking-lot': [('--hops', '1', '3', '7'), ('--cross', '1', '2', '7'), ('--delay', '10ms', '1ms,2ms')],
     'chain': [('--hops', '1', '2', '16', '249'), ('--flows', '1', '3'), ('--rate', '10M', '10M,5M')],
     'asymmetric': [('--down', '10M', '100M'), ('--up', '1M', '100k'), ('--uploads', '0', '2'), ('--flows', '1', '3'),
@@ -249,7 +249,7 @@ class TestWrongWords:
         '': 'SHAPE', 'ring': 'ring', 'dumbbell --rate 10Mbps': '10Mbps', 'dumbbell --rtt 10': "'10'",
         'dumbbell --queue codel:5ms': 'codel:5ms', 'dumbbell --queue droptail:0': '1 to 65,535',
         'dumbbell --queue codel:5ms:20s': '20s', 'dumbbell --queue codel:5ms:9ms:7:70k': '65,535',
-        'dumbbell --queue red:5': 'red:5', 'dumbbell --flows 16': 'tree',
+        'dumbbell --queue red:5': 'red:5', 'dumbbell --flows 120': 'nodes',
         'dumbbell --flows 0': '0', 'dumbbell --flows 129': '128', 'dumbbell --flows x': 'x',
         'dumbbell --flows 2 --rtt 1ms,2ms,3ms': '3 values', 'dumbbell --hops 3': '--hops', 'dumbbell --flow 3': '--flow',
         'dumbbell --rtt 7ns': '7ns', 'dumbbell --rtt 40s': '10s', 'dumbbell --rate 1': '1k', 'dumbbell --rate': '--rate',

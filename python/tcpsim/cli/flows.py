@@ -19,8 +19,9 @@ from array import array
 
 from tcpsim import output
 from tcpsim.command_line import Words, as_type
+from tcpsim.cycle import words_of as words_of_cycle
 from tcpsim.engine import engine_run
-from tcpsim.figures import S, Figures, engine_figures, figures
+from tcpsim.figures import S, Figures, cycles, engine_figures, figures
 from tcpsim.output import Output, aligned
 from tcpsim.scenario import units
 from tcpsim.whole_trace import inputs_of, opened_run
@@ -139,12 +140,14 @@ def write(given: argparse.Namespace, file: Output) -> None:
     if given.series is not None:
         write_series(run_of(given), file, given.busy)
         return
-    rows = (engine_figures(engine_run(given.scenario, given.program), given.busy) if given.engine else
-            figures(run_of(given), given.busy))
+    run = None if given.engine else run_of(given)
+    rows = figures(run, given.busy) if run else engine_figures(engine_run(given.scenario, given.program), given.busy)
     if given.csv:
         write_csv(rows, file)
     else:
         print('\n'.join(table(rows, ENGINE_COLUMNS if given.engine else TRACE_COLUMNS)), file=file)
+        for cycle in cycles(run) if run else ():
+            print(words_of_cycle(cycle), file=file)
 
 
 def main() -> None:

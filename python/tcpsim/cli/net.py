@@ -15,6 +15,7 @@ from tcpsim import output
 from tcpsim.command_line import Words, Wrong, as_type
 from tcpsim.scenario import units
 from tcpsim.scenario.net import MOST_FLOWS, Net
+from tcpsim.scenario.senders import bound_windows, initial_windows, lose_packets, losses, make_mice, spread, variants
 from tcpsim.scenario.shapes import LONG, asymmetric, chain, dumbbell, islands, parking_lot, tree
 from tcpsim.scenario.units import Queue, spelled_time
 
@@ -57,10 +58,22 @@ OPTIONS = {
     '--segments': dict(type=numbers('segments'), metavar='N[,..]', default=[10**9],
                        help='of each flow; a billion, which no run comes to, if none is given'),
     '--start': dict(type=numbers('start'), metavar='TIME[,..]', default=[0], help='of each flow; 0 if none'),
-    '--rwnd': dict(type=number('rwnd'), metavar='BYTES', default=2**30,
-                   help='of the receivers\' windows; 2^30, which bounds nothing, if none is given'),
+    '--rwnd': dict(type=number('rwnd'), metavar='BYTES',
+                   help='of the receivers\' windows; if none is given 2^30, which bounds nothing, and of newreno flows '
+                   '1.25 times the bandwidth-delay product and the queue'),
     '--delack': dict(type=number('delack'), metavar='TIME', default=40 * 10**6,
                      help='of delayed acknowledgements; 40ms if none, 0 for an answer to each segment'),
+    '--variant': dict(type=as_type(variants), metavar='VARIANT[,..]', default=['reno'],
+                      help='how senders recover from losses: reno or newreno; reno if none'),
+    '--iw': dict(type=as_type(initial_windows), metavar='N[,..]', default=[3],
+                 help='initial windows: 3 (RFC 5681) or 10 (RFC 6928); 3 if none'),
+    '--lose': dict(type=as_type(losses), metavar='LINK=N[,..]', action='append', default=[],
+                   help='the N-th packet offered to a link is lost, counted from 1, as pq=20,21; may stand for several links'),
+    '--spread': dict(type=between(0, 10**9), metavar='N',
+                     help='flows differ by small amounts that are drawn from the number N: delays of the senders\' cables, '
+                     'segments and starts'),
+    '--mice': dict(type=between(0, MOST_FLOWS - 1), metavar='K', default=0,
+                   help='K flows more, each with one small segment in flight; 0 if none'),
     '--end': dict(type=number('end'), metavar='TIME', default=20 * 10**9, help='of the run; 20s if none'),
     '--hops': dict(type=between(1, 250), metavar='N', default=3, help='links between routers; 3 if none'),
     '--cross': dict(type=between(1, 7), metavar='N', default=1, help='flows over each hop alone; 1 if none'),
@@ -73,19 +86,23 @@ OPTIONS = {
     '--crossing': dict(type=between(0, 15), metavar='N', default=1, help='flows of each that go to the next; 1 if none'),
     '--between': dict(type=number('delay'), metavar='TIME', default=10**7, help='of the ring\'s cables; 10ms if none'),
 }
-ENDS = ('--access', '--access-queue', '--mss', '--segments', '--start', '--rwnd', '--delack', '--end')
+ENDS = ('--access', '--access-queue', '--mss', '--segments', '--start', '--rwnd', '--delack',
+        '--variant', '--iw', '--lose', '--spread', '--end')
 SHAPES = {      # name: builder, its options, and what differs from the options above
-    'dumbbell': (dumbbell, ('--flows', '--rate', '--rtt', '--queue', '--back-queue', *ENDS), {'flows': 2}),
+    'dumbbell': (dumbbell, ('--flows', '--rate', '--rtt', '--queue', '--back-queue', '--mice', *ENDS), {'flows': 2}),
     'parking-lot': (parking_lot, ('--hops', '--cross', '--rates', '--delay', '--queue', '--back-queue',
                                   '--access-delay', *ENDS), {}),
     'chain': (chain, ('--hops', '--flows', '--rates', '--delay', '--queue', '--back-queue', '--access-delay', *ENDS),
               {'flows': 1}),
     'asymmetric': (asymmetric, ('--down', '--up', '--queue', '--up-queue', '--flows', '--uploads', '--rtt', *ENDS),
                    {'flows': 1}),
-    'tree': (tree, ('--leaves', '--flows', '--rate', '--rtt', '--queue', '--back-queue', *ENDS), {}),
+    'tree': (tree, ('--leaves', '--flows', '--rate', '--rtt', '--queue', '--back-queue', '--mice', *ENDS), {}),
     'islands': (islands, ('--islands', '--flows', '--crossing', '--rate', '--between', '--rtt', '--queue',
                           '--back-queue', *ENDS), {'flows': 3, 'rtt': [4 * 10**6]}),
 }
+
+
+WITH_MICE = [name for name, (_, options, _) in SHAPES.items() if '--mice' in options]
 
 
 def command_line() -> Words:
@@ -115,13 +132,20 @@ def scenario(words: list[str]) -> str:
 
 def text_of(given: argparse.Namespace, words: list[str]) -> str:
     """The text of what a command line asks for; its first lines have the words, but for where it is written to."""
-    if given.rwnd < given.mss:
+    if given.rwnd is not None and given.rwnd < given.mss:
         raise Wrong(f'--rwnd {given.rwnd} is below a segment of {given.mss} bytes')
     if max(given.start) >= given.end:
         raise Wrong(f'--start {spelled_time(max(given.start))} is not before the end, {spelled_time(given.end)}')
     net = Net()
     head = SHAPES[given.shape][0](net, given)
+    if given.spread is not None:
+        head = (*head, *spread(net, given.spread, given.end))
+    if given.shape in WITH_MICE and given.mice:
+        head = (*head, *make_mice(net, given.mice, given.spread or 0, given.end))
     net.check()
+    lose_packets(net, given.lose)
+    if given.rwnd is None:
+        head = (*head, *bound_windows(net))
     return net.text(given.end, (*head, 'Written by: tcpsim-net ' + ' '.join(map(shlex.quote, without_output(words)))))
 
 

@@ -14,9 +14,10 @@ import csv
 from tcpsim import output
 from tcpsim.causes import CAUSES, name_of, rule_of, seconds
 from tcpsim.command_line import Words, as_type
+from tcpsim.cycle import words_of as words_of_cycle
 from tcpsim.output import Output
 from tcpsim.scenario.units import moment
-from tcpsim.stalls import LONGER, stalls_of
+from tcpsim.stalls import LONGER, stalls_and_cycles
 from tcpsim.walk import flow_named, opened
 from tcpsim.whole_trace import inputs_of
 
@@ -69,11 +70,12 @@ def words_of() -> argparse.Namespace:
     return given
 
 
-def rows_of(given: argparse.Namespace) -> list:
-    """The rows that the words ask for."""
+def rows_of(given: argparse.Namespace) -> tuple[list, list]:
+    """The rows that the words ask for, and the cycles of timeouts."""
     with opened(given) as (scenario, lines):
         only = None if given.flow is None else scenario.flows[flow_named(scenario, given.flow)].name
-        return [row for row in stalls_of(scenario, lines, given.longer) if only in (None, row.flow)]
+        rows, cycles = stalls_and_cycles(scenario, lines, given.longer)
+        return [row for row in rows if only in (None, row.flow)], [cycle for cycle in cycles if only in (None, cycle.flow)]
 
 
 def main() -> None:
@@ -83,6 +85,9 @@ def main() -> None:
         if given.causes:
             write_causes(file)
         elif given.csv:
-            write_csv(rows_of(given), file)
+            write_csv(rows_of(given)[0], file)
         else:
-            write_table(rows_of(given), given.longer, file)
+            rows, cycles = rows_of(given)
+            write_table(rows, given.longer, file)
+            for cycle in cycles:
+                print(words_of_cycle(cycle), file=file)

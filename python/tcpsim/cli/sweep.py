@@ -59,7 +59,7 @@ def drawing():
 def command_line() -> Words:
     """The words of the command."""
     words = Words(description='Runs one scenario over a grid of values, a row for each run.',
-                        epilog='FIELD is of a link queue, rate, delay, lose; of a flow mss, segments, start, rwnd, delack. '
+                        epilog='FIELD is of a link queue, rate, delay, lose; of a flow mss, segments, start, rwnd, delack, variant, iw. '
                         'a+b.FIELD sets both, *.FIELD all links or all flows; end=TIME sets the end.')
     words.add_argument('scenario', metavar='SCENARIO', nargs='?', help='a text or an image')
     words.add_argument('--set', action='append', default=[], metavar='NAME.FIELD=VALUE,..', dest='sets',

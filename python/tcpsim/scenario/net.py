@@ -52,6 +52,13 @@ class Flow:
     rwnd: int                               # bytes
     delack: int                             # ns
     note: str = ''
+    variant: str = 'reno'                   # or 'newreno': how its sender recovers from losses
+    initial_window: int = 3                 # 3 is `iw3` (RFC 5681), 10 `iw10` (RFC 6928)
+
+    def words(self) -> str:
+        """The words of its variant, with a space before them; none where it is the one that is meant without."""
+        plain = (self.variant, self.initial_window) == ('reno', 3)
+        return '' if plain else f' {self.variant} iw{self.initial_window}'
 
 
 class Net:
@@ -152,7 +159,7 @@ class Net:
         lines += ['# Flows: name, sender, receiver, bytes of a segment, segments, start in ns, receiver\'s window '
                   'in bytes, delay of acknowledgements in ns.'] * notes
         lines += [f'flow {flow.name} {self.nodes[flow.sender].name} {self.nodes[flow.receiver].name} {flow.mss} '
-                  f'{flow.segments} {flow.start} {flow.rwnd} {flow.delack}' + f'  # {flow.note}' * bool(
+                  f'{flow.segments} {flow.start} {flow.rwnd} {flow.delack}{flow.words()}' + f'  # {flow.note}' * bool(
                       notes and flow.note) for flow in self.flows]
         routes = self.routes(every_route)
         lines += ['# Routes: at this router, what is for this end goes over this link.'] * bool(notes and routes)
@@ -164,12 +171,21 @@ class Net:
     def _greatest_packet(self):
         return max(flow.mss for flow in self.flows) + HEADER_BYTES
 
+    def ways(self) -> list[tuple[list[int], list[int]]]:
+        """The links of each flow's ways, there and back."""
+        return [(self.way(flow.sender, flow.receiver), self.way(flow.receiver, flow.sender)) for flow in self.flows]
+
+    def room(self, link: int) -> int:
+        """How many packets a link's queue takes."""
+        capacity = self.links[link].queue.capacity
+        return self._products()[link] if capacity is None else capacity
+
     def _products(self):
         """The bandwidth-delay product of each link whose queue asks for it."""
         wanted = [number for number, link in enumerate(self.links) if link.queue.capacity is None]
         if not wanted:
             return {}
-        ways = [(self.way(flow.sender, flow.receiver), self.way(flow.receiver, flow.sender)) for flow in self.flows]
+        ways = self.ways()
         delays = [link.delay for link in self.links]
         products = {}
         for number in wanted:

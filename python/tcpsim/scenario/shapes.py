@@ -8,9 +8,10 @@ from collections.abc import Sequence
 
 from tcpsim.command_line import Wrong
 from tcpsim.scenario.net import MOST_ROUTER_LINKS, RECEIVER, ROUTER, SENDER, Net
-from tcpsim.scenario.units import Queue, spelled_rate, spelled_time
+from tcpsim.scenario.units import OPEN_WINDOW, Queue, spelled_rate, spelled_time
 
 LONG = Queue('droptail', 1_000)
+OF_FLOWS = 'start', 'segments', 'variant', 'iw'     # lists whose values go to the flows by turns
 
 
 # ---- shapes
@@ -43,8 +44,11 @@ def add_flow(net: Net, given: argparse.Namespace, n: int, routers, delays, note)
     net.joined(sender, routers[0], given.access, delays[0], given.access_queue)
     net.joined(routers[1], receiver, given.access, (delays[1],) * 2, given.access_queue)
     start = nth(given.start, n)
-    net.flow(sender, receiver, given.mss, nth(given.segments, n), start, given.rwnd, given.delack, f'f{n}',
-             f'{note}, from {spelled_time(start)} on')
+    number = net.flow(sender, receiver, given.mss, nth(given.segments, n), start,
+                      OPEN_WINDOW if given.rwnd is None else given.rwnd, given.delack, f'f{n}',
+                      f'{note}, from {spelled_time(start)} on')
+    flow = net.flows[number]
+    flow.variant, flow.initial_window = nth(given.variant, n), nth(given.iw, n)
 
 
 def share_of(trips, part):
@@ -54,20 +58,29 @@ def share_of(trips, part):
 
 def dumbbell(net: Net, given: argparse.Namespace) -> Sequence[str]:
     """Flows over one bottleneck between two routers."""
-    if given.flows > MOST_ROUTER_LINKS - 1:
-        raise Wrong(f'{given.flows} flows have no room at one router, which has {MOST_ROUTER_LINKS} links: '
-                    'tree --leaves N --flows N spreads them over leaves')
-    not_longer(given, given.flows, 'flows', 'rtt', 'start', 'segments')
+    count = given.flows + given.mice
+    if count > MOST_ROUTER_LINKS - 1:
+        return wide_dumbbell(net, given, count)
+    not_longer(given, given.flows, 'flows', 'rtt', *OF_FLOWS)
     p, q = net.node(ROUTER, 'p'), net.node(ROUTER, 'q')
     middle, last = share_of(given.rtt, 4), share_of(given.rtt, 8)
     net.link(p, q, given.rate, middle, given.queue, 'pq', bottleneck(given.rate, middle, given.queue))
     net.link(q, p, given.rate, middle, given.back_queue, 'qp', 'the way back of acknowledgements')
-    for n in range(given.flows):
+    for n in range(count):
         trip = nth(given.rtt, n)
         add_flow(net, given, n, (p, q), (halves(trip, (middle, last)), last),
                  f'a round trip of {spelled_time(trip)}')
     return (f'A dumbbell: {flows(given.flows)} over the bottleneck pq of {spelled_rate(given.rate)}bit/s with the '
             f'queue {given.queue}.', 'A round trip is that of the delays alone: waiting and sending come on top.')
+
+
+def wide_dumbbell(net: Net, given: argparse.Namespace, count: int) -> Sequence[str]:
+    """A dumbbell of more flows than a router has links for: a tree with as few leaves as have room for them."""
+    given.leaves = -(-count // (MOST_ROUTER_LINKS - 1))
+    head = tree(net, given)
+    return (f'A dumbbell: {flows(given.flows)} over the bottleneck pq of {spelled_rate(given.rate)}bit/s with the '
+            f'queue {given.queue}.', f'A router has {MOST_ROUTER_LINKS} links, so the ends are at leaves below p and q. {head[0]}',
+            'A round trip is that of the delays alone: waiting and sending come on top.')
 
 
 def bottleneck(rate, delay, queue):
@@ -99,7 +112,7 @@ def row_of_routers(net: Net, given: argparse.Namespace):
 def parking_lot(net: Net, given: argparse.Namespace) -> Sequence[str]:
     """One flow over every hop, and others over one hop each."""
     not_longer(given, given.hops, 'hops', 'rate', 'delay')
-    not_longer(given, 1 + given.hops * given.cross, 'flows', 'start', 'segments')
+    not_longer(given, 1 + given.hops * given.cross, 'flows', *OF_FLOWS)
     routers = row_of_routers(net, given)
     delays = (given.access_delay, given.access_delay), given.access_delay
     add_flow(net, given, 0, (routers[0], routers[-1]), delays, 'over every hop')
@@ -113,7 +126,7 @@ def parking_lot(net: Net, given: argparse.Namespace) -> Sequence[str]:
 def chain(net: Net, given: argparse.Namespace) -> Sequence[str]:
     """Flows from one end of a row of routers to the other."""
     not_longer(given, given.hops, 'hops', 'rate', 'delay')
-    not_longer(given, given.flows, 'flows', 'start', 'segments')
+    not_longer(given, given.flows, 'flows', *OF_FLOWS)
     routers = row_of_routers(net, given)
     for n in range(given.flows):
         add_flow(net, given, n, (routers[0], routers[-1]), ((given.access_delay,) * 2, given.access_delay), 'over every hop')
@@ -125,7 +138,7 @@ def asymmetric(net: Net, given: argparse.Namespace) -> Sequence[str]:
     count = given.flows + given.uploads
     if not count:
         raise Wrong('there is no flow: --flows and --uploads are both 0')
-    not_longer(given, count, 'flows', 'rtt', 'start', 'segments')
+    not_longer(given, count, 'flows', 'rtt', *OF_FLOWS)
     p, q = net.node(ROUTER, 'isp'), net.node(ROUTER, 'home')
     middle, last = share_of(given.rtt, 4), share_of(given.rtt, 8)
     up_queue = given.queue if given.up_queue is None else given.up_queue
@@ -146,7 +159,8 @@ def asymmetric(net: Net, given: argparse.Namespace) -> Sequence[str]:
 def tree(net: Net, given: argparse.Namespace) -> Sequence[str]:
     """On each side of one bottleneck a router with leaves below it, and the ends at the leaves."""
     count = given.leaves if given.flows is None else given.flows
-    not_longer(given, count, 'flows', 'rtt', 'start', 'segments')
+    not_longer(given, count, 'flows', 'rtt', *OF_FLOWS)
+    long, count = count, count + given.mice
     tops = net.node(ROUTER, 'p'), net.node(ROUTER, 'q')
     leaves = [[net.node(ROUTER, f'{side}{n + 1}') for n in range(given.leaves)] for side in 'pq']
     middle, branch = share_of(given.rtt, 4), share_of(given.rtt, 16)
@@ -160,7 +174,7 @@ def tree(net: Net, given: argparse.Namespace) -> Sequence[str]:
         add_flow(net, given, n, (leaves[0][leaf], leaves[1][leaf]), (halves(trip, (middle, branch, branch, branch)), branch),
                  f'from leaf p{leaf + 1} to leaf q{leaf + 1}, a round trip of {spelled_time(trip)}')
     return (f'A tree on each side of the bottleneck pq of {spelled_rate(given.rate)}bit/s: {given.leaves} leaves, '
-            f'and {flows(count)} from those of p to those of q.',)
+            f'and {flows(long)} from those of p to those of q.',)
 
 
 def islands(net: Net, given: argparse.Namespace) -> Sequence[str]:
@@ -168,7 +182,7 @@ def islands(net: Net, given: argparse.Namespace) -> Sequence[str]:
     if given.crossing > given.flows:
         raise Wrong(f'--crossing {given.crossing} is more than the {flows(given.flows)} of each island')
     count = given.islands * given.flows
-    not_longer(given, count, 'flows', 'rtt', 'start', 'segments')
+    not_longer(given, count, 'flows', 'rtt', *OF_FLOWS)
     middle, last = share_of(given.rtt, 4), share_of(given.rtt, 8)
     near = [net.node(ROUTER, f'p{n + 1}') for n in range(given.islands)]
     far = [net.node(ROUTER, f'q{n + 1}') for n in range(given.islands)]

@@ -14,6 +14,7 @@ from fractions import Fraction
 from tcpsim.command_line import Wrong
 
 HEADER_BYTES = 40
+OPEN_WINDOW = 2**30         # bytes: a receiver's window that bounds nothing
 BITS_NS = 8 * 10**9         # bits of a byte times nanoseconds of a second
 
 # From docs/FORMATS.md: the least and the greatest of each number.
