@@ -249,7 +249,7 @@ class Series(Files):
             name = 'c mean' if '--series' in words else 'link,c,' if words else '\nc  '
             self.assertIn(name, every)
             self.assertNotIn(name, busy)
-            self.assertIn(name.replace('c', 'b', 1) if words != ('--csv',) else 'link,b,', busy)
+            self.assertIn(name.replace('c', 'a', 1) if words != ('--csv',) else 'link,a,', busy)
 
     def test_too_many_rows(self):
         done = self.run_flows(self.scenario, self.trace, '--series', '1ns')
@@ -263,7 +263,7 @@ class Commands(Files):
         self.assertEqual(lines[0].split('  ')[0], 'flow')
         for title in ('loss %', 'timeouts', 'sent again: fast', 'after timeouts'):
             self.assertIn(title, lines[0])
-        self.assertEqual(lines[1].split(), 'f 7,000 4.667 100.0 a 9 22.22 0 1 0 3.080 4.120 5.160 -'.split())
+        self.assertEqual(lines[1].split(), 'f 7,000 4.667 100.0 a 9 22.22 0 1 0 3.080 4.120 5.160 5.160 - -'.split())
         self.assertEqual(lines[4].split()[-2:], ['2', '22.22'])     # two of nine offered
 
     def test_csv_in_a_part(self):
