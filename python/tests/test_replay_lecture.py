@@ -54,7 +54,8 @@ def queue_of(browser, link):
       const e = document.querySelector('g.queue[data-link="{link}"]');
       return {{marks: [...e.querySelectorAll('.box[data-packet] text')].map(t => t.textContent), ...e.dataset,
         count: e.querySelector('.count').textContent, whole: e.querySelector('.capacity').getBBox().width,
-        bars: Object.fromEntries([...e.querySelectorAll('.bar')].map(b => [b.dataset.flow, b.getBBox().width]))}};
+        bars: Object.fromEntries([...e.querySelectorAll('.bar')].map(b => [b.dataset.flow,
+          [...b.getAttribute('d').matchAll(/h([\\d.]+)v/g)].reduce((sum, found) => sum + +found[1], 0)]))}};
     }})()''')
 
 
@@ -86,8 +87,10 @@ def test_a_queue_of_three_and_one_of_sixty_look_different(browser, made):
 
 def test_what_is_dropped_falls_from_the_queues_tail(browser, made):
     browser.open(made(*example('slow_start_into_a_full_queue'))[0], '#event=20')
-    assert value(browser, '[...document.querySelectorAll(".drop .reason")].map(e => e.textContent)') == ['\u2715 full: f 11,000']
-    tail, head, corner = value(browser, '["full", "codel"].map(r => page.net.queues[0].mouth(r)).concat(page.net.lines[0].queue[0])')
+    words = '[...document.querySelectorAll(".drop .reason")].map(e => e.textContent)'
+    assert value(browser, words) == ['\u2715 full: f 11,000']
+    mouths = '["full", "codel"].map(r => page.net.queues[0].mouth(r)).concat(page.net.lines[0].queue[0])'
+    tail, head, corner = value(browser, mouths)
     assert corner < head < tail
 
 
@@ -198,8 +201,8 @@ def test_a_small_net_has_no_button_for_stubs(browser, made):
 def test_a_page_of_200_000_events_loads_within_two_seconds_of_its_processor(browser, made, tmp_path):
     """So much time of the page's thread does it take from its opening to its first picture."""
     path = tmp_path / 'long.txt'
-    subprocess.run([sys.executable, os.path.join(BIN, 'tcpsim-net'), 'dumbbell', '--flows', '2', '--rate', '10M', '--end', '40s',
-                    '-o', str(path)], check=True)
+    net = os.path.join(BIN, 'tcpsim-net')
+    subprocess.run([sys.executable, net, 'dumbbell', '--flows', '2', '--rate', '10M', '--end', '40s', '-o', str(path)], check=True)
     trace = tmp_path / 'long.trace'
     with open(trace, 'wb') as file:
         subprocess.run([PROGRAM, 'run', str(path)], stdout=file, check=True)
@@ -224,8 +227,8 @@ def task_seconds(browser):
 
 def test_a_slide_has_large_letters_and_no_lines(browser, made):
     browser.open(made(*example('bufferbloat'), '--slide')[0], '#event=5000')
-    sizes = value(browser, '''["#replay h1", "#where", "#play", "#under", "#flows label", "#windows .title", "#lengths .axis text"]
-      .map(css => parseFloat(getComputedStyle(document.querySelector(css)).fontSize))''')
+    sizes = value(browser, '''["#replay h1", "#where", "#play", "#under", "#flows label", "#windows .title",
+      "#lengths .axis text"].map(css => parseFloat(getComputedStyle(document.querySelector(css)).fontSize))''')
     assert min(sizes) >= 8 and sizes[0] == sizes[1] == sizes[2] == sizes[4] == sizes[5] == sizes[6] == 24
     assert value(browser, 'getComputedStyle(document.getElementById("below")).display') == 'none'
 

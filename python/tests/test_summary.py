@@ -1,4 +1,4 @@
-"""Tests of sums: `tcpsim-stalls --summary`, and of `tcpsim-flows` which links are busy, how long flows took, 95th percentiles."""
+"""Tests of sums: `tcpsim-stalls --summary`, and of `tcpsim-flows` busy links, how long flows took, 95th percentiles."""
 import csv
 import io
 import os

@@ -8,6 +8,7 @@ const ROW = 98, MORE_NAME = 14;         // the height of a track, and what a nam
 const BESIDE = 7;                       // from a track's middle to each of its lines
 const LEAST_LENGTH = 250, MOST_NAME = 240, EDGE = 8;
 const END_TALL = 36, ROUTER_BEYOND = 24;
+const NAME_SIZE = 15, MOST_NAME_SIZE = 21, LEAST_NAME = 10.5;      // of nodes: units, units, and pixels of the screen
 const LEAST_ROWS = 1.15;                // one flow alone is drawn as large as this many rows would be
 // A stub is an end of the net, at one router, with no room for its queues and names: its row's height as a part of a
 // track's, how tall its node is and how long its link at least. Where there are more rows than so many ends are stubs.
@@ -210,7 +211,7 @@ class Layout {
 
   // As large as the panel lets it be.
   scale(panelWide, panelTall) {
-    const {facts, tracks, column} = this, name = '12px sans-serif';
+    const {facts, tracks} = this, name = '12px sans-serif';
     let lines = 1, length = Math.max(LEAST_LENGTH, this.leastLength);
     for (const t of tracks) {
       if (t.stub) { t.name = []; continue; }
@@ -220,8 +221,21 @@ class Layout {
       length = Math.max(length, 16 + d3.max(t.name, line => textWidth(line, name)));
     }
     this.row = ROW + (lines - 1) * MORE_NAME;
+    this.nameSize = NAME_SIZE;
+    this.fit(panelWide, panelTall, length);
+    // Names of a net that is drawn small are larger beside all else.
+    const least = LEAST_NAME / (this.wide ? panelWide / this.wide : 1);
+    if (least > NAME_SIZE) {
+      this.nameSize = Math.min(MOST_NAME_SIZE, least);
+      this.fit(panelWide, panelTall, length);
+    }
+  }
+
+  // The widths of nodes and columns, the gaps between these, and how large all is drawn, as `wide` and `tall` say.
+  fit(panelWide, panelTall, length) {
+    const {facts, tracks, column} = this;
     this.nodeWide = facts.nodes.map(node =>
-      Math.max(node.kind === 'router' ? 46 : 58, 14 + textWidth(node.name, 'bold 15px sans-serif'),
+      Math.max(node.kind === 'router' ? 46 : 58, 14 + textWidth(node.name, `bold ${this.nameSize}px sans-serif`),
         10 + textWidth(node.kind, '10px sans-serif')));
     this.columnWide = d3.range(this.count).map(c => d3.max(this.nodeWide.filter((_, n) => column[n] === c)) || 0);
     // Between two columns with stubs alone there is less room than where a queue stands.

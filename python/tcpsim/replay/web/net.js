@@ -41,7 +41,7 @@ class Net {
     this.canFold = layout.rows > MOST_ROWS;
     if (fold === undefined ? this.canFold : fold) layout = made(true);
     this.folded = layout.stubs;
-    this.places = layout.places; this.tracks = layout.tracks; this.row = layout.row;
+    this.places = layout.places; this.tracks = layout.tracks; this.row = layout.row; this.nameSize = layout.nameSize;
     this.svg = svg.attr('viewBox', `0 0 ${layout.wide} ${layout.tall}`);
     this.world = this.svg.append('g').attr('class', 'world');
     this.svg.call(d3.behavior.zoom().scaleExtent([0.5, 40]).on('zoom', () =>
@@ -138,9 +138,9 @@ class Net {
     groups.append('rect').attr('x', (_, n) => -this.places[n].wide / 2).attr('width', (_, n) => this.places[n].wide)
       .attr('y', (_, n) => this.places[n].top - this.places[n].y).attr('height', (_, n) => this.places[n].bottom - this.places[n].top)
       .attr('rx', node => node.kind === 'router' ? 16 : 4);
-    groups.append('text').attr('class', 'name').attr('y', -1.5).text(node => node.name);
+    groups.append('text').attr('class', 'name').attr('y', -1.5).style('font-size', `${this.nameSize}px`).text(node => node.name);
     groups.filter((_, n) => !this.places[n].stub).append('text').attr('class', 'kind').attr('y', 12).text(node => node.kind);
-    groups.filter((_, n) => this.places[n].stub).select('.name').attr('y', 5);
+    groups.filter((_, n) => this.places[n].stub).select('.name').attr('y', this.nameSize / 3);
     this.nodes = groups[0];
     this.nodes.forEach((node, n) => {
       const flow = this.record.endOf[n];

@@ -128,7 +128,8 @@ class Page {
     this.list = document.getElementById('lines');
     const measure = () => {
       this.fit = Math.min(41, Math.max(3, Math.floor((this.list.clientHeight - 4) / 16)));
-      this.letters = Math.floor((this.list.clientWidth - 14) / textWidth('0', getComputedStyle(this.list).font));
+      // Where the lines are not shown, as in a slide, their list has no width.
+      this.letters = Math.max(1, Math.floor((this.list.clientWidth - 14) / textWidth('0', getComputedStyle(this.list).font)));
     };
     measure();
     this.onWindow('resize', () => { measure(); this.windows.resize(); this.lengths.resize(); this.show(); });
@@ -141,6 +142,7 @@ class Page {
   }
   // As many lines around the present one as there is room for, each whole.
   drawLines() {
+    if (!this.list.clientWidth) return;
     const record = this.record, rows = event => rowsOf(record.line(event), this.letters);
     let begin = record.at, end = record.at - 1, room = this.fit;
     const add = event => {

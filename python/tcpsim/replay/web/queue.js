@@ -94,13 +94,14 @@ class QueueView {
     }
     return this.boxes[k];
   }
-  // The bar: as much of its capacity as is taken, each column in the colour of the flow whose packet waits there.
+  // The bar: as much of its capacity as is taken, each column in the colour of the flow whose packet waits there, the last of
+  // those that share it, so that the tail is seen.
   drawBar(now) {
     const flow = this.record.tracks[this.l].flow, filled = now.length ? Math.max(1, this.wide * now.length / this.link.limit) : 0;
     const columns = Math.min(now.length, Math.ceil(filled)), runs = new Map();
     for (let k = 0, begin = 0; k < columns && this.wide; k++) {
-      const its = flow[now.head + Math.floor(k * now.length / columns)];
-      const next = k + 1 < columns ? flow[now.head + Math.floor((k + 1) * now.length / columns)] : -1;
+      const lastOf = column => flow[now.head + Math.floor((column + 1) * now.length / columns) - 1];
+      const its = lastOf(k), next = k + 1 < columns ? lastOf(k + 1) : -1;
       if (next === its) continue;
       const from = begin * filled / columns, to = (k + 1) * filled / columns, x = this.line.sign > 0 ? from : -to;
       runs.set(its, `${runs.get(its) || ''}M${x.toFixed(2)} ${BAR.at}h${(to - from).toFixed(2)}v${BAR.tall}h${(from - to).toFixed(2)}z`);
