@@ -3,14 +3,16 @@
 
 Usage: dev/pages.py [-o FOLDER] [--examples FOLDER]
 
-An example is a scenario NAME.txt with its trace NAME.trace. The list gives the remark that each scenario
-begins with. The folder, `pages` where none is named, can be copied and shown without a network.
+An example is a scenario NAME.txt with its trace NAME.trace. The list has the lessons of docs/TUTORIAL.md in their order,
+each with its sentence and the pages of its examples, and then those that are in no lesson, each with the remark that its
+scenario begins with. The folder, `pages` where none is named, can be copied and shown without a network.
 """
 import html
 import os
 import sys
 
 from clone import TOP
+from lessons import lessons
 from tcpsim.command_line import Words, run
 from tcpsim.output import opened, written
 from tcpsim.replay.page import page
@@ -27,14 +29,13 @@ INDEX = '''<!DOCTYPE html>
 <style>
 body {{ font: 16px/1.45 sans-serif; max-width: 60em; margin: 1.5em auto; padding: 0 1em; color: #111; }}
 li {{ margin: 0 0 .8em; }}
+li p {{ margin: .1em 0; }}
 a:focus-visible {{ outline: 3px solid #0072B2; }}
 </style>
 </head>
 <body>
 <h1>Runs of tcpsim</h1>
-<ol>
-{rows}
-</ol>
+{lists}
 </body>
 </html>
 '''
@@ -57,7 +58,7 @@ def remark(text):
 
 
 def write_one(folder, name, out):
-    """Writes one example's page; answers its row of the list."""
+    """Writes one example's page; answers its link, with how many events it has, and its scenario's remark."""
     given, title = os.path.join(folder, name), name.replace('_', ' ')
     try:
         with opened_run(given + '.txt', given + '.trace') as (scenario, lines):
@@ -66,8 +67,24 @@ def write_one(folder, name, out):
         raise Unreadable(f'{given}.trace: {wrong}') from wrong
     with written(os.path.join(out, name + '.html')) as file:
         file.write(page(title, scenario, part))
-    return (f'<li><a href="{html.escape(name)}.html">{html.escape(title)}</a> ({len(part.lines):,} events)<br>'
-            f'{html.escape(remark(scenario.text))}</li>')
+    return (f'<a href="{html.escape(name)}.html">{html.escape(title)}</a> ({len(part.lines):,} events)',
+            html.escape(remark(scenario.text)))
+
+
+def lists_of(links):
+    """The lists of the page: lessons in the tutorial's order with their sentences, then what is in none."""
+    rest, taught = dict(links), []
+    for lesson in lessons():
+        own = [links[name][0] for name in lesson.examples if name in links]
+        for name in lesson.examples:
+            rest.pop(name, None)
+        if own:
+            taught.append(f'<li value="{lesson.number}"><strong>{html.escape(lesson.name)}</strong>'
+                          f'<p>{html.escape(lesson.sentence)}</p><p>{", ".join(own)}</p></li>')
+    rows = [f'<li>{link}<br>{words}</li>' for link, words in rest.values()]
+    parts = [('Lessons', 'ol', taught), ('More', 'ul', rows)] if taught else [('', 'ol', rows)]
+    return '\n'.join((f'<h2>{title}</h2>\n' if title else '') + f'<{tag}>\n' + '\n'.join(entries) + f'\n</{tag}>'
+                     for title, tag, entries in parts if entries)
 
 
 def write_all(folder, out):
@@ -76,9 +93,9 @@ def write_all(folder, out):
     if not names:
         raise Unreadable(f'{folder} has no scenario NAME.txt with its NAME.trace')
     os.makedirs(out, exist_ok=True)
-    rows = [write_one(folder, name, out) for name in names]
+    links = {name: write_one(folder, name, out) for name in names}
     with written(os.path.join(out, 'index.html')) as file:
-        file.write(INDEX.format(rows='\n'.join(rows)))
+        file.write(INDEX.format(lists=lists_of(links)))
     return len(names)
 
 

@@ -10,12 +10,17 @@ from clone import TOP
 from tcpsim import plot
 
 EXAMPLES, FOLDER = os.path.join(TOP, 'examples'), os.path.join(TOP, 'docs', 'pictures')
-OF_ONE_RUN = (
-    'one_segment', 'delayed_acks_and_their_alarm', 'slow_start_into_a_full_queue', 'two_timeouts_in_a_row',
-    'a_lost_retransmission', 'sawtooth_of_congestion_avoidance', 'bufferbloat', 'a_slow_way_back', 'fast_recovery',
-    'bufferbloat_with_codel', 'two_flows_share_fairly', 'two_round_trips_do_not_share_fairly',
-    'lock_out_at_equal_times', 'four_flows_share_a_long_queue', 'four_flows_share_codel',
-    'parking_lot_of_three_routers', 'acks_share_the_bottleneck')
+# Of each picture of one run the panels that show its lesson.
+OF_ONE_RUN = {
+    'one_segment': 'window,sequence', 'delayed_acks_and_their_alarm': 'window,sequence',
+    'slow_start_into_a_full_queue': 'window,sequence,queue', 'two_timeouts_in_a_row': 'window,sequence',
+    'a_lost_retransmission': 'window,sequence', 'sawtooth_of_congestion_avoidance': 'window,queue,delay,utilization',
+    'bufferbloat': 'sequence,queue,delay', 'a_slow_way_back': 'window,sequence,queue',
+    'fast_recovery': 'window,sequence,utilization', 'bufferbloat_with_codel': 'sequence,queue,delay',
+    'two_flows_share_fairly': 'window,progress', 'two_round_trips_do_not_share_fairly': 'window,progress',
+    'lock_out_at_equal_times': 'window,progress', 'four_flows_share_a_long_queue': 'window,queue,progress',
+    'four_flows_share_codel': 'window,queue,progress', 'parking_lot_of_three_routers': 'window,queue,progress',
+    'acks_share_the_bottleneck': 'sequence,queue', 'a_timer_that_stays_doubled': 'window,sequence'}
 
 
 def run_of(name):
@@ -24,7 +29,8 @@ def run_of(name):
 
 
 # Each picture and the words that draw it.
-PICTURES = {name: run_of(name) for name in OF_ONE_RUN}
+PICTURES = {name: [*run_of(name), '--panels', panels] for name, panels in OF_ONE_RUN.items()}
+PICTURES['a_timer_that_stays_doubled'].append('--whole')        # its stalls as long as they are
 PICTURES['drop_tail_and_codel'] = [
     *run_of('bufferbloat'), '--beside', *run_of('bufferbloat_with_codel'), '--panels', 'delay,progress',
     '--flow', 'g', '--log', '--names', 'drop-tail,CoDel', '--title',

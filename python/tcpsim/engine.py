@@ -124,9 +124,10 @@ class EngineRun:
             total += 0 if back else self.dropped(number)
         return total
 
-    def idle(self, number: int) -> bool:
-        """Whether a link has carried and dropped nothing."""
-        return not (self.links[number]['sent', 'packets'] or self.dropped(number))
+    def is_busy(self, number: int) -> bool:
+        """Whether a link dropped a packet, or one waited longer than the greatest that can come to it takes to be sent."""
+        longest = self.links[number]['greatest delay in the queue', 'ns']
+        return self.dropped(number) > 0 or (longest or 0) > self.longest(number)
 
     def over_span(self, number: int, figure: tuple[str, str]) -> float | None:
         """What was counted to the scenario's end, over the span; None where that ends earlier and it cannot be told

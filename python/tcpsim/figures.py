@@ -111,6 +111,7 @@ class LinkFigures(LinkState):
         self.drops, self.greatest, self.before = 0, len(self.waiting), self.summed(time)
         self.most = 0                       # of the rows before, `greatest` counts anew in each
         self.last = None
+        self.longest_wait = 0               # ns, of the packets that it began to send
         del self.waits[:]
 
     def duration(self, stream: Stream) -> int:
@@ -124,7 +125,10 @@ class LinkFigures(LinkState):
     def on_taken(self, time: int, stream: Stream, entered: int) -> None:
         """Counts a packet that it begins to send."""
         self.count[stream] += 1
-        self.waits.append(time - entered)
+        wait = time - entered
+        self.waits.append(wait)
+        if wait > self.longest_wait:
+            self.longest_wait = wait
         self.began, self.last = time, stream
 
     def on_drop(self, *_) -> None:
@@ -135,9 +139,9 @@ class LinkFigures(LinkState):
         """Packets that it began to send."""
         return sum(self.count.values())
 
-    def idle(self) -> bool:
-        """Whether it has carried and dropped nothing."""
-        return not (self.count or self.overhang or self.drops)
+    def is_busy(self) -> bool:
+        """Whether it dropped a packet, or one waited longer than the greatest that it sent takes to be sent."""
+        return bool(self.drops) or self.longest_wait > max(map(self.duration, self.count), default=0)
 
     def mean_queue(self, begin: int, end: int) -> float:
         """How many packets waited, in the mean over a span in ns."""
@@ -292,7 +296,9 @@ def flow_figures(run: Figures, number: int, used: Sequence[float]) -> list[tuple
             ('sent again by timeout', 'segments', flow.by_timeout),
             ('least round trip', 'ns', trips.least()),
             ('median round trip', 'ns', trips.percentile(50)),
+            ('95th percentile of round trips', 'ns', trips.percentile(95)),
             ('99th percentile of round trips', 'ns', trips.percentile(99)),
+            ('took', 'ns', None if flow.completed is None else flow.completed - flow.flow.start),
             ('completed', 'ns', flow.completed)]
     drops = sorted((reason, 'ack' if sort == ACK else 'data', run.links[at].link.name, n)
                    for (reason, sort, at), n in flow.drops.items())
@@ -307,6 +313,7 @@ def link_figures(run: Figures, number: int, used: Sequence[float]) -> list[tuple
             ('greatest queue', 'packets', link.greatest_queue()),
             ('mean queue', 'packets', link.mean_queue(run.begin, run.end)),
             ('median delay in the queue', 'ns', waits.percentile(50)),
+            ('95th percentile of delay in the queue', 'ns', waits.percentile(95)),
             ('99th percentile of delay in the queue', 'ns', waits.percentile(99)),
             ('sent', 'packets', link.sent()),
             ('dropped', 'packets', link.drops),
@@ -318,7 +325,7 @@ def figures(run: Figures, only_busy: bool = False) -> list[tuple]:
     span = run.end - run.begin
     used = [link.sending(run.end) / span for link in run.links]
     rows = [('flow', flow.flow.name, *row) for flow in run.flows for row in flow_figures(run, flow.number, used)]
-    rows += [('link', link.link.name, *row) for link in run.links if not (only_busy and link.idle())
+    rows += [('link', link.link.name, *row) for link in run.links if link.is_busy() or not only_busy
              for row in link_figures(run, link.number, used)]
     shares = [flow.goodput(run.begin, run.end) for flow in run.flows]
     rows.append(('run', '', 'Jain\'s index of goodput', 'part', jain([n for n in shares if n is not None])))
@@ -348,6 +355,7 @@ def engine_flow_figures(run: EngineRun, number: int, used: Sequence[float]) -> l
             *((*figure, values[figure]) for figure in FLOW_ENGINE),
             ('timed round trips', 'times', values['round trips', 'times']),
             *((name, 'ns', values[figure, 'ns']) for name, figure in TIMED),
+            ('took', 'ns', None if values['completed', 'ns'] is None else values['completed', 'ns'] - values['start', 'ns']),
             ('completed', 'ns', values['completed', 'ns'])]
 
 
@@ -372,7 +380,7 @@ def engine_figures(run: EngineRun, only_busy: bool = False) -> list[tuple]:
     rows = [('flow', flow.name, *row) for number, flow in enumerate(run.scenario.flows)
             for row in engine_flow_figures(run, number, used)]
     rows += [('link', link.name, *row) for number, link in enumerate(run.scenario.links)
-             if not (only_busy and run.idle(number)) for row in engine_link_figures(run, number, used)]
+             if run.is_busy(number) or not only_busy for row in engine_link_figures(run, number, used)]
     shares = [run.goodput(number) for number in range(len(run.flows))]
     rows.append(('run', '', 'Jain\'s index of goodput', 'part', jain([n for n in shares if n is not None])))
     rows.append(('run', '', 'span', 'ns', run.end - run.begin))

@@ -236,7 +236,7 @@ class TestSeries(Files):
             name = 'c mean' if '--series' in words else 'link,c,' if words else '\nc  '
             assert name in every
             assert name not in busy
-            assert (name.replace('c', 'b', 1) if words != ('--csv',) else 'link,b,') in busy
+            assert (name.replace('c', 'a', 1) if words != ('--csv',) else 'link,a,') in busy
 
     def test_too_many_rows(self):
         done = self.run_flows(self.scenario, self.trace, '--series', '1ns')
@@ -250,8 +250,8 @@ class TestCommands(Files):
         assert lines[0].split('  ')[0] == 'flow'
         for title in ('loss %', 'timeouts', 'sent again: fast', 'after timeouts'):
             assert title in lines[0]
-        assert lines[1].split() == 'f 7,000 4.667 100.0 a 9 22.22 0 1 0 3.080 4.120 5.160 -'.split()
-        assert lines[4].split()[-2:] == ['2', '22.22']     # two of nine offered
+        assert lines[1].split() == 'f 7,000 4.667 100.0 a 9 22.22 0 1 0 3.080 4.120 5.160 5.160 - -'.split()
+        assert lines[4].split()[-2:] == ['2', '22.22']
 
     def test_csv_in_a_part(self):
         lines = self.lines(self.scenario, self.trace, '--csv', '--from', '4140us', '--to', '0.012s')

@@ -14,7 +14,7 @@ import sys
 
 import pytest
 
-from clone import BIN, TOP
+from clone import BIN, MODEL, TOP
 from tcpsim import cycle, sweep
 from tcpsim.cli import net as command
 from tcpsim.command_line import Wrong
@@ -23,7 +23,7 @@ from tcpsim.scenario import senders
 from tcpsim.scenario.text import Scenario
 
 BUILT = os.path.join(TOP, 'crates', 'tcpsim', 'out', 'tcpsim')
-PROGRAM = [BUILT] if os.path.exists(BUILT) else [sys.executable, paths.MODEL]
+PROGRAM = [BUILT] if os.path.exists(BUILT) else [sys.executable, MODEL]
 MINUTE = '60s'
 
 

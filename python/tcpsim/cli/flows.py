@@ -8,7 +8,8 @@ SCENARIO is a text or an image, `-` is standard input. Without TRACE the program
 and is not kept; with --engine there is none, and the figures are from `tcpsim figures`. --from and --to (times, as 5s
 or 20ms) choose a part of the span, to which what happens at --to itself does not belong. A trace that is cut is
 refused, or with --partial taken as far as it goes. --series writes as CSV each flow's mean window and goodput and each
-link's mean and greatest queue, a row for each STEP. --busy leaves out the links that carried and dropped nothing.
+link's mean and greatest queue, a row for each STEP. --busy leaves out the links at which nothing was dropped and no
+packet waited longer than the greatest takes to be sent.
 """
 from __future__ import annotations
 
@@ -33,9 +34,12 @@ TRACE_COLUMNS = {
              ('sent again by fast retransmit', 'sent again: fast', '{:,}', 1),
              ('sent again by timeout', 'after timeouts', '{:,}', 1),
              ('least round trip', 'RTT ms: least', '{:.3f}', 1e6), ('median round trip', 'median', '{:.3f}', 1e6),
-             ('99th percentile of round trips', '99th', '{:.3f}', 1e6), ('completed', 'completed s', '{:.6f}', 1e9)),
+             ('95th percentile of round trips', '95th', '{:.3f}', 1e6),
+             ('99th percentile of round trips', '99th', '{:.3f}', 1e6),
+             ('took', 'took s', '{:.6f}', 1e9), ('completed', 'completed s', '{:.6f}', 1e9)),
     'link': (('utilization', 'utilization %', '{:.1f}', .01), ('greatest queue', 'queue: greatest', '{:,}', 1),
              ('mean queue', 'mean', '{:.2f}', 1), ('median delay in the queue', 'delay ms: median', '{:.3f}', 1e6),
+             ('95th percentile of delay in the queue', '95th', '{:.3f}', 1e6),
              ('99th percentile of delay in the queue', '99th', '{:.3f}', 1e6), ('dropped', 'dropped', '{:,}', 1),
              ('loss', 'loss %', '{:.2f}', .01)),
 }
@@ -43,8 +47,9 @@ ENGINE_COLUMNS = {
     'flow': (*TRACE_COLUMNS['flow'][:2], ('bottleneck', 'bottleneck', '{}', 0), TRACE_COLUMNS['flow'][4],
              *TRACE_COLUMNS['flow'][6:9], ('least timed round trip', 'timed RTT ms: least', '{:.3f}', 1e6),
              ('median timed round trip', 'median', '{:.3f}', 1e6),
-             ('99th percentile of timed round trips', '99th', '{:.3f}', 1e6), TRACE_COLUMNS['flow'][-1]),
-    'link': (*TRACE_COLUMNS['link'][:-1], ('dropped as lost', 'as lost', '{:,}', 1), ('dropped as full', 'as full', '{:,}', 1),
+             ('99th percentile of timed round trips', '99th', '{:.3f}', 1e6), *TRACE_COLUMNS['flow'][-2:]),
+    'link': (*TRACE_COLUMNS['link'][:4], *TRACE_COLUMNS['link'][5:-1],
+             ('dropped as lost', 'as lost', '{:,}', 1), ('dropped as full', 'as full', '{:,}', 1),
              ('dropped by CoDel', 'by CoDel', '{:,}', 1), TRACE_COLUMNS['link'][-1]),
 }
 
@@ -87,7 +92,7 @@ def write_csv(rows: list, file: Output) -> None:
 def write_series(run, file: Output, only_busy=False) -> None:
     """A row for each step: the two moments, each flow's and each link's columns. What is not is empty."""
     columns = run.columns()
-    kept = [at for at, (_, link) in enumerate(columns) if not (only_busy and link and link.idle())]
+    kept = [at for at, (_, link) in enumerate(columns) if not (only_busy and link and not link.is_busy())]
     out = csv.writer(file, lineterminator='\n')
     out.writerow([columns[at][0] for at in kept])
     run.series.seek(0)
@@ -111,7 +116,9 @@ def words_of(given: list[str] | None = None) -> argparse.Namespace:
     words.add_argument('--from', dest='begin', metavar='T', type=moment,
                        help='count from here on, as 5s or 20ms; else from the first flow\'s start')
     words.add_argument('--to', dest='end', metavar='T', type=moment, help='count up to here; else to the run\'s end')
-    words.add_argument('--busy', action='store_true', help='leave out links that carried and dropped nothing')
+    words.add_argument('--busy', action='store_true',
+                       help='leave out links that dropped nothing and at which no packet waited longer than the greatest '
+                       'takes to be sent')
     words.add_argument('--engine', action='store_true',
                        help='from `tcpsim figures`, with no trace: of the whole run, percentiles at most 1/32 above the '
                        'exact ones. It has no share of the bottleneck, no loss and no drops of a flow, and round trips '

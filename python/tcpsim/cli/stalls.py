@@ -1,10 +1,11 @@
 """tcpsim-stalls: each span without a new acknowledgement, its cause and how to see it.
 
-Usage: bin/tcpsim-stalls SCENARIO [TRACE] [--partial] [--longer 200ms] [--flow F] [--csv] [-o FILE]
+Usage: bin/tcpsim-stalls SCENARIO [TRACE] [--partial] [--longer 200ms] [--flow F] [--summary] [--csv] [-o FILE]
                          [--program FILE | --model]
        bin/tcpsim-stalls --causes
 
-Without TRACE the program is run. `--causes` prints the rule of each cause.
+Without TRACE the program is run. `--summary` writes a line for each flow: how many stalls, how long in all, and by cause.
+`--causes` prints the rule of each cause.
 """
 from __future__ import annotations
 
@@ -15,11 +16,19 @@ from tcpsim import output
 from tcpsim.causes import CAUSES, name_of, rule_of, seconds
 from tcpsim.command_line import Words, as_type
 from tcpsim.cycle import words_of as words_of_cycle
-from tcpsim.output import Output
+from tcpsim.output import Output, aligned
 from tcpsim.scenario.units import moment
 from tcpsim.stalls import LONGER, stalls_and_cycles
 from tcpsim.walk import flow_named, opened
 from tcpsim.whole_trace import inputs_of
+
+
+# A cause as a column is headed.
+SHORT = {'a loss was left to the timer': 'left to the timer', 'fast retransmit took a round trip': 'a round trip',
+         'a retransmission was lost': 'retransmission lost', 'a delayed acknowledgement was waited for':
+         'delayed acknowledgement', 'the timer had doubled': 'timer doubled', 'an acknowledgement was lost':
+         'acknowledgement lost', 'its packets waited in one queue': 'waited in one queue',
+         'the receive window was full': 'receive window full'}
 
 
 def commands(positions):
@@ -47,6 +56,39 @@ def write_table(rows: list, longer, file: Output) -> None:
     print(f'{len(rows)} {"stall" if len(rows) == 1 else "stalls"} longer than {seconds(longer)}', file=file)
 
 
+def summary_of(flows: list[str], rows: list) -> list[tuple]:
+    """Of each flow its name, how many stalls it has, their ns in all, and both by the cause's name."""
+    found = []
+    for flow in flows:
+        own = [row for row in rows if row.flow == flow]
+        causes = {}
+        for row in own:
+            count, ns = causes.get(row.cause, (0, 0))
+            causes[row.cause] = count + 1, ns + row.length
+        found.append((flow, len(own), sum(row.length for row in own), causes))
+    return found
+
+
+def write_summary(summary: list[tuple], longer: int, file: Output) -> None:
+    """A line for each flow: stalls, seconds, and of each cause that there is how often and how many seconds."""
+    names = [name for name in map(name_of, CAUSES) if any(name in causes for *_, causes in summary)]
+    lines = [['flow', 'stalls', 'seconds', *(SHORT.get(name, name) for name in names)]]
+    for flow, count, ns, causes in summary:
+        cells = [f'{causes[name][0]:,} in {causes[name][1] / 10**9:.3f}' if name in causes else '-' for name in names]
+        lines.append([flow, f'{count:,}', f'{ns / 10**9:.3f}', *cells])
+    print('\n'.join(aligned(lines)), file=file)
+    total = sum(count for _, count, *_ in summary)
+    print(f'{total:,} {"stall" if total == 1 else "stalls"} longer than {seconds(longer)}', file=file)
+
+
+def write_summary_csv(summary: list[tuple], file: Output) -> None:
+    """A row for each flow; times in nanoseconds."""
+    out, names = csv.writer(file, lineterminator='\n'), list(map(name_of, CAUSES))
+    out.writerow(('flow', 'stalls', 'ns', *(f'{name}: {what}' for name in names for what in ('stalls', 'ns'))))
+    for flow, count, ns, causes in summary:
+        out.writerow((flow, count, ns, *(part for name in names for part in causes.get(name, (0, 0)))))
+
+
 def write_causes(file: Output) -> None:
     """Writes the rule of each cause."""
     for cause in CAUSES:
@@ -61,6 +103,8 @@ def words_of() -> argparse.Namespace:
     words.add_argument('--longer', metavar='TIME', type=as_type(moment), default=LONGER,
                        help='spans longer than this (default 200ms)')
     words.add_argument('--flow', metavar='F', help='only this flow, by its name or number')
+    words.add_argument('--summary', action='store_true',
+                       help='a line for each flow: stalls, seconds, and both by cause; with --csv a row')
     words.add_argument('--csv', action='store_true', help='flow,from,to,ns,cause,found,commands; times in nanoseconds')
     words.add_output('the table or the CSV')
     words.add_argument('--causes', action='store_true', help='print the rule of each cause')
@@ -70,12 +114,13 @@ def words_of() -> argparse.Namespace:
     return given
 
 
-def rows_of(given: argparse.Namespace) -> tuple[list, list]:
-    """The rows that the words ask for, and the cycles of timeouts."""
+def rows_of(given: argparse.Namespace) -> tuple[list, list, list]:
+    """The flows that the words ask for, by name, the rows of their stalls, and their cycles of timeouts."""
     with opened(given) as (scenario, lines):
         only = None if given.flow is None else scenario.flows[flow_named(scenario, given.flow)].name
         rows, cycles = stalls_and_cycles(scenario, lines, given.longer)
-        return [row for row in rows if only in (None, row.flow)], [cycle for cycle in cycles if only in (None, cycle.flow)]
+        return ([flow.name for flow in scenario.flows if only in (None, flow.name)],
+                [row for row in rows if only in (None, row.flow)], [cycle for cycle in cycles if only in (None, cycle.flow)])
 
 
 def main() -> None:
@@ -84,10 +129,15 @@ def main() -> None:
     with output.opened(given.output, inputs_of(given)) as file:
         if given.causes:
             write_causes(file)
+            return
+        flows, rows, cycles = rows_of(given)
+        if given.summary and given.csv:
+            write_summary_csv(summary_of(flows, rows), file)
+        elif given.summary:
+            write_summary(summary_of(flows, rows), given.longer, file)
         elif given.csv:
-            write_csv(rows_of(given)[0], file)
+            write_csv(rows, file)
         else:
-            rows, cycles = rows_of(given)
             write_table(rows, given.longer, file)
             for cycle in cycles:
                 print(words_of_cycle(cycle), file=file)

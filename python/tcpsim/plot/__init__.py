@@ -3,7 +3,8 @@
 Wants matplotlib. All times are nanoseconds.
 
 `choice` reads the words and picks what is shown, `clock` is the axis of time, `points` thins curves out, `flow_panels`
-and `link_panels` draw a panel each, `labels` finds where names stand, `layout` puts all together, `drawn` says what a
+and `link_panels` draw a panel each, `broken` finds how high the axis of windows goes, `labels` finds where names stand,
+`layout` puts all together, `slide` draws one panel for a lecture, `drawn` says what a
 picture shows, `files` writes it, `sweep` draws a sweep.
 """
 from __future__ import annotations
@@ -18,6 +19,7 @@ from tcpsim.plot.choice import beside, drawable, picture_of, runs_of, title_of, 
 from tcpsim.plot.drawn import drawn
 from tcpsim.plot.files import save
 from tcpsim.plot.layout import draw
+from tcpsim.plot.slide import draw_slide
 from tcpsim.plot.points import busy_parts, steps
 
 __all__ = ['busy_parts', 'draw', 'drawn', 'figure_of', 'picture_of', 'plt', 'save', 'steps', 'words_of']
@@ -28,4 +30,7 @@ def figure_of(given: argparse.Namespace) -> plt.Figure:
     runs = runs_of(given)
     title = drawable(given.title) if given.title else '; '.join(title_of(name, run) for name, run in runs)
     picture = beside(given, runs) if given.beside else picture_of(given, runs[0][1])
+    if given.slide:
+        names = '; '.join(name for name, _ in runs)
+        return draw_slide(picture, given.panels[0], drawable(given.title) if given.title else names)
     return draw(picture, given.panels, title)

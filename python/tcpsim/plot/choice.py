@@ -71,6 +71,9 @@ def words_of(given: list[str] | None = None) -> argparse.Namespace:
                             'than 200ms and a 20th of the picture')
     words.add_argument('--log', action='store_true', help='delays on a logarithmic axis')
     words.add_argument('--whole', action='store_true', help='leave no idle span out of the axis of time')
+    words.add_argument('--slide', action='store_true',
+                       help='one panel for a lecture, 1,600 pixels wide, with letters of 24 points, thick lines, and labels '
+                            'on lines in place of a key; that of --panels, else the window')
     words.add_argument('--title', help='else the scenario\'s name and what is in it')
     words.add_argument('--beside', nargs='+', action='append', metavar=('SCENARIO', 'TRACE'), default=[],
                        help='one more run, drawn in the same panels or beside them; any number of times')
@@ -81,7 +84,9 @@ def words_of(given: list[str] | None = None) -> argparse.Namespace:
         words.error('--beside takes a scenario and at most a trace; for one more run write --beside again')
     if given.names and len(given.names) != 1 + len(given.beside):
         words.error(f'--names has {len(given.names)}, and there are {1 + len(given.beside)} runs')
-    given.panels = given.panels or list(FIRST_CHOICE)
+    if given.slide and len(given.panels or ['window']) > 1:
+        words.error(f'--slide draws one panel, and --panels names {len(given.panels)}')
+    given.panels = given.panels or (['window'] if given.slide else list(FIRST_CHOICE))
     return given
 
 
@@ -129,6 +134,18 @@ def named(names, entries, what):
 def known_until(run: Run):
     """Up to when nothing more can happen that the trace does not tell."""
     return run.scenario.end if run.whole else run.last
+
+
+def ends_at(run: Run) -> int:
+    """Up to when a run's links are drawn, in ns: to its last event where every flow is complete."""
+    done = all(flow.completed is not None for flow in run.flows)
+    return run.last if done else known_until(run)
+
+
+def flow_view(run: Run, number: int, name: str, at: int) -> FlowView:
+    """A flow as it is shown: up to its completion."""
+    flow = run.flows[number]
+    return FlowView(flow, name, at, known_until(run) if flow.completed is None else flow.completed)
 
 
 def window_of(given: argparse.Namespace, runs):
@@ -213,9 +230,8 @@ def picture_of(given: argparse.Namespace, run: Run) -> Picture:
     """What is drawn of one run."""
     window, cuts = window_of(given, (run,))
     flows, links = shown_of(given, run, window)
-    until = known_until(run)
-    return Picture([FlowView(run.flows[n], run.scenario.flows[n].name, at, until) for at, n in enumerate(flows)],
-                   [LinkView(run.links[n], run.scenario.links[n].name, at, until) for at, n in enumerate(links)],
+    return Picture([flow_view(run, n, run.scenario.flows[n].name, at) for at, n in enumerate(flows)],
+                   [LinkView(run.links[n], run.scenario.links[n].name, at, ends_at(run)) for at, n in enumerate(links)],
                    Clock(window, cuts), longer=stall_of(given, window), log=given.log)
 
 
@@ -226,10 +242,9 @@ def beside(given: argparse.Namespace, runs) -> Picture:
     flows, links = [], []
     for name, run in runs:
         of_flows, of_links = shown_of(given, run, window, most_links=1)
-        flows += [FlowView(run.flows[n], name + f', flow {run.scenario.flows[n].name}', 0, known_until(run))
-                  for n in of_flows]
+        flows += [flow_view(run, n, name + f', flow {run.scenario.flows[n].name}', 0) for n in of_flows]
         links += [LinkView(run.links[n], name + ('' if len(of_links) == 1 else f', {run.scenario.links[n].name}'),
-                           0, known_until(run)) for n in of_links]
+                           0, ends_at(run)) for n in of_links]
     return Picture([view._replace(number=at) for at, view in enumerate(flows)],
                    [view._replace(number=at) for at, view in enumerate(links)],
                    Clock(window, cuts), True, stall_of(given, window), given.log)

@@ -86,7 +86,7 @@ class Clock:
             axes.axvspan(left, right, facecolor='#F4F4F4', edgecolor='#C8C8C8', hatch='////', lw=0, zorder=3)
             axes.annotate(f'{length_text(end - begin)} without an event', ((left + right) / 2, .5),
                           xycoords=('data', 'axes fraction'), rotation=90, ha='center', va='center',
-                          fontsize=6.5, color='#333333', zorder=4,
+                          fontsize=8.5, color='#333333', zorder=4,
                           bbox={'boxstyle': 'square,pad=.15', 'fc': '#F4F4F4', 'ec': 'none'})
 
     def cut_boxes(self, axes: Axes):

@@ -12,6 +12,8 @@ from tcpsim import output
 
 from .drawn import drawn
 
+WIDTH = {10: 1400}      # pixels of a .png by the picture's width in inches; of another 100 an inch
+
 
 def save(figure: Figure, path) -> None:
     """Writes the picture."""
@@ -24,10 +26,10 @@ def content_of(figure: Figure, path) -> bytes:
     ending = os.path.splitext(path)[1]
     plain = {'.svg': {'Date': None, 'Creator': None}, '.pdf': {'CreationDate': None}, '.png': {}}[ending]
     plt.rcParams['svg.hashsalt'] = 'tcpsim'
-    content = io.BytesIO()
+    content, wide = io.BytesIO(), figure.get_size_inches()[0]
     if ending == '.svg':
         plain['Description'] = '\n'.join(drawn(figure))
-    figure.savefig(content, format=ending[1:], dpi=100, metadata=plain)
+    figure.savefig(content, format=ending[1:], dpi=WIDTH.get(wide, 100 * wide) / wide, metadata=plain)
     content = content.getvalue()
     if ending == '.svg':
         content = re.sub(r' d="[^"]*"', shorter, content.decode('utf-8')).encode('utf-8')

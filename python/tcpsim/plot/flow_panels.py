@@ -7,19 +7,18 @@ import numpy as np
 from matplotlib.axes import Axes
 from matplotlib.lines import Line2D
 from matplotlib.patches import Patch
-from matplotlib.ticker import MaxNLocator
 
+from .broken import Axis, axis_of, binds, heights_of, note_of, set_heights
 from .clock import length_text
 from .picture import DATA, recoveries
-from .points import dots, outside, stalls, steps, within
-from .style import (AGAIN, BLUE, GREEN, GREY, IN_FLIGHT, ORANGE, RED, SIGNS, SKY, STEPS, byte_unit, bytes_text,
-                    key_above, recovery_mark, series, sign_of, stall_mark, timeout_mark)
+from .points import dots, stalls, steps, within
+from .style import (AGAIN, BLUE, GREEN, GREY, IN_FLIGHT, NOTE, ORANGE, RED, SIGNS, SKY, byte_unit, bytes_text, key_above,
+                    recovery_mark, series, sign_of, stall_mark, timeout_mark)
 
 MOST_NAMED = 6          # so many lost segments are named beside their sign
 OWN_AXIS = .1           # a flow whose values are below this part of the greatest has an axis of its own
 APART = 2               # flows whose byte numbers lie over so many times the longest way of one are far apart
 OWN = 'an axis of its own'
-ROOM = 1.12             # how much higher than the greatest value an axis goes
 
 
 # ---- marks that window and sequence panels share
@@ -67,44 +66,46 @@ def sharing(tops):
     return [max(tops) if top >= OWN_AXIS * max(tops) else top for top in tops]
 
 
-def note_own_axis(tops, number: int):
-    """What is said of a panel whose axis of values is its own; None where it is shared."""
-    return OWN if sharing(tops)[number] < max(tops) else None
-
-
 # ---- the window
 
-def window_tops(picture):
-    """Of each flow the greatest cwnd outside recovery in sight."""
-    tops = []
-    for view in picture.flows:
-        times, values = within(view.run.times, view.run.cwnd, picture.window)
-        calm = outside(times, values, recoveries(view))
-        calm = calm if np.isfinite(calm).any() else values
-        tops.append(max(1, int(np.nanmax(calm)) if len(calm) else 1))
-    return tops
+def window_axes(picture):
+    """Of each flow's window the axis, and what is said of it: all share one, but a flow far below has its own. It is
+    broken for those whose window goes above the break."""
+    heights = [heights_of(picture, view) for view in picture.flows]
+    later = [its.later for its in heights]
+    shared = [level == max(later) for level in sharing(later)]
+    common = axis_of(heights, shared)
+    found = []
+    for its, with_others in zip(heights, shared):
+        axis = Axis(common.knee, max(common.knee, its.top)) if with_others else axis_of([its], [True])
+        notes = [] if with_others else [OWN]
+        notes += [note_of(axis)] if its.top > axis.knee else []
+        found.append((axis, '; '.join(notes) or None))
+    return found
 
 
 def window_panel(picture, axes: Axes, view, title: str, width: float, in_full: bool = True) -> None:
     """Windows and what is in flight."""
-    flow, tops = view.run, window_tops(picture)
-    greatest = sharing(tops)[view.number]
-    scale, unit = byte_unit(greatest)
+    flow, all_axes = view.run, window_axes(picture)
+    axis, note = all_axes[view.number]
+    scale, unit = byte_unit(max(each.knee for each, _ in all_axes))
     mark_spans(picture, axes, view)
     times, flight = steps(flow.times, flow.flight, picture.until(view))
     axes.fill_between(picture.clock.x(times), flight / scale, step='post', color=IN_FLIGHT, lw=0, zorder=1)
-    # ssthresh starts at the receiver's window, often far above all else: both may leave the panel.
-    if flow.flow.rwnd <= ROOM * greatest:
-        axes.axhline(flow.flow.rwnd / scale, color=GREEN, lw=1, ls='-.')
-    picture.curve(axes, view, flow.times, flow.ssthresh, scale, color=ORANGE, ls=(0, (4, 2)))
+    if binds(view, picture):
+        picture.curve(axes, view, [flow.flow.start], [flow.flow.rwnd], scale, color=GREEN, ls='-.')
+    # ssthresh starts at the receiver's window, often far above all else: it may leave the panel.
+    picture.curve(axes, view, flow.times, flow.ssthresh, scale, color=ORANGE, ls=(0, (4, 2)), lw=1.4)
     if picture.in_sight(recoveries(view)):
-        picture.curve(axes, view, flow.times, flow.cwnd, scale, color=GREY, lw=.6)
-    picture.curve(axes, view, flow.times, flow.cwnd, scale, hidden=recoveries(view), color=BLUE, lw=1.4)
-    loss_row(picture, axes, view, greatest, scale, in_full)
-    axes.set_ylim(-.1 * greatest / scale, ROOM * greatest / scale)
-    axes.yaxis.set_major_locator(MaxNLocator(6 if in_full else 3, steps=STEPS))
+        spans = recoveries(view)
+        calm = zip([picture.window[0], *(end + 1 for _, end in spans)],
+                   [*(begin for begin, _ in spans), picture.window[1] + 1])
+        picture.curve(axes, view, flow.times, flow.cwnd, scale, hidden=list(calm), color=GREY, lw=1.2)
+    picture.curve(axes, view, flow.times, flow.cwnd, scale, hidden=recoveries(view), color=BLUE, lw=2)
+    loss_row(picture, axes, view, axis.knee, scale, in_full)
+    set_heights(axes, axis, scale, 6 if in_full else 3)
     axes.set_ylabel(unit)
-    key_above(axes, title, [], width, right=note_own_axis(tops, view.number))
+    key_above(axes, title, [], width, right=note)
 
 
 def loss_row(picture, axes: Axes, view, greatest, scale, in_full: bool) -> None:
@@ -118,18 +119,29 @@ def loss_row(picture, axes: Axes, view, greatest, scale, in_full: bool) -> None:
 
 
 def window_key(picture):
-    """The key of all windows. A receiver's window above a panel is named, where there is one for all."""
-    tops, windows = sharing(window_tops(picture)), {view.run.flow.rwnd for view in picture.flows}
-    shown = any(view.run.flow.rwnd <= ROOM * top for view, top in zip(picture.flows, tops))
-    where = '' if shown else ': ' + ' and '.join(map(bytes_text, sorted(windows)[:2])) + ', above'
-    slow = any((within(view.run.times, view.run.ssthresh, picture.window)[1] <= ROOM * top).any()
-               for view, top in zip(picture.flows, tops))
+    """The key of all windows."""
+    slow = any((within(view.run.times, view.run.ssthresh, picture.window)[1] <= axis.knee).any()
+               for view, (axis, _) in zip(picture.flows, window_axes(picture)))
+    windows = [view.run.flow.rwnd for view in picture.flows if binds(view, picture)]
     key = [Line2D([], [], color=BLUE, label='cwnd'),
            Line2D([], [], color=ORANGE, ls='--', label='ssthresh' + ('' if slow else ', above'))]
     if any(picture.in_sight(recoveries(view)) for view in picture.flows):
-        key.insert(1, Line2D([], [], color=GREY, lw=.6, label='cwnd in recovery'))
-    return key + [Line2D([], [], color=GREEN, ls='-.', label='receiver\'s window' + where),
-                  Patch(color=IN_FLIGHT, label='in flight')] + span_key(picture) + loss_key(picture)
+        key.insert(1, Line2D([], [], color=GREY, lw=1.2, label='cwnd in recovery'))
+    if windows:
+        key.append(Line2D([], [], color=GREEN, ls='-.', label=f'receiver\'s window, {bytes_text(max(windows))}'))
+    return key + [Patch(color=IN_FLIGHT, label='in flight')] + span_key(picture) + loss_key(picture)
+
+
+def windows_panel(picture, axes: Axes, views, width: float) -> None:
+    """The windows of several flows in one panel, a curve each; the timeouts and recoveries of none."""
+    axis = axis_of([heights_of(picture, view) for view in views], [True] * len(views))
+    scale, unit = byte_unit(axis.knee)
+    for at, view in enumerate(views):
+        picture.curve(axes, view, view.run.times, view.run.cwnd, scale, **{'lw': 1.6, **series(at)})
+    set_heights(axes, axis, scale, 6)
+    axes.set_ylabel(unit)
+    key_above(axes, 'congestion windows', [Line2D([], [], label=view.name, **series(at)) for at, view in enumerate(views)],
+              width, right=note_of(axis) or None)
 
 
 # ---- sequence numbers
@@ -172,7 +184,7 @@ def sequence_panel(picture, axes: Axes, view, title: str, width: float, in_full:
     picture.points(axes, flow.sent_times, flow.sent, scale, marker='.', ms=7 if count < 20 else 5 if count < 400 else 2,
                    color=BLUE)
     picture.curve(axes, view, begin + list(flow.next_times), [0] + list(flow.next), scale, color=GREEN)
-    picture.curve(axes, view, begin + list(flow.una_times), [0] + list(flow.una), scale, color='#555555')
+    picture.curve(axes, view, begin + list(flow.una_times), [0] + list(flow.una), scale, color='#555555', lw=1.4)
     picture.points(axes, flow.again_times, flow.again, scale, **AGAIN)
     lost = lost_data(picture, view)
     for reason, (marker, color, _) in SIGNS.items():
@@ -205,7 +217,7 @@ def name_lost(picture, axes: Axes, lost, scale) -> None:
         text = f'{number:,} lost' + (' again' if number in seen else '')
         seen.add(number)
         picture.labels.setdefault(axes, []).append(axes.annotate(
-            text, (float(picture.clock.x(time)), number / scale), xytext=(5, 5), textcoords='offset points', fontsize=7.5,
+            text, (float(picture.clock.x(time)), number / scale), xytext=(5, 5), textcoords='offset points', fontsize=NOTE,
             color='#000000', zorder=5, bbox={'boxstyle': 'square,pad=.1', 'fc': '#FFFFFF', 'ec': 'none', 'alpha': .7}))
 
 

@@ -2,6 +2,7 @@
 from __future__ import annotations
 
 import math
+import textwrap
 
 import matplotlib.pyplot as plt
 import numpy as np
@@ -13,7 +14,7 @@ from tcpsim.scenario.text import Unreadable
 from .flow_panels import (columns_of, progress_panel, sequence_key, sequence_panel, window_key, window_panel)
 from .labels import place_labels
 from .link_panels import delay_cdf_panel, delay_panel, queue_panel, utilization_panel
-from .style import KEY, columns_that_fit, link_text
+from .style import HEAD, KEY, LETTER, NOTE, TICKS, TITLE_SIZE, columns_that_fit, link_text
 
 FLOW_PANELS = ('window', 'sequence')
 LINK_PANELS = ('queue', 'delay', 'delay-cdf', 'utilization')
@@ -34,9 +35,9 @@ def draw(picture, panels, title: str) -> Figure:
     link_panels += ['progress'] if 'progress' in panels and picture.flows else []
     if not flow_panels and not link_panels:
         raise Unreadable('there is nothing to draw')
-    size = (14, 8) if flow_panels else (10, 2 + 2 * len(link_panels))
+    size = (10, 7) if flow_panels else (10, 2 + 2 * len(link_panels))
     figure = plt.figure(figsize=size, layout='constrained')
-    figure.suptitle(title, fontsize=11, fontweight='bold')
+    figure.suptitle(title, fontsize=HEAD, fontweight='bold')
     if not flow_panels or not link_panels:
         parts, widths = [figure.subfigures(1, 1)], (1, 1)
     else:
@@ -128,10 +129,11 @@ def draw_links(picture, figure: Figure, panels, width: float) -> None:
             common_look(axes)
         else:
             finish(picture, axes, axes is timed[-1])
-    texts = [link_text(view.run.link, view.name) for view in picture.links if set(panels) & set(LINK_PANELS)]
+    texts = [textwrap.fill(link_text(view.run.link, view.name), int(width / LETTER)) for view in picture.links
+             if set(panels) & set(LINK_PANELS)]
     before = '' if picture.beside or not texts else 'link ' if len(texts) == 1 else 'links '
     if texts:
-        figure.suptitle(before + '\n'.join(texts), fontsize=9 if len(texts) == 1 else 8)
+        figure.suptitle(before + '\n'.join(texts), fontsize=NOTE)
 
 
 # ---- what all panels have
@@ -143,12 +145,12 @@ def finish(picture, axes: Axes, lowest, small: bool = False) -> None:
     picture.clock.mark_cuts(axes)
     axes.tick_params(labelbottom=lowest)
     if lowest:
-        axes.set_xlabel(f'time, {picture.clock.unit}', fontsize=9)
+        axes.set_xlabel(f'time, {picture.clock.unit}', fontsize=TITLE_SIZE)
 
 
 def common_look(axes: Axes, small: bool = False) -> None:
     """Sets what all panels have."""
     axes.grid(True, color='#DDDDDD', lw=.6)
     axes.set_axisbelow(True)
-    axes.tick_params(labelsize=7 if small else 8)
-    axes.yaxis.label.set_size(8 if small else 9)
+    axes.tick_params(labelsize=TICKS)
+    axes.yaxis.label.set_size(TITLE_SIZE)

@@ -7,7 +7,7 @@ from matplotlib.lines import Line2D
 from matplotlib.ticker import FixedLocator, FuncFormatter, MaxNLocator, NullLocator
 
 from .points import BANDS, bins, busy_parts, dots, envelope, is_dense
-from .style import SIGNS, STEPS, delay_unit, key_above, series, sign_of
+from .style import NOTE, SIGNS, STEPS, TITLE_SIZE, delay_unit, key_above, series, sign_of
 
 
 def link_lines(links):
@@ -86,18 +86,18 @@ def delay_panel(picture, axes: Axes, links, width: float, named) -> None:
     """How long packets waited."""
     found = [delays(picture, view) for view in links]
     greatest = max([0, *(int(waits.max()) for _, waits in found if len(waits))])
-    scale, unit = delay_unit(greatest)
+    scale, unit = delay_unit(min(greatest, 10**9) if picture.log else greatest)
     greatest = greatest or scale
     few = sum(len(waits) for _, waits in found) < 400
     for view, (entered, waits) in zip(links, found):
         times, values = dots(entered, waits, picture.window)
         if len(times):
-            axes.plot(picture.clock.x(times), values / scale, marker='.', ms=4 if few else 2,
+            axes.plot(picture.clock.x(times), values / scale, marker='.', ms=6 if few else 3,
                       rasterized=len(times) > 400, clip_on=False, **{**series(view.number), 'ls': 'none'})
     for target in {view.run.link.target for view in links if view.run.link.queue == 'codel'}:
         axes.axhline(target / scale, color='#000000', lw=.8, ls=':')
         axes.annotate('target', (1, target / scale), xycoords=('axes fraction', 'data'),
-                      xytext=(2, 0), textcoords='offset points', va='center', fontsize=8)
+                      xytext=(2, 0), textcoords='offset points', va='center', fontsize=NOTE)
     if picture.log:
         log_axis(axes.set_yscale, axes.yaxis, greatest / scale)
         axes.set_ylim(-.1, 1.5 * greatest / scale)
@@ -120,7 +120,7 @@ def delay_cdf_panel(picture, axes: Axes, links, width: float, _named) -> None:
     """How many percent of the packets waited at most so long: an axis of its own, and no time."""
     found = [np.sort(delays(picture, view)[1]) for view in links]
     greatest = max([0, *(int(waits[-1]) for waits in found if len(waits))])
-    scale, unit = delay_unit(greatest)
+    scale, unit = delay_unit(min(greatest, 10**9) if picture.log else greatest)
     greatest = greatest or scale
     key = []
     for view, waits in zip(links, found):
@@ -139,7 +139,7 @@ def delay_cdf_panel(picture, axes: Axes, links, width: float, _named) -> None:
     axes.set_ylim(0, 102)
     axes.set_yticks((0, 25, 50, 75, 100))
     axes.set_ylabel('% of packets')
-    axes.set_xlabel(f'at most this delay in the queue, {unit}', fontsize=9)
+    axes.set_xlabel(f'at most this delay in the queue, {unit}', fontsize=TITLE_SIZE)
     key_above(axes, 'distribution of the delay in the queue', key, width)
 
 
@@ -148,13 +148,16 @@ def delay_cdf_panel(picture, axes: Axes, links, width: float, _named) -> None:
 def utilization_panel(picture, axes: Axes, links, width: float, named) -> None:
     """Which part of the time a link is busy."""
     count = max(bins(view.run) for view in links)
-    edges = picture.clock.edges(count)
+    whole = picture.clock.edges(count)
     for view in links:
-        _, parts = busy_parts(view.run, picture.window, edges)
-        axes.stairs(100 * parts, picture.clock.x(edges), lw=1.2, baseline=None, **series(view.number))
+        edges = [edge for edge in whole if edge <= view.until]
+        if len(edges) < 2:
+            continue
+        _, parts = busy_parts(view.run, picture.window, np.asarray(edges))
+        axes.stairs(100 * parts, picture.clock.x(edges), lw=1.6, baseline=None, **series(view.number))
         if len(links) == 1:
             axes.stairs(100 * parts, picture.clock.x(edges), fill=True, alpha=.2, **series(view.number))
-    bin_width = (edges[1] - edges[0]) / picture.clock.scale
+    bin_width = (whole[1] - whole[0]) / picture.clock.scale
     axes.set_ylim(0, 105)
     axes.set_yticks((0, 25, 50, 75, 100))
     axes.set_ylabel('%')

@@ -35,7 +35,7 @@ class Picture:
         shown = values / scale
         for begin, end in hidden:
             shown = np.where((times >= begin) & (times < end), np.nan, shown)
-        axes.step(self.clock.x(times), shown, where='post', **{'lw': 1.1, **style})
+        axes.step(self.clock.x(times), shown, where='post', **{'lw': 1.4, **style})
 
     def points(self, axes: Axes, times, values, scale, **style) -> None:
         """Draws points of a curve; `scale` divides its values."""

@@ -8,24 +8,28 @@ from matplotlib.axes import Axes
 from matplotlib.lines import Line2D
 from matplotlib.patches import Patch
 
-# Colours that colour-blind readers can tell apart (Okabe and Ito).
-BLUE, ORANGE, GREEN, RED, PURPLE, SKY = '#0072B2', '#E69F00', '#009E73', '#D55E00', '#CC79A7', '#56B4E9'
+# Those of series differ in lightness too, by 16 of 100 at least, for grey print and for who doesn't see red and green.
+BLUE, RUST, GREEN, AMBER = '#0B3C6F', '#9C4A1A', '#2FA08A', '#F2BE4A'
+ORANGE, RED, PURPLE, SKY = '#E69F00', '#D55E00', '#CC79A7', '#56B4E9'       # of Okabe and Ito
 GREY, IN_FLIGHT = '#777777', '#F3E6C4'
-SERIES = [BLUE, ORANGE, GREEN, PURPLE, SKY, RED, '#7F7F7F', '#000000']
+SERIES = (BLUE, RUST, GREEN, AMBER)
+DASHES = ('-', (0, (5, 1.5)), (0, (1, 1)), (0, (5, 1, 1, 1)))  # one for each four series
 # One sign for one meaning, in every panel.
 SIGNS = {'full': ('x', RED, 'dropped: queue full'), 'codel': ('v', PURPLE, 'dropped by CoDel'),
          'lost': ('+', '#000000', 'lost by the scenario\'s list')}
 AGAIN = {'marker': 'o', 'ms': 4.5, 'mfc': 'none', 'color': ORANGE, 'label': 'sent again'}
-TITLE = {'fontsize': 9, 'loc': 'left'}
-KEY = {'fontsize': 8, 'frameon': False, 'handlelength': 1.6, 'borderpad': 0, 'labelspacing': .25,
+# Sizes of letters in points of a picture ten inches wide: 8 pixels and more where it is shown 600 wide.
+HEAD, TITLE_SIZE, KEY_SIZE, TICKS, NOTE = 12, 10.5, 9.5, 9.5, 9.5
+TITLE = {'fontsize': TITLE_SIZE, 'loc': 'left'}
+KEY = {'fontsize': KEY_SIZE, 'frameon': False, 'handlelength': 1.6, 'borderpad': 0, 'labelspacing': .25,
        'columnspacing': 1.0, 'borderaxespad': .3, 'handletextpad': .5}
-LETTER, HANDLE, LINE = 4.7, 26, 9.4       # the key's sizes, in points
+LETTER, HANDLE, LINE = 5.4, 29, 11.6      # the key's sizes, in points
 STEPS = [1, 2, 2.5, 5, 10]                # between two ticks, in a power of ten
 
 
 def series(number: int) -> dict:
-    """The look of a link's curve, by its number."""
-    return {'color': SERIES[number % len(SERIES)], 'ls': '-' if number < len(SERIES) else '--'}
+    """The look of a flow's or link's curve, by its number: from the fifth on the colours come again with dashes."""
+    return {'color': SERIES[number % len(SERIES)], 'ls': DASHES[number // len(SERIES) % len(DASHES)]}
 
 
 def sign_of(reason: str) -> Line2D:
@@ -41,7 +45,7 @@ def recovery_mark() -> Patch:
 
 def stall_mark(longer) -> Patch:
     """The key's mark of a span without a new acknowledgement."""
-    return Patch(color='#000000', alpha=.13, lw=0, label=f'no new acknowledgement for over {longer}')
+    return Patch(color='#000000', alpha=.13, lw=0, label=f'no new ack for over {longer}')
 
 
 def timeout_mark() -> Line2D:
@@ -57,9 +61,13 @@ def key_above(axes: Axes, title: str, handles, width: float, right=None) -> None
         rows = math.ceil(len(handles) / columns)
         axes.legend(handles=handles, loc='lower left', bbox_to_anchor=(0, 1), ncol=columns, **KEY)
     pad = 4 + LINE * rows + 3 * bool(rows)
-    axes.set_title(title, pad=pad, **TITLE)
-    if right:
-        axes.set_title(right, loc='right', fontsize=7.5, color='#555555', pad=pad)
+    beside = not right or LETTER * (len(title) + len(right)) <= width
+    axes.set_title(title, pad=pad if beside else pad + LINE, **TITLE)
+    if right and beside:
+        axes.set_title(right, loc='right', fontsize=NOTE, color='#444444', pad=pad)
+    elif right:
+        axes.annotate(right, (0, 1), xycoords='axes fraction', xytext=(0, pad), textcoords='offset points', fontsize=NOTE,
+                      color='#444444')
 
 
 def columns_that_fit(labels, width: float) -> int:
@@ -89,7 +97,7 @@ def bytes_text(count: int) -> str:
 
 def delay_unit(greatest) -> tuple[int, str]:
     """How many nanoseconds a unit has, and its name, by the greatest value."""
-    return (10**6, 'ms') if greatest >= 10**6 or greatest == 0 else (10**3, 'µs')
+    return (10**9, 's') if greatest >= 2 * 10**9 else (10**6, 'ms') if greatest >= 10**6 or greatest == 0 else (10**3, 'µs')
 
 
 def rate_text(rate: int) -> str:

@@ -5,10 +5,11 @@ import matplotlib.pyplot as plt
 from matplotlib.figure import Figure
 
 from tcpsim.plot.labels import place_labels
+from tcpsim.plot.style import BLUE, KEY_SIZE, RUST, TICKS, TITLE_SIZE
 from tcpsim.scenario.units import spelled_time
 from tcpsim.sweep import MS, along
 
-COLORS = {'droptail': ('#0072B2', 'o', 'drop-tail, packets of queue'), 'codel': ('#E69F00', 'v', 'CoDel, target')}
+COLORS = {'droptail': (BLUE, 'o', 'drop-tail, packets of queue'), 'codel': (RUST, 'v', 'CoDel, target')}
 
 
 def panels_of(grid, rows):
@@ -55,7 +56,7 @@ def draw(grid, rows) -> Figure:
     panels = panels_of(grid, rows)
     across = min(3, len(panels))
     down = -(-len(panels) // across)
-    figure, all_axes = plt.subplots(down, across, figsize=(5.5 * across, 4.3 * down), sharex=True, sharey=True,
+    figure, all_axes = plt.subplots(down, across, figsize=(max(5.5, 3.6 * across), 4 * down), sharex=True, sharey=True,
                                     squeeze=False, layout='constrained')
     waits = [wait for lines in panels.values() for points in lines.values() for _, *both, _ in points for wait in both]
     for axes, (others, lines) in zip(all_axes.flat, panels.items()):
@@ -64,12 +65,13 @@ def draw(grid, rows) -> Figure:
         for kind, points in lines.items():
             color, marker, label = COLORS.get(kind, (*COLORS['droptail'][:2], grid.settings[along(grid.settings)].key
                                                      if grid.settings else 'the run'))
-            axes.plot([x for _, x, _, _ in points], [y for *_, y in points], color=color, marker=marker, lw=.8, label=label)
+            axes.plot([x for _, x, _, _ in points], [y for *_, y in points], color=color, marker=marker, lw=1.4, label=label)
             axes.hlines([y for *_, y in points], [x for _, x, _, _ in points], [x for _, _, x, _ in points], color=color,
-                        lw=.8, alpha=.45)
+                        lw=1.2, alpha=.5)
             axes.plot([x for _, _, x, _ in points], [y for *_, y in points], color=color, marker='|', ls='', alpha=.45)
-        axes.set_title(', '.join(others), fontsize=10)
+        axes.set_title(', '.join(others), fontsize=TITLE_SIZE)
         axes.grid(alpha=.3)
+        axes.tick_params(labelsize=TICKS)
         axes.margins(.12)
     for axes, above in zip(all_axes.flat[len(panels):], all_axes.flat[len(panels) - across:]):
         above.tick_params(labelbottom=True)
@@ -82,15 +84,15 @@ def draw(grid, rows) -> Figure:
             axes.minorticks_off()
     link = next((row['link'] for row in rows if row.get('link')), '')
     fixed = [f'{each.key} = {each.label(each.values[0])}' for each in grid.settings if len(each.values) == 1]
-    figure.suptitle(', '.join(fixed), fontsize=10, x=.01, ha='left')
-    figure.supxlabel(f'wait at {link}, ms: the median, and a line to the 99th percentile', fontsize=10)
-    figure.supylabel(f'utilization of {link}, %', fontsize=10)
+    figure.suptitle(', '.join(fixed), fontsize=TITLE_SIZE, x=.01, ha='left')
+    figure.supxlabel(f'wait at {link}, ms: the median, and a line to the 99th percentile', fontsize=TITLE_SIZE)
+    figure.supylabel(f'utilization of {link}, %', fontsize=TITLE_SIZE)
     if any(panels.values()):
         all_axes[0][0].legend(*legend_of(all_axes.flat[:len(panels)]), loc='lower left', bbox_to_anchor=(0, 1.08), ncol=2,
-                              fontsize=8, borderaxespad=0)
+                              fontsize=KEY_SIZE, borderaxespad=0)
     figure.draw_without_rendering()
     for axes, lines in zip(all_axes.flat, panels.values()):
-        place_labels(axes, [axes.annotate(value, (x, y), textcoords='offset points', xytext=(0, 0), fontsize=8,
+        place_labels(axes, [axes.annotate(value, (x, y), textcoords='offset points', xytext=(0, 0), fontsize=KEY_SIZE,
                                           color=COLORS.get(kind, COLORS['droptail'])[0])
                             for kind, points in lines.items() for value, x, _, y in points])
     return figure

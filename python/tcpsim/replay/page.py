@@ -16,7 +16,7 @@ from tcpsim.scenario.text import Scenario
 HERE = os.path.dirname(os.path.realpath(__file__))
 PARTS = os.path.join(HERE, 'web')
 # What shows a run, here and in the page with the simulator (dev/page.py); behind it what opens this page.
-SCRIPTS = ('trace.js', 'record.js', 'words.js', 'layout.js', 'net.js', 'charts.js', 'page.js')
+SCRIPTS = ('trace.js', 'record.js', 'words.js', 'layout.js', 'queue.js', 'net.js', 'charts.js', 'page.js')
 OPENING = 'boot.js'
 LIBRARY = os.path.join(PARTS, 'vendor', 'd3.v3.min.js')
 
@@ -53,18 +53,35 @@ def scripts() -> str:
     return '\n'.join(read_part(os.path.join(PARTS, name)) for name in SCRIPTS)
 
 
-def page(title: str, scenario: Scenario, part: Part) -> str:
-    """The whole page's text."""
+def page(title: str, scenario: Scenario, part: Part, slide: bool = False, within: bool = False) -> str:
+    """The whole page's text; with `slide` for a lecture, with large letters and no lines of the trace; `within` a page of
+    two nets, which has the controls."""
     packed = base64.b64encode(zlib.compress('\n'.join(part.lines).encode('ascii'), 3)).decode('ascii')
     facts = about(scenario)
     facts.update(title=title, first=part.first, events=len(part.lines), base=part.base, whole=part.whole)
     holes = {
         'TITLE': html.escape(title),
+        'LOOK': ' '.join(name for name, on in (('slide', slide), ('within', within)) if on),
         'STYLE': read_part(os.path.join(PARTS, 'page.css')),
         'LIBRARY': read_part(LIBRARY).replace('</script', '<\\/script'),
         'FACTS': for_script(facts),
         'TRACE': packed,
         'VIEW': read_part(os.path.join(PARTS, 'view.html')).replace('@@TITLE@@', html.escape(title)),
         'SCRIPT': scripts() + '\n' + read_part(os.path.join(PARTS, OPENING))}
-    return re.sub(r'@@([A-Z0-9]+)@@', lambda found: holes[found.group(1)],
-                  read_part(os.path.join(PARTS, 'page.html')))
+    return filled('page.html', holes)
+
+
+def page_of_two(pages: list[tuple[str, str]], slide: bool = False) -> str:
+    """The text of a page on which two runs move under one clock; `pages` are their titles and their own pages' texts."""
+    (first, first_page), (second, second_page) = pages
+    holes = {
+        'TITLE': html.escape(f'{first}, {second}'), 'LETTERS': str(24 if slide else 13),
+        'FIRST': html.escape(first), 'SECOND': html.escape(second),
+        'FIRSTPAGE': html.escape(first_page), 'SECONDPAGE': html.escape(second_page),
+        'SCRIPT': read_part(os.path.join(PARTS, 'beside.js'))}
+    return filled('beside.html', holes)
+
+
+def filled(name: str, holes: dict[str, str]) -> str:
+    """A frame of web/ with its holes filled."""
+    return re.sub(r'@@([A-Z0-9]+)@@', lambda found: holes[found.group(1)], read_part(os.path.join(PARTS, name)))

@@ -1,7 +1,8 @@
 'use strict';
 // Two charts over the page's whole span: windows of the flows that are ticked, lengths of the queues.
 
-const CHART = {wide: 632, tall: 150, left: 52, right: 8, bottom: 20, apart: 8};
+const CHART = {wide: 632, tall: 150, left: 52, right: 8, apart: 8};
+const UNDER_AXIS = 1.9;                 // the room below a chart, as a part of its letters' height
 const BESIDE_AXIS = 10;                 // what an axis' ticks take beside their labels
 const TICKS = [8, 6, 5, 4, 3, 2, 1];
 const DASHES = ['', '7 3', '2 3', '9 3 2 3'];
@@ -39,10 +40,13 @@ class Chart {
     this.x = d3.scale.linear().domain([begin, Math.max(end, begin + 1)]);
     this.title = this.svg.append('text').attr('class', 'title');
     this.left = this.svg.append('g').attr('class', 'axis');
-    this.under = this.svg.append('g').attr('class', 'axis').attr('transform', `translate(0,${this.tall - CHART.bottom})`);
+    this.under = this.svg.append('g').attr('class', 'axis');
+    this.bottom = Math.max(20, UNDER_AXIS * parseFloat(getComputedStyle(this.under.append('text').node()).fontSize));
+    this.under.attr('transform', `translate(0,${this.tall - this.bottom})`).select('text').remove();
+    this.bands = this.svg.append('g').attr('class', 'stalls');
     this.curves = this.svg.append('g');
     this.layTitle(titles);
-    this.y = d3.scale.linear().range([this.tall - CHART.bottom, this.top]);
+    this.y = d3.scale.linear().range([this.tall - this.bottom, this.top]);
     // The line at the present moment lies over the picture, which then need not be drawn again.
     this.node = svg.node();
     this.present = document.createElement('div');
@@ -50,7 +54,7 @@ class Chart {
     this.node.parentNode.append(this.present);
     this.resize();
     this.catch = this.svg.append('rect').attr('class', 'catch').attr('y', this.top)
-      .attr('height', this.tall - this.top - CHART.bottom).on('click', () => this.go(this.x.invert(d3.mouse(this.svg.node())[0])));
+      .attr('height', this.tall - this.top - this.bottom).on('click', () => this.go(this.x.invert(d3.mouse(this.svg.node())[0])));
     this.layTime(CHART.left);
   }
   // The title as high as its letters are, and what is below it further down.
@@ -87,8 +91,9 @@ class Chart {
     this.present.style.height = `${box.height * 0.82}px`;
     this.present.style.top = `${this.node.parentNode.clientHeight - box.height * 0.92}px`;
   }
-  // Each of `series` is {curve, colour, dash, thin, name}.
-  show(series) {
+  // Each of `series` is {curve, colour, dash, thin, name}; each of `bands` a span that is shaded, {from, to, name, colour, lane,
+  // lanes}: the panel's height is divided among so many lanes.
+  show(series, bands = []) {
     const greatest = d3.max(series.filter(s => !s.thin), s => d3.max(s.curve.values)) || 1;
     this.y.domain([0, greatest * 1.1]);
     this.left.call(d3.svg.axis().scale(this.y).orient('left').tickValues(this.y.ticks(4).filter(Number.isInteger)).tickFormat(d3.format('s')));
@@ -97,6 +102,12 @@ class Chart {
     const line = d3.svg.line().x(p => this.x(p[0])).y(p => Math.max(this.top, this.y(p[1]))).interpolate('step-after');
     const end = this.record.times[this.record.count];
     this.curves.selectAll('*').remove();
+    this.bands.selectAll('*').remove();
+    const within = time => this.x(Math.min(this.x.domain()[1], Math.max(this.x.domain()[0], time)));
+    const height = Math.max(0, this.tall - this.bottom - this.top);
+    for (const {from, to, name, colour, lane, lanes} of bands)
+      this.bands.append('rect').attr('x', within(from)).attr('width', Math.max(1, within(to) - within(from))).attr('fill', colour)
+        .attr('y', this.top + height * lane / lanes).attr('height', height / lanes).append('title').text(name);
     for (const one of series) {
       const points = thinned(one.curve, this.x);
       points.push([end, points[points.length - 1][1]]);

@@ -4,10 +4,15 @@
 // above a track has its name, the queue of the link to the right, the two lines on which packets move, the
 // queue of the link to the left, and a line for what was dropped; no two tracks in a column share these.
 
-const ROW = 94, MORE_NAME = 14;         // the height of a track, and what a name in two lines adds
+const ROW = 98, MORE_NAME = 14;         // the height of a track, and what a name in two lines adds
 const BESIDE = 7;                       // from a track's middle to each of its lines
-const LEAST_LENGTH = 250, MOST_NAME = 240, EDGE = 8, MOST_SCALE = 1.6;
+const LEAST_LENGTH = 250, MOST_NAME = 240, EDGE = 8;
 const END_TALL = 36, ROUTER_BEYOND = 24;
+const NAME_SIZE = 15, MOST_NAME_SIZE = 21, LEAST_NAME = 10.5;      // of nodes: units, units, and pixels of the screen
+const LEAST_ROWS = 1.15;                // one flow alone is drawn as large as this many rows would be
+// A stub is an end of the net, at one router, with no room for its queues and names: its row's height as a part of a
+// track's, how tall its node is and how long its link at least. Where there are more rows than so many ends are stubs.
+const STUB = 0.36, STUB_TALL = 25, STUB_LENGTH = 90, MOST_ROWS = 5;
 
 function textWidth(text, font) {
   const canvas = textWidth.canvas || (textWidth.canvas = document.createElement('canvas').getContext('2d'));
@@ -81,11 +86,17 @@ function spaced(wishes, apart, low, high) {
 
 class Layout {
   // `leastLength` is what the words beside a link need of its length.
-  constructor(facts, panelWide, panelTall, leastLength) {
-    this.facts = facts;
+  constructor(facts, panelWide, panelTall, leastLength, stubs = false) {
+    this.facts = facts; this.stubs = stubs;
     this.leastLength = leastLength;
     this.column = columnsOf(facts);
     this.tracks = tracksOf(facts, this.column);
+    const alone = n => this.tracks.filter(t => t.a === n || t.b === n).length === 1;
+    const end = (n, other) => facts.nodes[n].kind !== 'router' && facts.nodes[other].kind === 'router' && alone(n);
+    for (const t of this.tracks) {
+      t.stub = stubs && !t.inside && (end(t.a, t.b) || end(t.b, t.a));
+      t.weight = t.stub ? STUB : 1;
+    }
     this.count = Math.max(...this.column) + 1;
     this.makeItems();
     this.sort();
@@ -100,8 +111,9 @@ class Layout {
     const {facts, tracks, column} = this;
     this.columns = Array.from({length: this.count}, () => []);
     this.ofNode = facts.nodes.map((_, n) => {
-      const beside = side => tracks.filter(t => !t.inside && t[side] === n).length;
-      const item = {node: n, height: Math.max(1, beside('a'), beside('b')), near: [], y: 0};
+      const beside = side => d3.sum(tracks.filter(t => !t.inside && t[side] === n), t => t.weight);
+      const stub = tracks.some(t => t.stub && (t.a === n || t.b === n)) && facts.nodes[n].kind !== 'router';
+      const item = {node: n, stub, height: Math.max(stub ? STUB : 1, beside('a'), beside('b')), near: [], y: 0};
       this.columns[column[n]].push(item);
       return item;
     });
@@ -109,7 +121,7 @@ class Layout {
       let before = this.ofNode[t.a];
       t.passes = [];
       for (let c = column[t.a] + 1; c <= column[t.b]; c++) {
-        const item = c === column[t.b] ? this.ofNode[t.b] : {track: t, height: 1, near: [], y: 0};
+        const item = c === column[t.b] ? this.ofNode[t.b] : {track: t, height: t.weight, near: [], y: 0};
         if (c < column[t.b]) { this.columns[c].push(item); t.passes.push(item); }
         before.near.push(item); item.near.push(before);
         before = item;
@@ -167,20 +179,22 @@ class Layout {
     for (const [key, ones] of sides) {
       const side = key[0], item = ofNode[+key.slice(1)];
       ones.sort((one, two) => next(one, side).y - next(two, side).y || one.links[0] - two.links[0]);
-      ones.forEach((t, k) => { t[side + 'Slot'] = item.y + k - (ones.length - 1) / 2; });
+      let y = item.y - d3.sum(ones, t => t.weight) / 2;
+      for (const t of ones) { t[side + 'Slot'] = y + t.weight / 2; y += t.weight; }
     }
     const alone = n => ofNode[n].near.length === 1;
     for (const t of level) t.wish = alone(t.a) ? t.aSlot : alone(t.b) ? t.bSlot : (t.aSlot + t.bSlot) / 2;
     for (const [key, ones] of sides)
-      spaced(ones.map(t => t.wish), () => 1, -1e9, 1e9).forEach((y, k) => { ones[k][key[0] + 'Y'] = y; });
+      spaced(ones.map(t => t.wish), k => (ones[k - 1].weight + ones[k].weight) / 2, -1e9, 1e9).forEach((y, k) => { ones[k][key[0] + 'Y'] = y; });
     this.columns.forEach(items => this.keepApart(items, sides));
   }
 
-  // The span of a node over its ports, in tracks.
+  // The span of a node over its ports, or of a track that passes, with the room beside them, in tracks.
   span(item, sides) {
-    if (item.track) return [item.y, item.y];
-    const ports = ['a', 'b'].flatMap(side => (sides.get(side + item.node) || []).map(t => t[side + 'Y']));
-    return ports.length ? [Math.min(...ports), Math.max(...ports)] : [item.y, item.y];
+    if (item.track) return [item.y - item.height / 2, item.y + item.height / 2];
+    const ports = ['a', 'b'].flatMap(side => (sides.get(side + item.node) || []).map(t => [t[side + 'Y'], t.weight / 2]));
+    return ports.length ? [d3.min(ports, ([y, half]) => y - half), d3.max(ports, ([y, half]) => y + half)] :
+      [item.y - item.height / 2, item.y + item.height / 2];
   }
 
   // A node that its ports would stretch into another, or into a track that passes, keeps to its own place.
@@ -189,7 +203,7 @@ class Layout {
       const [top, bottom] = this.span(items[k], sides);
       const above = k ? this.span(items[k - 1], sides)[1] : -1e9;
       const below = k + 1 < items.length ? this.span(items[k + 1], sides)[0] : 1e9;
-      if (items[k].node !== undefined && (top - above < 1 - 1e-6 || below - bottom < 1 - 1e-6))
+      if (items[k].node !== undefined && (top - above < -1e-6 || below - bottom < -1e-6))
         for (const side of ['a', 'b'])
           for (const t of sides.get(side + items[k].node) || []) t[side + 'Y'] = t[side + 'Slot'];
     }
@@ -197,23 +211,41 @@ class Layout {
 
   // As large as the panel lets it be.
   scale(panelWide, panelTall) {
-    const {facts, tracks, column} = this, name = '12px sans-serif';
+    const {facts, tracks} = this, name = '12px sans-serif';
     let lines = 1, length = Math.max(LEAST_LENGTH, this.leastLength);
     for (const t of tracks) {
+      if (t.stub) { t.name = []; continue; }
       const words = nameOf(facts, t), whole = textWidth(words.join(' '), name);
       t.name = whole <= MOST_NAME ? [words.join(' ')] : words;
       lines = Math.max(lines, t.name.length);
       length = Math.max(length, 16 + d3.max(t.name, line => textWidth(line, name)));
     }
     this.row = ROW + (lines - 1) * MORE_NAME;
+    this.nameSize = NAME_SIZE;
+    this.fit(panelWide, panelTall, length);
+    // Names of a net that is drawn small are larger beside all else.
+    const least = LEAST_NAME / (this.wide ? panelWide / this.wide : 1);
+    if (least > NAME_SIZE) {
+      this.nameSize = Math.min(MOST_NAME_SIZE, least);
+      this.fit(panelWide, panelTall, length);
+    }
+  }
+
+  // The widths of nodes and columns, the gaps between these, and how large all is drawn, as `wide` and `tall` say.
+  fit(panelWide, panelTall, length) {
+    const {facts, tracks, column} = this;
     this.nodeWide = facts.nodes.map(node =>
-      Math.max(node.kind === 'router' ? 46 : 58, 14 + textWidth(node.name, 'bold 15px sans-serif'),
+      Math.max(node.kind === 'router' ? 46 : 58, 14 + textWidth(node.name, `bold ${this.nameSize}px sans-serif`),
         10 + textWidth(node.kind, '10px sans-serif')));
     this.columnWide = d3.range(this.count).map(c => d3.max(this.nodeWide.filter((_, n) => column[n] === c)) || 0);
-    const least = d3.sum(this.columnWide) + (this.count - 1) * length + 2 * EDGE;
-    const scale = Math.min(MOST_SCALE, panelTall / (this.rows * this.row), panelWide / least);
+    // Between two columns with stubs alone there is less room than where a queue stands.
+    const gaps = d3.range(Math.max(0, this.count - 1)).map(c =>
+      tracks.every(t => t.stub || !(column[t.a] <= c && column[t.b] > c)) ? STUB_LENGTH : length);
+    const least = d3.sum(this.columnWide) + d3.sum(gaps) + 2 * EDGE;
+    const scale = Math.min(panelTall / (Math.max(this.rows, LEAST_ROWS) * this.row), panelWide / least);
     this.wide = panelWide / scale; this.tall = panelTall / scale;
-    this.gap = this.count > 1 ? (this.wide - 2 * EDGE - d3.sum(this.columnWide)) / (this.count - 1) : 0;
+    const more = this.wide - least, share = d3.sum(gaps, gap => gap === length ? 1 : 0) || gaps.length;
+    this.gaps = gaps.map(gap => gap + (gap === length || share === gaps.length ? more / share : 0));
   }
 
   place() {
@@ -221,14 +253,14 @@ class Layout {
     // A track's middle is a little below that of its row: there is more above it than below.
     const down = y => above + y * row + 1;
     let x = EDGE;
-    const middle = this.columnWide.map(wide => { const at = x + wide / 2; x += wide + this.gap; return at; });
+    const middle = this.columnWide.map((wide, c) => { const at = x + wide / 2; x += wide + (this.gaps[c] || 0); return at; });
     const sides = (n, side) => this.tracks.filter(t => !t.inside && t[side] === n).map(t => down(t[side + 'Y']));
     this.places = facts.nodes.map((node, n) => {
       const ports = [...sides(n, 'a'), ...sides(n, 'b')], y = down(this.ofNode[n].y);
-      const beyond = node.kind === 'router' ? ROUTER_BEYOND : END_TALL / 2;
+      const {stub} = this.ofNode[n], beyond = node.kind === 'router' ? ROUTER_BEYOND : (stub ? STUB_TALL : END_TALL) / 2;
       const top = Math.min(...ports.length ? ports : [y]) - beyond, bottom = Math.max(...ports.length ? ports : [y]) + beyond;
       const at = this.count > 1 ? middle[column[n]] : this.wide / 2;
-      return {x: at, y: (top + bottom) / 2, top, bottom, wide: this.nodeWide[n], column: column[n]};
+      return {x: at, y: (top + bottom) / 2, top, bottom, wide: this.nodeWide[n], column: column[n], stub};
     });
     for (const t of this.tracks) this.placeTrack(t, down, middle);
   }

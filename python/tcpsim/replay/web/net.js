@@ -4,27 +4,44 @@
 
 const DECK = 4, MOST_IN_A_DECK = 5;    // how far apart drops of one event lie
 const MOST_BOXES = 30, MOST_ON_A_LINK = 240, MOST_FALLING = 12;
-const BOX = {wide: 10, tall: 12, step: 11};
 const REASON_AT = 13;                   // from a drop to its words
 const OFF_THE_NODE = 11;                // a packet at an end of its link lies beside the node, not over it
 // From a track's middle: the queue of the link to the right, that of the link to the left, what was dropped.
-const UPPER_QUEUE = -31, LOWER_QUEUE = 19, DROPPED = 39, NAME = -36;
-// Colours that colour-blind people tell apart (Okabe and Ito); packets carry their flow's number too.
-const COLOURS = ['#0072B2', '#E69F00', '#009E73', '#CC79A7', '#56B4E9', '#7A5C00', '#6A3D9A', '#4D4D4D'];
-const LIGHT = [1, 3, 4];                // of these, those on which dark numbers are read better
+const UPPER_QUEUE = -31, LOWER_QUEUE = 18, DROPPED = 44, NAME = -36;
+// Colours that differ in lightness too, for those who don't see red and green and in grey print, as in tcpsim-plot's
+// pictures; packets carry their flow's mark too.
+const COLOURS = ['#0B3C6F', '#9C4A1A', '#2FA08A', '#F2BE4A', '#5E8FC7', '#D98B5F', '#7CCFBE', '#6B4E00'];
+const LIGHT = [2, 3, 4, 5, 6];          // of these, those on which dark letters are read better
 function colourOf(flow) { return COLOURS[flow % COLOURS.length]; }
 function inkOf(flow) { return LIGHT.includes(flow % COLOURS.length) ? '#000' : '#fff'; }
-function reasonOf(drop, count) {
-  return `\u2715 ${drop.reason} ${drop.flow}:${drop.number}${count > 1 ? ` +${count - 1}` : ''}`;
+
+// What a packet carries: its flow's name, where all names are that short; else a letter a flow, or a number.
+const MOST_LETTERS = 2, ALPHABET = 'ABCDEFGHIJKLMNOPQRSTUVWXYZabcdefghijklmnopqrstuvwxyz';
+function markOf(facts, flow) {
+  if (!facts.marks) {
+    const short = facts.flows.every(({name}) => name.length <= MOST_LETTERS);
+    facts.marks = facts.flows.map(({name}, f) => short ? name : ALPHABET[f] || String(f));
+  }
+  return facts.marks[flow];
+}
+function reasonOf(facts, drop, count) {
+  const {name} = facts.flows[drop.flow];
+  return `\u2715 ${drop.reason}: ${name} ${number(drop.number)}${count > 1 ? ` +${count - 1}` : ''}`;
 }
 function waitingWord(p) { return `${p.flow}:${p.sort === DATA ? 'd' : 'a'}:${p.number}@${p.entered}`; }
 
 class Net {
-  constructor(svg, record, show) {
+  // `fold` says whether ends are stubs; where it is not given they are in a net of many.
+  constructor(svg, record, show, fold) {
     this.record = record; this.facts = record.facts; this.show = show;
-    const box = svg.node().getBoundingClientRect();
-    const layout = new Layout(this.facts, box.width || 1264, box.height || 340, this.widestReason() + 2 * REASON_AT);
-    this.places = layout.places; this.tracks = layout.tracks; this.row = layout.row;
+    svg.selectAll('*').remove();
+    const box = svg.node().getBoundingClientRect(), words = this.widestReason() + 2 * REASON_AT;
+    const made = stubs => new Layout(this.facts, box.width || 1264, box.height || 340, words, stubs);
+    let layout = made(false);
+    this.canFold = layout.rows > MOST_ROWS;
+    if (fold === undefined ? this.canFold : fold) layout = made(true);
+    this.folded = layout.stubs;
+    this.places = layout.places; this.tracks = layout.tracks; this.row = layout.row; this.nameSize = layout.nameSize;
     this.svg = svg.attr('viewBox', `0 0 ${layout.wide} ${layout.tall}`);
     this.world = this.svg.append('g').attr('class', 'world');
     this.svg.call(d3.behavior.zoom().scaleExtent([0.5, 40]).on('zoom', () =>
@@ -42,14 +59,14 @@ class Net {
 
   // The width of the longest words of a drop.
   widestReason() {
-    const letters = drop => drop.reason.length + String(drop.flow).length + String(drop.number).length;
+    const letters = drop => drop.reason.length + this.facts.flows[drop.flow].name.length + String(drop.number).length;
     let longest = 0, ones = [];
     for (const drop of this.record.drops) {
       const length = letters(drop);
       if (length > longest) { longest = length; ones = []; }
       if (length === longest && ones.length < 99) ones.push(drop);
     }
-    return d3.max(ones, drop => textWidth(reasonOf(drop, 99), 'bold 12px sans-serif')) || 0;
+    return d3.max(ones, drop => textWidth(reasonOf(this.facts, drop, 99), 'bold 12px sans-serif')) || 0;
   }
 
   // A link's line: the way of its packets, where its queue begins and where its boxes go, where its drops
@@ -69,9 +86,9 @@ class Net {
     const lengths = points.map(([px, py], k) => k ? Math.hypot(px - points[k - 1][0], py - points[k - 1][1]) : 0);
     const level = right ? track.points[1] : track.points[track.points.length - 2];
     const room = track.inside ? 110 : Math.abs(begin[0] - level[0]);
-    const limit = number(this.facts.links[l].limit), count = textWidth(`${limit}/${limit}`, 'bold 12px sans-serif');
+    const {limit} = this.facts.links[l], count = textWidth(countText(limit, limit, 9.99e8), 'bold 12px sans-serif');
     const line = {whole: [begin, ...points, end], points, lengths, length: d3.sum(lengths), sign: track.inside || right ? 1 : -1,
-      most: Math.max(4, Math.min(MOST_BOXES, Math.floor((room - 20 - count) / BOX.step)))};
+      most: track.stub ? 0 : Math.max(4, Math.min(MOST_BOXES, Math.floor((room - 20 - count) / BOX.step)))};
     if (track.inside) {
       const down = end[1] > begin[1];
       const beside = track.points[0][0] + 20;
@@ -79,6 +96,9 @@ class Net {
         lies: [beside + 4, begin[1] + (down ? 24 : -24)]});
     }
     const middle = begin[1] - y;
+    if (track.stub)
+      return Object.assign(line, {queue: [begin[0] + 4 * line.sign, middle + (right ? -21 : 9)], falls: middle,
+        lies: [begin[0] + 12 * line.sign, middle + 12]});
     return Object.assign(line, {queue: [begin[0] + 4 * line.sign, middle + (right ? UPPER_QUEUE : LOWER_QUEUE)],
       falls: middle + (right ? UPPER_QUEUE : LOWER_QUEUE) + BOX.tall / 2, lies: [begin[0] + 12 * line.sign, middle + DROPPED]});
   }
@@ -104,32 +124,8 @@ class Net {
         .attr('y', y - (track.name.length - 1 - k) * MORE_NAME)
         .attr('text-anchor', track.inside ? 'start' : 'middle').text(line));
     }
-    this.queues = this.facts.links.map((link, l) => this.drawQueue(this.groups[l], link, l));
-  }
-
-  // A queue's boxes stand beside its link's beginning, the head next to the node.
-  drawQueue(group, link, l) {
-    const {queue: [x, y], sign, most} = this.lines[l];
-    const queue = d3.select(group).append('g').attr('class', 'queue').attr('data-link', l)
-      .attr('data-limit', link.limit).attr('data-most', most).attr('transform', `translate(${x},${y})`);
-    queue.append('title').text(`the queue of ${link.name}, at most ${link.limit} packets`);
-    const text = queue.append('text').attr('class', 'count').attr('y', BOX.tall - 1.8)
-      .attr('text-anchor', sign > 0 ? 'start' : 'end').text('-').node();
-    queue.on('click', () => this.show({link: l}));
-    return {group: queue.node(), boxes: [], text, head: -1, tail: -1, shown: -1};
-  }
-
-  // The k-th box of a link's queue, with the number of its packet's flow.
-  boxAt(l, k) {
-    const {boxes, group} = this.queues[l];
-    while (boxes.length <= k) {
-      const x = this.lines[l].sign > 0 ? BOX.step * boxes.length : -BOX.step * boxes.length - BOX.wide;
-      const box = d3.select(group).append('g').attr('class', 'box').attr('transform', `translate(${x},0)`);
-      box.append('rect').attr('width', BOX.wide).attr('height', BOX.tall);
-      box.append('text').attr('x', BOX.wide / 2).attr('y', BOX.tall - 3).text('');
-      boxes.push(box.node());
-    }
-    return boxes[k];
+    this.queues = this.facts.links.map((_, l) =>
+      new QueueView(this.groups[l], this.record, l, this.lines[l], this.everUsed[l], this.show));
   }
 
   drawNodes() {
@@ -142,8 +138,9 @@ class Net {
     groups.append('rect').attr('x', (_, n) => -this.places[n].wide / 2).attr('width', (_, n) => this.places[n].wide)
       .attr('y', (_, n) => this.places[n].top - this.places[n].y).attr('height', (_, n) => this.places[n].bottom - this.places[n].top)
       .attr('rx', node => node.kind === 'router' ? 16 : 4);
-    groups.append('text').attr('class', 'name').attr('y', -1.5).text(node => node.name);
-    groups.append('text').attr('class', 'kind').attr('y', 12).text(node => node.kind);
+    groups.append('text').attr('class', 'name').attr('y', -1.5).style('font-size', `${this.nameSize}px`).text(node => node.name);
+    groups.filter((_, n) => !this.places[n].stub).append('text').attr('class', 'kind').attr('y', 12).text(node => node.kind);
+    groups.filter((_, n) => this.places[n].stub).select('.name').attr('y', this.nameSize / 3);
     this.nodes = groups[0];
     this.nodes.forEach((node, n) => {
       const flow = this.record.endOf[n];
@@ -154,46 +151,17 @@ class Net {
   // Draws the present state at a moment; `fall` is how long a drop is seen to fall, in simulated time.
   draw(time, fall) {
     this.world.attr('data-time', time);
-    this.facts.links.forEach((link, l) => { this.drawWaiting(l); this.drawUnderWay(l, time); });
+    this.facts.links.forEach((link, l) => {
+      const now = this.record.link(l), group = this.groups[l];
+      if (group.dataset.offered !== String(now.offered)) group.dataset.offered = now.offered;
+      if (group.dataset.sent !== String(now.sent)) group.dataset.sent = now.sent;
+      this.queues[l].draw();
+      this.drawUnderWay(l, time);
+    });
     for (const [key, packet] of this.drawn) if (packet.seen !== this.stamp) { packet.element.remove(); this.drawn.delete(key); }
     this.stamp = (this.stamp || 0) + 1;
     this.drawEnds();
     this.drawDrops(time, fall);
-  }
-
-  drawWaiting(l) {
-    const now = this.record.link(l), queue = this.queues[l];
-    const group = this.groups[l];
-    if (group.dataset.offered !== String(now.offered)) group.dataset.offered = now.offered;
-    if (group.dataset.sent !== String(now.sent)) group.dataset.sent = now.sent;
-    if (queue.head === now.head && queue.tail === now.tail) return;
-    queue.head = now.head; queue.tail = now.tail;
-    const words = [], most = this.lines[l].most, shown = Math.min(now.length, most);
-    for (let k = 0; k < Math.max(shown, queue.boxes.length); k++) {
-      const box = this.boxAt(l, k);
-      if (k < shown) {
-        const packet = this.record.packet(l, now.head + k), word = waitingWord(packet);
-        if (box.dataset.packet === word) { words.push(word); continue; }
-        const look = `box ${packet.sort === DATA ? 'data' : 'ack'}${packet.again ? ' again' : ''}`;
-        if (box.flow !== packet.flow) {
-          box.flow = packet.flow;
-          box.firstChild.setAttribute('fill', colourOf(packet.flow));
-          box.lastChild.textContent = packet.flow;
-          box.lastChild.style.fill = inkOf(packet.flow);
-        }
-        if (box.getAttribute('class') !== look) box.setAttribute('class', look);
-        if (box.hasAttribute('display')) box.removeAttribute('display');
-        box.dataset.packet = word;
-        words.push(word);
-      } else if (box.hasAttribute('data-packet')) { box.setAttribute('display', 'none'); box.removeAttribute('data-packet'); }
-    }
-    queue.group.dataset.length = now.length;
-    queue.group.dataset.shown = words.join(',');
-    queue.text.firstChild.data = `${number(now.length)}/${number(this.facts.links[l].limit)}`;
-    if (shown === queue.shown) return;
-    queue.shown = shown;
-    queue.text.setAttribute('x', this.lines[l].sign * (BOX.step * shown + 4));
-    queue.text.setAttribute('class', now.length ? 'count' : this.everUsed[l] ? 'count idle' : 'count idle never');
   }
 
   drawUnderWay(l, time) {
@@ -238,7 +206,7 @@ class Net {
     if (packet.sort === DATA) make('rect', {x: -6.5, y: -6.5, width: 13, height: 13, fill}, group);
     else make('circle', {r: 5.5, fill, class: 'disc'}, group);
     const text = make('text', {dy: '.35em'}, group);
-    text.textContent = packet.flow;
+    text.textContent = markOf(this.facts, packet.flow);
     text.style.fill = inkOf(packet.flow);
     return group;
   }
@@ -269,7 +237,8 @@ class Net {
       const rank = group.length - 1 - group.indexOf(drop);
       if (!this.fallen.has(key)) this.fallen.set(key, this.falling.appendChild(this.dropShape(drop, rank, group.length, sign)));
       const part = fall > 0 ? Math.min(1, 2 * (time - drop.time) / fall) : 1;
-      const x = lies[0] + sign * DECK * Math.min(rank, MOST_IN_A_DECK), y = falls + (lies[1] - falls) * part;
+      const rest = lies[0] + sign * DECK * Math.min(rank, MOST_IN_A_DECK), mouth = this.queues[drop.link].mouth(drop.reason);
+      const x = mouth + (rest - mouth) * part, y = falls + (lies[1] - falls) * part;
       this.fallen.get(key).setAttribute('transform', `translate(${x.toFixed(1)},${y.toFixed(1)})`);
       newest.set(drop.link, drop.event);
       this.fallen.get(key).lies = part === 1;
@@ -287,7 +256,7 @@ class Net {
       event: drop.event, count});
     if (rank === count - 1)
       d3.select(group).append('text').attr('class', 'reason').attr('x', REASON_AT * sign).attr('y', 4)
-        .attr('text-anchor', sign > 0 ? 'start' : 'end').text(reasonOf(drop, count));
+        .attr('text-anchor', sign > 0 ? 'start' : 'end').text(reasonOf(this.facts, drop, count));
     group.addEventListener('click', () => this.show({event: drop.event}));
     return group;
   }

@@ -28,9 +28,10 @@ class Page {
   constructor(record) {
     this.ended = new AbortController();
     Object.assign(this, {record, facts: record.facts, time: record.times[0], playing: false, picked: null, frames: 0});
+    this.sayLeft();
     this.makeTicks();
     this.keepRoom();
-    this.net = new Net(d3.select('#net'), record, what => this.pick(what));
+    this.makeNet();
     this.windows = new Chart(d3.select('#windows'), record, ['cwnd (thick), ssthresh (thin; along the top where it is higher), bytes',
       'cwnd (thick), ssthresh (thin), bytes', 'cwnd, ssthresh, bytes'], time => this.goTo(time));
     this.lengths = new Chart(d3.select('#lengths'), record, ['packets that wait'], time => this.goTo(time));
@@ -38,6 +39,23 @@ class Page {
     this.fromAddress();
     this.onWindow('hashchange', () => this.fromAddress());
     this.onWindow('keydown', event => this.key(event));
+  }
+  // The net, with its ends as stubs or whole; where `fold` is not given as its size wants it.
+  makeNet(fold) {
+    this.net = new Net(d3.select('#net'), this.record, what => this.pick(what), fold);
+    document.getElementById('fold').hidden = !this.net.canFold;
+  }
+  fold() {
+    this.makeNet(!this.net.folded);
+    this.show();
+  }
+  keys(shown) { document.getElementById('keys').hidden = !shown; }
+  // Which events of the run the page does not have.
+  sayLeft() {
+    const {record, facts} = this, before = facts.first, after = !facts.whole;
+    const words = [before ? `${number(before)} events before ${seconds(record.times[1] || record.times[0], 3)}` : '',
+      after ? `what comes after ${seconds(record.times[record.count], 3)}` : ''].filter(Boolean).join(' and ');
+    document.getElementById('left').textContent = words ? `; left out: ${words}` : '';
   }
   onWindow(what, does) { window.addEventListener(what, does, {signal: this.ended.signal}); }
   // Leaves its elements: no key, no frame and no address moves it any more.
@@ -77,6 +95,7 @@ class Page {
     this.goEvent(+found[1]);
   }
   address() {
+    if (document.documentElement.classList.contains('within')) return;      // the page around it has the address
     const words = `#event=${this.record.at}`;
     if (location.hash !== words) history.replaceState(null, '', words);
   }
@@ -100,6 +119,7 @@ class Page {
   }
   // A drop is seen to fall for 0.9 s of the reader's time.
   fallTime() {
+    if (this.fall !== undefined) return this.fall;
     if (!this.playing) return 0;
     return this.unit.value === 'time' ? 9e8 * this.pace() : 9e8 * this.pace() * this.meanGap;
   }
@@ -108,7 +128,8 @@ class Page {
     this.list = document.getElementById('lines');
     const measure = () => {
       this.fit = Math.min(41, Math.max(3, Math.floor((this.list.clientHeight - 4) / 16)));
-      this.letters = Math.floor((this.list.clientWidth - 14) / textWidth('0', getComputedStyle(this.list).font));
+      // Where the lines are not shown, as in a slide, their list has no width.
+      this.letters = Math.max(1, Math.floor((this.list.clientWidth - 14) / textWidth('0', getComputedStyle(this.list).font)));
     };
     measure();
     this.onWindow('resize', () => { measure(); this.windows.resize(); this.lengths.resize(); this.show(); });
@@ -121,6 +142,7 @@ class Page {
   }
   // As many lines around the present one as there is room for, each whole.
   drawLines() {
+    if (!this.list.clientWidth) return;
     const record = this.record, rows = event => rowsOf(record.line(event), this.letters);
     let begin = record.at, end = record.at - 1, room = this.fit;
     const add = event => {
@@ -240,13 +262,19 @@ class Page {
       });
       return () => boxes.filter(box => box.checked).map(box => +box.dataset.index);
     };
+    // Stalls of several flows have a lane each, in their colours.
+    const stalls = flows => {
+      const found = record.stalls.filter(stall => flows.includes(stall.flow)), lanes = flows.filter(f => found.some(s => s.flow === f));
+      return found.map(({flow, from, to}) => ({from, to, lane: lanes.indexOf(flow), lanes: lanes.length,
+        colour: lanes.length > 1 ? colourOf(flow) : '#000', name: `${facts.flows[flow].name}: no new acknowledgement for ${seconds(to - from)}`}));
+    };
     const lineStyle = i => ['solid', 'dashed', 'dotted', 'double'][i % 4];
     const curves = new Map(), of = (key, make) => { if (!curves.has(key)) curves.set(key, make()); return curves.get(key); };
-    const flows = ticks('flows', facts.flows.map((flow, f) => [f, `${f} ${flow.name}`]), f => f < 4, () => this.drawFlows(),
+    const flows = ticks('flows', facts.flows.map((flow, f) => [f, markOf(facts, f) === flow.name ? flow.name : `${markOf(facts, f)} ${flow.name}`]), f => f < 4, () => this.drawFlows(),
       (text, f) => { text.className = 'dash'; text.style.borderBottom = `3px ${lineStyle(f)} ${colourOf(f)}`; });
     this.drawFlows = () => this.windows.show(flows().flatMap(f => [[CWND, 'cwnd'], [SSTHRESH, 'ssthresh']].map(([what, name]) => ({
       curve: of(`f${f} ${what}`, () => record.curve(record.ofFlow(f, what))), colour: colourOf(f), thin: what === SSTHRESH,
-      dash: DASHES[f % 4], name: `${name} of ${facts.flows[f].name}`}))));
+      dash: DASHES[f % 4], name: `${name} of ${facts.flows[f].name}`}))), stalls(flows()));
     const queue = l => of(`q${l}`, () => record.queueCurve(l));
     // The queues that grew longest come first.
     const order = facts.links.map((_, l) => l).sort((a, b) => record.longest[b] - record.longest[a] || a - b);
@@ -263,6 +291,7 @@ class Page {
     on('start', () => this.goEvent(this.record.first)); on('back', () => this.step(-1)); on('on', () => this.step(1));
     on('play', () => this.play(!this.playing)); on('drop', () => this.next('drop', 1));
     on('timeout', () => this.next('timeout', 1)); on('stall', () => this.next('stall', 1));
+    on('fold', () => this.fold()); on('help', () => this.keys(document.getElementById('keys').hidden));
     this.speed = document.getElementById('speed'); this.unit = document.getElementById('unit');
     const span = this.record.times[this.record.count] - this.record.times[0];
     this.meanGap = span / 1e9 / Math.max(1, this.record.count);
@@ -277,7 +306,8 @@ class Page {
   pace() { return 10 ** (this.speed.value / 100) * (this.unit.value === 'time' ? 0.001 : 1); }
 
   key(event) {
-    if (event.ctrlKey || event.altKey || event.metaKey) return;
+    if (event.ctrlKey || event.altKey || event.metaKey || event.key === 'Shift') return;
+    if (!document.getElementById('keys').hidden) { this.keys(false); event.preventDefault(); return; }
     if (event.target !== document.body && !document.getElementById('replay').contains(event.target)) return;
     const tag = event.target.tagName;
     if ((tag === 'INPUT' && event.target.type === 'range' || tag === 'SELECT') && event.key !== ' ') return;
@@ -285,6 +315,7 @@ class Page {
     const does = {ArrowRight: () => this.step(1), ArrowLeft: () => this.step(-1), ' ': () => this.play(!this.playing),
       d: () => this.next('drop', 1), D: () => this.next('drop', -1), r: () => this.next('timeout', 1),
       R: () => this.next('timeout', -1), s: () => this.next('stall', 1), S: () => this.next('stall', -1),
+      f: () => this.fold(), '?': () => this.keys(true),
       Home: () => this.jump(this.record.first), End: () => this.jump(this.record.last)}[event.key];
     if (does) { does(); event.preventDefault(); }
   }

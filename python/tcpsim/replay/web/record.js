@@ -254,7 +254,8 @@ class Record {
   }
 
   // Spans of a flow without a new acknowledgement that are longer than this, by the rule of stalls.py: from
-  // the flow's start or a new acknowledgement to the next one, or to the run's end while bytes are left.
+  // the flow's start or a new acknowledgement to the next one, or to the run's end while bytes are left. A start's first
+  // round trip counts where it is so much longer than the empty way takes.
   findStalls(longer = 2e8) {
     this.stalls = [];
     const end = this.facts.whole ? this.facts.end : this.times[this.count];
@@ -262,10 +263,18 @@ class Record {
       const moved = this.moved[f], open = this.row[this.ofFlow(f, UNA)] < flow.mss * flow.segments;
       moved.forEach(([event, from], k) => {
         const to = k + 1 < moved.length ? moved[k + 1][1] : open ? end : from;
-        if (event !== null && to - from > longer) this.stalls.push({flow: f, event, from, to});
+        const least = event !== null && from === flow.start ? longer + this.emptyRoundTrip(f) : longer;
+        if (event !== null && to - from > least) this.stalls.push({flow: f, event, from, to});
       });
     });
     this.stalls.sort((a, b) => a.event - b.event);
+  }
+
+  // What a segment and its acknowledgement take where no packet waits, in nanoseconds.
+  emptyRoundTrip(f) {
+    const {mss} = this.facts.flows[f];
+    return d3.sum(this.facts.ways[f], (way, sort) => d3.sum(way, l =>
+      this.facts.links[l].delay + Math.ceil((HEADER_BYTES + (sort === DATA ? mss : 0)) * 8e9 / this.facts.links[l].rate)));
   }
 
   // How many events, counted from the run's first, lie before a moment: where `until T` stops.

@@ -1,0 +1,84 @@
+"""The axis of windows: how high it goes, and its break where slow start overshoots all that follows."""
+from __future__ import annotations
+
+from collections import namedtuple
+
+import numpy as np
+from matplotlib.axes import Axes
+from matplotlib.ticker import FixedFormatter, FixedLocator, MaxNLocator
+
+from .picture import recoveries
+from .points import outside, within
+from .style import STEPS, bytes_text
+
+OVERSHOOT = 1.8         # slow start's window is this many times the greatest one later, and the axis is broken,
+LATER = .4              # where what comes later is at least this part of the picture,
+LEAST = 16              # and slow start's window has so many segments
+ABOVE = .2              # how high the part above the break is drawn, as a part of what is below it
+ROOM = 1.12             # how much higher than the greatest value an axis goes
+
+# The greatest window of a flow in sight; the greatest one after slow start, where that is much less, else the same.
+Heights = namedtuple('Heights', 'top later')
+# How high an axis goes: in full to `knee`, and where `top` is above it, in little from there to `top`.
+Axis = namedtuple('Axis', 'knee top')
+
+
+def heights_of(picture, view) -> Heights:
+    """The heights of a flow's window in sight, in bytes; a recovery's window counts as any other."""
+    times, values = within(view.run.times, view.run.cwnd, picture.until(view))
+    top = max(1, int(values.max()) if len(values) else 1)
+    over, (begin, end) = slow_start_over(view), picture.window
+    if over is None or picture.until(view)[1] - max(over, begin) < LATER * (end - begin):
+        return Heights(top, top)
+    after = outside(times, values, [(picture.window[0], over)])
+    after = int(np.nanmax(after)) if np.isfinite(after).any() else top
+    return Heights(top, after if top > OVERSHOOT * after and top >= LEAST * view.run.flow.mss else top)
+
+
+def slow_start_over(view):
+    """When the first slow start and the recovery that ends it are over, in ns; None where no segment was lost."""
+    ends = [end for _, end in recoveries(view)[:1]] + list(view.run.timeouts[:1])
+    return min(ends, default=None)
+
+
+def axis_of(heights: list, shared: list) -> Axis:
+    """The axis of the panels that share one."""
+    knee = max(its.later for its, common in zip(heights, shared) if common)
+    top = max(its.top for its, common in zip(heights, shared) if common)
+    return Axis(knee, top) if top > OVERSHOOT * knee else Axis(top, top)
+
+
+def set_heights(axes: Axes, axis: Axis, scale: int, most: int) -> None:
+    """Limits and ticks of an axis of windows, whose unit has `scale` bytes; a break is drawn where it is broken."""
+    low, knee, top = (value / scale for value in (-.1 * axis.knee, axis.knee * ROOM, axis.top))
+    locator = MaxNLocator(most, steps=STEPS)
+    if axis.top <= axis.knee:
+        axes.set_ylim(low, knee)
+        axes.yaxis.set_major_locator(locator)
+        return
+    rest = ABOVE * knee / (1.06 * top - knee)
+
+    def drawn(values):
+        return np.where(values <= knee, values, knee + (values - knee) * rest)
+
+    def meant(places):
+        return np.where(places <= knee, places, knee + (places - knee) / rest)
+
+    axes.set_yscale('function', functions=(drawn, meant))
+    axes.set_ylim(low, 1.06 * top)
+    ticks = [tick for tick in locator.tick_values(0, axis.knee / scale) if 0 <= tick <= knee] + [top]
+    axes.yaxis.set_major_locator(FixedLocator(ticks))
+    axes.yaxis.set_major_formatter(FixedFormatter([f'{tick:,.3g}' for tick in ticks]))
+    axes.axhspan(knee, knee + .03 * knee / rest, facecolor='#FFFFFF', edgecolor='#888888', hatch='////', lw=0, zorder=4)
+
+
+def note_of(axis: Axis) -> str:
+    """What is said of an axis that is broken; nothing of another."""
+    return f'axis broken: slow start reaches {bytes_text(axis.top)}' if axis.top > axis.knee else ''
+
+
+def binds(view, picture) -> bool:
+    """Whether the receiver's window keeps the sender back in sight: what is in flight fills it, but for less than a
+    segment."""
+    _, flight = within(view.run.times, view.run.flight, picture.until(view))
+    return bool((flight + view.run.flow.mss > view.run.flow.rwnd).any()) if len(flight) else False
