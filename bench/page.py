@@ -76,7 +76,8 @@ def opened(path, folder):
 
 
 def measured(path, rounds):
-    """The rows of both tables."""
+    """The least seconds until the first view, and from there until the program is ready; the rows of the other tables; the
+    prover's verdict on the program."""
     texts = {'examples/bufferbloat.txt': open(f'{TOP}/examples/bufferbloat.txt', encoding='ascii').read(),
              'one flow': disassemble(one_flow(130_000)).decode(), 'dumbbell of 8 flows': disassemble(dumbbell(8, 20_000, droptail(50))).decode()}
     first, ready, rows = [], [], []
@@ -86,6 +87,7 @@ def measured(path, rounds):
             shown, done = (int(browser.value(f'document.documentElement.dataset.{it}')) / 1000 for it in ('shown', 'ready'))
             first.append(shown)
             ready.append(done - shown)
+            verdict = browser.json('dataOf("about").verdict')
             browser.close()
     for name, text in texts.items():
         given, best = saved(f'page {name}', text), {}
@@ -108,7 +110,7 @@ def measured(path, rounds):
             more = held(browser) - before
             browser.close()
         rows.append((name, events, size, best, longest, more))
-    return min(first), min(ready), rows
+    return min(first), min(ready), rows, verdict
 
 
 def judged(value, most, text):
@@ -116,14 +118,14 @@ def judged(value, most, text):
 
 
 def written(path, rounds):
-    first, ready, rows = measured(path, rounds)
+    first, ready, rows, verdict = measured(path, rounds)
     version = subprocess.run([browsers.CHROMIUM, '--version'], capture_output=True, text=True, check=True).stdout.strip()
     commit = subprocess.run(['git', '-C', TOP, 'rev-parse', '--short', 'HEAD'], capture_output=True, text=True, check=True).stdout.strip()
     yield '# The page with the simulator, beside the native program'
     yield ''
     yield f'The least of {rounds} rounds, in which both do the same in turn. What is above what was wanted is bold. `bench/page.py` writes this page.'
     yield ''
-    yield f'{time.strftime("%Y-%m-%d")}, commit {commit}, {processor()}, {os.cpu_count()} processors, load {os.getloadavg()[0]:.1f}; {version}, headless.'
+    yield f'{time.strftime("%Y-%m-%d")}, commit {commit}, {processor()}, {os.cpu_count()} processors, load {os.getloadavg()[0]:.1f}; {version}, headless. Of the program in the page the prover said `{verdict}`.'
     yield ''
     yield from table(('Of opening the page', 'Seconds', 'At most'), (
         ('until the first view', judged(first, FIRST_VIEW, f'{first:.2f}'), f'{FIRST_VIEW:.0f}'),

@@ -362,15 +362,15 @@ def is_built():
 
 
 def left_by_the_gate(name, libraries):
-    """Where `rt ci` left the statements of the crates below, by name; None where one is not there, or older than a file of
-    its crate."""
+    """Where `rt ci` left the statements of the crates below, by name; None where one is not there, or was put there before a
+    file of its crate or of one below it was changed. (What it kept of an earlier run are links to older files in a new folder.)"""
     places, newest = {}, 0
     for it in below(name, libraries):
         places[it] = f"{TOP}/crates/{it}/out/rlib"
         files = [f"{at}/{file}" for part in PARTS for at, _, files in os.walk(f"{TOP}/crates/{it}/{part}") for file in files]
         newest = max([newest, *map(os.path.getmtime, files)])
-        found = [f"{at}/{file}" for at, _, files in os.walk(f"{places[it]}/{it}.rlib") for file in files]
-        if not found or max(map(os.path.getmtime, found)) < newest:
+        made = f"{places[it]}/{it}.rlib"
+        if not os.path.isdir(made) or not os.listdir(made) or os.path.getmtime(made) < newest:
             return None
     return places
 

@@ -85,6 +85,6 @@ def test_what_the_gate_left_is_used_while_it_is_newer(clone):
     words = build.words_of(build.PROGRAM, '/kit', 1, LIBRARIES, places, '/tools')
     assert f'high={places["high"]}/high.rlib' in words and f'dependency={places["low"]}' in words
     assert words[words.index('--toolchain') + 1] == '/tools' and f'dependency={build.KEPT}' not in words
-    later = os.path.getmtime(f'{places["high"]}/high.rlib/statements') + 5
+    later = os.path.getmtime(f'{places["high"]}/high.rlib') + 5
     os.utime(f'{build.TOP}/crates/low/src/lib.rt', (later, later))
     assert build.left_by_the_gate(build.PROGRAM, LIBRARIES) is None
