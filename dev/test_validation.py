@@ -7,12 +7,14 @@ Usage: dev/test_validation.py, or pytest. They want the built program; without i
 import copy
 import math
 import os
+import re
 import sys
 
 import pytest
 
 sys.path.insert(0, os.path.join(os.path.dirname(os.path.dirname(os.path.abspath(__file__))), 'python'))
 
+import validate      # noqa: E402
 from tcpsim_model.sender import Sender      # noqa: E402
 from validation import codel, expectations, laws, ns2_sender, page, rules, stored      # noqa: E402
 
@@ -43,6 +45,13 @@ def test_another_number_is_another_table(monkeypatch):
     monkeypatch.setattr(stored, 'load', lambda row: kept if row == 'aggregates' else None)
     text = page.read()
     assert page.written(text) != text
+
+
+def test_each_picture_is_there():
+    pictures = re.findall(r'\]\(pictures/(\w+\.svg)\)', page.read())
+    assert len(pictures) == 4
+    for name in [*pictures, 'newreno_open_window.svg']:
+        assert os.path.exists(os.path.join(page.TOP, 'docs', 'pictures', name)), name
 
 
 # ---- laws
@@ -106,6 +115,17 @@ def test_a_control_law_that_is_other_is_seen(monkeypatch):
     assert wrong[:2] == right[:2]
     assert wrong[2] < right[2]
     assert codel.beside([(time, 0) for time in right], [(time, 0) for time in wrong])['first other'][0] == 3
+
+
+def test_an_absent_queue_keeps_its_numbers():
+    before = stored.load('codel')
+    numbers = copy.deepcopy(before['numbers'])
+    for row in numbers['runs']:
+        del row['ns-3']
+    del numbers['control law']['ns-3']
+    peers = validate.keep_absent({'Linux': '6.9'}, numbers, before)
+    assert peers == {'Linux': '6.9', 'ns-3': f'{before["peers"]["ns-3"]} of {before["date"]}'}
+    assert numbers == before['numbers']
 
 
 # ---- ns-2's rules

@@ -46,8 +46,19 @@ def measure(row, program):
     if not peers and row not in ALONE:
         print(f'{row}: no peer is there, its numbers stay as they are', flush=True)
         return
-    stored.save(row, peers, measured(program))
+    before, numbers = stored.load(row), measured(program)
+    if row == 'codel' and before is not None:
+        peers = keep_absent(peers, numbers, before)
+    stored.save(row, peers, numbers)
     print(f'{row}: measured' + ''.join(f', {name} {version}' for name, version in peers.items()), flush=True)
+
+
+def keep_absent(peers, numbers, before):
+    """The peers, and those that are not there with the numbers that were kept of them, their version and date."""
+    absent = {name: version for name, version in before['peers'].items() if name not in peers}
+    for name in absent:
+        codel.keep(numbers, before['numbers'], name)
+    return {**peers, **{name: version if ' of ' in version else f'{version} of {before["date"]}' for name, version in absent.items()}}
 
 
 def main():

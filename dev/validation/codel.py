@@ -281,3 +281,14 @@ def measure_all(program):
         if ns3_version():
             law['ns-3'] = control_law(build_ns3(folder))
     return {'runs': measure(program), 'control law': law}
+
+
+def keep(numbers, before, name):
+    """Takes a queue that is not there over from numbers that were kept, where the runs are the same."""
+    drops = {tuple(row['run']): row for row in before['runs']}
+    for row in numbers['runs']:
+        old = drops.get(tuple(row['run']), {})
+        if old.get('drops') == row['drops'] and name in old:
+            row[name] = old[name]
+    if name in before['control law']:
+        numbers['control law'][name] = before['control law'][name]

@@ -17,7 +17,7 @@ MS, S = 10**6, 10**9
 BLUE, ORANGE, GREEN, GREY, PINK, SKY = '#0072B2', '#E69F00', '#009E73', '#777777', '#CC79A7', '#56B4E9'
 SAVED = {'metadata': {'Date': None}, 'bbox_inches': 'tight'}
 OPEN = ['dumbbell', '--flows', '1', '--rate', '10M', '--rtt', '20ms', '--queue', 'droptail:24', '--variant', 'newreno', '--mss', '1000',
-        '--delack', '0', '--end', '4s']
+        '--delack', '0', '--end', '2700ms']
 
 
 def path(name):
