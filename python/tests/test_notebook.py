@@ -36,7 +36,8 @@ def executed(notebook, **environment):
     if lacks() and not os.environ.get('CI'):
         pytest.skip(f'not there: {", ".join(lacks())}')
     folder = notebook.parent
-    done = subprocess.run([NBCONVERT, '--to', 'notebook', '--execute', '--ExecutePreprocessor.timeout=900', '--output', 'ran.ipynb',
+    done = subprocess.run([NBCONVERT, '--to', 'notebook', '--execute', '--ExecutePreprocessor.timeout=900',
+                           '--ExecutePreprocessor.startup_timeout=600', '--output', 'ran.ipynb',
                            notebook.name], cwd=folder, capture_output=True, text=True, check=False,
                           env={**os.environ, 'HOME': str(folder.parent), **environment})
     assert done.returncode == 0, done.stderr
