@@ -96,6 +96,9 @@ class Layout {
     for (const t of this.tracks) {
       t.stub = stubs && !t.inside && (end(t.a, t.b) || end(t.b, t.a));
       t.weight = t.stub ? STUB : 1;
+      // A stub stands beside its router, however far that is from where the first senders are.
+      if (t.stub && facts.nodes[t.a].kind !== 'router') this.column[t.a] = this.column[t.b] - 1;
+      if (t.stub && facts.nodes[t.b].kind !== 'router') this.column[t.b] = this.column[t.a] + 1;
     }
     this.count = Math.max(...this.column) + 1;
     this.makeItems();
