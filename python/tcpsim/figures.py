@@ -123,7 +123,7 @@ class LinkFigures(LinkState):
         self.waits.append(time - entered)
         self.began, self.last = time, stream
 
-    def on_drop(self, *_) -> None:
+    def on_drop(self, *_: object) -> None:
         """Counts a packet that was dropped."""
         self.drops += 1
 
