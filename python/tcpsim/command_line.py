@@ -12,6 +12,8 @@ import os
 import signal
 import sys
 from collections.abc import Callable
+from types import FrameType
+from typing import IO, Any
 
 from tcpsim import VERSIONS
 
@@ -36,7 +38,7 @@ class Wrong(Refused):
 class Ended(KeyboardInterrupt):
     """A signal asked the tool to end."""
 
-    def __init__(self, number):
+    def __init__(self, number: int):
         super().__init__(number)
         self.number = number
 
@@ -49,7 +51,7 @@ class OutputClosed(Exception):
 
 # ---- words
 
-def as_type(read):
+def as_type(read: Callable[[str], Any]) -> Callable[[str], Any]:
     """A reader of words as argparse takes it."""
     def read_word(word):
         try:
@@ -70,7 +72,7 @@ class SayVersions(argparse.Action):
 class Words(argparse.ArgumentParser):
     """A command line whose every fault is one sentence and status 2."""
 
-    def __init__(self, **given):
+    def __init__(self, **given: Any):
         super().__init__(allow_abbrev=False, **{'prog': tool(), **given})
         self.add_argument('--version', action=SayVersions, nargs=0, help='the version of the tools, and those of the formats')
 
@@ -78,7 +80,7 @@ class Words(argparse.ArgumentParser):
         """Raises what is wrong as `Wrong`."""
         raise Wrong(message)
 
-    def print_help(self, file=None) -> None:
+    def print_help(self, file: IO[str] | None = None) -> None:
         """Writes the help to standard output."""
         write(self.format_help())
 
@@ -140,24 +142,24 @@ def run(module: str) -> int:
     return status
 
 
-def become(path, words) -> None:
+def become(path: str, words: list[str]) -> None:
     """Goes on as another program; its signals and timers are as a new one's."""
     signal.setitimer(signal.ITIMER_REAL, 0)
     os.execv(path, [path, *words])
 
 
-def end(number, _frame) -> None:
+def end(number: int, _frame: FrameType | None) -> None:
     """A handler: what comes after the first signal no longer counts, so that nothing breaks into taking away."""
     for other in ENDS:
         signal.signal(other, nothing)
     raise Ended(number)
 
 
-def nothing(_number, _frame) -> None:
+def nothing(_number: int, _frame: FrameType | None) -> None:
     """A handler."""
 
 
-def end_later(unraisable) -> None:
+def end_later(unraisable: sys.UnraisableHookArgs) -> None:
     """Where a signal came while a destructor ran, nobody could take what it raised: it is raised again."""
     if isinstance(unraisable.exc_value, Ended):
         signal.signal(signal.SIGALRM, lambda *_: end(unraisable.exc_value.number, None))
@@ -190,7 +192,7 @@ def status_after(main: Callable[[], object]) -> int:
     return 0
 
 
-def sentence(wrong) -> str:
+def sentence(wrong: OSError) -> str:
     """What an error of the operating system says, with the file's name where it has one."""
     return ': '.join(str(part) for part in (wrong.filename, wrong.strerror or wrong) if part is not None)
 

@@ -70,7 +70,7 @@ class FlowRun(FlowState):
         else:
             self.recoveries[-1][1] = time
 
-    def on_drop(self, *drop) -> None:
+    def on_drop(self, *drop: object) -> None:
         """Keeps a packet that was dropped."""
         self.drops.append(drop)
 
@@ -101,7 +101,7 @@ class LinkRun(LinkState):
             self.queue_times.append(time)
             self.queue.append(length)
 
-    def on_drop(self, *drop) -> None:
+    def on_drop(self, *drop: object) -> None:
         """Keeps a packet that was dropped."""
         self.drops.append(drop)
 

@@ -9,7 +9,7 @@ from tcpsim.command_line import MODEL
 from tcpsim.program import find_program
 from tcpsim.scenario.text import Scenario, Unreadable
 from tcpsim.scenario.units import BITS_NS, HEADER_BYTES
-from tcpsim.whole_trace import BLOCK, ProgramFailed, Running, running, scenario_bytes, scenario_text
+from tcpsim.whole_trace import BLOCK, ProgramFailed, Running, naming, running, scenario_bytes, scenario_text
 
 LONGEST_TABLE = 1 << 26         # bytes
 HEADING = 'what,number,figure,unit,value'
@@ -75,7 +75,7 @@ def read_table(table: str) -> dict:
     return values
 
 
-def figures_of(values, of, wanted):
+def figures_of(values: dict[tuple, dict], of: tuple[str, str], wanted: dict[tuple, bool]) -> dict:
     """The figures of a flow, a link or the run, which the table has to have."""
     there = values.get(of, {})
     for figure, may_lack in wanted.items():
@@ -147,5 +147,6 @@ class EngineRun:
 def engine_run(path: str, program: str | None = None) -> EngineRun:
     """The figures of a scenario's file, a text or an image (`-`: standard input)."""
     source = scenario_bytes(path)
-    table = table_of(source, program)
-    return EngineRun(Scenario(scenario_text(source, path, program)), table)
+    with naming(path, source=source):
+        table = table_of(source, program)
+        return EngineRun(Scenario(scenario_text(source, path, program)), table)

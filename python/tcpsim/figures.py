@@ -131,7 +131,7 @@ class LinkFigures(LinkState):
             self.longest_wait = wait
         self.began, self.last = time, stream
 
-    def on_drop(self, *_) -> None:
+    def on_drop(self, *_: object) -> None:
         """Counts a packet that was dropped."""
         self.drops += 1
 

@@ -29,7 +29,8 @@ State = namedtuple('State', 'name begin end')
 class Row:
     """One row of the table. `span` is the time that it tells of (a wait, a sending, a way) or None."""
 
-    def __init__(self, line: int, time: int, order, packet: Packet, event: str, at: str, words, span, behind):
+    def __init__(self, line: int, time: int, order: tuple[int, int, int], packet: str, event: str, at: str,
+                 words: str, span: int | None, behind: int | None):
         self.line, self.time, self.order, self.packet, self.event = line, time, order, packet, event
         self.at, self.words, self.span, self.behind = at, words, span, behind
 
@@ -37,14 +38,14 @@ class Row:
 class Life(Watch):
     """A followed packet: its name, its rows, and the states that it was in."""
 
-    def __init__(self, walk: Walk, name):
+    def __init__(self, walk: Walk, name: str):
         self.walk, self.name, self.rows, self.states, self.wait = walk, name, [], [], None
 
-    def row(self, event: str, at: str, words, span=None, behind=None) -> Row:
+    def row(self, event: str, at: str, words: str, span: int | None = None, behind: int | None = None) -> Row:
         """Keeps a moment of its life."""
         return self.walk.row(self.rows, self.name, event, at, words, span, behind)
 
-    def turn(self, name):
+    def turn(self, name: str | None) -> int:
         """The packet is in another state from now on, or (None) in none. Answers how long it was in the last."""
         time, spent = self.walk.time, 0
         if self.states and self.states[-1].end is None:
@@ -100,7 +101,7 @@ class Life(Watch):
 class Request(Watch):
     """An acknowledgement that asks for a followed segment: that it was dropped can be why it was not sent again."""
 
-    def __init__(self, walk: Walk, segment):
+    def __init__(self, walk: Walk, segment: Segment):
         self.walk, self.segment = walk, segment
 
     def dropped(self, packet: Packet, port: Port) -> None:
@@ -117,7 +118,7 @@ class Segment:
         self.number, self.copies, self.acks, self.rows = number, [], [], []
         self.arrived = self.passed = self.answered = self.done = None
 
-    def answers(self):
+    def answers(self) -> list[Packet]:
         """The acknowledgements up to the first that was not dropped: it comes before all later ones."""
         for at, ack in enumerate(self.acks):
             if ack.fate in (None, CAME):
@@ -129,7 +130,7 @@ class Segment:
         rows = self.rows + [row for packet in self.copies + self.answers() for row in packet.watch.rows]
         return sorted(rows, key=lambda row: row.order)
 
-    def stands(self, time: int):
+    def stands(self, time: int) -> str:
         """Why the segment stands still from this moment on, when nothing of it is in the net."""
         if self.arrived is None or time < self.arrived:
             return 'it was dropped and not yet sent again'
@@ -143,7 +144,7 @@ class Segment:
 class Follow(Walk):
     """Follows a segment of a flow while a run is read, or all of the flow where `only` is None."""
 
-    def __init__(self, scenario: Scenario, flow: FlowState, only=None):
+    def __init__(self, scenario: Scenario, flow: int, only: int | None = None):
         super().__init__(scenario)
         self.target, self.only = self.flows[flow], only
         self.segments, self.open = {}, {}       # by number: all, and those not yet acknowledged
@@ -153,7 +154,8 @@ class Follow(Walk):
         """The name of a node."""
         return self.scenario.nodes[node].name
 
-    def row(self, rows, packet: Packet, event: str, at: str, words, span=None, behind=None) -> Row:
+    def row(self, rows: list[Row], packet: str, event: str, at: str, words: str, span: int | None = None,
+            behind: int | None = None) -> Row:
         """Keeps a row."""
         self.made += 1
         rows.append(Row(self.line, self.time, (self.line, RANKS.get(event, 2), self.made), packet, event, at,
@@ -203,7 +205,7 @@ class Follow(Walk):
         life = packet.watch = Life(self, f'ack {packet.number}')
         life.row('answered', self.name_of(self.target.flow.receiver), words, span)
 
-    def at_receiver(self, flow: FlowState, packet: Packet, answer, before: int) -> None:
+    def at_receiver(self, flow: FlowState, packet: Packet, answer: Packet | None, before: int) -> None:
         """What the receiver makes of it."""
         if flow is not self.target:
             return
@@ -241,12 +243,12 @@ class Follow(Walk):
 
     # ---- the sums
 
-    def end_of(self, segment):
+    def end_of(self, segment: Segment) -> int:
         """Where the whole time ends: the acknowledgement, else the run's end (of a trace without `end`
         its last line)."""
         return segment.done if segment.done is not None else self.scenario.end if self.ended else self.time
 
-    def sums(self, segment):
+    def sums(self, segment: Segment) -> tuple[int, dict[str, int], list[tuple[str, int]]]:
         """The whole time, its four parts, and what the segment stood still for as (reason, time)."""
         begin, end = segment.copies[0].offered, self.end_of(segment)
         states = [(rank, state.name, state.begin, end if state.end is None else min(state.end, end))
@@ -265,7 +267,7 @@ class Follow(Walk):
         return end - begin, parts, list(reasons.items())
 
 
-def follow(scenario: Scenario, lines: Iterable[str], flow: int, byte: int):
+def follow(scenario: Scenario, lines: Iterable[str], flow: int, byte: int) -> tuple[Follow, Segment]:
     """The walk that followed the segment of a byte of a flow (by the flow's number), and the segment."""
     declared = scenario.flows[flow]
     total = declared.mss * declared.segments

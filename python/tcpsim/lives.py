@@ -6,7 +6,7 @@ from __future__ import annotations
 from collections import deque
 from collections.abc import Iterator
 
-from tcpsim.scenario.text import Flow, Link, Unreadable
+from tcpsim.scenario.text import Flow, Link, WrongScenario
 from tcpsim.scenario.units import BITS_NS, HEADER_BYTES
 from tcpsim.trace import ACK, DATA
 
@@ -69,7 +69,7 @@ class Hop:
     arrival, and the next hop. `place` is for a watch that keeps account of the flow's packets at the link."""
     __slots__ = ('port', 'span', 'kind', 'flow', 'next', 'place')
 
-    def __init__(self, port: Port, span: int, kind: str, flow, following):
+    def __init__(self, port: Port, span: int, kind: str, flow: FlowState, following: Hop | None):
         self.port, self.span, self.kind, self.flow, self.next, self.place = port, span, kind, flow, following, None
 
 
@@ -138,7 +138,7 @@ class FlowState:
         if self.flow.newreno:
             self.recover = self.high
 
-    def expire(self, time: int):
+    def expire(self, time: int) -> tuple[int, bool]:
         """The timer ends; answers how long it ran, and whether it had been doubled."""
         self.notice_loss()
         expired = self.rto, self.doubled
@@ -147,7 +147,7 @@ class FlowState:
         self.deadline = time + self.rto
         return expired
 
-    def receive(self, packet: Packet, time: int):
+    def receive(self, packet: Packet, time: int) -> bool:
         """The receiver gets a segment; answers whether it makes its answer wait."""
         number, above = packet.number, self.above
         in_order = number == self.next
@@ -175,10 +175,10 @@ class FlowState:
         self.doubled = False
 
 
-def way(ports, size: int, kind: str, flow) -> Hop:
+def way(ports: list[Port], size: int, kind: str, flow: FlowState) -> Hop:
     """The first hop of a way over these ports, for packets of this size."""
     if not ports:
-        raise Unreadable('the scenario has a flow from a node to itself')
+        raise WrongScenario('the scenario has a flow from a node to itself')
     hop = None
     for port in reversed(ports):
         hop = Hop(port, -(-size * BITS_NS // port.link.rate), kind, flow, hop)

@@ -25,7 +25,7 @@ STANDARD_OUTPUT = 'standard output'
 class Output:
     """What is written to a descriptor: text, as UTF-8, or bytes. An error has the file's name."""
 
-    def __init__(self, number, name: str):
+    def __init__(self, number: int, name: str):
         self._number, self._name, self._held = number, name, bytearray()
 
     def write(self, text: str | bytes) -> int:

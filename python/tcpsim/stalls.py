@@ -82,7 +82,7 @@ class Watched(Watch):
         if not self.flying:
             self.look()
 
-    def leave(self, place) -> None:
+    def leave(self, place: Place) -> None:
         """A packet has left a place."""
         place.packets -= 1
         if not place.packets:
@@ -108,7 +108,7 @@ class Watched(Watch):
             self.queued[port] = (total + waited, *max((longest, line), (waited, self.line)))
         self.since, self.line = walk.time, walk.line
 
-    def begin(self, span) -> None:
+    def begin(self, span: Span) -> None:
         """A span begins, or none: what came before it doesn't count."""
         self.since, self.line, self.span, self.queued = self.walk.time, self.walk.line, span, {}
 
@@ -128,7 +128,7 @@ class Span:
         self.full, self.timers, self.duplicates, self.recover = is_full(flow), [], 0, flow.recover
 
 
-def is_again(packet: Packet, span) -> bool:
+def is_again(packet: Packet, span: Span) -> bool:
     """Whether a segment was sent in the span, or by the acknowledgement with which it began since that was partial."""
     return packet.line > span.line or packet.line == span.line and packet.why is PARTIAL
 
@@ -146,7 +146,7 @@ class Stall:
     `acks_dropped` are acknowledgements of una or above; `ack` is the one that ended the span, or None;
     `waits_since` says since when an answer waits that the run's end cut off; `queued` is that of `Watched`."""
 
-    def __init__(self, walk: Walk, flow: FlowState, watched, ack):
+    def __init__(self, walk: Walk, flow: FlowState, watched: Watched, ack: Packet | None):
         span = watched.span
         self.flow, self.una, self.nxt, self.full = flow, span.una, span.nxt, span.full
         self.begin, self.begin_line, self.end, self.end_line = span.begin, span.line, walk.time, walk.line
@@ -159,7 +159,7 @@ class Stall:
         self.recover = span.recover     # NewReno's, when the span began
         self.rto, self.doubled, self.sendings = flow.rto, flow.doubled, watched.copies
 
-    def behind(self):
+    def behind(self) -> list[Packet]:
         """The segments above una that could make duplicates: the receiver asked for una when they came, or
         they didn't come."""
         return [packet for number, packets in self.sendings.items() if number > self.una
@@ -207,20 +207,20 @@ class Stalls(Walk):
         """Begins a span, where not all is acknowledged."""
         self.watched[flow.number].begin(Span(flow, self.time, self.line) if flow.una < flow.total else None)
 
-    def close(self, flow: FlowState, ack) -> None:
+    def close(self, flow: FlowState, ack: Packet | None) -> None:
         """Ends a span, and keeps it where it was longer than asked for."""
         watched = self.watched[flow.number]
         if watched.span is not None and self.time - watched.span.begin > self.longer:
             watched.settle()
             self.rows.append(self.row(Stall(self, flow, watched, ack)))
 
-    def row(self, stall):
+    def row(self, stall: Stall) -> Row:
         """A stall's row, made at its end: later its packets can be dropped too."""
         cause, found = cause_of(stall)
         return Row(stall.flow.flow.name, stall.begin, stall.end, stall.length, name_of(cause), found.words,
                    sorted({stall.begin_line, *found.lines, stall.end_line}))
 
-    def finish(self):
+    def finish(self) -> list[Row]:
         """The run is over: open spans end with it, or with the last line of a trace without `end`. All
         rows, by flow and then by their beginnings."""
         if self.ended:

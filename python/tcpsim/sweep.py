@@ -10,10 +10,12 @@ import sys
 import threading
 import time as clock
 from collections import namedtuple
-from collections.abc import Sequence
+from collections.abc import Iterator, Sequence
 from concurrent.futures import ProcessPoolExecutor, as_completed
 from concurrent.futures.process import BrokenProcessPool
 from multiprocessing import active_children, get_context
+from types import FrameType
+from typing import TextIO
 
 from tcpsim import output
 from tcpsim.command_line import ENDS, Refused, Wrong, note
@@ -39,12 +41,12 @@ class Setting(namedtuple('Setting', 'key names field values')):
     """A part of the command line: `names` get each of `values` in turn, in their statements' `field`. `values` are
     numbers, queues, or the numbers of packets that are lost."""
 
-    def label(self, value) -> str:
+    def label(self, value: object) -> str:
         """A value in words."""
         return spell(self.field, value)
 
 
-def spell(field: str, value) -> str:
+def spell(field: str, value: object) -> str:
     """A value as a command line has it."""
     if field == 'rate':
         return spelled_rate(value)
@@ -71,7 +73,7 @@ class Pattern:
         """The names of all nodes, links or flows."""
         return [name for name, its in self.sorts.items() if its == sort]
 
-    def point(self, settings: Sequence[Setting], values) -> str:
+    def point(self, settings: Sequence[Setting], values: Sequence[object]) -> str:
         """The text with each setting's value. Queues come last: a bandwidth-delay product is that of the point."""
         lines, queues = list(self.lines), []
         for setting, value in zip(settings, values):
@@ -103,7 +105,7 @@ class Pattern:
         lines[self.places[name]] = ' '.join(words) + (f'  {sign}{comment}' if sign else '')
 
 
-def lose(lines: list[str], name: str, numbers) -> None:
+def lose(lines: list[str], name: str, numbers: Sequence[int]) -> None:
     """Has a link lose these packets and no others. Lines keep their numbers; what is new stands at the end."""
     for number, line in enumerate(lines):
         if line.partition('#')[0].split()[:2] == ['lose', name]:
@@ -167,7 +169,7 @@ EXAMPLES = {'queue': 'droptail:10,50,codel:5ms:100ms', 'rate': '1M,10M', 'delay'
             'delack': '0,40ms', 'variant': 'reno,newreno', 'iw': '3,10', 'end': '20s'}
 
 
-def values_of(word: str, field: str, values) -> list:
+def values_of(word: str, field: str, values: str) -> list:
     """The values of a word of --set, or Wrong."""
     try:
         reader = {**units.READERS, 'lose': losses, 'variant': variant, 'iw': initial_window}.get(field)
@@ -197,7 +199,7 @@ def settings_of(words: Sequence[str], pattern: Pattern) -> list[Setting]:
 
 # ---- one run
 
-def figures_of(run, link: str | None) -> dict:
+def figures_of(run: Figures, link: str | None) -> dict:
     """The figures of a row, from those of figures.py, and the link that they are of: the one of this name, or the
     busiest of the flows' data, the first where equal. Goodput is of all flows together, over the whole span."""
     links, flows_of, whole = {}, {}, {}
@@ -219,7 +221,7 @@ def figures_of(run, link: str | None) -> dict:
             'jain': whole['Jain\'s index of goodput']}
 
 
-def engine_figures_of(run, link: str | None) -> dict:
+def engine_figures_of(run: EngineRun, link: str | None) -> dict:
     """The same figures, from the table of `tcpsim figures`."""
     links, flows_of = run.scenario.links, run.flows
     used = [run.over_span(number, BUSY) for number in range(len(links))]
@@ -300,7 +302,7 @@ class Grid:
         return [each.key for each in self.settings] + ['status', 'link', *FIGURES]
 
 
-def begin_worker(ends) -> None:
+def begin_worker(ends: tuple[int, int]) -> None:
     """A signal ends a worker at once, with its program; and so does the end of its parent. `ends` are those of a pipe
     into which nobody writes: once the parent is gone, it is at its end."""
     os.close(ends[1])
@@ -310,20 +312,20 @@ def begin_worker(ends) -> None:
     threading.Thread(target=end_with_parent, args=(ends[0],), daemon=True).start()
 
 
-def end_with_parent(pipe) -> None:
+def end_with_parent(pipe: int) -> None:
     """Ends a worker once its parent has gone."""
     os.read(pipe, 1)
     os.kill(os.getpid(), signal.SIGTERM)
 
 
-def end_worker(number: int, _frame) -> None:
+def end_worker(number: int, _frame: FrameType | None) -> None:
     """A handler: ends the programs that a worker runs, and the worker."""
     for program in PROGRAMS:
         program.kill()
     os._exit(128 + number)
 
 
-def rows_of(grid: Grid, program: str, jobs: int):
+def rows_of(grid: Grid, program: str, jobs: int) -> Iterator[tuple[int, dict]]:
     """(number, row) of each run as it ends; `jobs` runs go side by side."""
     count = len(grid.points)
     if jobs == 1 or count == 1:
@@ -372,12 +374,12 @@ class Progress:
             note(': '.join([line, *filter(None, said)]))
 
 
-def as_csv(value):
+def as_csv(value: object) -> object:
     """A value as a cell of CSV."""
     return '' if value is None else f'{value:.6f}' if isinstance(value, float) else value
 
 
-def run_all(grid: Grid, program: str, jobs: int, file) -> list[dict]:
+def run_all(grid: Grid, program: str, jobs: int, file: TextIO | None) -> list[dict]:
     """Every run's row, in the grid's order. Into `file` each row goes as soon as those before it are there."""
     rows, progress, written = {}, Progress(len(grid.points)), 0
     out = csv.DictWriter(file, grid.columns(), restval='', lineterminator='\n') if file else None

@@ -13,7 +13,7 @@ from collections import deque
 from collections.abc import Iterable
 
 from tcpsim.own_queues import OwnQueues
-from tcpsim.scenario.text import Flow, Link, Scenario, Unreadable
+from tcpsim.scenario.text import Flow, Link, Scenario, WrongTrace
 from tcpsim.scenario.units import BITS_NS, HEADER_BYTES
 
 DATA, ACK = 0, 1
@@ -228,7 +228,7 @@ class Reader(OwnQueues):
                 self._line(words, words[5], time)
                 count += 1
         except (AttributeError, IndexError, KeyError, OverflowError, ValueError) as wrong:
-            raise Unreadable(f'line {count + 1} is no line of this scenario\'s trace: '
+            raise WrongTrace(f'line {count + 1} is no line of this scenario\'s trace: '
                              f'{" ".join(words)[:200]}') from wrong
         finally:
             self.lines = count

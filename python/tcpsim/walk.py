@@ -16,7 +16,7 @@ from contextlib import contextmanager
 from tcpsim.lives import (AFTER_TIMEOUT, ALARM, AT_ONCE, CAME, CODEL, FIRST, PARTIAL, PHASES, THIRD_DUPLICATE, TIMEOUT,
                           FlowState, Packet, Port)
 from tcpsim.own_queues import LOST, dropped_by
-from tcpsim.scenario.text import Scenario, Unreadable
+from tcpsim.scenario.text import Scenario, Unreadable, WrongTrace
 from tcpsim.trace import ACK, DATA
 from tcpsim.whole_trace import IMAGE_BEGINS, opened_run
 
@@ -47,7 +47,7 @@ class Walk:
         """After a sender's line: `packet` is the acknowledgement that came or None, `before` is una
         before the line."""
 
-    def at_receiver(self, flow: FlowState, packet: Packet | None, answer, before: int) -> None:
+    def at_receiver(self, flow: FlowState, packet: Packet | None, answer: Packet | None, before: int) -> None:
         """After a receiver's line: the segment that came or None, the acknowledgement or None, the next
         byte before the line."""
 
@@ -78,10 +78,10 @@ class Walk:
             for self.line, line in numbered:
                 raise ValueError('there is a line behind `end`')
         except (IndexError, KeyError, ValueError) as wrong:
-            raise Unreadable(f'line {self.line} is no line of this scenario\'s trace ({reason(wrong)}): '
+            raise WrongTrace(f'line {self.line} is no line of this scenario\'s trace ({reason(wrong)}): '
                              f'{line[:120]}') from wrong
         if not self.line:
-            raise Unreadable('the trace has no line')
+            raise WrongTrace('the trace has no line')
         if self.ended:
             self.line -= 1
 
@@ -326,7 +326,7 @@ def rises(words: list[str], before: list[str]) -> bool:
     return node > other or node == other and list(map(int, words[3:5])) > list(map(int, before[3:5]))
 
 
-def reason(wrong) -> str:
+def reason(wrong: Exception) -> str:
     """What is wrong with a line, in words."""
     if isinstance(wrong, ValueError) and not str(wrong).startswith('invalid literal'):
         return str(wrong)

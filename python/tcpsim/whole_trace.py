@@ -10,6 +10,7 @@ import argparse
 import codecs
 import contextlib
 import itertools
+import re
 import subprocess
 import sys
 import tempfile
@@ -19,7 +20,7 @@ from typing import BinaryIO
 from tcpsim.command_line import MODEL
 from tcpsim.output import named
 from tcpsim.program import find_program, found
-from tcpsim.scenario.text import Scenario, Unreadable
+from tcpsim.scenario.text import Scenario, Unreadable, WrongScenario, WrongTrace
 
 BLOCK = 1 << 18                 # bytes of a trace that are read at once
 LONGEST_LINE = 1 << 27          # characters
@@ -38,18 +39,37 @@ def opened_run(scenario_path: str, trace_path: str | None = None, program: str |
     trace's file, or else as the program prints them. No line is wanted of events past the moment `until`."""
     source = scenario_bytes(scenario_path)
     if trace_path is not None:
-        scenario = Scenario(scenario_text(source, scenario_path, program))
-        with open(trace_path, 'rb') as file:
+        with naming(scenario_path, trace_path), open(trace_path, 'rb') as file:
+            scenario = Scenario(scenario_text(source, scenario_path, program))
             yield scenario, itertools.chain.from_iterable(blocks(file.read, trace_path, scenario, partial))
         return
     path = find_program(program, lambda: [scenario_text(source, scenario_path, MODEL)], until)
-    with running([path, 'run'], source) as process:
+    with naming(scenario_path, f'the trace of {path}', source), running([path, 'run'], source) as process:
         first = process.read(BLOCK)
         if not first:
             process.check()
         scenario = Scenario(scenario_text(source, scenario_path, program))
         read = Rest(first, process.read).read
         yield scenario, itertools.chain.from_iterable(blocks(read, f'the trace of {path}', scenario, partial, process.check))
+
+
+@contextlib.contextmanager
+def naming(scenario: str, trace: str = '', source: bytes = b'') -> Iterator[None]:
+    """Puts the name of its file before what is wrong in a line of a scenario or of a trace, and behind what the program
+    refuses the line of the source."""
+    name = 'standard input' if scenario == '-' else scenario
+    try:
+        yield
+    except WrongScenario as wrong:
+        raise Unreadable(f'{name}: {str(wrong).removeprefix("the scenario, ")}') from wrong
+    except WrongTrace as wrong:
+        raise Unreadable(f'{trace}: {wrong}') from wrong
+    except ProgramFailed as wrong:
+        if refused := re.fullmatch(r'refused \w+(?: line (\d+))?', wrong.note):
+            number = int(refused[1] or 0)
+            line = source.split(b'\n')[number - 1][:100].decode('utf-8', 'replace') if number else ''
+            wrong.args = f'{name}: {wrong}' + f': {line}' * bool(line),
+        raise
 
 
 class Rest:

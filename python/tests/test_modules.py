@@ -23,7 +23,7 @@ def read(path):
 def public(body, before=''):
     """The names of a module, or of a class, that others may use."""
     for node in body:
-        if isinstance(node, (ast.FunctionDef, ast.ClassDef)) and not node.name.startswith('_'):
+        if isinstance(node, (ast.FunctionDef, ast.ClassDef)) and (not node.name.startswith('_') or node.name == '__init__' and before):
             yield before + node.name, node
             if isinstance(node, ast.ClassDef):
                 yield from public(node.body, f'{before}{node.name}.')
@@ -47,7 +47,22 @@ def test_modules_say_what_they_are(path):
     tree = ast.parse(read(path))
     assert ast.get_docstring(tree)
     if path.startswith('tcpsim' + os.sep):
-        assert [name for name, node in public(tree.body) if not ast.get_docstring(node)] == []
+        assert [name for name, node in public(tree.body) if not name.endswith('__init__') and not ast.get_docstring(node)] == []
+
+
+def untyped(function):
+    """What of a function has no type: its arguments, and its answer."""
+    given = function.args
+    arguments = [*given.posonlyargs, *given.args, *given.kwonlyargs, *filter(None, (given.vararg, given.kwarg))]
+    lacking = [it.arg for it in arguments if it.annotation is None and it.arg not in ('self', 'cls')]
+    return lacking + ['its answer'] * (function.returns is None and function.name != '__init__')
+
+
+# What draws has still to get types.
+@pytest.mark.parametrize('path', [path for path in MODULES if not path.startswith((os.path.join('tcpsim', 'plot'), 'tcpsim_model'))])
+def test_public_names_have_types(path):
+    functions = [(name, node) for name, node in public(ast.parse(read(path)).body) if isinstance(node, ast.FunctionDef)]
+    assert {name: lack for name, node in functions if (lack := untyped(node))} == {}
 
 
 @pytest.mark.parametrize('path', MODULES)

@@ -1,7 +1,6 @@
 """A trace as records: each event of a run with the scenario's names, read as the trace is written."""
 from __future__ import annotations
 
-import contextlib
 import os
 from collections.abc import Callable, Iterable, Iterator
 from typing import NamedTuple

@@ -54,14 +54,14 @@ ENGINE_COLUMNS = {
 }
 
 
-def shown(form, scale, value) -> str:
+def shown(form: str, scale: int, value: float | None) -> str:
     """A figure in words, `-` where there is none."""
     if value is None:
         return '-'
     return form.format(value / scale if scale not in (0, 1) else value)
 
 
-def table(rows: list, columns_of=TRACE_COLUMNS) -> list[str]:
+def table(rows: list, columns_of: dict[str, tuple] = TRACE_COLUMNS) -> list[str]:
     """The lines of the table of all figures."""
     lines = []
     for what, columns in columns_of.items():
@@ -89,7 +89,7 @@ def write_csv(rows: list, file: Output) -> None:
         out.writerow((*words, '' if value is None else f'{value:.6f}' if isinstance(value, float) else value))
 
 
-def write_series(run, file: Output, only_busy=False) -> None:
+def write_series(run: Figures, file: Output, only_busy: bool = False) -> None:
     """A row for each step: the two moments, each flow's and each link's columns. What is not is empty."""
     columns = run.columns()
     kept = [at for at, (_, link) in enumerate(columns) if not (only_busy and link and not link.is_busy())]

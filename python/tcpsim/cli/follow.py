@@ -13,14 +13,14 @@ import csv
 
 from tcpsim import output
 from tcpsim.command_line import Words, as_type
-from tcpsim.follow import follow
+from tcpsim.follow import Follow, Segment, follow
 from tcpsim.output import Output
 from tcpsim.scenario.units import count
 from tcpsim.walk import flow_named, opened
 from tcpsim.whole_trace import inputs_of
 
 
-def write_table(walk, segment, file: Output) -> None:
+def write_table(walk: Follow, segment: Segment, file: Output) -> None:
     """Writes the rows of a segment."""
     rows = [('line', 'time s', 'packet', 'what', 'at', '')]
     rows += [(str(row.line), f'{row.time / 10**9:.9f}', row.packet, row.event, row.at, row.words) for row in segment.table()]
@@ -33,7 +33,7 @@ def write_table(walk, segment, file: Output) -> None:
     write_sums(walk, segment, file)
 
 
-def write_sums(walk, segment, file: Output) -> None:
+def write_sums(walk: Follow, segment: Segment, file: Output) -> None:
     """Writes where the time went."""
     whole, parts, reasons = walk.sums(segment)
     width = max(len(f'{whole / 10**9:.9f}'), 12)
@@ -47,7 +47,7 @@ def write_sums(walk, segment, file: Output) -> None:
     print(f'{"whole".ljust(12)} {whole / 10**9:>{width}.9f} s, from the first offering to {until}', file=file)
 
 
-def write_csv(walk, segment, file: Output) -> None:
+def write_csv(walk: Follow, segment: Segment, file: Output) -> None:
     """Writes the rows as CSV."""
     out = csv.writer(file, lineterminator='\n')
     out.writerow(('line', 'time', 'packet', 'event', 'at', 'ns', 'behind', 'words'))

@@ -10,6 +10,7 @@ from __future__ import annotations
 import argparse
 import shlex
 import sys
+from collections.abc import Callable
 
 from tcpsim import output
 from tcpsim.command_line import Words, Wrong, as_type
@@ -20,17 +21,17 @@ from tcpsim.scenario.shapes import LONG, asymmetric, chain, dumbbell, islands, p
 from tcpsim.scenario.units import Queue, spelled_time
 
 
-def number(name: str):
+def number(name: str) -> Callable[[str], int]:
     """A type of option: a number in the range of `name`."""
     return as_type(lambda word: units.number(name, word))
 
 
-def numbers(name: str):
+def numbers(name: str) -> Callable[[str], list[int]]:
     """A type of option: numbers in the range of `name`, with commas."""
     return as_type(lambda words: [units.number(name, word) for word in words.split(',')])
 
 
-def between(least: int, most: int):
+def between(least: int, most: int) -> Callable[[str], int]:
     """A type of option: a whole number from `least` to `most`."""
     def read(word):
         if not least <= units.count(word) <= most:
@@ -149,7 +150,7 @@ def text_of(given: argparse.Namespace, words: list[str]) -> str:
     return net.text(given.end, (*head, 'Written by: tcpsim-net ' + ' '.join(map(shlex.quote, without_output(words)))))
 
 
-def without_output(words):
+def without_output(words: list[str]) -> list[str]:
     """The words without the option -o."""
     kept, rest = [], iter(words)
     for word in rest:

@@ -16,7 +16,7 @@ from tcpsim.plot.choice import all_inputs
 from tcpsim.plot.files import content_of
 
 
-def main():
+def main() -> None:
     """Draws what the words ask for."""
     given = words_of()
     with output.opened(given.file, all_inputs(given)) as file:

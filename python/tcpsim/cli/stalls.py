@@ -31,7 +31,7 @@ SHORT = {'a loss was left to the timer': 'left to the timer', 'fast retransmit t
          'the receive window was full': 'receive window full'}
 
 
-def commands(positions):
+def commands(positions: list[int]) -> list[str]:
     """The debugger's commands that go from its start to each position."""
     return [f'step {to - since}' for since, to in zip([0, *positions], positions)]
 
@@ -44,7 +44,7 @@ def write_csv(rows: list, file: Output) -> None:
         out.writerow((*words, '; '.join(commands(positions))))
 
 
-def write_table(rows: list, longer, file: Output) -> None:
+def write_table(rows: list, longer: int, file: Output) -> None:
     """Three lines a stall: its row, what was found, the commands of `tcpsim debug`."""
     width = max([4, *(len(row.flow) for row in rows)])
     print(f'{"flow".ljust(width)}  {"from s":>16}  {"to s":>16}  {"long s":>14}  cause', file=file)

@@ -10,6 +10,7 @@ import argparse
 import contextlib
 import csv
 import os
+from collections.abc import Callable
 
 from tcpsim import output
 from tcpsim.command_line import OutputClosed, Refused, Words, Wrong, as_type
@@ -45,7 +46,7 @@ def table(rows: list, keys: list[str]) -> list[str]:
     return [', '.join(head)] * bool(head) + aligned([titles, *lines]) + refused
 
 
-def drawing():
+def drawing() -> Callable:
     """What draws a sweep, or one sentence."""
     try:
         from tcpsim.plot.sweep import draw
@@ -173,7 +174,7 @@ def sweep(given: argparse.Namespace) -> None:
     check_all(rows)
 
 
-def drawing_of(grid: Grid, given: argparse.Namespace, inputs):
+def drawing_of(grid: Grid, given: argparse.Namespace, inputs: list[str]) -> Callable:
     """What draws a sweep, where the picture can be drawn."""
     at = along(grid.settings)
     panels = len(grid.points) // len(grid.settings[at].values) if grid.settings else 1

@@ -37,7 +37,7 @@ def about(scenario: Scenario) -> dict:
         'ways': [[list(there), list(back)] for there, back in scenario.ways]}
 
 
-def for_script(value) -> str:
+def for_script(value: object) -> str:
     """JSON that may stand in a page's script."""
     return json.dumps(value, separators=(',', ':')).replace('<', '\\u003c')
 

@@ -7,7 +7,7 @@ from collections import deque
 from collections.abc import Iterable
 
 from tcpsim.own_queues import dropped_by
-from tcpsim.scenario.text import Scenario, Unreadable
+from tcpsim.scenario.text import Flow, Link, Scenario, Unreadable, WrongTrace
 from tcpsim.scenario.units import BITS_NS, HEADER_BYTES, spelled_time
 from tcpsim.trace import ACK, DATA, first_window
 
@@ -20,7 +20,7 @@ IN_A_TRACE = b'abcdefghijklmnopqrstuvwxyz0123456789 =:'
 class LinkNow:
     """A link at a position: what waits, what is under way, and the counts of the dump."""
 
-    def __init__(self, number, link, port, lost):
+    def __init__(self, number: int, link: Link, port: int, lost: set[int]):
         self.number, self.port, self.node, self.to = number, port, link.source, link.to
         self.rate, self.delay, self.capacity, self.lost = link.rate, link.delay, link.capacity, lost
         self.codel, self.own = link.queue == 'codel', False
@@ -40,7 +40,7 @@ class LinkNow:
 class FlowNow:
     """A flow's two ends at a position."""
 
-    def __init__(self, flow):
+    def __init__(self, flow: Flow):
         self.una = self.nxt = self.high = self.dups = self.expected = 0
         self.recovering = self.answer_waits = False
         self.answer_due = 0             # when a waiting answer's alarm is
@@ -110,7 +110,7 @@ class Reader:
         self.count += 1
         self.key = key
 
-    def next_due(self):
+    def next_due(self) -> int:
         """When the next event is that follows from what was read, but for a retransmission timer's."""
         due = [link.free_at for link in self.links if link.free_at is not None]
         due += [link.under_way[0][4] for link in self.links if link.under_way]
@@ -311,7 +311,7 @@ class Part:
                 if self.base is not None:
                     self._add(line, number)
         except (IndexError, KeyError, ValueError) as wrong:
-            raise Unreadable(self._says(wrong, words, number)) from wrong
+            raise WrongTrace(self._says(wrong, words, number)) from wrong
         if self.base is None:
             self._keep(reader)
         if not self.lines:
@@ -320,16 +320,16 @@ class Part:
     def _add(self, line, number):
         wrong = line.encode('ascii').translate(None, IN_A_TRACE)
         if wrong:
-            raise Unreadable(f'line {number} is no line of a trace: it has the byte {wrong[0]}')
+            raise WrongTrace(f'line {number} is no line of a trace: it has the byte {wrong[0]}')
         self.lines.append(line)
         if len(self.lines) > MOST_EVENTS:
             raise Unreadable(self._too_many())
 
     def _end(self, line, number, reader):
         if line != f'end {reader.count}':
-            raise Unreadable(f'line {number} does not end this trace: `{line[:40]}` after {reader.count:,} events')
+            raise WrongTrace(f'line {number} does not end this trace: `{line[:40]}` after {reader.count:,} events')
         if reader.next_due() < reader.scenario.end:
-            raise Unreadable(f'line {number} does not end this trace: the run goes on')
+            raise WrongTrace(f'line {number} does not end this trace: the run goes on')
         self.whole = True
 
     @staticmethod

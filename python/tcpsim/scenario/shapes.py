@@ -5,6 +5,7 @@ from __future__ import annotations
 
 import argparse
 from collections.abc import Sequence
+from typing import TypeVar
 
 from tcpsim.command_line import Wrong
 from tcpsim.scenario.net import MOST_ROUTER_LINKS, RECEIVER, ROUTER, SENDER, Net
@@ -12,23 +13,24 @@ from tcpsim.scenario.units import OPEN_WINDOW, Queue, spelled_rate, spelled_time
 
 LONG = Queue('droptail', 1_000)
 OF_FLOWS = 'start', 'segments', 'variant', 'iw'     # lists whose values go to the flows by turns
+T = TypeVar('T')
 
 
 # ---- shapes
 
-def nth(values, n: int):
+def nth(values: Sequence[T], n: int) -> T:
     """The value for flow or hop n, from 0: a list that is shorter begins again."""
     return values[n % len(values)]
 
 
-def not_longer(given: argparse.Namespace, count: int, what, *names) -> None:
+def not_longer(given: argparse.Namespace, count: int, what: str, *names: str) -> None:
     """Refuses a list with more values than there is use for."""
     for name in names:
         if len(getattr(given, name)) > count:
             raise Wrong(f'--{name} has {len(getattr(given, name))} values, and there are {count} {what}')
 
 
-def halves(round_trip, parts):
+def halves(round_trip: int, parts: Sequence[int]) -> tuple[int, int]:
     """The delays, there and back, of one cable with what a round trip leaves beside delays `parts` each way."""
     there = round_trip // 2
     delays = there - sum(parts), round_trip - there - sum(parts)
@@ -37,7 +39,8 @@ def halves(round_trip, parts):
     return delays
 
 
-def add_flow(net: Net, given: argparse.Namespace, n: int, routers, delays, note) -> None:
+def add_flow(net: Net, given: argparse.Namespace, n: int, routers: tuple[str, str],
+             delays: tuple[tuple[int, int], int], note: str) -> None:
     """Flow fn, the n-th from 0, with a sender at the first of two routers and a receiver at the other. `delays` are the
     sender's, there and back, and the receiver's."""
     sender, receiver = net.node(SENDER, f's{n}'), net.node(RECEIVER, f'r{n}')
@@ -51,7 +54,7 @@ def add_flow(net: Net, given: argparse.Namespace, n: int, routers, delays, note)
     flow.variant, flow.initial_window = nth(given.variant, n), nth(given.iw, n)
 
 
-def share_of(trips, part):
+def share_of(trips: Sequence[int], part: int) -> int:
     """A part of the least round trip, in ns."""
     return min(trips) // part
 
@@ -83,12 +86,12 @@ def wide_dumbbell(net: Net, given: argparse.Namespace, count: int) -> Sequence[s
             'A round trip is that of the delays alone: waiting and sending come on top.')
 
 
-def bottleneck(rate, delay, queue):
+def bottleneck(rate: int, delay: int, queue: Queue) -> str:
     """What a comment says of the bottleneck."""
     return f'the bottleneck: {spelled_rate(rate)}bit/s, {spelled_time(delay)}, {queue}'
 
 
-def many(count: int, what) -> str:
+def many(count: int, what: str) -> str:
     """A count with its noun, as 2 flows."""
     return f'{count} {what}{"s" * (count != 1)}'
 
@@ -98,7 +101,7 @@ def flows(count: int) -> str:
     return many(count, 'flow')
 
 
-def row_of_routers(net: Net, given: argparse.Namespace):
+def row_of_routers(net: Net, given: argparse.Namespace) -> list[str]:
     """Routers p0, p1 and so on, with a cable at each hop."""
     routers = [net.node(ROUTER, f'p{n}') for n in range(given.hops + 1)]
     for n, (a, b) in enumerate(zip(routers, routers[1:])):

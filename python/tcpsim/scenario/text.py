@@ -17,6 +17,14 @@ class Unreadable(Refused):
     """A scenario or trace that cannot be read, or a trace of another scenario."""
 
 
+class WrongScenario(Unreadable):
+    """What is wrong in a scenario's text; who knows its file puts the file's name before it."""
+
+
+class WrongTrace(Unreadable):
+    """A line that is none of a scenario's trace; who knows its file puts the file's name before it."""
+
+
 # ---- the scenario
 
 class Scenario:
@@ -36,9 +44,9 @@ class Scenario:
                 if words:
                     statements[words[0]](*words[1:])
             except (KeyError, TypeError, ValueError) as wrong:
-                raise Unreadable(f'the scenario, line {number}: {line.strip()[:100]}') from wrong
+                raise WrongScenario(f'the scenario, line {number}: {line.strip()[:100]}') from wrong
         if self.end is None or not self.flows:
-            raise Unreadable('the scenario has no `sim` or no flow')
+            raise WrongScenario('the scenario has no `sim` or no flow')
         self.leaves = [[n for n, link in enumerate(self.links) if link.source == node]
                        for node in range(len(self.nodes))]
         self.ways = [(self._way(f.sender, f.receiver), self._way(f.receiver, f.sender))
@@ -95,7 +103,7 @@ class Scenario:
         while node != to:
             link = self.hop(node, to) if node < len(self.nodes) else None
             if link is None or link in way:
-                raise Unreadable('the scenario has a flow whose way does not come to its end')
+                raise WrongScenario('the scenario has a flow whose way does not come to its end')
             way.append(link)
             node = self.links[link].to
         return way
