@@ -375,6 +375,17 @@ def left_by_the_gate(name, libraries):
     return places
 
 
+def end_with_signals(crates):
+    """Where this script is ended, so are the provers of the crates."""
+    def stop(number, _):
+        for it in crates:
+            it.stop()
+        os._exit(128 + number)
+
+    for it in (signal.SIGINT, signal.SIGTERM, signal.SIGHUP):
+        signal.signal(it, stop)
+
+
 def prove_last(kit, libraries, stamp, places, asked):
     """Proves the program's crate alone, over statements that are there; answers the status."""
     name = PROGRAM
@@ -382,6 +393,7 @@ def prove_last(kit, libraries, stamp, places, asked):
     before = sum_of_file(MADE) if os.path.isfile(MADE) else None
     forget_module()
     crate = Crate(name, libraries, stamp)
+    end_with_signals([crate])
     crate.start(words_of(name, kit, jobs_at_once(asked), libraries, places, keeping_toolchain(kit)), False)
     print(f"Proving {name} over the statements of the crates below it, for its module.", flush=True)
     try:
@@ -430,14 +442,7 @@ def build(asked):
     forget_module()
     jobs, tools = jobs_at_once(asked), keeping_toolchain(kit)
     print(f"Proving {left} of {len(crates)} crates; what is proved is kept for the next time.", flush=True)
-
-    def stop(number, _):
-        for it in crates:
-            it.stop()
-        os._exit(128 + number)
-
-    for it in (signal.SIGINT, signal.SIGTERM, signal.SIGHUP):
-        signal.signal(it, stop)
+    end_with_signals(crates)
     refused = prove(crates, len(crates), jobs, lambda name, most: words_of(name, kit, most, libraries, tools=tools))
     if refused:
         for it in crates:
