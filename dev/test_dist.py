@@ -29,7 +29,7 @@ pytestmark = [pytest.mark.skipif(not os.path.exists(dist.PROGRAM), reason='the p
               pytest.mark.skipif(bool(LACKS), reason=f'{" ".join(LACKS)} not there: apt-get install python3-venv '
                                  'python3-setuptools python3-wheel')]
 TIME = 1_700_000_000
-PATIENCE = 600
+PATIENCE = 1800         # seconds; one packing took 275 on a machine with a load of 40, 11 of a processor
 
 
 def ran(*words, **more):

@@ -37,7 +37,7 @@ HOSTILE = {'HOME': '/nowhere', 'LANG': 'de_DE.UTF-8', 'LC_ALL': 'tr_TR.UTF-8', '
 
 
 def ran(*words, **more):
-    return subprocess.run([str(it) for it in words], capture_output=True, check=False, timeout=600,
+    return subprocess.run([str(it) for it in words], capture_output=True, check=False, timeout=1800,
                           **{'stdin': subprocess.DEVNULL, **more})
 
 

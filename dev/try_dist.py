@@ -163,7 +163,7 @@ def the_tarball_where_there_is_libc_alone(root, dist):
 
 def apt_has_its_lists(root, _dist):
     root.run(*APT, 'update')
-    root.run(*APT, 'install', '--no-install-recommends', 'python3', 'man-db', 'bash-completion', 'python3-venv')
+    root.run(*APT, 'install', '--no-install-recommends', 'python3', 'man-db', 'bash-completion')
     root.run('useradd', '--create-home', USER)
 
 
@@ -276,6 +276,7 @@ def a_removal_leaves_no_name(root, _dist):
 
 def the_wheel_with_no_network(root, dist):
     home = f'/home/{USER}'
+    root.run(*APT, 'install', '--no-install-recommends', 'python3-venv')
     shutil.copy(glob.glob(f'{dist}/*.whl')[0], root.path(home))
     env = {**ENVIRONMENT, 'HOME': home}
     root.run('python3', '-m', 'venv', 'V', user=USER, cwd=home, env=env)
