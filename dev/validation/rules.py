@@ -11,6 +11,7 @@ import subprocess
 import tempfile
 from heapq import heapify
 
+from tcpsim_model.queues import Packet
 from tcpsim_model.scenario import RECEIVER, SENDER, Flow, Link, Scenario
 from tcpsim_model.sender import Sender
 from tcpsim_model.simulate import FIRST_FREE, HEADER_BYTES, RTO, Network
@@ -96,7 +97,7 @@ class Logged(Network):
         for seq in numbers:
             header = 0 if seq == 0 and 'segment 0 has no header' in self.on else HEADER_BYTES
             self.sends.append((now, seq // mss))
-            self.offer(self.own_ports[node][0], (0, False, seq, mss + header), now, acts)
+            self.offer(self.own_ports[node][0], Packet(0, False, seq, mss + header), now, acts)
         self.set_alarm(node, RTO, self.ends[node].deadline)
         return acts
 
