@@ -209,11 +209,9 @@ def test_tables_are_shown():
 
 def test_pictures_and_pages(tmp_path):
     pytest.importorskip('matplotlib', reason='matplotlib is not there: apt-get install python3-matplotlib')
-    import matplotlib.pyplot
     run = tcpsim.run(example('one_segment'), engine='model')
     run.plot('window', title='$x$').save(tmp_path / 'one.svg')
     assert (tmp_path / 'one.svg').read_text().startswith('<?xml')
-    assert matplotlib.pyplot.get_fignums() == []
     page = run.replay(tmp_path / 'one.html')
     assert (page.events, (tmp_path / 'one.html').read_text()) == (5, page.text)
     assert sorted(os.listdir(tmp_path)) == ['one.html', 'one.svg']
@@ -221,6 +219,22 @@ def test_pictures_and_pages(tmp_path):
         run.plot(colour='red')
     with pytest.raises(tcpsim.Wrong, match="no panel 'windo'"):
         run.plot('windo')
+
+
+@pytest.mark.parametrize('first', ['import matplotlib.pyplot as plt; plt.subplots()', 'import matplotlib'])
+def test_pictures_leave_pyplot_as_it_is(first, tmp_path):
+    """Its backend, its figures and its parameters are those of the user."""
+    pytest.importorskip('matplotlib', reason='matplotlib is not there: apt-get install python3-matplotlib')
+    code = f"""{first}
+import tcpsim
+before = dict(matplotlib.rcParams) if 'plt' not in globals() else dict(plt.rcParams), 'plt' in globals() and plt.get_fignums()
+tcpsim.run({example('one_segment')!r}, engine='model').plot('window').save('one.svg')
+import matplotlib, matplotlib.pyplot as plt
+print(matplotlib.get_backend(), before[0] == dict(matplotlib.rcParams), plt.get_fignums() == (before[1] or []))
+"""
+    for backend in ('svg', 'agg'):
+        assert ran('-c', code, cwd=tmp_path, env={**os.environ, 'PYTHONPATH': os.path.join(TOP, 'python'), 'MPLBACKEND': backend}
+                   ).split() == [backend, 'True', 'True']
 
 
 # ---- debugging

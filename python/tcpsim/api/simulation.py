@@ -143,7 +143,6 @@ class Simulation:
         and progress, else of the first choice. Options are those of tcpsim-plot: `flows` and `links` (names), `begin` and
         `end` (times), `longer`, `title`, `log`, `whole`. Wants matplotlib."""
         wanted('matplotlib')
-        import matplotlib.pyplot as pyplot          # before tcpsim.plot, which else takes a backend without a window
         from tcpsim import plot
         from tcpsim.curves import Run
         from tcpsim.plot.choice import drawable, title_of
@@ -154,7 +153,6 @@ class Simulation:
         add_signs(reason for link in curves.links for _, reason, *_ in link.drops)
         figure = plot.draw(plot.picture_of(given, curves), given.panels, drawable(given.title) if given.title else
                            title_of(drawable(self.scenario.name), curves))
-        pyplot.close(figure)                        # it is shown where it is asked for, and not by the end of a cell
         return PlottedRun(figure)
 
     def replay(self, file: str | os.PathLike | None = None, begin: str | int | None = None,
