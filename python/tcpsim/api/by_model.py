@@ -11,7 +11,7 @@ from tcpsim.scenario.text import Scenario
 from tcpsim_model import queues as model_queues
 from tcpsim_model.figures import figures
 from tcpsim_model.prompt import Prompt
-from tcpsim_model.scenario import Refused as ModelRefused
+from tcpsim_model.scenario import Refused as ModelRefused, Scenario as ModelScenario
 from tcpsim_model.simulate import trace
 from tcpsim_model.text import assemble
 
@@ -19,14 +19,19 @@ METHODS = 'offer', 'take'
 Maker = Callable[..., object]           # a class, or a function that gives a queue: of the link, or of nothing
 
 
+def assembled(text: str) -> ModelScenario:
+    """The model's scenario of a text; Refused where it is refused."""
+    try:
+        return assemble(text.encode())
+    except ModelRefused as wrong:
+        raise Refused(wrong.code, wrong.line) from None
+
+
 class OwnQueueRun:
     """A run of a scenario's text with a class for the queue of each link that is named."""
 
     def __init__(self, text: str, queues: Mapping[str, Maker]):
-        try:
-            self._scenario = assemble(text.encode())
-        except ModelRefused as wrong:
-            raise Refused(wrong.code, wrong.line) from None
+        self._scenario = assembled(text)
         numbers = {link.name: number for number, link in enumerate(Scenario(text).links)}
         self.names: dict[int, str] = {}         # of each of these links, by its number, its class's name
         for name, maker in queues.items():

@@ -10,7 +10,7 @@ import threading
 from collections.abc import Callable, Iterator, Mapping
 from dataclasses import dataclass
 
-from tcpsim.api.errors import Error, Refused, as_raised, refusal
+from tcpsim.api.errors import Error, as_raised, refusal
 from tcpsim.command_line import MODEL, Wrong
 from tcpsim.engine import written_table
 from tcpsim.program import NoProgram, check_time, find_program, found, is_model, is_program
@@ -75,13 +75,9 @@ def check_text(text: str) -> None:
     path = found()
     if is_program(path):
         Engine('program', path).check(text)
-        return
-    from tcpsim_model.scenario import Refused as ModelRefused
-    from tcpsim_model.text import assemble
-    try:
-        assemble(text.encode())
-    except ModelRefused as wrong:
-        raise Refused(wrong.code, wrong.line) from None
+    else:
+        from tcpsim.api.by_model import assembled
+        assembled(text)
 
 
 def check_queues(queues: object) -> bool:
