@@ -63,7 +63,6 @@ def main():
     for name in names:
         figure = figure_of(name)
         plot.save(figure, file_of(name))
-        plot.plt.close(figure)
         print(os.path.relpath(file_of(name), TOP))
     return 0
 

@@ -30,6 +30,11 @@ def example(name):
     return os.path.join(EXAMPLES, f'{name}.txt')
 
 
+def one():
+    """A run of one segment, over within 4 ms of 1 s."""
+    return tcpsim.run(example('one_segment'), engine='model')
+
+
 def trace_of(name):
     with open(os.path.join(EXAMPLES, f'{name}.trace'), encoding='ascii') as file:
         return file.read().splitlines()
@@ -84,11 +89,84 @@ def test_a_scenario_is_read_from_a_file_an_image_or_a_text(tmp_path, engine):
     (lambda: tcpsim.run(example('one_segment'), engine='model').figures.links['zz'], KeyError, 'there are a, b'),
     (lambda: tcpsim.run(example('one_segment'), engine='model').series('0.5'), tcpsim.Error, 'has no unit'),
     (lambda: tcpsim.nothing, AttributeError, "no attribute 'nothing'"),
+    (lambda: tcpsim.dumbbell(rtt=['1ms', '2ms', '3ms']), tcpsim.Wrong, 'rtt has 3 values, and there are 2 flows'),
+    (lambda: tcpsim.dumbbell(rwnd=5), tcpsim.Wrong, 'rwnd 5 is below a segment'),
+    (lambda: tcpsim.dumbbell(lose={'zz': 1}), tcpsim.Wrong, 'lose zz: the net has no such link, only pq, qp'),
+    (lambda: tcpsim.dumbbell().links['zz'], KeyError, "'zz': there are pq, qp"),
+    (lambda: one().series('1ms').flows['zz'], KeyError, "'zz': there are f"),
+    (lambda: one().series('0'), tcpsim.Wrong, 'step: a series wants a step above 0'),
+    (lambda: one().series(0), tcpsim.Wrong, 'step: a series wants a step above 0'),
+    (lambda: one().series(-5), tcpsim.Wrong, 'step: -5 is no time'),
+    (lambda: one().series(.5), tcpsim.Wrong, 'step: 0.5 is no time'),
+    (lambda: one().series('soon'), tcpsim.Wrong, "step: 'soon' is no time"),
+    (lambda: one().series('1ms', end='soon'), tcpsim.Wrong, "end: 'soon' is no time"),
+    (lambda: one().series('1ms', begin='2ms', end='1ms'), tcpsim.Wrong, 'end: 1ms is not after the begin, 2ms'),
+    (lambda: one().series('1ms', begin='9s'), tcpsim.Wrong, 'nothing of it is at or after 9 s'),
+    (lambda: one().series('1ns'), tcpsim.Wrong, 'step: 1ns is too short: the series has more than 1,000,000 steps'),
+    (lambda: one().stalls('x'), tcpsim.Wrong, "longer: 'x' is no time"),
+    (lambda: one().stalls(flow='zz'), tcpsim.Wrong, 'the scenario has no flow zz; it has f'),
+    (lambda: one().replay(begin='2s', end='3s'), tcpsim.Wrong, 'there is no event between begin and end'),
 ])
 def test_what_is_wrong_is_said_in_a_sentence(call, error, words):
     with pytest.raises(error) as wrong:
         call()
     assert words in str(wrong.value)
+    assert '--' not in str(wrong.value)
+    assert error in (OSError, tcpsim.Error) or wrong.type is error
+
+
+@pytest.mark.parametrize('call, words', [
+    (lambda run: run.plot(end='tomorrow'), "end: 'tomorrow' is no time"), (lambda run: run.plot(begin='x'), "begin: 'x' is no time"),
+    (lambda run: run.plot('windo'), "panels: no panel 'windo'"), (lambda run: run.plot(flows=['f7']), 'flows: the scenario has no flow f7'),
+    (lambda run: run.plot(links='zz'), 'links: the scenario has no link zz; it has a, b'),
+    (lambda run: run.plot(flows=['f', 'f']), 'flows: f is named twice'),
+    (lambda run: run.plot(begin='3ms', end='1ms'), 'no time lies between'),
+    (lambda run: run.plot('queue').save('a.jpgg'), 'the file ends in .png, .svg or .pdf'),
+])
+def test_a_plot_that_cannot_be_is_wrong(call, words):
+    pytest.importorskip('matplotlib', reason='matplotlib is not there: apt-get install python3-matplotlib')
+    with pytest.raises(tcpsim.Wrong) as wrong:
+        call(one())
+    assert words in str(wrong.value) and '--' not in str(wrong.value)
+    assert wrong.type is tcpsim.Wrong
+
+
+def test_a_short_run_of_a_long_scenario_has_short_steps():
+    """The run is complete after 3 ms of 1 s."""
+    assert len(one().series('10us')) > 300
+    assert len(one().series('900ns')) > 3000
+
+
+def test_errors_go_by_their_public_names():
+    for name in ('Error', 'Wrong', 'Refused', 'WrongQueue', 'NotInstalled', 'NoProgram'):
+        error = getattr(tcpsim, name)
+        assert (error.__module__, error.__qualname__) == ('tcpsim', name)
+        assert issubclass(error, tcpsim.Error)
+
+
+@pytest.mark.parametrize('there', [True, False])
+def test_a_text_is_judged_as_it_is_read(there, tmp_path, monkeypatch):
+    if not there:
+        monkeypatch.setattr('tcpsim.api.engines.is_program', lambda path: False)
+    (tmp_path / 'odd.txt').write_text(MISTAKEN)
+    for call in (lambda: tcpsim.from_text(MISTAKEN), lambda: tcpsim.read(tmp_path / 'odd.txt'),
+                 lambda: tcpsim.ScenarioText(MISTAKEN).links):
+        with pytest.raises(tcpsim.Refused) as wrong:
+            call()
+        assert (wrong.value.code, wrong.value.line) == ('E4', 2)
+    assert repr(tcpsim.ScenarioText(MISTAKEN)) == '<scenario: a text that is refused, E4 line 2>'
+    assert tcpsim.from_text(one().scenario.text, 'mine').name == 'mine'
+    (tmp_path / 'odd.txt').write_bytes(b'\xff')
+    with pytest.raises(tcpsim.Wrong, match='its byte 0 is not ASCII'):
+        tcpsim.read(tmp_path / 'odd.txt')
+
+
+def test_senders_and_losses_of_a_builder():
+    net = tcpsim.dumbbell(variant=['newreno', 'reno'], iw=10, lose={'pq': [20, 21], 'qp': 7}, spread=1, mice=1)
+    assert [(flow.newreno, flow.iw10) for flow in net.flows.values()] == [(True, True), (False, True), (True, True)]
+    assert [line for line in net.text.splitlines() if line.startswith('lose')] == ['lose pq 20', 'lose pq 21', 'lose qp 7']
+    for lose in ('pq=20,21', ['pq=20,21'], ('pq=20,21',)):
+        assert tcpsim.dumbbell(lose=lose).text.count('\nlose pq ') == 2
 
 
 def test_a_scenario_that_is_refused(engine):
@@ -188,6 +266,11 @@ def test_stalls_are_those_of_tcpsim_stalls():
     table = ran(os.path.join(BIN, 'tcpsim-stalls'), example('two_stalls_of_different_causes'), '--longer', '100ms', '--csv', '--model')
     assert [(stall.flow, str(stall.begin), stall.cause) for stall in stalls] == [
         (row[0], row[1], row[4]) for row in list(csv.reader(io.StringIO(table)))[1:]]
+    lines = repr(stalls).splitlines()
+    assert lines[0].split() == ['flow', 'begin', 's', 'length', 's', 'cause', 'found'] and len(lines) == len(stalls) + 1
+    assert all(f'{stall.length / 1e9:.6f}' in line and stall.found in line for stall, line in zip(stalls, lines[1:]))
+    assert stalls._repr_html_().count('<tr>') == len(lines)
+    assert (repr(one().stalls()), one().stalls()) == ('no stalls', [])
 
 
 def test_frames():
@@ -209,11 +292,9 @@ def test_tables_are_shown():
 
 def test_pictures_and_pages(tmp_path):
     pytest.importorskip('matplotlib', reason='matplotlib is not there: apt-get install python3-matplotlib')
-    import matplotlib.pyplot
     run = tcpsim.run(example('one_segment'), engine='model')
     run.plot('window', title='$x$').save(tmp_path / 'one.svg')
     assert (tmp_path / 'one.svg').read_text().startswith('<?xml')
-    assert matplotlib.pyplot.get_fignums() == []
     page = run.replay(tmp_path / 'one.html')
     assert (page.events, (tmp_path / 'one.html').read_text()) == (5, page.text)
     assert sorted(os.listdir(tmp_path)) == ['one.html', 'one.svg']
@@ -221,6 +302,22 @@ def test_pictures_and_pages(tmp_path):
         run.plot(colour='red')
     with pytest.raises(tcpsim.Wrong, match="no panel 'windo'"):
         run.plot('windo')
+
+
+@pytest.mark.parametrize('first', ['import matplotlib.pyplot as plt; plt.subplots()', 'import matplotlib'])
+def test_pictures_leave_pyplot_as_it_is(first, tmp_path):
+    """Its backend, its figures and its parameters are those of the user."""
+    pytest.importorskip('matplotlib', reason='matplotlib is not there: apt-get install python3-matplotlib')
+    code = f"""{first}
+import tcpsim
+before = dict(matplotlib.rcParams) if 'plt' not in globals() else dict(plt.rcParams), 'plt' in globals() and plt.get_fignums()
+tcpsim.run({example('one_segment')!r}, engine='model').plot('window').save('one.svg')
+import matplotlib, matplotlib.pyplot as plt
+print(matplotlib.get_backend(), before[0] == dict(matplotlib.rcParams), plt.get_fignums() == (before[1] or []))
+"""
+    for backend in ('svg', 'agg'):
+        assert ran('-c', code, cwd=tmp_path, env={**os.environ, 'PYTHONPATH': os.path.join(TOP, 'python'), 'MPLBACKEND': backend}
+                   ).split() == [backend, 'True', 'True']
 
 
 # ---- debugging
@@ -242,6 +339,20 @@ def test_a_hunt(engine):
         assert at.reverse(byte=4000, drop=True).event.drops[0] == tcpsim.Drop('lost', 'a', 'f', 4000)
         assert at.reverse(kind='rto').position == 0
         assert (at.step(3).position, at.back(2).position, at.step().event.n) == (3, 1, 2)
+
+
+def test_a_stall_is_gone_to_by_its_positions(engine):
+    """Those of the drop, of the last new acknowledgement, and of the next one among them."""
+    run = tcpsim.run(example('two_timeouts_in_a_row'), engine=engine)
+    stall, *_ = run.stalls()
+    with tcpsim.debug(run.scenario, engine=engine) as at:
+        at.step(7)
+        found = {position: at.goto(position) for position in (*stall.positions, *reversed(stall.positions))}
+        assert [found[position].position for position in stall.positions] == stall.positions
+        assert found[stall.positions[0]].event.drops and found[stall.positions[-1]].time_ns == stall.end
+        assert sum(move.time_ns == stall.begin for move in found.values()) == 1
+        assert at.goto(at.position).passed == 0
+        assert (at.goto(0).position, at.goto(10**6).at_end) == (0, True)
 
 
 def test_the_state_as_objects(engine):
@@ -272,9 +383,11 @@ def test_a_dropped_packet_of_a_flow_is_found_wherever_it_is_dropped(engine):
 @pytest.mark.parametrize('call, error, words', [
     (lambda at: at.why('zz'), tcpsim.Wrong, 'the scenario has no flow zz; it has f'),
     (lambda at: at.run_to(drops=True), tcpsim.Wrong, 'drops=True is no condition: they are kind, flow'),
-    (lambda at: at.run_to(kind='acks'), tcpsim.Refused, 'B3\nB3: a word is no number, or out of its range'),
-    (lambda at: at.until('1.5'), tcpsim.Refused, 'B3'), (lambda at: at.why(7), tcpsim.Refused, 'there are nodes 0 to 1'),
+    (lambda at: at.run_to(kind='acks'), tcpsim.Refused, 'B3 of `break kind acks`\nB3: a word is no number, or out of its range'),
+    (lambda at: at.until('1.5'), tcpsim.Refused, 'B3 of `until 1.5`'), (lambda at: at.why(7), tcpsim.Refused, 'there are nodes 0 to 1'),
     (lambda at: at.ask('stpe'), tcpsim.Refused, 'the nearest is step'),
+    (lambda at: at.until('1ns'), tcpsim.Wrong, "until('1ns') only goes on, and 1.04ms of the run have passed"),
+    (lambda at: at.goto(-1), tcpsim.Wrong, 'goto: -1 is no position'), (lambda at: at.goto('1s'), tcpsim.Wrong, "goto: '1s' is no"),
 ])
 def test_refusals_have_the_words_of_the_prompt(engine, call, error, words):
     with tcpsim.debug(example('one_segment'), engine=engine) as at:
@@ -282,7 +395,7 @@ def test_refusals_have_the_words_of_the_prompt(engine, call, error, words):
         with pytest.raises(error) as wrong:
             call(at)
         assert words in str(wrong.value)
-        assert at.step().position == 3
+        assert at.goto(2).position == 2 and at.step().position == 3
 
 
 def test_a_session_ends_with_its_block(engine):

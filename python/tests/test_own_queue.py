@@ -232,7 +232,15 @@ def test_what_no_queue_can_do(queue, words):
 @pytest.mark.parametrize('call, error, words', [
     (lambda: tcpsim.run(NET, engine='program', queues={'pq': Red}), tcpsim.Wrong, 'the program has no queues but drop-tail and CoDel'),
     (lambda: tcpsim.run(NET, queues={'zz': Red}), tcpsim.Wrong, "names the link 'zz', and the scenario has pq, qp"),
-    (lambda: tcpsim.run(NET, queues={'pq': type('Odd', (), {})}), tcpsim.Wrong, 'the queue of link pq, Odd, has no method offer'),
+    (lambda: tcpsim.run(NET, queues={'pq': type('Odd', (), {})}), tcpsim.WrongQueue, 'the queue of link pq, Odd, has no method offer'),
+    (lambda: tcpsim.run(NET, queues={'pq': type('Odd', (), {'offer': Red.offer})}), tcpsim.WrongQueue, 'Odd, has no method take'),
+    (lambda: tcpsim.run(NET, queues={'pq': lambda link: 'odd'}), tcpsim.WrongQueue, 'the queue of link pq, str, has no method offer'),
+    (lambda: tcpsim.run(NET, queues={'pq': Fair()}), tcpsim.WrongQueue, 'give the class, Fair, without ()'),
+    (lambda: tcpsim.run(NET, queues={'pq': 'Fair'}), tcpsim.WrongQueue, "with the methods offer and take, and not 'Fair'"),
+    (lambda: tcpsim.run(NET, queues={'pq': type('Two', (Fair,), {'__init__': lambda self, a, b: None})}), tcpsim.WrongQueue,
+     'is called with the link, or with nothing, and Two(a, b) takes something else'),
+    (lambda: tcpsim.run(NET, queues=Fair), tcpsim.Wrong, 'queues is a mapping from the name of a link to a class'),
+    (lambda: tcpsim.debug(NET, queues=[Fair]), tcpsim.Wrong, 'queues is a mapping from the name of a link to a class'),
     (lambda: tcpsim.run('sim 1\n', queues={'pq': Red}), tcpsim.Refused, 'L3 line 0'),
     (lambda: tcpsim.run(tcpsim.dumbbell(rate='10G', end='1000s'), queues={'pq': Red}), tcpsim.Error, 'say engine="model"'),
 ])
@@ -240,6 +248,23 @@ def test_what_cannot_run_is_said(call, error, words):
     with pytest.raises(error) as wrong:
         call()
     assert words in str(wrong.value)
+    assert wrong.type is error
+
+
+def test_what_a_class_raises_comes_through():
+    def raises(self, packet, drop):
+        raise ZeroDivisionError('of mine')
+    run = tcpsim.run(NET, queues={'pq': queue_that(offers=raises)})
+    for call in (lambda: run.figures, lambda: list(run.trace), lambda: run.series('1s')):
+        with pytest.raises(ZeroDivisionError, match='of mine'):
+            call()
+    assert '<ZeroDivisionError: of mine>' in repr(run.trace)
+
+
+def test_a_page_of_another_order_is_wrong():
+    with pytest.raises(tcpsim.Error) as wrong:
+        tcpsim.run(NET, queues={'pq': Fair}).replay()
+    assert wrong.type is tcpsim.Wrong
 
 
 if __name__ == '__main__':

@@ -22,6 +22,7 @@ from clone import BIN, TOP, Folder
 pytest.importorskip('matplotlib', reason='no matplotlib: apt-get install python3-matplotlib')
 import numpy as np  # noqa: E402
 import pictures  # noqa: E402
+from matplotlib.figure import Figure  # noqa: E402
 from tcpsim import plot  # noqa: E402
 from tcpsim.plot import choice, clock, points, style  # noqa: E402
 from test_trace import BY_HAND, TRACE  # noqa: E402
@@ -49,10 +50,6 @@ class Drawn(Folder):
         super().setup_method()
         self.hand = self.write('hand', BY_HAND, TRACE)
         self.stall = self.write('stall', STALL, STALL_TRACE)
-
-    def teardown_method(self):
-        plot.plt.close('all')
-        super().teardown_method()
 
     def write(self, name, text, trace):
         return [self.put(f'{name}.txt', text), self.put(f'{name}.trace', trace)]
@@ -96,7 +93,6 @@ class TestPicturesOfTheDocuments:
                 stored = re.search(r'<dc:description>(.*?)</dc:description>', file.read(), re.S)
             figure = pictures.figure_of(name)
             shown = plot.drawn(figure)
-            plot.plt.close(figure)
             assert len(shown) > 10
             assert html.unescape(stored[1]).splitlines() == shown
 
@@ -120,7 +116,8 @@ class TestPicturesOfTheDocuments:
             assert not [box for box in lost for span in hatched if box.overlaps(span)], name
 
     def test_another_point_is_another_description(self):
-        figure, axes = plot.plt.subplots()
+        figure = Figure()
+        axes = figure.subplots()
         line, = axes.plot([0, 1, 2], [0, 5, 3])
         before = plot.drawn(figure)
         line.set_ydata([0, 4.9, 3])     # the ranges' ends and the axis stay as they are, but for the middle

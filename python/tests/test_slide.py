@@ -12,6 +12,7 @@ pytest.importorskip('matplotlib')
 import matplotlib.image
 import numpy as np
 import pictures
+from matplotlib.figure import Figure
 from tcpsim import plot
 from tcpsim.plot import broken, choice, slide, style
 from test_trace import BY_HAND, TRACE
@@ -29,13 +30,6 @@ def hand_made(tmp_path):
     for path, text in zip(paths, (BY_HAND, TRACE)):
         path.write_text(text, encoding='ascii')
     return [str(path) for path in paths]
-
-
-@pytest.fixture(autouse=True)
-def closed():
-    """Closes the figures that a test has drawn."""
-    yield
-    plot.plt.close('all')
 
 
 def figure(*words):
@@ -131,7 +125,7 @@ def test_slow_starts_overshoot_breaks_the_axis():
 
 
 def test_a_broken_axis_is_told_and_has_its_top():
-    _, axes = plot.plt.subplots()
+    axes = Figure().subplots()
     axis = broken.Axis(20_000, 100_000)
     broken.set_heights(axes, axis, 1000, 6)
     assert broken.note_of(axis) == 'axis broken: slow start reaches 100 kB'

@@ -458,7 +458,6 @@ class TestPictures:
         lines = [list(zip(*line.get_data())) for line in axes[1].lines]
         assert lines[0] == [(2, 20), (4, 40)]          # the medians
         assert lines[1] == [(4, 20), (8, 40)]          # the 99th percentiles
-        drawn.plt.close('all')
 
     def test_points_of_a_line_rise(self):
         """2 Mbit/s times 55 ms, the mean of 40 and 70, are 13,750 bytes: nine packets of 1,500."""
@@ -473,7 +472,6 @@ class TestPictures:
         drawn = plot_sweep()
         axes = drawn.draw(grid, rows).axes         # three above, one below
         assert [any(label.get_visible() for label in each.get_xticklabels()) for each in axes] == [False, True, True, True]
-        drawn.plt.close('all')
 
     def test_labels_do_not_collide(self):
         """Six points in nearly one place."""
@@ -487,7 +485,6 @@ class TestPictures:
         boxes = [text.get_window_extent(figure.canvas.get_renderer()) for text in figure.axes[0].texts]
         assert len(boxes) == 6
         assert not [(a, b) for n, a in enumerate(boxes) for b in boxes[:n] if a.overlaps(b)]
-        drawn.plt.close('all')
 
     def test_file(self):
         for name, begins in (('s.svg', b'<?xml'), ('s.png', b'\x89PNG'), ('s.pdf', b'%PDF')):

@@ -337,7 +337,6 @@ class TestPictures(Folder):
         given = plot.words_of([self.scenario, self.trace, '-o', 'x.png', *words])
         figure = plot.draw(plot.picture_of(given, read_run(self.scenario, self.trace)), given.panels, 'a title')
         axes = [a for a in figure.get_axes() if a.axison]
-        plot.plt.close(figure)
         return {a.get_title(loc='left'): a for a in axes}
 
     def test_panels_have_units_and_the_run(self):
@@ -363,7 +362,6 @@ class TestPictures(Folder):
                                '-o', 'x.png'])
         figure = plot.figure_of(given)
         delay, utilization = figure.get_axes()
-        plot.plt.close(figure)
         assert [text.get_text() for text in delay.get_legend().get_texts()] == ['run', 'other']
         waits = [list(line.get_ydata()) for line in delay.lines]
         assert waits[:2] == [[0, 1.04, 2.08, .04, 1.08, 1.08, 0]] * 2

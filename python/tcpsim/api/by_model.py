@@ -1,6 +1,7 @@
 """Runs by the model, in this process, of scenarios with queues that are classes of Python's (docs/PYTHON.md)."""
 from __future__ import annotations
 
+import contextlib
 import inspect
 from collections.abc import Callable, Iterator, Mapping
 
@@ -10,7 +11,7 @@ from tcpsim.scenario.text import Scenario
 from tcpsim_model import queues as model_queues
 from tcpsim_model.figures import figures
 from tcpsim_model.prompt import Prompt
-from tcpsim_model.scenario import Refused as ModelRefused
+from tcpsim_model.scenario import Refused as ModelRefused, Scenario as ModelScenario
 from tcpsim_model.simulate import trace
 from tcpsim_model.text import assemble
 
@@ -18,26 +19,28 @@ METHODS = 'offer', 'take'
 Maker = Callable[..., object]           # a class, or a function that gives a queue: of the link, or of nothing
 
 
+def assembled(text: str) -> ModelScenario:
+    """The model's scenario of a text; Refused where it is refused."""
+    try:
+        return assemble(text.encode())
+    except ModelRefused as wrong:
+        raise Refused(wrong.code, wrong.line) from None
+
+
 class OwnQueueRun:
     """A run of a scenario's text with a class for the queue of each link that is named."""
 
     def __init__(self, text: str, queues: Mapping[str, Maker]):
-        try:
-            self._scenario = assemble(text.encode())
-        except ModelRefused as wrong:
-            raise Refused(wrong.code, wrong.line) from None
+        self._scenario = assembled(text)
         numbers = {link.name: number for number, link in enumerate(Scenario(text).links)}
         self.names: dict[int, str] = {}         # of each of these links, by its number, its class's name
         for name, maker in queues.items():
             if name not in numbers:
                 raise Wrong(f'queues names the link {name!r}, and the scenario has {", ".join(numbers)}')
             number = numbers[name]
-            make = makes(maker)
+            make = makes(name, maker)
             queue = make(self._scenario.links[number])
-            for method in METHODS:
-                if not callable(getattr(queue, method, None)):
-                    raise Wrong(f'the queue of link {name}, {type(queue).__name__}, has no method {method}: it wants '
-                                'offer(packet, now, drop) and take(now, drop)')
+            check_methods(name, queue, type(queue).__name__)
             self._scenario.queues[number] = make
             self.names[number] = type(queue).__name__
 
@@ -70,12 +73,30 @@ class OwnQueueRun:
         return answer
 
 
-def makes(maker: Maker) -> Callable[[object], object]:
-    """What makes a queue of a link, by a class or a function that takes the link, or nothing."""
+def check_methods(link: str, queue: object, name: str) -> None:
+    """WrongQueue where a queue, or the class of one, lacks a method."""
+    for method in METHODS:
+        if not callable(getattr(queue, method, None)):
+            raise WrongQueue(f'the queue of link {link}, {name}, has no method {method}: it wants offer(packet, now, drop) and '
+                             'take(now, drop)')
+
+
+def makes(link: str, maker: Maker) -> Callable[[object], object]:
+    """What makes a queue of a link, by a class or a function that takes the link, or nothing; WrongQueue where this is none."""
+    if not callable(maker):
+        if all(hasattr(maker, method) for method in METHODS):
+            name = type(maker).__name__
+            raise WrongQueue(f'the queue of link {link} is an object, and each run makes its own: give the class, {name}, without ()')
+        raise WrongQueue(f'the queue of link {link} is a class with the methods offer and take, and not {maker!r}')
+    if isinstance(maker, type):
+        check_methods(link, maker, maker.__name__)
     try:
-        inspect.signature(maker).bind(None)
-    except TypeError:
-        return lambda link: maker()
-    except ValueError:          # of what Python cannot tell the parameters
-        pass
-    return maker
+        signature = inspect.signature(maker)
+    except (TypeError, ValueError):     # of what Python cannot tell the parameters
+        return maker
+    for given in ((None,), ()):
+        with contextlib.suppress(TypeError):
+            signature.bind(*given)
+            return maker if given else lambda _: maker()
+    raise WrongQueue(f'the queue of link {link} is called with the link, or with nothing, and {maker.__name__}{signature} takes '
+                     'something else')

@@ -7,7 +7,7 @@ import os
 import signal
 import subprocess
 import threading
-from collections.abc import Callable, Iterator
+from collections.abc import Callable, Iterator, Mapping
 from dataclasses import dataclass
 
 from tcpsim.api.errors import Error, as_raised, refusal
@@ -33,7 +33,7 @@ class Engine:
         explained = [] if self.name == 'model' else ['--explain']
         done = subprocess.run([self.path, 'asm', *explained], input=text.encode(), capture_output=True, check=False)
         if done.returncode:
-            raise refusal(done.stderr.decode('utf-8', 'replace')) or ProgramFailed(done.returncode, done.stderr)
+            raise refusal(done.stderr.decode('utf-8', 'replace')) or as_raised(ProgramFailed(done.returncode, done.stderr))
 
     def table(self, text: str) -> str:
         """The table of figures of a scenario's run (docs/FORMATS.md)."""
@@ -65,8 +65,26 @@ def engine_of(name: str | None, text: str | None) -> Engine:
         else:
             path = find_program({'model': MODEL}.get(name, name), lambda: [] if text is None else [text])
     except NoProgram as wrong:
-        raise NoProgram(in_python(str(wrong))) from None
+        raise NoProgram(by_model(str(wrong))) from None
     return Engine('model' if is_model(path) else 'program', path)
+
+
+def check_text(text: str) -> None:
+    """Raises Refused where a scenario's text is refused: by the program, or by the model in this process, which says less
+    with it, where the program is not there."""
+    path = found()
+    if is_program(path):
+        Engine('program', path).check(text)
+    else:
+        from tcpsim.api.by_model import assembled
+        assembled(text)
+
+
+def check_queues(queues: object) -> bool:
+    """Whether there are queues that are classes of Python's; Wrong where they are given in no mapping by links."""
+    if queues is not None and not isinstance(queues, Mapping):
+        raise Wrong(f'queues is a mapping from the name of a link to a class, as {{"pq": CoDel}}, and not {queues!r}')
+    return bool(queues)
 
 
 def check_own(name: str | None, text: str) -> None:
@@ -83,7 +101,7 @@ def check_own(name: str | None, text: str) -> None:
                         'run') from None
 
 
-def in_python(sentence: str) -> str:
+def by_model(sentence: str) -> str:
     """A sentence of the tools with the words of the API in the place of their options."""
     for words in ('say --model', 'name it with --program, or give a trace'):
         sentence = sentence.replace(words, 'say engine="model"')

@@ -6,7 +6,7 @@ from collections.abc import Callable, Iterable, Iterator
 from typing import NamedTuple
 
 from tcpsim import output
-from tcpsim.api.errors import wanted
+from tcpsim.api.errors import as_api, wanted
 from tcpsim.scenario.text import Scenario
 
 Blocks = Callable[[], 'contextlib.AbstractContextManager[Iterator[list[str]]]']     # opens a trace: its lines, block by block
@@ -139,18 +139,18 @@ class Trace(Iterable[Event]):
         self._opened, self._names = opened, names
 
     def __iter__(self) -> Iterator[Event]:
-        with self._opened() as blocks:
+        with as_api(), self._opened() as blocks:
             yield from events_of(blocks, self._names)
 
     def lines(self) -> Iterator[str]:
         """The trace's lines, its last one `end N`."""
-        with self._opened() as blocks:
+        with as_api(), self._opened() as blocks:
             for lines in blocks:
                 yield from lines
 
     def save(self, path: str | os.PathLike) -> None:
         """Writes the trace to a file, whole or not at all."""
-        with output.written(os.fspath(path)) as file, self._opened() as blocks:
+        with output.written(os.fspath(path)) as file, as_api(), self._opened() as blocks:
             for lines in blocks:
                 file.write('\n'.join([*lines, '']))
 
@@ -166,10 +166,11 @@ class Trace(Iterable[Event]):
 
     def __repr__(self) -> str:
         first = []
-        with self._opened() as blocks:
-            for lines in blocks:
-                first = lines[:3]
-                break
+        try:
+            with as_api(), self._opened() as blocks:
+                first = next(blocks, [])[:3]
+        except Exception as wrong:      # of a class of Python's whatever it raises: a repr shows what there is
+            first = [f'<{type(wrong).__name__}: {wrong}>']
         return '\n'.join([*first, '..'])
 
 

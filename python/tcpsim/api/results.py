@@ -186,6 +186,25 @@ class Results:
         return f'{self.flows._repr_html_()}{html_table(self.links.shown(is_used))}<p>{html.escape(self._last_line())}</p>'
 
 
+class Stalls(list):
+    """The stalls of a run, a list whose text, and what a notebook shows, is a table."""
+
+    def shown(self) -> list[list[str]]:
+        """The table in words, its titles first: times in seconds."""
+        return [['flow', 'begin s', 'length s', 'cause', 'found']] + [
+            [row.flow, f'{row.begin / 1e9:.6f}', f'{row.length / 1e9:.6f}', row.cause, row.found] for row in self]
+
+    def __repr__(self) -> str:
+        rows = self.shown()
+        widths = [max(map(len, column)) for column in zip(*rows)]
+        lines = ('  '.join((word.rjust if ' s' in title else word.ljust)(width) for word, width, title in zip(row, widths, rows[0]))
+                 for row in rows)
+        return '\n'.join(line.rstrip() for line in lines) if self else 'no stalls'
+
+    def _repr_html_(self) -> str:
+        return html_table(self.shown()) if self else '<p>no stalls</p>'
+
+
 def drop_columns(links: list[LinkResult]) -> list[tuple]:
     """A column for each word by which any of these links dropped."""
     words = dict.fromkeys(word for link in links for word, count in link.drops.items() if count)

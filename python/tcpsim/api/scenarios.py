@@ -9,12 +9,12 @@ from collections.abc import Callable, Mapping, Sequence
 from typing import Union
 
 from tcpsim import output
-from tcpsim.api.errors import as_raised
+from tcpsim.api.engines import check_text
+from tcpsim.api.errors import ByName, Error, as_api
 from tcpsim.cli import net
-from tcpsim.command_line import Wrong
-from tcpsim.scenario.text import Flow, Link, Node, Scenario
+from tcpsim.scenario.text import Flow, Link, Node, Scenario, Unreadable
 from tcpsim.scenario.units import spelled_time
-from tcpsim.whole_trace import ProgramFailed, scenario_bytes, scenario_text
+from tcpsim.whole_trace import scenario_bytes, scenario_text
 
 Value = Union[str, int, Sequence[Union[str, int]], None]     # of an option: a word, a number, a list of them
 SHAPES_RATES = {'--rates': '--rate'}
@@ -23,8 +23,8 @@ SHAPES_RATES = {'--rates': '--rate'}
 class ScenarioText:
     """A scenario: its `text` (docs/FORMATS.md), and `name`, by which pictures and pages call it.
 
-    `nodes`, `links` and `flows` are read from the text, by name: rates are bit/s, times ns, sizes bytes, queues packets. The
-    text is judged when it is run.
+    `nodes`, `links` and `flows` are read from the text, by name: rates are bit/s, times ns, sizes bytes, queues packets.
+    Refused where they are asked for and the text is refused.
     """
 
     def __init__(self, text: str, name: str = 'scenario'):
@@ -33,7 +33,12 @@ class ScenarioText:
     @functools.cached_property
     def parsed(self) -> Scenario:
         """The scenario that the text means."""
-        return Scenario(self.text)
+        with as_api():
+            try:
+                return Scenario(self.text)
+            except Unreadable:
+                check_text(self.text)       # says better what is wrong
+                raise
 
     @property
     def end_ns(self) -> int:
@@ -43,17 +48,17 @@ class ScenarioText:
     @property
     def nodes(self) -> Mapping[str, Node]:
         """The nodes by name, in the text's order."""
-        return {node.name: node for node in self.parsed.nodes}
+        return ByName((node.name, node) for node in self.parsed.nodes)
 
     @property
     def links(self) -> Mapping[str, Link]:
         """The links by name, in the text's order; `source` and `to` are numbers of nodes."""
-        return {link.name: link for link in self.parsed.links}
+        return ByName((link.name, link) for link in self.parsed.links)
 
     @property
     def flows(self) -> Mapping[str, Flow]:
         """The flows by name, in the text's order; `sender` and `receiver` are numbers of nodes."""
-        return {flow.name: flow for flow in self.parsed.flows}
+        return ByName((flow.name, flow) for flow in self.parsed.flows)
 
     def save(self, path: str | os.PathLike) -> None:
         """Writes the text to a file, whole or not at all."""
@@ -62,7 +67,10 @@ class ScenarioText:
 
     def __repr__(self) -> str:
         head = re.findall(r'\A# (.*\.)$', self.text, re.M)
-        what = f'{many(self.flows, "flow")} over {many(self.links, "link")}, {spelled_time(self.end_ns)}'
+        try:
+            what = f'{many(self.flows, "flow")} over {many(self.links, "link")}, {spelled_time(self.end_ns)}'
+        except Error as wrong:
+            what = f'a text that is refused, {str(wrong).partition(chr(10))[0]}'
         return f'<{self.name}: {"; ".join([what, *head])}>'
 
 
@@ -74,19 +82,26 @@ def many(things: Mapping, what: str) -> str:
 # ---- reading
 
 def from_text(text: str, name: str = 'scenario') -> ScenarioText:
-    """The scenario of a text."""
+    """The scenario of a text. Refused, with code and line, where the text is refused."""
+    if not isinstance(text, str):
+        raise TypeError(f'a text is wanted, and not {text!r}')
+    check_text(text)
     return ScenarioText(text, name)
 
 
 def read(path: str | os.PathLike) -> ScenarioText:
-    """The scenario of a file, a text or an image. OSError where it cannot be read, Refused where it is an image that is
-    refused."""
+    """The scenario of a file, a text or an image. OSError where it cannot be read, Refused where it is refused, Wrong where
+    it is no text."""
+    net = unchecked(path)
+    check_text(net.text)
+    return net
+
+
+@as_api()
+def unchecked(path: str | os.PathLike) -> ScenarioText:
+    """The scenario of a file, whose text is not judged."""
     path = os.fspath(path)
-    try:
-        text = scenario_text(scenario_bytes(path), path)
-    except ProgramFailed as wrong:
-        raise as_raised(wrong) from None
-    return ScenarioText(text, os.path.splitext(os.path.basename(path))[0])
+    return ScenarioText(scenario_text(scenario_bytes(path), path), os.path.splitext(os.path.basename(path))[0])
 
 
 def scenario_of(given: ScenarioText | str | os.PathLike) -> ScenarioText:
@@ -96,7 +111,7 @@ def scenario_of(given: ScenarioText | str | os.PathLike) -> ScenarioText:
     if isinstance(given, str) and '\n' in given:
         return ScenarioText(given)
     if isinstance(given, (str, os.PathLike)):
-        return read(given)
+        return unchecked(given)
     raise TypeError(f'a scenario, its file or its text is wanted, and not {given!r}')
 
 
@@ -110,7 +125,14 @@ def option_names(shape: str) -> dict[str, str]:
 
 def as_word(value: Value) -> str:
     """A value as a command line has it: a list has commas."""
-    return ','.join(map(str, value)) if isinstance(value, (list, tuple)) else str(value)
+    return ','.join(map(str, value)) if isinstance(value, (list, tuple, range)) else str(value)
+
+
+def lost_packets(value: Value | Mapping[str, Value]) -> list[str]:
+    """The words of `lose`, one for each link: of {"pq": [20, 21]}, of a word, or of a list of words."""
+    if isinstance(value, Mapping):
+        return [f'{link}={as_word(packets)}' for link, packets in value.items()]
+    return [value] if isinstance(value, str) else list(map(str, value))
 
 
 def built(shape: str, options: Mapping[str, Value]) -> ScenarioText:
@@ -120,14 +142,14 @@ def built(shape: str, options: Mapping[str, Value]) -> ScenarioText:
     for name, value in options.items():
         if name not in names:
             raise TypeError(f'{shape.replace("-", "_")}() has no option {name!r}; it has {", ".join(names)}')
-        if value is True:
+        if name == 'lose' and value is not None:
+            words += [f'--lose={word}' for word in lost_packets(value)]
+        elif value is True:
             words.append(names[name])
         elif value is not None and value is not False:
             words.append(f'{names[name]}={as_word(value)}')
-    try:
+    with as_api():
         return ScenarioText(net.scenario(words), shape)
-    except Wrong as wrong:
-        raise Wrong(re.sub(r'^argument --([\w-]+): ', lambda found: f'{found[1].replace("-", "_")}: ', str(wrong))) from None
 
 
 def shaped(function: Callable[..., ScenarioText]) -> Callable[..., ScenarioText]:
@@ -137,8 +159,9 @@ def shaped(function: Callable[..., ScenarioText]) -> Callable[..., ScenarioText]
     texts = {SHAPES_RATES.get(option, option): net.OPTIONS[option]['help'] for option in net.SHAPES[shape][1]}
     lines = [f'    {name}: {texts[option]}' for name, option in option_names(shape).items()]
     function.__doc__ = '\n'.join([function.__doc__ or '', '', 'Options, those of tcpsim-net:', *lines, '',
-                                  'A list gives each flow, or hop, its own value, as rtt=["40ms", "80ms"]. Wrong where a word '
-                                  'cannot be read or is out of range.'])
+                                  'A list gives each flow, or hop, its own value, as rtt=["40ms", "80ms"], and begins again where it is '
+                                  'shorter. lose={"pq": [20, 21]} names packets by their link. Wrong where a word cannot be '
+                                  'read or is out of range.'])
     function.__signature__ = inspect.Signature(
         [inspect.Parameter(name, inspect.Parameter.KEYWORD_ONLY, default=None) for name in option_names(shape)],
         return_annotation='ScenarioText')

@@ -4,7 +4,7 @@ from __future__ import annotations
 from array import array
 from dataclasses import dataclass, field
 
-from tcpsim.api.errors import wanted
+from tcpsim.api.errors import ByName, wanted
 from tcpsim.figures import S, Figures
 
 
@@ -30,8 +30,8 @@ class TimeSeries:
 
     def __init__(self, run: Figures):
         self.begin_s, self.end_s = array('d'), array('d')
-        self.flows: dict[str, FlowCurve] = {flow.flow.name: FlowCurve() for flow in run.flows}
-        self.links: dict[str, LinkCurve] = {link.link.name: LinkCurve() for link in run.links}
+        self.flows: dict[str, FlowCurve] = ByName((flow.flow.name, FlowCurve()) for flow in run.flows)
+        self.links: dict[str, LinkCurve] = ByName((link.link.name, LinkCurve()) for link in run.links)
         columns = [self.begin_s, self.end_s]
         for flow in self.flows.values():
             columns += [flow.cwnd, flow.goodput]

@@ -10,11 +10,13 @@ from collections.abc import Callable, Mapping
 from dataclasses import replace
 
 from tcpsim.api.answers import Move, NetNow, Why, move_of, state_of, why_of
-from tcpsim.api.engines import check_own, ends_with_parent, engine_of
-from tcpsim.api.errors import Error, refusal
+from tcpsim.api.engines import check_own, check_queues, ends_with_parent, engine_of
+from tcpsim.api.errors import Error, Refused, as_raised, refusal
 from tcpsim.api.events import Event, Names, events_of
 from tcpsim.api.scenarios import ScenarioText, scenario_of
 from tcpsim.command_line import Wrong
+from tcpsim.scenario import units
+from tcpsim.scenario.units import spelled_time
 from tcpsim.whole_trace import PATIENCE, ProgramFailed
 
 PROMPT = b'(tcpsim) '
@@ -29,6 +31,14 @@ def debug(scenario: ScenarioText | str | os.PathLike, engine: str | None = None,
     scenario is refused.
     """
     return DebugSession(scenario_of(scenario), engine, queues)
+
+
+def is_before(time: str | int, now: int) -> bool:
+    """Whether a word or number is a moment before that of now, in ns. What is no time the prompt refuses."""
+    try:
+        return (units.moment(time) if isinstance(time, str) else time) < now
+    except (Wrong, TypeError):
+        return False
 
 
 class ProcessPrompt:
@@ -86,7 +96,7 @@ class ProcessPrompt:
     def _ended(self, note):
         status, text = self._process.wait(PATIENCE), note.decode('utf-8', 'replace')
         self.end()
-        raise refusal(text) or ProgramFailed(status, note)
+        raise refusal(text) or as_raised(ProgramFailed(status, note))
 
     def end(self) -> None:
         """Ends the process."""
@@ -110,7 +120,7 @@ class DebugSession:
                  queues: Mapping[str, Callable[..., object]] | None = None):
         self.scenario, self.names = scenario, None
         self._end: Callable[[], None] = lambda: None
-        if queues:
+        if check_queues(queues):
             from tcpsim.api.by_model import OwnQueueRun
             check_own(engine or 'model', scenario.text)
             self.engine, self._ask = 'model', OwnQueueRun(scenario.text, queues).answers()
@@ -135,7 +145,10 @@ class DebugSession:
 
     def ask(self, line: str) -> str:
         """The prompt's own answer to a line, whose grammar docs/FORMATS.md has; what a move changed here is not noticed."""
-        return self._ask(line)
+        try:
+            return self._ask(line)
+        except Refused as wrong:
+            raise Refused(wrong.code, wrong.line, wrong.explained, line) from None
 
     # ---- moves
 
@@ -148,8 +161,18 @@ class DebugSession:
         return self._moved(f'back {count}')
 
     def until(self, time: str | int) -> Move:
-        """All events before a moment, as '1.5s' or nanoseconds. It only goes forwards."""
+        """On to a moment, as '1.5s' or nanoseconds: all events before it are run. Wrong where the session is past it."""
+        if is_before(time, self.time_ns):
+            raise Wrong(f'until({time!r}) only goes on, and {spelled_time(self.time_ns)} of the run have passed: back, reverse and '
+                        'goto go back')
         return self._moved(f'until {time}')
+
+    def goto(self, position: int) -> Move:
+        """On or back to a position: so many events of the run, as `Event.n` and a stall's `positions` count them; to the end
+        where there are fewer."""
+        if isinstance(position, bool) or not isinstance(position, int) or position < 0:
+            raise Wrong(f'goto: {position!r} is no position: they are counted from 0, the beginning')
+        return self.step(position - self.position) if position >= self.position else self.back(self.position - position)
 
     def run_to(self, time: str | int | None = None, **conditions: str | int | bool) -> Move:
         """On to the next event that meets all conditions, or to the run's end: `kind` (start, rto, delack, free, data, ack),

@@ -7,6 +7,8 @@ import os
 import sys
 from typing import TYPE_CHECKING
 
+from tcpsim.api.errors import as_api
+
 if TYPE_CHECKING:
     from matplotlib.figure import Figure
 
@@ -53,10 +55,11 @@ class PlottedRun(Shown):
         self._show()
 
     def save(self, path: str | os.PathLike) -> None:
-        """Writes it as .png, .svg or .pdf, by the file's ending."""
+        """Writes it as .png, .svg or .pdf, by the file's ending. Wrong where it has another."""
         from tcpsim import plot
         from tcpsim.plot.choice import picture_file
-        plot.save(self.figure, picture_file(os.fspath(path)))
+        with as_api():
+            plot.save(self.figure, picture_file(os.fspath(path)))
 
     def _bundle(self) -> dict:
         import base64

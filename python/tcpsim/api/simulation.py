@@ -8,26 +8,38 @@ import tempfile
 from collections.abc import Callable, Iterator, Mapping
 
 from tcpsim import output
-from tcpsim.api.engines import Engine, check_own, engine_of, reads_of
-from tcpsim.api.errors import wanted
+from tcpsim.api.engines import Engine, check_own, check_queues, engine_of, reads_of
+from tcpsim.api.errors import Wrong, as_api, wanted
 from tcpsim.api.events import Names, Trace
-from tcpsim.api.results import Results
+from tcpsim.api.results import Results, Stalls
 from tcpsim.api.scenarios import ScenarioText, as_word, scenario_of
 from tcpsim.api.series import TimeSeries
 from tcpsim.api.shown import PlottedRun, ReplayPage
 from tcpsim.engine import EngineRun
-from tcpsim.figures import Figures
+from tcpsim.figures import ROWS, Figures
 from tcpsim.scenario import units
 from tcpsim.scenario.text import Scenario
-from tcpsim.stalls import Row, stalls_of
+from tcpsim.stalls import stalls_of
 from tcpsim.walk import flow_named
 from tcpsim.whole_trace import blocks
 
 
 
-def moment(time: str | int | None) -> int | None:
-    """A time in nanoseconds: a word with its unit, as 20ms, or nanoseconds themselves."""
-    return units.moment(time) if isinstance(time, str) else time
+def moment(option: str, time: str | int | None) -> int | None:
+    """A time in nanoseconds: a word with its unit, as 20ms, or nanoseconds themselves. Wrong, with the option's name, where
+    it is neither."""
+    if time is None:
+        return None
+    try:
+        if isinstance(time, str):
+            return units.moment(time)
+        if isinstance(time, bool) or int(time) != time or time < 0:
+            raise Wrong(f'{time!r} is no time: write a word with its unit, as "20ms", or nanoseconds')
+        return int(time)
+    except Wrong as wrong:
+        raise Wrong(f'{option}: {wrong}') from None
+    except (TypeError, ValueError, OverflowError):
+        raise Wrong(f'{option}: {time!r} is no time: write a word with its unit, as "20ms", or nanoseconds') from None
 
 
 def run(scenario: ScenarioText | str | os.PathLike, engine: str | None = None,
@@ -52,7 +64,7 @@ class Simulation:
                  queues: Mapping[str, Callable[..., object]] | None = None):
         self.scenario = scenario
         self._own = None
-        if queues:
+        if check_queues(queues):
             from tcpsim.api.by_model import OwnQueueRun
             check_own(engine, scenario.text)
             self._own = OwnQueueRun(scenario.text, queues)
@@ -124,17 +136,34 @@ class Simulation:
 
     def series(self, step: str | int, begin: str | int | None = None, end: str | int | None = None) -> TimeSeries:
         """The run by time, a row for each step, as '10ms', from `begin` to `end`: each flow's window and goodput, each
-        link's queue. Times are words with units, or nanoseconds."""
-        with self._lines() as lines:
-            return TimeSeries(Figures(self._parsed(), lines, moment(begin), moment(end), moment(step)))
+        link's queue. Times are words with units, or nanoseconds. Wrong where the step is 0, where there are more than a million
+        steps, or where nothing of the run is in that time."""
+        begin, end, step = moment('begin', begin), moment('end', end), moment('step', step)
+        if not step:
+            raise Wrong('step: a series wants a step above 0, as "10ms"')
+        if None not in (begin, end) and end <= begin:
+            raise Wrong(f'end: {units.spelled_time(end)} is not after the begin, {units.spelled_time(begin)}')
+        with as_api():
+            self._check_steps(step, begin, end)
+            with self._lines() as lines:
+                return TimeSeries(Figures(self._parsed(), lines, begin, end, step))
 
-    def stalls(self, longer: str | int = '200ms', flow: str | int | None = None) -> list[Row]:
-        """The spans in which a flow had no new acknowledgement for longer than that, each with its cause: `flow`, `begin`,
-        `end`, `length` (ns), `cause`, `found`, and `positions` for the debugger."""
-        parsed = self._parsed()
-        only = None if flow is None else parsed.flows[flow_named(parsed, str(flow))].name
-        with self._lines() as lines:
-            return [row for row in stalls_of(parsed, lines, moment(longer)) if only in (None, row.flow)]
+    def _check_steps(self, step, begin, end):
+        """Wrong where a series has too many rows, before any is made. The figures tell when a run ends before its scenario."""
+        begin = min(flow.start for flow in self.scenario.parsed.flows) if begin is None else begin
+        end = min(self.scenario.end_ns if end is None else end, self.scenario.end_ns)
+        if (end - begin) // step > ROWS and (min(end, self.figures.end_ns) - begin) // step > ROWS:
+            raise Wrong(f'step: {units.spelled_time(step)} is too short: the series has more than {ROWS:,} steps, so take a longer '
+                        'step, or a part by `begin` and `end`')
+
+    def stalls(self, longer: str | int = '200ms', flow: str | int | None = None) -> Stalls:
+        """The spans in which a flow had no new acknowledgement for longer than that, each with its cause, as a list that shows
+        as a table: `flow`, `begin`, `end`, `length` (ns), `cause`, `found`, and `positions` for the debugger's goto."""
+        parsed, longer = self._parsed(), moment('longer', longer)
+        with as_api():
+            only = None if flow is None else parsed.flows[flow_named(parsed, str(flow))].name
+            with self._lines() as lines:
+                return Stalls(row for row in stalls_of(parsed, lines, longer) if only in (None, row.flow))
 
     # ---- pictures and pages
 
@@ -143,18 +172,21 @@ class Simulation:
         and progress, else of the first choice. Options are those of tcpsim-plot: `flows` and `links` (names), `begin` and
         `end` (times), `longer`, `title`, `log`, `whole`. Wants matplotlib."""
         wanted('matplotlib')
-        import matplotlib.pyplot as pyplot          # before tcpsim.plot, which else takes a backend without a window
         from tcpsim import plot
         from tcpsim.curves import Run
         from tcpsim.plot.choice import drawable, title_of
         from tcpsim.plot.style import add_signs
-        given = plot.words_of(words_of_plot(panels, options))
-        with self._lines() as lines:
-            curves = Run(self._parsed(), lines)
+        parsed = self._parsed()
+        for name, there in (('flows', self.scenario.flows), ('links', self.scenario.links)):
+            check_names(name, options.get(name), there)
+        with as_api():
+            given = plot.words_of(words_of_plot(panels, options))
+            with self._lines() as lines:
+                curves = Run(parsed, lines)
         add_signs(reason for link in curves.links for _, reason, *_ in link.drops)
-        figure = plot.draw(plot.picture_of(given, curves), given.panels, drawable(given.title) if given.title else
-                           title_of(drawable(self.scenario.name), curves))
-        pyplot.close(figure)                        # it is shown where it is asked for, and not by the end of a cell
+        title = drawable(given.title) if given.title else title_of(drawable(self.scenario.name), curves)
+        with as_api():
+            figure = plot.draw(plot.picture_of(given, curves), given.panels, title)
         return PlottedRun(figure)
 
     def replay(self, file: str | os.PathLike | None = None, begin: str | int | None = None,
@@ -163,10 +195,11 @@ class Simulation:
         shows the events from `begin` on and before `end`, 200,000 at most."""
         from tcpsim.replay.page import page
         from tcpsim.replay.recording import Part
-        parsed = self._parsed()
-        with self._lines() as lines:
-            part = Part(parsed, lines, moment(begin) or 0, moment(end))
-        text = page(self.scenario.name.replace('_', ' '), parsed, part)
+        parsed, begin, end = self._parsed(), moment('begin', begin) or 0, moment('end', end)
+        with as_api():
+            with self._lines() as lines:
+                part = Part(parsed, lines, begin, end)
+            text = page(self.scenario.name.replace('_', ' '), parsed, part)
         if file is not None:
             with output.written(os.fspath(file)) as out:
                 out.write(text)
@@ -193,6 +226,14 @@ def reads_again(file) -> Callable[[int], bytes]:
         at += len(block)
         return block
     return read
+
+
+def check_names(option: str, names: object, there: Mapping[str, object]) -> None:
+    """Wrong where an option of plot names what the scenario has not."""
+    names = names.split(',') if isinstance(names, str) else [] if names is None else names
+    unknown = [name for name in map(str, names) if name not in there]
+    if unknown:
+        raise Wrong(f'{option}: the scenario has no {option[:-1]} {unknown[0]}; it has {", ".join(there)}')
 
 
 def words_of_plot(panels: tuple[str, ...], options: Mapping[str, object]) -> list[str]:

@@ -1,6 +1,6 @@
 """Draws a run: each flow's window and sequence numbers, each link's queue, delay and utilization.
 
-Wants matplotlib. All times are nanoseconds.
+Wants matplotlib, and leaves pyplot and its backend, which are the caller's, as they are. All times are nanoseconds.
 
 `choice` reads the words and picks what is shown, `clock` is the axis of time, `points` thins curves out, `flow_panels`
 and `link_panels` draw a panel each, `broken` finds how high the axis of windows goes, `labels` finds where names stand,
@@ -11,9 +11,7 @@ from __future__ import annotations
 
 import argparse
 
-import matplotlib
-matplotlib.use('Agg')
-import matplotlib.pyplot as plt
+from matplotlib.figure import Figure
 
 from tcpsim.plot.choice import beside, drawable, picture_of, runs_of, title_of, words_of
 from tcpsim.plot.drawn import drawn
@@ -22,10 +20,10 @@ from tcpsim.plot.layout import draw
 from tcpsim.plot.slide import draw_slide
 from tcpsim.plot.points import busy_parts, steps
 
-__all__ = ['busy_parts', 'draw', 'drawn', 'figure_of', 'picture_of', 'plt', 'save', 'steps', 'words_of']
+__all__ = ['busy_parts', 'draw', 'drawn', 'figure_of', 'picture_of', 'save', 'steps', 'words_of']
 
 
-def figure_of(given: argparse.Namespace) -> plt.Figure:
+def figure_of(given: argparse.Namespace) -> Figure:
     """The figure that the words ask for."""
     runs = runs_of(given)
     title = drawable(given.title) if given.title else '; '.join(title_of(name, run) for name, run in runs)

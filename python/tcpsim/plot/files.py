@@ -5,7 +5,7 @@ import io
 import os
 import re
 
-import matplotlib.pyplot as plt
+import matplotlib
 from matplotlib.figure import Figure
 
 from tcpsim import output
@@ -25,11 +25,11 @@ def content_of(figure: Figure, path) -> bytes:
     """The picture's bytes, of the sort that the path's ending names; an SVG says in its description what it shows."""
     ending = os.path.splitext(path)[1]
     plain = {'.svg': {'Date': None, 'Creator': None}, '.pdf': {'CreationDate': None}, '.png': {}}[ending]
-    plt.rcParams['svg.hashsalt'] = 'tcpsim'
     content, wide = io.BytesIO(), figure.get_size_inches()[0]
     if ending == '.svg':
         plain['Description'] = '\n'.join(drawn(figure))
-    figure.savefig(content, format=ending[1:], dpi=WIDTH.get(wide, 100 * wide) / wide, metadata=plain)
+    with matplotlib.rc_context({'svg.hashsalt': 'tcpsim'}):
+        figure.savefig(content, format=ending[1:], dpi=WIDTH.get(wide, 100 * wide) / wide, metadata=plain)
     content = content.getvalue()
     if ending == '.svg':
         content = re.sub(r' d="[^"]*"', shorter, content.decode('utf-8')).encode('utf-8')

@@ -4,7 +4,6 @@ from __future__ import annotations
 import math
 import textwrap
 
-import matplotlib.pyplot as plt
 import numpy as np
 from matplotlib.axes import Axes
 from matplotlib.figure import Figure
@@ -14,7 +13,7 @@ from tcpsim.scenario.text import Unreadable
 from .flow_panels import (columns_of, progress_panel, sequence_key, sequence_panel, window_key, window_panel)
 from .labels import place_labels
 from .link_panels import delay_cdf_panel, delay_panel, queue_panel, utilization_panel
-from .style import HEAD, KEY, LETTER, NOTE, TICKS, TITLE_SIZE, columns_that_fit, link_text
+from .style import HEAD, KEY, LETTER, NOTE, TICKS, TITLE_SIZE, columns_that_fit, link_text, new_figure
 
 FLOW_PANELS = ('window', 'sequence')
 LINK_PANELS = ('queue', 'delay', 'delay-cdf', 'utilization')
@@ -36,7 +35,7 @@ def draw(picture, panels, title: str) -> Figure:
     if not flow_panels and not link_panels:
         raise Unreadable('there is nothing to draw')
     size = (10, 7) if flow_panels else (10, 2 + 2 * len(link_panels))
-    figure = plt.figure(figsize=size, layout='constrained')
+    figure = new_figure(figsize=size, layout='constrained')
     figure.suptitle(title, fontsize=HEAD, fontweight='bold')
     if not flow_panels or not link_panels:
         parts, widths = [figure.subfigures(1, 1)], (1, 1)

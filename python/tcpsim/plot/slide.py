@@ -3,7 +3,6 @@ from __future__ import annotations
 
 from itertools import product
 
-import matplotlib.pyplot as plt
 import numpy as np
 from matplotlib.axes import Axes
 from matplotlib.colors import to_rgba
@@ -16,7 +15,7 @@ from tcpsim.scenario.text import Unreadable
 from .flow_panels import progress_panel, sequence_key, sequence_panel, window_key, window_panel, windows_panel
 from .labels import drawn_points
 from .link_panels import delay_cdf_panel, delay_panel, queue_panel, utilization_panel
-from .style import link_text
+from .style import link_text, new_figure
 
 SIZE, POINTS, THICKER = (16, 9), 24, 2.4        # inches, points, times
 LINKS = {'queue': queue_panel, 'delay': delay_panel, 'delay-cdf': delay_cdf_panel, 'utilization': utilization_panel}
@@ -27,7 +26,7 @@ DARKER, STEP = .6, 4                            # of a colour; pixels from point
 
 def draw_slide(picture, panel: str, title: str) -> Figure:
     """The figure with this one panel."""
-    figure = plt.figure(figsize=SIZE, layout='constrained')
+    figure = new_figure(figsize=SIZE, layout='constrained')
     axes = figure.subplots()
     key = draw_panel(picture, axes, panel)
     if panel != 'delay-cdf':

@@ -5,6 +5,8 @@ import math
 from collections.abc import Iterable
 
 from matplotlib.axes import Axes
+from matplotlib.backends.backend_agg import FigureCanvasAgg
+from matplotlib.figure import Figure
 from matplotlib.lines import Line2D
 from matplotlib.patches import Patch
 
@@ -25,6 +27,13 @@ KEY = {'fontsize': KEY_SIZE, 'frameon': False, 'handlelength': 1.6, 'borderpad':
        'columnspacing': 1.0, 'borderaxespad': .3, 'handletextpad': .5}
 LETTER, HANDLE, LINE = 5.4, 29, 11.6      # the key's sizes, in points
 STEPS = [1, 2, 2.5, 5, 10]                # between two ticks, in a power of ten
+
+
+def new_figure(**given: object) -> Figure:
+    """An empty figure that pyplot does not know, so that the backend of whoever calls stays as it is."""
+    figure = Figure(**given)
+    FigureCanvasAgg(figure)         # measures texts
+    return figure
 
 
 def series(number: int) -> dict:

@@ -1,11 +1,10 @@
 """Draws a sweep: wait against utilization, a panel for each choice of the other values. Wants matplotlib."""
 from __future__ import annotations
 
-import matplotlib.pyplot as plt
 from matplotlib.figure import Figure
 
 from tcpsim.plot.labels import place_labels
-from tcpsim.plot.style import BLUE, KEY_SIZE, RUST, TICKS, TITLE_SIZE
+from tcpsim.plot.style import BLUE, KEY_SIZE, RUST, TICKS, TITLE_SIZE, new_figure
 from tcpsim.scenario.units import spelled_time
 from tcpsim.sweep import MS, along
 
@@ -56,8 +55,8 @@ def draw(grid, rows) -> Figure:
     panels = panels_of(grid, rows)
     across = min(3, len(panels))
     down = -(-len(panels) // across)
-    figure, all_axes = plt.subplots(down, across, figsize=(max(5.5, 3.6 * across), 4 * down), sharex=True, sharey=True,
-                                    squeeze=False, layout='constrained')
+    figure = new_figure(figsize=(max(5.5, 3.6 * across), 4 * down), layout='constrained')
+    all_axes = figure.subplots(down, across, sharex=True, sharey=True, squeeze=False)
     waits = [wait for lines in panels.values() for points in lines.values() for _, *both, _ in points for wait in both]
     for axes, (others, lines) in zip(all_axes.flat, panels.items()):
         axes.set_xscale('log' if waits and min(waits) > 0 else 'symlog', **({} if waits and min(waits) > 0 else {
