@@ -27,8 +27,7 @@ from tcpsim.scenario.text import Scenario, Unreadable
 from tcpsim.scenario.units import HEADER_BYTES, spelled_rate, spelled_time
 from tcpsim.whole_trace import BLOCK, PROGRAMS, ProgramFailed, Rest, Running, blocks, running
 
-MS = 10**6
-MOST_RUNS, MOST_PANELS = 100_000, 12
+MS, MOST_RUNS, MOST_PANELS = 10**6, 100_000, 12
 # Where in a statement's words a field stands; `lose` has statements of its own. A flow's last two words may be left out.
 WHERE = {'link': {'rate': 4, 'delay': 5, 'queue': 6, 'lose': None},
          'flow': {'mss': 4, 'segments': 5, 'start': 6, 'rwnd': 7, 'delack': 8, 'variant': 9, 'iw': 10}, 'sim': {'end': 1}}

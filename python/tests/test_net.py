@@ -86,8 +86,11 @@ def grid(shape):
 
 
 def fits(shape, options):
-    """No list is longer than there are flows or hops, and no leaf has more than 15 ends."""
+    """No list is longer than there are flows or hops, no leaf has more than 15 ends, and a dumbbell that is a tree has a
+    nanosecond for each of its links."""
     flows = int(options.get('--flows', 100))
+    if shape == 'dumbbell' and flows > 15 and options['--rtt'] == '8ns':
+        return False
     if shape == 'tree' and flows > 15 * int(options['--leaves']):
         return False
     hops = int(options.get('--hops', 100))

@@ -179,7 +179,7 @@ def test_a_page_in_a_browser_reads_its_drops(tmp_path, queue):
     done = subprocess.run([CHROMIUM, '--headless', '--no-sandbox', '--virtual-time-budget=5000', f'--user-data-dir={tmp_path}/profile',
                            '--dump-dom', f'file://{page.path}#event={last.n}'], capture_output=True, text=True, check=True, timeout=300)
     assert re.search(rf'<html [^>]*data-event="{last.n}" data-ready=', done.stdout)
-    assert any(f'{drop.reason} {drop.flow[1:]}:{drop.number}' in done.stdout for drop in last.drops)
+    assert any(f'{drop.reason}: {drop.flow} {drop.number:,}' in done.stdout for drop in last.drops)
     assert f'is dropped: {last.drops[0].reason}' in done.stdout
     assert f'{waiting}/20' in done.stdout
 

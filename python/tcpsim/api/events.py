@@ -3,11 +3,14 @@ from __future__ import annotations
 
 import os
 from collections.abc import Callable, Iterable, Iterator
-from typing import NamedTuple
+from typing import TYPE_CHECKING, NamedTuple
 
 from tcpsim import output
 from tcpsim.api.errors import as_api, wanted
 from tcpsim.scenario.text import Scenario
+
+if TYPE_CHECKING:
+    from pandas import DataFrame
 
 Blocks = Callable[[], 'contextlib.AbstractContextManager[Iterator[list[str]]]']     # opens a trace: its lines, block by block
 
@@ -160,7 +163,7 @@ class Trace(Iterable[Event]):
             for drop in event.drops:
                 yield event.time_ns, drop
 
-    def to_pandas(self):
+    def to_pandas(self) -> DataFrame:
         """A pandas DataFrame with a row for each event."""
         return wanted('pandas').DataFrame.from_records(list(self), columns=Event._fields)
 

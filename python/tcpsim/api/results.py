@@ -8,12 +8,15 @@ from __future__ import annotations
 import html
 from collections.abc import Callable, Iterator, Mapping
 from dataclasses import dataclass, fields
-from typing import Generic, TypeVar
+from typing import TYPE_CHECKING, Generic, TypeVar
 
 from tcpsim.api.errors import wanted
 from tcpsim.engine import BUSY, WAITED, EngineRun
 from tcpsim.figures import jain
 from tcpsim.output import aligned
+
+if TYPE_CHECKING:
+    from pandas import DataFrame
 
 DROPPED = 'dropped '            # how the names of figures begin that count drops
 WHICH = 'least', 'median', '99th percentile of', 'greatest'
@@ -113,7 +116,7 @@ class Table(Mapping, Generic[Row]):
             [in_words(name(row) if callable(name) else getattr(row, name), form, scale) for _, name, form, scale in self._columns]
             for row in self._rows if only(row)]
 
-    def to_pandas(self):
+    def to_pandas(self) -> DataFrame:
         """A pandas DataFrame with a row for each flow or link and a column for each figure."""
         rows = [{field.name: getattr(row, field.name) for field in fields(row)} for row in self._rows]
         for row in rows:
@@ -166,7 +169,7 @@ class Results:
         """Jain's index of the flows' goodputs: 1 where all are equal, 1/n where one of n has all."""
         return jain([flow.goodput for flow in self.flows.values() if flow.goodput is not None])
 
-    def to_pandas(self):
+    def to_pandas(self) -> DataFrame:
         """A pandas DataFrame with a row for each figure: what (flow, link or run), name, figure, value. The frames of
         `flows` and `links` have a row for each of them."""
         rows = [(what, name, figure, value) for what, table in (('flow', self.flows), ('link', self.links))

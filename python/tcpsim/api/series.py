@@ -3,9 +3,13 @@ from __future__ import annotations
 
 from array import array
 from dataclasses import dataclass, field
+from typing import TYPE_CHECKING
 
 from tcpsim.api.errors import ByName, wanted
 from tcpsim.figures import S, Figures
+
+if TYPE_CHECKING:
+    from pandas import DataFrame
 
 
 @dataclass
@@ -48,7 +52,7 @@ class TimeSeries:
     def __len__(self) -> int:
         return len(self.begin_s)
 
-    def to_pandas(self):
+    def to_pandas(self) -> DataFrame:
         """A pandas DataFrame with a row for each step, by its begin in seconds; columns are as `f0 cwnd`, `pq queue_mean`."""
         columns = {f'{name} {figure}': values for table in (self.flows, self.links) for name, of in table.items()
                    for figure, values in vars(of).items()}

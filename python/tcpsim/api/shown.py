@@ -5,7 +5,7 @@ import html
 import io
 import os
 import sys
-from typing import TYPE_CHECKING
+from typing import TYPE_CHECKING, Any
 
 from tcpsim.api.errors import as_api
 
@@ -17,7 +17,7 @@ MOST_IN_A_NOTEBOOK = 20 * 10**6     # bytes of a page that a notebook takes into
 WITHOUT_ADDRESS = '<script>History.prototype.replaceState = function () {};</script>'
 
 
-def notebook():
+def notebook() -> Any:
     """IPython's shell where this is a notebook; else None."""
     ipython = sys.modules.get('IPython')
     shell = ipython and ipython.get_ipython()

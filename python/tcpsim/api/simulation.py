@@ -6,6 +6,7 @@ import functools
 import os
 import tempfile
 from collections.abc import Callable, Iterator, Mapping
+from typing import BinaryIO
 
 from tcpsim import output
 from tcpsim.api.engines import Engine, check_own, check_queues, engine_of, reads_of
@@ -216,7 +217,7 @@ class Simulation:
         return self.figures._repr_html_()
 
 
-def reads_again(file) -> Callable[[int], bytes]:
+def reads_again(file: BinaryIO) -> Callable[[int], bytes]:
     """A reader of a file's blocks from its beginning, beside others of the same file."""
     at = 0
 
