@@ -93,7 +93,10 @@ class TestPicturesOfTheDocuments:
                 stored = re.search(r'<dc:description>(.*?)</dc:description>', file.read(), re.S)
             figure = pictures.figure_of(name)
             shown = plot.drawn(figure)
-            assert len(shown) > 10
+            panels = {line.partition(' | ')[0] for line in shown} - {'key'}
+            assert len(panels) >= len(pictures.PICTURES[name][pictures.PICTURES[name].index('--panels') + 1].split(',')), name
+            for panel in panels:        # each shows data
+                assert any(line.startswith(f'{panel} | ') and ' points, ' in line for line in shown), (name, panel)
             assert html.unescape(stored[1]).splitlines() == shown
 
     def test_none_is_left_over(self):
@@ -103,7 +106,7 @@ class TestPicturesOfTheDocuments:
 
     def test_no_label_covers_another_or_a_span_that_is_left_out(self):
         for name in ('two_timeouts_in_a_row', 'a_lost_retransmission', 'sawtooth_of_congestion_avoidance'):
-            figure = pictures.figure_of(name)
+            figure = plot.figure_of(plot.words_of([*pictures.run_of(name), '--panels', 'window,sequence', '-o', 'x.png']))
             figure.draw_without_rendering()
             renderer = figure.canvas.get_renderer()
             axes = next(axes for axes in figure.get_axes() if axes.get_title(loc='left').endswith('sequence numbers'))
@@ -230,11 +233,19 @@ class TestWindows(Drawn):
         assert next(line.get_linewidth() for line in window.lines if line.get_color() == style.GREY) < 1.3
         assert window.get_ylim() == (-.7, 7 * 1.12)
 
-    def test_the_receivers_window_is_a_line_where_it_is_in_sight(self):
-        small = self.write('small', BY_HAND.replace('64000', '7500'), TRACE.replace('64000', '7500'))
-        window = self.panels(*small)['flow f: congestion window']
-        assert [y for _, y in curves(window)[style.GREEN]] == [7.5, 7.5]
-        assert style.GREEN not in curves(self.panels(*self.hand)['flow f: congestion window'])
+    def test_the_receivers_window_is_a_line_where_it_keeps_the_sender_back(self):
+        # At most 6000 bytes are in flight: a window of 6500 has no room for one segment more, one of 7000 has.
+        def drawn(rwnd):
+            run = self.write(f'rwnd{rwnd}', BY_HAND.replace('64000', str(rwnd)), TRACE.replace('64000', str(rwnd)))
+            key, window = self.figure(*run, '--panels', 'window').get_axes()
+            return curves(window).get(style.GREEN), [text.get_text() for text in key.get_legend().get_texts()]
+        line, key = drawn(6500)
+        assert line == [(0, 6.5), (12, 6.5)]
+        assert 'receiver\'s window, 6.5 kB' in key
+        for rwnd in (7000, 64000):
+            line, key = drawn(rwnd)
+            assert line is None
+            assert not [text for text in key if 'receiver' in text]
 
     def test_windows_of_two_runs_share_their_axis(self):
         other = self.write('other', BY_HAND, TRACE.replace('cwnd=7000', 'cwnd=9000'))

@@ -22,6 +22,8 @@ import time
 
 import pytest
 
+if __name__ == '__main__':      # pytest.ini names dev/ to pytest alone
+    sys.path.insert(1, os.path.join(os.path.dirname(os.path.abspath(__file__)), '..', '..', 'dev'))
 from clone import BIN, CHROMIUM, EXAMPLES, PROGRAM, TOP, Folder, paths, tool
 from tcpsim.replay import page, recording
 from tcpsim.scenario import units
