@@ -21,7 +21,8 @@ built = pytest.mark.skipif(not os.path.exists(PROGRAM), reason='the program is n
 by_readelf = pytest.mark.skipif(not shutil.which('readelf'), reason='no readelf: apt-get install binutils')
 by_strace = pytest.mark.skipif(not shutil.which('strace'), reason='no strace: apt-get install strace')
 # All that the program asks of others. What is new here is to be looked at: whether it reads the environment, say.
-ASKED = {'__cxa_finalize', '__errno_location', '__libc_start_main', '__sysv_signal', '_exit', 'abort', 'close', 'free', 'isatty',
+ASKED = {'__cxa_finalize', '__errno_location', '__libc_start_main', '__sysv_signal', '__write', '__x86_get_cpuid_feature_leaf',
+         '_exit', 'abort', 'close', 'free', 'isatty',
          'malloc', 'memcpy', 'memmove', 'memset', 'open', 'pthread_attr_destroy', 'pthread_attr_init', 'pthread_attr_setguardsize',
          'pthread_create', 'pthread_detach', 'pthread_join', 'pthread_self', 'read', 'realloc', 'sched_getaffinity', 'sched_yield',
          'syscall', 'sysconf', 'write'}

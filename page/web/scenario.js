@@ -14,7 +14,8 @@ function factsOf(text, title) {
     link: ([name, from, to, rate, delay, queue, limit]) => {
       const port = leaves[node.get(from)];
       link.set(name, facts.links.length);
-      facts.links.push({name, from: node.get(from), to: node.get(to), rate: +rate, delay: +delay, queue, limit: +limit, port: port.length});
+      facts.links.push({name, from: node.get(from), to: node.get(to), rate: +rate, delay: +delay, queue, own: false, limit: +limit,
+        port: port.length});
       port.push(facts.links.length - 1);
     },
     flow: ([name, sender, receiver, mss, segments, start, rwnd, delack, , window]) => {

@@ -236,7 +236,7 @@ class Simulator {
     this.list = new TraceList(byId('all-lines'), record, event => this.goTo(event));
     byId('save-trace').disabled = false;
     // Where all stands below each other, the run is brought into view.
-    if (this.engine && matchMedia('(max-width: 900px)').matches) byId('right').scrollIntoView();
+    if (this.engine && matchMedia('(max-width: 900px)').matches) byId('run-side').scrollIntoView();
     if (this.engine) this.prompt = new Prompt(byId('debugger'), this.engine, this.run.text);
   }
   // Of which proof the program is, and the licenses of what the page has besides.
@@ -262,7 +262,7 @@ ${dataOf('licenses').join('\n\n')}`;
     if (!this.page) { this.say('run the scenario first: then a line of the text leads to its event'); return; }
     this.showTab('net');
     this.goTo(event);
-    byId('right').scrollIntoView({block: 'nearest'});
+    byId('run-side').scrollIntoView({block: 'nearest'});
   }
   showTab(name) {
     for (const tab of document.querySelectorAll('[role=tab]')) {
