@@ -7,9 +7,9 @@ import sys
 
 import pytest
 from clone import BIN, TOP
+from tcpsim.curves import read_run
 from tcpsim.engine import EngineRun
 from tcpsim.figures import Figures, figures
-from tcpsim.run import read_run
 from tcpsim.samples import percentile
 from tcpsim.scenario.text import Scenario
 from tcpsim.stalls import stalls_of
