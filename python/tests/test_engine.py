@@ -10,8 +10,7 @@ import pytest
 
 import clone
 from clone import NAMES, PROGRAM, TOP, Folder, paths, tool
-from tcpsim import engine
-from tcpsim.cycle import BEYOND, HELD, MOST
+from tcpsim import cycle, engine
 from tcpsim.figures import Figures, engine_figures
 from tcpsim.figures import figures as trace_figures
 from tcpsim.scenario.text import Scenario, Unreadable
@@ -20,10 +19,10 @@ from tcpsim_model.figures import figures
 from tcpsim_model.text import assemble, disassemble
 
 RANDOM = 80             # scenarios
-# What the program's table has not: parts of one flow at a link.
-LEFT_OUT = {'share of the bottleneck', 'loss', 'least round trip', 'median round trip', '99th percentile of round trips'}
-# What tcpsim-flows finds in a trace alone.
-OF_TRACES = '95th percentile', BEYOND, MOST, HELD
+# What the program's table has not: parts of one flow at a link, 95th percentiles, and what is in flight at a timeout.
+LEFT_OUT = {'share of the bottleneck', 'loss', 'least round trip', 'median round trip', '95th percentile of round trips',
+            '99th percentile of round trips', cycle.BEYOND, cycle.MOST, cycle.HELD}
+LEFT_OUT_OF_LINKS = {'95th percentile of delay in the queue'}
 PERCENTILES = {'median delay in the queue', '99th percentile of delay in the queue'}
 # One segment takes longer than the timer: it is sent again at 1 s, and acknowledged at 1.04232. Until 2.08 s the link
 # sends what nobody waits for, and the end is 2 s.
@@ -67,7 +66,8 @@ def agree(got, wanted):
     both, none = set(), set()
     for key, value in wanted.items():
         what, _, figure, _ = key
-        if what == 'flow' and (figure in LEFT_OUT or ' dropped as ' in figure) or figure.startswith(OF_TRACES):
+        if (what == 'flow' and (figure in LEFT_OUT or ' dropped as ' in figure) or
+                what == 'link' and figure in LEFT_OUT_OF_LINKS):
             assert key not in got
             continue
         both.add((what, figure))

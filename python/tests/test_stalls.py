@@ -536,7 +536,7 @@ class TestRefusals(Files):
         self.refused('not ASCII', self.scenario, image)
         self.refused('not ASCII', self.put('k', b'sim \xff\n'), self.trace)
         self.refused('line 1', self.put('l', 'sim 1 2\n'), self.trace)
-        self.refused(f'{self.trace}: line 1', self.trace, self.trace)
+        self.refused(f'{self.trace}: line 1: ', self.trace, self.trace)
 
     def test_files_and_programs_that_are_not_there(self):
         self.refused('No such file', 'nothing.txt', self.trace)

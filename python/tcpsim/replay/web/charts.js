@@ -47,6 +47,8 @@ class Chart {
     this.curves = this.svg.append('g');
     this.layTitle(titles);
     this.y = d3.scale.linear().range([this.tall - this.bottom, this.top]);
+    // So many ticks of the axis of values have room for their labels.
+    this.rows = Math.max(2, Math.min(4, Math.floor(UNDER_AXIS * (this.tall - this.bottom - this.top) / (1.1 * this.bottom))));
     // The line at the present moment lies over the picture, which then need not be drawn again.
     this.node = svg.node();
     this.present = document.createElement('div');
@@ -96,7 +98,7 @@ class Chart {
   show(series, bands = []) {
     const greatest = d3.max(series.filter(s => !s.thin), s => d3.max(s.curve.values)) || 1;
     this.y.domain([0, greatest * 1.1]);
-    this.left.call(d3.svg.axis().scale(this.y).orient('left').tickValues(this.y.ticks(4).filter(Number.isInteger)).tickFormat(d3.format('s')));
+    this.left.call(d3.svg.axis().scale(this.y).orient('left').tickValues(this.y.ticks(this.rows).filter(Number.isInteger)).tickFormat(d3.format('s')));
     const left = Math.max(CHART.left, widestOf(this.left) + BESIDE_AXIS);
     if (left !== this.leftOf) { this.layTime(left); this.mark(this.time); }
     const line = d3.svg.line().x(p => this.x(p[0])).y(p => Math.max(this.top, this.y(p[1]))).interpolate('step-after');
