@@ -261,6 +261,19 @@ def test_two_nets_have_one_clock(browser, made):
     assert 'no drop after this moment' in value(browser, 'document.getElementById("time").textContent')
 
 
+def test_two_nets_as_slides_have_charts_that_can_be_read(browser, made):
+    """Each axis of values has two labels at least, and none covers another."""
+    browser.open(made(*example('bufferbloat'), '--beside', *example('bufferbloat_with_codel'), '--slide')[0], '#time=3050000000')
+    charts = value(browser, '''FRAMES.flatMap(f => ['windows', 'lengths'].map(id =>
+      [...f.contentDocument.querySelector(`#${id} .axis`).querySelectorAll('text')].map(e => {
+        const box = e.getBoundingClientRect(); return [box.top, box.bottom]; })))''')
+    assert len(charts) == 4
+    for labels in map(sorted, charts):
+        assert len(labels) >= 2
+        for above, below in zip(labels, labels[1:]):    # digits take up less than three quarters of their letters' box
+            assert below[0] - above[0] >= .75 * (above[1] - above[0]), labels
+
+
 @pytest.mark.parametrize('words, note', [(('--beside', 'a', 'b', 'c'), 'a scenario and at most a trace'),
                                          (('--beside', '/nowhere/a.txt'), '/nowhere/a.txt')])
 def test_words_that_are_refused(tmp_path, words, note):
