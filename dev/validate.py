@@ -7,7 +7,7 @@
 
 Rows are rules, codel, laws, phases, newreno, aggregates and expectations. Rules, phases, newreno and aggregates want ns-2 (apt-get install ns2),
 codel wants linux-headers and a C compiler, or libns3-dev and a C++ compiler; laws and expectations want tcpsim alone. A row whose
-peer is not there keeps its numbers, which the page names with version and date. All rows take about an hour on one slow core.
+peer is not there keeps its numbers, which the page names with version and date. All rows take some three minutes on four slow cores.
 """
 import argparse
 import os
