@@ -222,7 +222,7 @@ def a_sweep_and_a_page(root, _dist):
     with open(root.path(f'{home}/four.html'), encoding='utf-8') as file:
         page = file.read()
     want('version:"3.' in page and 'src=' not in page.partition('<body')[0], 'a page with d3 in it')
-    root.run('tcpsim-run', 'four.txt')          # as root, who may write below /usr/lib
+    root.run('tcpsim-run', f'{home}/four.txt')  # as root, who may write below /usr/lib
 
 
 def man_pages(root, _dist):
