@@ -1,6 +1,6 @@
 -- The node at which an event is due is the first.
-use Rattle.std.proofs.Common.{◌≡◌, ◌≢◌, ℕ, ◌<◌, ◌≤◌, List, length, refl, sym, ap, subst, ◌∙◌, Some, None, Option, ⊎_elim}
-use Rattle.std.proofs.lemmas.Bool.{cases_lt}
+use Rattle.std.proofs.Common.{◌≡◌, ◌≢◌, ℕ, ◌<◌, ◌≤◌, List, length, refl, sym, ap, subst, ◌∙◌, Some, None, Option, cond, ⊎_elim}
+use Rattle.std.proofs.lemmas.Bool.{cases_lt, lt-ltb}
 use Rattle.std.proofs.lemmas.List.{length-map}
 use Rattle.std.proofs.Math.ListN.{get_or-eq_default}
 use Rattle.std.specs.Option.{option_map}
@@ -11,8 +11,10 @@ use Rattle.ranking.proofs.Maps.{not_some, same_some, least_is, is_least}
 use Rattle.ranking.proofs.Gathered.{next_empty, get-gathered, gathered_has}
 use Rattle.node_core.specs.declared.event.Event.{Event}
 use Rattle.node_core.specs.Node.{NodeState}
-use Rattle.table_run.specs.State.{due}
+use Rattle.table_run.specs.State.{below, due}
 use Rattle.table_run.proofs.Due.{of_below}
+use Rattle.net_machine.specs.declared.due.Due.{Due}
+use Rattle.net_machine.specs.Due.{due_of}
 use Rattle.net_machine.specs.Run.{Reached}
 use Rattle.net_machine.specs.Nodes.{node_at, pendings, net_pending, net_state, reached, IsPlaced, IsFirst}
 use Rattle.net_machine.proofs.AtNodes.{pending_at}
@@ -67,7 +69,14 @@ first_due nodes placed end node place due_is same = subst (IsFirst nodes) (due_i
 pub pending_first : (nodes : List NodeState) (end node place : ℕ) → IsDueAt nodes end node → IsFirst nodes place → next_key (node_at nodes place).pending ≢ None
 pending_first nodes end node place due_is first none = not_some (sym (due_is.next ∙ ap (option_map (λ (e : Key × Event). e.0)) first.same ∙ none))
 
--- the node of the event that is due, by its key
-pub node_due : (key : Key) (o : Option (Key × Event)) → Some key ≡ option_map (λ (entry : Key × Event). entry.0) o → option_map (λ (entry : Key × Event). entry.0.node) o ≡ Some key.node
-node_due key None is = absurd (not_some (sym is))
-node_due key (Some entry) is = ap (λ (k : Key). Some k.node) (sym (same_some key entry.0 is))
+-- where and when the event is that is due, and so at which node
+pub place_due : (next : Due) (o : Option (Key × Event)) → option_map due_of o ≡ Some next → option_map (λ (entry : Key × Event). entry.0.node) o ≡ Some next.place
+place_due next None is = absurd (not_some is)
+place_due next (Some entry) is = ap (option_map (λ (d : Due). d.place)) is
+
+-- the least key of the node at which an event is due is that event's
+pub key_due : (nodes : List NodeState) (end node place : ℕ) → IsDueAt nodes end node → IsFirst nodes place → next_key (node_at nodes place).pending ≡ option_map (λ (entry : Key × Event). entry.0) (due (net_state nodes end))
+key_due nodes end node place d first =
+    sym (ap (option_map (λ (entry : Key × Event). entry.0)) first.same)
+    ∙ ap (option_map (λ (entry : Key × Event). entry.0)) d.is
+    ∙ sym (ap (option_map (λ (entry : Key × Event). entry.0)) (ap (below end) d.is ∙ ap (λ b. cond b (Some (d.key, d.event)) None) (lt-ltb d.key.time end d.in_time)))

@@ -1,3 +1,4 @@
+pub mod Due
 pub mod Run
 pub mod Nodes
 pub mod Wiring

@@ -5,11 +5,13 @@ ghost use Rattle.ranking.specs.Keyed.{next_key};
 ghost use Rattle.node_core.specs.TraceLine.{shown};
 ghost use Rattle.table_run.specs.State.{opening, due};
 ghost use Rattle.net_machine.specs.Nodes.{parts_of, net_pending, IsPlaced};
+ghost use Rattle.net_machine.specs.Due.{due_of};
 ghost use Rattle.net_machine.specs.Run.{IsRun, Stepped};
 
 pub mod parts;
 
 use self::parts::{NetParts, Spare};
+use crate::due::Due;
 use crate::nodes::Nodes;
 use crate::opening::{ends_of, nodes_of};
 use crate::places::LinkEnds;
@@ -151,52 +153,61 @@ impl Net {
         }
     }
 
-    /// The key of the event that is due: the least, where that is below the end.
+    /// Where and when an event is due: the least, where that is below the end.
     #[inline(always)]
-    pub fn due_key(&self) -> Option<Key>
-        ensures { result ≡ option_map (λ entry. entry.0) (due self.now.state) }
-    {
-        let key = self.first()?;
-        if key.time >= self.end {
-            return None;
-        }
-        Some(key)
-    }
-
-    // The place of the node at which an event is due.
-    #[inline(always)]
-    fn due_place(&self) -> Option<usize>
-        ensures { result ≡ option_map (λ entry. entry.0.node) (due self.now.state) }
+    pub fn next_due(&self) -> Option<Due>
+        ensures { result ≡ option_map due_of (due self.now.state) }
     {
         let (place, time) = self.nodes.first()?;
         if time >= self.end {
             return None;
         }
-        Some(place)
+        Some(Due { place, time })
     }
 
-    /// Runs the event that is due, at this node, and tells of it in `line`.
+    /// The key of the event that is due.
     #[inline(always)]
-    pub fn fire_into(&mut self, node: u16, line: &mut Line) -> Result<(), AllocError>
-        requires due { option_map (λ entry. entry.0.node) (due self.old.state) ≡ Some node }
+    pub fn key_of(&self, next: Due) -> Option<Key>
+        requires { option_map due_of (due self.now.state) ≡ Some next }
+        ensures { result ≡ option_map (λ entry. entry.0) (due self.now.state) }
+    {
+        self.nodes.as_slice()[next.place].least()
+    }
+
+    /// Runs the event that is due, and tells of it in `line`.
+    #[inline(always)]
+    pub fn fire_into(&mut self, next: Due, line: &mut Line) -> Result<(), AllocError>
+        requires due { option_map due_of (due self.old.state) ≡ Some next }
         requires few { self.old.position < 1000000000000000 }
         ensures ok { OnOk result (Stepped self.old (Some (shown line.new)) self.new) }
         ensures err { OnErr result (self.new ≡ self.old) }
     {
-        self.fire_at(usize::from(node), line)
-    }
-
-    // The same, where the node is named by its place.
-    #[inline(always)]
-    fn fire_at(&mut self, place: usize, line: &mut Line) -> Result<(), AllocError>
-        requires due { option_map (λ entry. entry.0.node) (due self.old.state) ≡ Some place }
-        requires few { self.old.position < 1000000000000000 }
-        ensures ok { OnOk result (Stepped self.old (Some (shown line.new)) self.new) }
-        ensures err { OnErr result (self.new ≡ self.old) }
-    {
-        run_event(&mut self.nodes, &mut self.out, &self.ends, place, line)?;
+        run_event(&mut self.nodes, &mut self.out, &self.ends, next.place, line)?;
         self.position += 1;
         Ok(())
+    }
+
+    /// Runs the event that is due, as [`Net::next_due`] tells of it, where one is, and tells of it in `line`. The answer
+    /// is whether there was one; `line` counts only then.
+    #[inline(always)]
+    pub fn run_due(&mut self, next: Option<Due>, line: &mut Line) -> Result<bool, StepFault>
+        requires { next ≡ option_map due_of (due self.old.state) }
+        ensures ok { IfOk result (λ fired. Stepped self.old (if fired then Some (shown line.new) else None) self.new) }
+        ensures full { IfErr result (λ fault. fault ≡ StepFault.CountFull → (due self.old.state ≢ None) × (self.old.position ≡ 1000000000000000)) }
+        ensures none { due self.old.state ≡ None → result ≡ Ok false }
+        ensures count { due self.old.state ≢ None → self.old.position ≡ 1000000000000000 → result ≡ Err StepFault.CountFull }
+        ensures err { OnErr result (self.new ≡ self.old) }
+    {
+        let Some(next) = next else {
+            return Ok(false);
+        };
+        if self.position == MOST_EVENTS {
+            return Err(StepFault::CountFull);
+        }
+        match self.fire_into(next, line) {
+            Ok(()) => Ok(true),
+            Err(_) => Err(StepFault::NoMemory),
+        }
     }
 
     /// Runs the event of the least key below the end, where there is one, and tells of it in
@@ -209,16 +220,8 @@ impl Net {
         ensures count { due self.old.state ≢ None → self.old.position ≡ 1000000000000000 → result ≡ Err StepFault.CountFull }
         ensures err { OnErr result (self.new ≡ self.old) }
     {
-        let Some(place) = self.due_place() else {
-            return Ok(false);
-        };
-        if self.position == MOST_EVENTS {
-            return Err(StepFault::CountFull);
-        }
-        match self.fire_at(place, line) {
-            Ok(()) => Ok(true),
-            Err(_) => Err(StepFault::NoMemory),
-        }
+        let next = self.next_due();
+        self.run_due(next, line)
     }
 
     /// Runs the event of the least key below the end, where there is one, and tells of it.
