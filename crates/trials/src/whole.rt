@@ -18,12 +18,12 @@ use std::thread::Threads;
 use window_engine::{Gate, OverWrite, Sink};
 
 /// A session with these words.
-fn ended<S: Source, W: Sink, G: Gate>(
+fn ended<S: Source, W: Sink>(
     rt: &(impl AllocGlobal + Threads + Wait + Sync),
     reader: &mut S,
     writer: &mut W,
     words: &[&str],
-    gate: &G,
+    gate: &Gate,
 ) -> Outcome {
     run_with(rt, reader, writer, words, gate)
 }
@@ -48,11 +48,11 @@ fn expect_end(rt: &(impl Abort + AllocGlobal), outcome: Outcome, status: u8, not
 }
 
 /// A session with these words is done. The answer is what it writes.
-fn written<G: Gate>(
+fn written(
     rt: &(impl Abort + AllocGlobal + Threads + Wait + Sync),
     words: &[&str],
     input: &[u8],
-    gate: &G,
+    gate: &Gate,
 ) -> Vec<u8> {
     let mut out = Vec::new(rt.alloc());
     let mut reader = OverRead::new(input);

@@ -5,13 +5,12 @@
 use super::taker::{Break, Taker};
 use super::texts::FIRST;
 use super::{ended, expect_end};
-use engine_trials::hands::AllHands;
 use sessions::source::OverRead;
 use std::io;
 use std::process::Abort;
 use std::sync::Wait;
 use std::thread::Threads;
-use window_engine::OverWrite;
+use window_engine::{Gate, OverWrite};
 
 /// The most bytes of a call, of a writer that is asked often.
 const FEW: usize = 3;
@@ -42,7 +41,7 @@ fn run_into(
     let words = ["tcpsim", word, "--groups", "each", "--workers", "2"];
     let mut reader = OverRead::new(input.as_bytes());
     let mut output = OverWrite::new(writer);
-    let outcome = ended(rt, &mut reader, &mut output, &words, &AllHands);
+    let outcome = ended(rt, &mut reader, &mut output, &words, &Gate::for_all());
     expect_end(rt, outcome, status, note);
 }
 

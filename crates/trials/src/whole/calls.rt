@@ -2,16 +2,15 @@
 
 use super::texts::{FIRST, FIRST_TRACE, MOVES};
 use super::{expect_end, written};
-use engine_trials::hands::AllHands;
+use command_line::sharing::Sharing;
+use command_line::subcommand::{Subcommand, Task};
 use sessions::debug::run_debug;
 use sessions::session::{run_all, run_session, run_task};
-use sessions::sharing::Sharing;
 use sessions::source::OverRead;
-use sessions::subcommand::{Subcommand, Task};
 use std::process::Abort;
 use std::sync::Wait;
 use std::thread::Threads;
-use window_engine::OverWrite;
+use window_engine::{Gate, OverWrite};
 
 /// Among so many workers, by these groups.
 fn sharing(rt: &impl Abort, workers: usize, groups: &'static str) -> Sharing<'static> {
@@ -28,7 +27,14 @@ fn by_subcommand(
     let mut reader = OverRead::new(FIRST.as_bytes());
     let mut writer = OverWrite::new(&mut out);
     let alloc = rt.alloc();
-    let outcome = run_session(rt, alloc, subcommand, &AllHands, &mut reader, &mut writer);
+    let outcome = run_session(
+        rt,
+        alloc,
+        subcommand,
+        &Gate::for_all(),
+        &mut reader,
+        &mut writer,
+    );
     expect_end(rt, outcome, 0, "");
     out
 }
@@ -42,7 +48,14 @@ fn by_task(
     let mut out = Vec::new(rt.alloc());
     let mut reader = OverRead::new(input.as_bytes());
     let mut writer = OverWrite::new(&mut out);
-    let outcome = run_task(rt, rt.alloc(), task, &AllHands, &mut reader, &mut writer);
+    let outcome = run_task(
+        rt,
+        rt.alloc(),
+        task,
+        &Gate::for_all(),
+        &mut reader,
+        &mut writer,
+    );
     expect_end(rt, outcome, 0, "");
     out
 }
@@ -54,7 +67,14 @@ fn by_debug(rt: &(impl Abort + AllocGlobal + Threads + Wait + Sync), input: &str
     let mut writer = OverWrite::new(&mut out);
     let sharing = sharing(rt, 1, "one");
     let alloc = rt.alloc();
-    let outcome = run_debug(rt, alloc, &sharing, &AllHands, &mut reader, &mut writer);
+    let outcome = run_debug(
+        rt,
+        alloc,
+        &sharing,
+        &Gate::for_all(),
+        &mut reader,
+        &mut writer,
+    );
     expect_end(rt, outcome, 0, "");
     out
 }
@@ -97,7 +117,12 @@ fn runs_write_what_words_have_written(rt: HostRuntime) {
 
 #[test]
 fn debugging_sessions_write_what_words_have_written(rt: HostRuntime) {
-    let answers = written(&rt, &["tcpsim", "debug"], MOVES.as_bytes(), &AllHands);
+    let answers = written(
+        &rt,
+        &["tcpsim", "debug"],
+        MOVES.as_bytes(),
+        &Gate::for_all(),
+    );
     let task = by_task(&rt, Task::Debug(sharing(&rt, 2, "each")), MOVES);
     assert!(rt; task.as_slice() == answers.as_slice());
     let debug = by_debug(&rt, MOVES);

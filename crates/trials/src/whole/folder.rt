@@ -6,12 +6,11 @@ ghost use Rattle.window_engine.specs.Failures.{counted};
 
 use super::texts::{FIRST, FIRST_TRACE};
 use super::{ended, expect_end};
-use engine_trials::hands::AllHands;
 use sessions::source::{OverRead, Source, SourceFail};
 use std::process::Abort;
 use std::sync::Wait;
 use std::thread::Threads;
-use window_engine::{OverWrite, Sink};
+use window_engine::{Gate, OverWrite, Sink};
 
 /// Puts the first bytes into a room. The answer is how many.
 fn put(room: &mut [u8], bytes: &[u8]) -> usize
@@ -111,7 +110,7 @@ fn expect_of_folder(
 ) {
     let mut out = Vec::new(rt.alloc());
     let mut writer = OverWrite::new(&mut out);
-    let outcome = ended(rt, folder, &mut writer, words, &AllHands);
+    let outcome = ended(rt, folder, &mut writer, words, &Gate::for_all());
     expect_end(rt, outcome, status, note);
     assert!(rt; out.as_slice() == output.as_bytes());
 }
@@ -151,7 +150,7 @@ fn a_reader_has_no_files(rt: HostRuntime) {
     let mut reader = OverRead::new(FIRST.as_bytes());
     let mut writer = OverWrite::new(&mut out);
     let words = ["tcpsim", "run", "one.txt"];
-    let outcome = ended(&rt, &mut reader, &mut writer, &words, &AllHands);
+    let outcome = ended(&rt, &mut reader, &mut writer, &words, &Gate::for_all());
     expect_end(&rt, outcome, 3, "cannot read one.txt\n");
     assert!(rt; out.is_empty());
 }

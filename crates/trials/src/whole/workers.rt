@@ -5,12 +5,10 @@ use super::texts::{
     EQUAL_TIMES, EQUAL_TIMES_TRACE, FIRST, FIRST_TRACE, MOVES, NEWRENO, OF_A_FLOW, QUEUE,
 };
 use super::written;
-use engine_trials::crowd::Crowd;
-use engine_trials::hands::AllHands;
 use std::process::Abort;
 use std::sync::Wait;
 use std::thread::Threads;
-use window_engine::{Meeting, OpenGate};
+use window_engine::Gate;
 
 /// What a run shared out so writes, by 1, 2 and 64 workers, who are at each window, however few events it
 /// holds.
@@ -22,7 +20,7 @@ fn expect_run(
 ) {
     for workers in ["1", "2", "64"] {
         let words = ["tcpsim", "run", "--groups", groups, "--workers", workers];
-        let found = written(rt, &words, input.as_bytes(), &AllHands);
+        let found = written(rt, &words, input.as_bytes(), &Gate::for_all());
         assert!(rt; found.as_slice() == trace, "{groups} {workers}");
     }
 }
@@ -46,19 +44,19 @@ fn equal_times_have_one_order_by_any_workers(rt: HostRuntime) {
 fn many_windows_give_the_lines_of_the_plain_run(rt: HostRuntime) {
     let text = FIRST.replace(rt.alloc(), " 1000 1 0 ", " 1000 200 0 ");
     let text = text.expect(&rt, "a text");
-    let plain = written(&rt, &["tcpsim", "run"], text.as_bytes(), &OpenGate);
+    let plain = written(&rt, &["tcpsim", "run"], text.as_bytes(), &Gate::open());
     assert!(rt; plain.as_slice().ends_with(b"\nend 145\n"));
     expect_run(&rt, text.as_str(), "each", plain.as_slice());
 }
 
 /// A debugging session that is shared out answers what it answers alone.
 fn expect_answers(rt: &(impl Abort + AllocGlobal + Threads + Wait + Sync), input: &str) {
-    let plain = written(rt, &["tcpsim", "debug"], input.as_bytes(), &OpenGate);
+    let plain = written(rt, &["tcpsim", "debug"], input.as_bytes(), &Gate::open());
     assert!(rt; plain.len() > 300);
     for groups in ["one", "each"] {
         for workers in ["1", "2", "64"] {
             let words = ["tcpsim", "debug", "--groups", groups, "--workers", workers];
-            let found = written(rt, &words, input.as_bytes(), &AllHands);
+            let found = written(rt, &words, input.as_bytes(), &Gate::for_all());
             assert!(rt; found.as_slice() == plain.as_slice(), "{groups} {workers}");
         }
     }
@@ -71,17 +69,6 @@ fn sessions_have_the_same_answers_by_any_workers(rt: HostRuntime) {
     }
 }
 
-#[test]
-fn two_workers_are_at_their_pieces_at_once(rt: HostRuntime) {
-    let gate = Meeting::new();
-    let words = ["tcpsim", "run", "--workers", "2", "--groups", "each"];
-    let out = written(&rt, &words, EQUAL_TIMES.as_bytes(), &gate);
-    assert!(rt; out.as_slice() == EQUAL_TIMES_TRACE.as_bytes());
-    assert_eq!(rt; gate.missed(), 0);
-    let (zero, one) = gate.entered();
-    assert!(rt; zero >= 3 && one >= 3, "{zero} and {one}");
-}
-
 /// A session with these words, whose windows have so many pieces: all of them are at work at once, and each
 /// that was entered is left.
 fn with_crowd(
@@ -90,13 +77,20 @@ fn with_crowd(
     input: &str,
     pieces: u64,
 ) -> Vec<u8> {
-    let gate = Crowd::of(pieces);
+    let gate = Gate::of(pieces);
     let out = written(rt, words, input.as_bytes(), &gate);
     assert_eq!(rt; gate.missed(), 0);
     assert_eq!(rt; gate.entered(), gate.left());
     let (entered, _) = gate.entered();
     assert!(rt; entered >= pieces.saturating_mul(3), "{entered}");
     out
+}
+
+#[test]
+fn two_workers_are_at_their_pieces_at_once(rt: HostRuntime) {
+    let words = ["tcpsim", "run", "--workers", "2", "--groups", "0,1,0,1,0"];
+    let out = with_crowd(&rt, &words, EQUAL_TIMES, 2);
+    assert!(rt; out.as_slice() == EQUAL_TIMES_TRACE.as_bytes());
 }
 
 /// The first node and the last one are in one group.

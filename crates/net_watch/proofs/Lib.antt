@@ -1,0 +1,3 @@
+pub mod Watching
+pub mod Alone
+pub mod Early

@@ -1,0 +1,12 @@
+use Rattle.std.proofs.Common.{◌-◌, true}
+use Rattle.net_watch.specs.Watched.{Watched}
+use Rattle.net_watch.proofs.one_loop.run_watched.Given as goal
+
+abbrev pub invariant-loop-note : goal.invariant-loop-note
+invariant-loop-note g l = record {
+  so_far : Watched g.W.Watch.has l.fn.net l.fn.watch l.net l.watch true;
+  fits : g.W.Watch.fits l.watch l.net;
+}
+
+abbrev pub decreases-loop-note : goal.decreases-loop-note
+decreases-loop-note g l = 1000000000000000 - l.net.position

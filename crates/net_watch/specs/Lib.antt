@@ -1,0 +1,4 @@
+pub mod RunsOn
+pub mod Watched
+pub mod BothHave
+pub mod RunsBefore

@@ -1,0 +1,13 @@
+//! Why a watched run ended.
+ghost use Rattle.std.specs.Prelude.{◌≡◌};
+
+/// Why a watched run ended, where each event could be run.
+#[derive(Clone, Copy, Debug, PartialEq, Eq)]
+pub enum RunEnd {
+    /// The watcher said so of the last event.
+    Stopped,
+    /// The watcher said so before the next event.
+    Held,
+    /// No event is due.
+    Done,
+}
