@@ -13,7 +13,7 @@ use std::process::Abort;
 use std::sync::Wait;
 use std::thread::Threads;
 use window_core::Partition;
-use window_engine::{Engine, EngineFault, Gate, OverWrite, Sink, Stop};
+use window_engine::{Engine, EngineFault, Gate, OverWrite, Several, Sink, Stop};
 
 // The engine of a scenario whose nodes are in these groups.
 fn engine_of(rt: &(impl Abort + AllocGlobal), scenario: &Scenario, groups: &[u8]) -> Engine {
@@ -24,40 +24,40 @@ fn engine_of(rt: &(impl Abort + AllocGlobal), scenario: &Scenario, groups: &[u8]
 }
 
 // Runs an engine by so many workers up to a moment.
-pub(crate) fn run_to<G: Gate, S: Sink>(
+pub(crate) fn run_to<S: Sink>(
     rt: &(impl Threads + Wait + Abort + Sync),
     engine: &mut Engine,
     workers: usize,
-    gate: &G,
+    gate: &Gate,
     until: u64,
     sink: &mut S,
 ) -> Result<Stop, EngineFault> {
     assert!(rt; workers > 0 && workers <= 64);
-    engine.run(rt, workers, gate, until, sink)
+    engine.run(&Several { rt }, workers, gate, until, sink)
 }
 
 // Runs the next window by so many workers, to end by a moment. The answer is the number of its first line,
 // and how many lines it has.
-pub(crate) fn window<G: Gate>(
+pub(crate) fn window(
     rt: &(impl Threads + Wait + Abort + Sync),
     engine: &mut Engine,
     workers: usize,
-    gate: &G,
+    gate: &Gate,
     until: u64,
 ) -> Result<(u64, usize), EngineFault> {
     assert!(rt; workers > 0 && workers <= 64);
-    let batch = engine.window(rt, workers, gate, until)?;
+    let batch = engine.window(&Several { rt }, workers, gate, until)?;
     let lines = (batch.first(), batch.len());
     drop(batch);
     Ok(lines)
 }
 
 // Runs an engine to its end, into a text.
-fn whole_text<G: Gate>(
+fn whole_text(
     rt: &(impl Threads + Wait + Abort + AllocGlobal + Sync),
     engine: &mut Engine,
     workers: usize,
-    gate: &G,
+    gate: &Gate,
 ) -> Vec<u8> {
     let mut text = Vec::new(rt.alloc());
     let mut sink = OverWrite::new(&mut text);
@@ -67,12 +67,12 @@ fn whole_text<G: Gate>(
 }
 
 // The text of a scenario's run in these groups by so many workers.
-fn text_of<G: Gate>(
+fn text_of(
     rt: &(impl Threads + Wait + Abort + AllocGlobal + Sync),
     scenario: &Scenario,
     groups: &[u8],
     workers: usize,
-    gate: &G,
+    gate: &Gate,
 ) -> Vec<u8> {
     let mut engine = engine_of(rt, scenario, groups);
     let text = whole_text(rt, &mut engine, workers, gate);

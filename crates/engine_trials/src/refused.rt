@@ -3,7 +3,6 @@
 //! once more.
 
 use crate::engines::{run_to, window};
-use crate::hands::AllHands;
 use debugger::{Break, Condition, Debugger, EventKind, MoveFault};
 use scenario_asm::assemble;
 use scenario_image::Scenario;
@@ -12,7 +11,7 @@ use std::process::Abort;
 use std::sync::Wait;
 use std::thread::Threads;
 use window_core::Partition;
-use window_engine::{Engine, EngineFault, OverWrite, Stop};
+use window_engine::{Engine, EngineFault, Gate, OverWrite, Several, Stop};
 
 /// Two segments with one delayed acknowledgement.
 const DELAYED: &str = "sim 1000000000
@@ -72,7 +71,7 @@ fn is_window_refused<R: Threads + Wait + Abort + Sync>(
     workers: usize,
 ) -> Option<bool> {
     let position = engine.position();
-    match window(rt, engine, workers, &AllHands, u64::MAX) {
+    match window(rt, engine, workers, &Gate::for_all(), u64::MAX) {
         Ok((_, 0)) => {
             assert_eq!(rt; position, EVENTS);
             Some(false)
@@ -111,11 +110,11 @@ pub(crate) fn stays_failed<R: Threads + Wait + Abort + Sync>(
     engine: &mut Engine,
     workers: usize,
 ) {
-    let again = window(rt, engine, workers, &AllHands, u64::MAX);
+    let again = window(rt, engine, workers, &Gate::for_all(), u64::MAX);
     assert!(rt; again == Err(EngineFault::Failed));
     let mut room = [0u8; 8];
     let mut sink = OverWrite::new(room.as_mut_slice());
-    let ended = run_to(rt, engine, workers, &AllHands, u64::MAX, &mut sink);
+    let ended = run_to(rt, engine, workers, &Gate::for_all(), u64::MAX, &mut sink);
     assert!(rt; ended == Err(EngineFault::Failed));
     assert_eq!(rt; room, [0; 8]);
 }
@@ -173,7 +172,7 @@ fn expect_edge<R: Threads + Wait + Abort + Sync>(
     let mut engine = engine_of(rt, alloc, scenario);
     for _window in 0..EVENTS {
         if engine.position() < position {
-            let told = window(rt, &mut engine, 1, &AllHands, u64::MAX);
+            let told = window(rt, &mut engine, 1, &Gate::for_all(), u64::MAX);
             assert!(rt; told.is_ok());
         }
     }
@@ -191,7 +190,14 @@ fn run_whole<R: Threads + Wait + Abort + Sync>(
 ) -> (Result<Stop, EngineFault>, u64) {
     let mut engine = engine_of(rt, alloc, scenario);
     let mut sink = OverWrite::new(room);
-    let ended = run_to(rt, &mut engine, workers, &AllHands, u64::MAX, &mut sink);
+    let ended = run_to(
+        rt,
+        &mut engine,
+        workers,
+        &Gate::for_all(),
+        u64::MAX,
+        &mut sink,
+    );
     let position = engine.position();
     assert!(rt; engine.failed() == ended.is_err());
     drop(engine);
@@ -313,8 +319,8 @@ fn moved<R: Threads + Wait + Sync>(
     match told {
         Move::Step(count) => debugger.step(count),
         Move::Back(count) => debugger.back(count),
-        Move::Run => debugger.run(rt, &AllHands),
-        Move::Until(time) => debugger.until(rt, &AllHands, time),
+        Move::Run => debugger.run(&Several { rt }, &Gate::for_all()),
+        Move::Until(time) => debugger.until(&Several { rt }, &Gate::for_all(), time),
     }
 }
 

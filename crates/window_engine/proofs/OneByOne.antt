@@ -1,5 +1,6 @@
 -- Events that are run one after another: their text, and where they lead.
-use Rattle.std.proofs.Common.{◌≡◌, ◌≢◌, ◌≤◌, ◌<◌, ◌+◌, ◌-◌, ◌++◌, ◌^◌, ℕ, Bool, true, false, zero, suc, max, List, [], ◌∷◌, length, Option, Some, None, Err, option_map, refl, sym, ap, subst, ◌∙◌, inl, inr, ⊎_elim, arith, cond, append-nil, length-append, lt-ltb, le-ltb}
+use Rattle.std.proofs.Common.{◌≡◌, ◌≢◌, ◌≤◌, ◌<◌, ◌+◌, ◌-◌, ◌++◌, ◌^◌, ℕ, Bool, false, zero, suc, max, List, [], ◌∷◌, length, Option, Some, None, Ok, Err, option_map, refl, sym, ap, subst, ◌∙◌, inl, inr, ⊎_elim, arith, cond, append-nil, length-append, lt-ltb, le-ltb}
+use mathlib.Core.Bool.{false≢true}
 use Rattle.std.proofs.lemmas.Bool.{cases_lt}
 use Rattle.std.specs.Io.KnownBytes.{Appends}
 use Rattle.sim_time.specs.declared.key.Key.{Key}
@@ -7,9 +8,14 @@ use Rattle.ranking.specs.Keyed.{least}
 use Rattle.ranking.proofs.Maps.{not_some, same_some}
 use Rattle.node_core.specs.declared.event.Event.{Event}
 use Rattle.node_core.specs.TraceLine.{TraceLine}
-use Rattle.table_run.specs.State.{State, below, due, run, step, step_at}
+use Rattle.table_run.specs.State.{State, below, due, run, step}
 use Rattle.table_run.proofs.Runs.{of_step, run_cons, run_end}
+use Rattle.net_machine.specs.declared.due.Due.{Due}
+use Rattle.net_machine.specs.Due.{due_of}
 use Rattle.net_machine.specs.Run.{Reached, Stepped}
+use Rattle.net_watch.specs.declared.run_end.RunEnd.{RunEnd}
+use Rattle.net_watch.specs.declared.run_end.RunEnd.TheVariants.{Stopped, Held, Done}
+use Rattle.net_watch.specs.Watched.{IsRunEnd, goes_on}
 use Rattle.trace_text.specs.Line.{line_bytes}
 use Rattle.window_core.specs.Full.{HasTooMany}
 use Rattle.window_core.specs.Partition.{groups_of}
@@ -23,26 +29,13 @@ use Rattle.window_engine.specs.Courses.{AtRest, HasEnded, IsApart, Rests, RunsIn
 use Rattle.window_engine.specs.Edges.{IsAtEdge, edge_of, reached_in}
 use Rattle.window_engine.specs.Engines.{GoesOn}
 use Rattle.window_engine.specs.Puts.{TakesFirst}
-use Rattle.window_engine.specs.Singly.{CanStop, HasGone, IsBefore, key_of}
+use Rattle.window_engine.specs.Singly.{CanStop, HasGone, IsBefore, IsGoing, IsPaged, key_of}
 use Rattle.window_engine.specs.Text.{text_from}
 use Rattle.window_engine.proofs.Called.{broken_at}
 use Rattle.window_engine.proofs.Grouped.{runs_on}
 use Rattle.window_engine.proofs.TooMany.{earlier_full}
 use Rattle.window_engine.proofs.Whole.{below_later, below_more}
 use Rattle.window_engine.proofs.Writing.{broke_batch, broke_later, can_tell, run_more, still_fits, text_more, wrote_batch, wrote_later, wrote_more, wrote_none}
-
--- a net went on by events below a moment, none later than the last one, and this is their text
-pub record IsGoing (until last : ℕ) (old new : Reached) (text : List ℕ) : Type 0 where
-  pub lines : List TraceLine
-  pub is_run : run old.state (length lines) ≡ Some (lines, new.state)
-  pub position : new.position ≡ old.position + length lines
-  pub early : AreBelow until lines
-  pub upto : AreBelow (last + 1) lines
-  pub text_is : text ≡ text_from (old.position + 1) lines
-
--- none was run yet
-pub going_none : (until last : ℕ) (net : Reached) (text : List ℕ) → text ≡ [] → IsGoing until last net net text
-going_none until last net text none = record { lines = []; is_run = refl; position = omega arith; early = tt; upto = tt; text_is = none }
 
 -- the line is of the event that was due
 line_before : (s t : State) (line : TraceLine) (until : ℕ) → step s ≡ Some (line, t) → IsBefore until s → line.key.time < until
@@ -74,13 +67,6 @@ going_on until last next old mid new line text more n g before stepped number mo
           ∙ sym (text_more old mid g.lines ys g.position);
     }
 
--- a step that was made, or was not
-pub made : (old new : Reached) (line : TraceLine) (b : Bool) → b ≡ true → Stepped old (cond b (Some line) None) new → Stepped old (Some line) new
-made old new line b is = subst (λ x. Stepped old (cond x (Some line) None) new) is
-
-pub unmade : (old new : Reached) (line : TraceLine) (b : Bool) → b ≡ false → Stepped old (cond b (Some line) None) new → Stepped old None new
-unmade old new line b is = subst (λ x. Stepped old (cond x (Some line) None) new) is
-
 -- none is left below a moment
 sooner : (o : Option (Key × Event)) (end moment : ℕ) → below end o ≡ None → moment ≤ end → below moment o ≡ None
 sooner None end moment none upto = refl
@@ -104,10 +90,6 @@ before_due (Some x) end moment key is upto =
 no_key : (o : Option (Key × Event)) → key_of o ≡ None → o ≡ None
 no_key None e = refl
 no_key (Some x) e = absurd (not_some (sym e))
-
-no_step : (s : State) (o : Option (Key × Event)) → option_map {U = TraceLine × State} (step_at s) o ≡ None → key_of o ≡ None
-no_step s None e = refl
-no_step s (Some x) e = absurd (not_some (sym e))
 
 soon_due : (o : Option (Key × Event)) (end : ℕ) (key : Key) → key_of (below end o) ≡ Some key → key.time < end
 soon_due None end key is = absurd (not_some is)
@@ -155,19 +137,38 @@ module _ (until last : ℕ) (old new : Reached) (text : List ℕ) (g : IsGoing u
   pub going_end : new.state.end ≡ old.state.end
   going_end = run_end (length g.lines) old.state new.state g.lines g.is_run
 
-  -- no step was left
-  pub gone_all : (to : Reached) → Stepped new None to → until ≤ old.state.end → HasGone until old to text
-  gone_all to stepped within =
-      let ends = going_end in
-      let all : HasGone until old new text = gone (stops_all new.state until last (no_step new.state (due new.state) stepped.0) (omega (arith, within, ends))) in
-      subst (λ (r : Reached). HasGone until old r text) (sym stepped.1) all
-
   -- as many were run as there may be
   pub gone_full : due new.state ≢ None → new.position ≡ 1000000000000000 → HasTooMany old
   gone_full some full =
       let none : 1000000000000000 - new.position ≡ 0 = omega (arith, full) in
       earlier_full old new g.lines g.is_run g.position (omega (arith, full))
       (record { lines = []; last = new.state; is_run = ap (run new.state) none; one_due = some })
+
+-- who puts their text was not refused memory, and the run ended there
+pub gone_by : (until last : ℕ) (old new : Reached) (text : List ℕ) (refused : Bool) (end : RunEnd) → IsRunEnd (CanStop until last new.state) old new (Ok end) → IsPaged (goes_on (Ok end)) until last old new text refused → refused ≡ false → until ≤ old.state.end → HasGone until old new text
+gone_by until last old new text refused Stopped stop paged kept within = absurd (false≢true (sym kept ∙ paged))
+gone_by until last old new text refused Held stop paged kept within = gone until last old new text paged.1 stop
+gone_by until last old new text refused Done none paged kept within =
+    let ends = going_end until last old new text paged.1 in
+    gone until last old new text paged.1 (stops_all new.state until last (ap key_of none) (omega (arith, within, ends)))
+
+-- a step keeps the run's end
+pub step_end : (s t : State) (line : TraceLine) → step s ≡ Some (line, t) → t.end ≡ s.end
+step_end s t line is = run_end (suc zero) s t (line ∷ []) (run_cons s t t line zero [] is refl)
+
+-- the key of what is due, by where and when it is
+pub record IsKeyOf (o : Option (Key × Event)) (next : Due) : Type 0 where
+  pub key : Key
+  pub is : key_of o ≡ Some key
+  pub at : key.time ≡ next.time
+
+pub key_by : (o : Option (Key × Event)) (next : Due) → Some next ≡ option_map due_of o → IsKeyOf o next
+key_by None next is = absurd (not_some (sym is))
+key_by (Some x) next is = record { key = x.0; is = refl; at = sym (ap (λ (d : Due). d.time) (same_some next (due_of x) is)) }
+
+pub none_by : (o : Option (Key × Event)) → None ≡ option_map due_of o → key_of o ≡ None
+none_by None is = refl
+none_by (Some x) is = absurd (not_some is)
 
 -- their text was taken
 module _ (until : ℕ) (old new : Reached) (text : List ℕ) (count : ℕ) (a b : Option (List ℕ)) (gone : HasGone until old new text) (few : count < 2 ^ 71) where

@@ -1,4 +1,4 @@
--- An order may go to another thread, and so may a pool of orders be shared.
+-- An order may go to another thread, and so may a pool of orders be shared, and a gate.
 use denote.Param.Send.{IsSend, IsSync, sendable, view_send}
 use denote.Param.SendFields.{declared_send, declared_sync}
 use Rattle.std.proofs.Crossing as heap
@@ -7,8 +7,10 @@ use Rattle.line_merge.proofs.Sent.{sheaf_sync}
 use Rattle.thread_pool.specs.contracts.pool.ThreadPool as ThreadPool
 use Rattle.work_board.proofs.Sent.{board_sync, seat_send}
 use Rattle.window_engine.proofs.DeskSent.{board_send, desk_send, desk_sync, pass_send, sheaf_send}
+use Rattle.window_engine.proofs.gate.Gate.TheSendSync as gate
 use Rattle.window_engine.proofs.parts.Parts.TheSendSync as parts
 use Rattle.window_engine.proofs.scribe.Scribe.TheSendSync as scribe
+use Rattle.window_engine.specs.contracts.gate.Gate as Gate
 use Rattle.window_engine.specs.contracts.order.Begin as Begin
 use Rattle.window_engine.specs.contracts.order.Order as Order
 use Rattle.window_engine.specs.contracts.order.Order.TheInside as InsideOrder
@@ -28,3 +30,6 @@ order_send = view_send _ _ _ _ _ (declared_send InsideOrder.the_type (heap.Arc-s
 
 pub pool_sync : IsSync (ThreadPool.the_row Order.the_row)
 pool_sync = search (sendable, crosses, order_send) depth 30
+
+pub gate_sync : IsSync Gate.the_row
+gate_sync = gate.the_sync

@@ -44,7 +44,7 @@ fn pieces_of(alloc: Global, groups: Vec<Group>, end: Time) -> Result<Vec<Piece>,
 }
 
 /// Tells the gate of a group that has not run: it is as it was before all of them.
-fn enter<G: Gate>(gate: &G, _before: &Snapshot<Window>, _window: &Window, group: usize)
+fn enter(gate: &Gate, _before: &Snapshot<Window>, _window: &Window, group: usize)
     requires { value_at _window.now.groups group ≡ value_at _before.now.value.groups group }
 {
     gate.enter(group as u64);
@@ -52,14 +52,14 @@ fn enter<G: Gate>(gate: &G, _before: &Snapshot<Window>, _window: &Window, group:
 
 /// Tells the gate of a group that has run: it has no event left below the window's end, unless the
 /// group had a fault.
-fn leave<G: Gate>(gate: &G, _window: &Window, group: usize, _ran: &Result<(), GroupFault>)
+fn leave(gate: &Gate, _window: &Window, group: usize, _ran: &Result<(), GroupFault>)
     requires { OnOk _ran.now (due (up_to _window.now.until (state_of (value_at _window.now.groups group))) ≡ None) }
 {
     gate.leave(group as u64);
 }
 
 /// Runs the groups one after another on the calling thread, up to the window's end.
-fn run_in_turn<G: Gate>(gate: &G, window: &mut Window) -> Result<(), EngineFault>
+fn run_in_turn(gate: &Gate, window: &mut Window) -> Result<(), EngineFault>
     requires inside { window.old.out ≡ false }
     requires few { length window.old.groups ≤ 64 }
     ensures done { OnOk result (HasRun window.old window.new) }
@@ -81,12 +81,12 @@ fn run_in_turn<G: Gate>(gate: &G, window: &mut Window) -> Result<(), EngineFault
 /// Takes the groups out, has workers, the calling thread and threads of a pool, run them up to the window's
 /// end and then make the text of a sheaf's lines, and puts them back; the text of the window before is
 /// written meanwhile. After a fault they are out.
-pub(crate) fn run_apart<G: Gate, R: Wait, S: Sink>(
+pub(crate) fn run_apart<R: Wait, S: Sink>(
     rt: &R,
     pool: &ThreadPool<Order>,
     alloc: Global,
     workers: usize,
-    gate: &G,
+    gate: &Gate,
     window: &mut Window,
     sheaf: &mut Sheaf,
     scribes: &mut Vec<Scribe>,
@@ -122,8 +122,8 @@ pub(crate) fn run_apart<G: Gate, R: Wait, S: Sink>(
 /// Where workers have not run the groups, runs them on the calling thread, up to the window's end or a
 /// moment that is sooner, in the memory of lines that are read. How the window was before is for clauses
 /// alone.
-fn run_rest<G: Gate, L: Lines>(
-    gate: &G,
+fn run_rest<L: Lines>(
+    gate: &Gate,
     ran: bool,
     until: Time,
     before: &Snapshot<Window>,
@@ -151,8 +151,8 @@ fn run_rest<G: Gate, L: Lines>(
 /// Ends a window that workers have run, up to its end or a moment that is sooner, or that is as it was:
 /// then the calling thread runs it, and it is turned. A window with an event in it has a line. After a
 /// fault groups may be out, and there may be no lines. How the window was before is for clauses alone.
-pub(crate) fn finish<G: Gate, L: Lines>(
-    gate: &G,
+pub(crate) fn finish<L: Lines>(
+    gate: &Gate,
     _workers: usize,
     ran: Result<bool, EngineFault>,
     until: Time,

@@ -9,20 +9,17 @@ ghost use Rattle.window_engine.specs.Outcomes.{IsWorkersFault};
 ghost use Rattle.window_engine.specs.Owed.{Owes};
 ghost use Rattle.window_engine.specs.Parts.{AreRight};
 
-use crate::advance::run_apart;
 use crate::fault::EngineFault;
 use crate::gate::Gate;
-use crate::hands::{hands, most_hands};
 use crate::order::Order;
 use crate::owed::Owed;
 use crate::scribe::Scribe;
+use crate::several::Hands;
 use crate::sink::{Nowhere, Sink};
-use crate::sweep::keep_workers;
+use crate::threads::{most_hands, threads};
 use sim_time::Time;
 use std::alloc::{AllocError, Global};
 use std::snapshot::Snapshot;
-use std::sync::Wait;
-use std::thread::{Threads, available_parallelism, join_mut};
 use thread_pool::ThreadPool;
 use window_core::{Sheaf, Window};
 
@@ -40,21 +37,11 @@ pub(crate) fn lacks_threads(pool: Option<&ThreadPool<Order>>, hands: usize) -> b
     }
 }
 
-/// On how many processors threads may run: on one where that is not known.
-pub(crate) fn processors<R: Threads>(rt: &R) -> usize {
-    match available_parallelism(rt) {
-        Ok(count) => count.get(),
-        Err(_) => 1,
-    }
-}
-
-/// Workers that run windows together: the calling thread, and threads that carry out its orders.
+/// Workers that run windows together, by whichever hands.
 #[derive(Drop)]
-pub(crate) struct Crew<'a, R: Threads + Wait + Sync, G: Gate> {
-    /// What starts threads.
-    pub rt: &'a R,
+pub(crate) struct Crew<'a> {
     /// Who is told of the work on groups.
-    pub gate: &'a G,
+    pub gate: &'a Gate,
     /// How many workers there are.
     pub workers: usize,
     /// How many processors threads may run on that make text.
@@ -65,7 +52,7 @@ pub(crate) struct Crew<'a, R: Threads + Wait + Sync, G: Gate> {
     ghost few: { workers ≤ 64 },
 }
 
-impl<'a, R: Threads + Wait + Sync, G: Gate> Crew<'a, R, G> {
+impl<'a> Crew<'a> {
     /// How many of the workers are to run a window, up to its end or a moment that is sooner, after one
     /// that had so many events beside those of its busiest group, and then to make the text of so many lines.
     pub(crate) fn hands(&self, window: &Window, shared: usize, lines: usize, until: Time) -> usize
@@ -73,7 +60,7 @@ impl<'a, R: Threads + Wait + Sync, G: Gate> Crew<'a, R, G> {
     {
         let worth = self.gate.worth();
         let processors = if lines < worth { 0 } else { self.processors };
-        hands(window, self.workers, worth, shared, processors, until)
+        threads(window, self.workers, worth, shared, processors, until)
     }
 
     /// A pool for all threads that may share windows of as many groups with the calling one. None is started.
@@ -91,45 +78,11 @@ impl<'a, R: Threads + Wait + Sync, G: Gate> Crew<'a, R, G> {
 
     /// Has so many workers, the calling thread and threads of a pool, run the groups up to the window's end
     /// or a moment that is sooner, and then make the text of a sheaf's lines; the text of the window before is
-    /// written meanwhile. After a fault the groups may be out.
-    pub(crate) fn run_shared<S: Sink>(
+    /// written meanwhile. Where no threads wait for orders, or one worker is to run it, the window is left as it was.
+    /// After a fault the groups may be out.
+    pub(crate) fn run_or_leave<H: Hands, S: Sink>(
         &self,
-        pool: &ThreadPool<Order>,
-        hands: usize,
-        until: Time,
-        window: &mut Window,
-        sheaf: &mut Sheaf,
-        scribes: &mut Vec<Scribe>,
-        owed: &mut Owed,
-        before: &Snapshot<S>,
-        sink: &mut S,
-    ) -> Result<bool, EngineFault>
-        requires hands { (1 < hands) × (hands ≤ self.now.workers) }
-        requires edge { IsAtEdge window.old }
-        requires few { groups_of window.old.entries ≤ 64 }
-        requires right { AreRight sheaf.old scribes.old.items }
-        requires fits { sheaf.old.first + length (merged sheaf.old).lines < 2 ^ 63 }
-        requires owes { Owes owed.old (S.contents before.now.value) (S.contents sink.old) (S.failures before.now.value) (S.failures sink.old) }
-        ensures ran { IfOk result (λ ran. HasRunOr ran until window.old window.new) }
-        ensures stays { StaysNet window.old window.new }
-        ensures fault { IfErr result (IsWorkersFault self.now.workers (HasTooMany (reached_in window.old))) }
-        ensures sheaf { sheaf.new ≡ sheaf.old }
-        ensures right { AreRight sheaf.new scribes.new.items }
-        ensures owes { Owes owed.new (S.contents before.now.value) (S.contents sink.new) (S.failures before.now.value) (S.failures sink.new) }
-        ensures same { owed.new ≡ record owed.old { put = owed.new.put } }
-    {
-        let _began = window.position();
-        window.limit(until);
-        let _limited = window.position();
-        run_apart(
-            self.rt, pool, self.alloc, hands, self.gate, window, sheaf, scribes, owed, before, sink,
-        )?;
-        Ok(true)
-    }
-
-    /// The same, where threads wait for orders and several workers are to run the window: else that is left as it was.
-    pub(crate) fn run_or_leave<S: Sink>(
-        &self,
+        by: &H,
         pool: Option<&ThreadPool<Order>>,
         hands: usize,
         until: Time,
@@ -155,22 +108,25 @@ impl<'a, R: Threads + Wait + Sync, G: Gate> Crew<'a, R, G> {
         ensures same { owed.new ≡ record owed.old { put = owed.new.put } }
     {
         match pool {
-            Some(pool) if hands > 1 => self.run_shared(
-                pool, hands, until, window, sheaf, scribes, owed, before, sink,
+            Some(pool) if hands > 1 => by.run_shared(
+                self.gate, pool, self.alloc, hands, until, window, sheaf, scribes, owed, before,
+                sink,
             ),
             _ => Ok(false),
         }
     }
 
-    /// The same as `run_shared`, where no threads wait for orders: they are started for this window alone. No text is written.
-    pub(crate) fn run_once(
+    /// The same by threads that are started for this window alone. No text is written.
+    pub(crate) fn run_once<H: Hands>(
         &self,
+        by: &H,
         hands: usize,
         until: Time,
         window: &mut Window,
         sheaf: &mut Sheaf,
         scribes: &mut Vec<Scribe>,
     ) -> Result<bool, EngineFault>
+        requires ready { H.ready by.now }
         requires hands { (1 < hands) × (hands ≤ self.now.workers) }
         requires edge { IsAtEdge window.old }
         requires few { groups_of window.old.entries ≤ 64 }
@@ -185,10 +141,10 @@ impl<'a, R: Threads + Wait + Sync, G: Gate> Crew<'a, R, G> {
         let Ok(pool) = ThreadPool::new(self.alloc, hands.saturating_sub(1), LOOKS) else {
             return Err(EngineFault::NoMemory);
         };
-        let (rt, gate, pool, alloc) = (self.rt, self.gate, &pool, self.alloc);
-        let (_, ran) = join_mut(
-            rt,
-            &mut || keep_workers(rt, gate, pool),
+        let (pool, alloc) = (&pool, self.alloc);
+        by.with_threads(
+            self.gate,
+            pool,
             &mut || -> Result<bool, EngineFault>
                 requires hands { (1 < hands) × (hands ≤ self.now.workers) }
                 requires edge { IsAtEdge window.now }
@@ -203,16 +159,22 @@ impl<'a, R: Threads + Wait + Sync, G: Gate> Crew<'a, R, G> {
             {
                 let mut sink = Nowhere;
                 let before = Snapshot::of(&sink);
-                let ran = match Owed::new(alloc) {
-                    Ok(mut owed) => self.run_shared(
-                        pool, hands, until, window, sheaf, scribes, &mut owed, &before, &mut sink,
+                match Owed::new(alloc) {
+                    Ok(mut owed) => self.run_or_leave(
+                        by,
+                        Some(pool),
+                        hands,
+                        until,
+                        window,
+                        sheaf,
+                        scribes,
+                        &mut owed,
+                        &before,
+                        &mut sink,
                     ),
                     Err(_) => Err(EngineFault::NoMemory),
-                };
-                pool.end(rt);
-                ran
+                }
             },
-        );
-        ran
+        )
     }
 }

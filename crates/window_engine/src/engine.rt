@@ -15,10 +15,11 @@ ghost use Rattle.window_engine.specs.Engines.{GoesOn, NoneBelow, Commits, IsNext
 
 use crate::advance::finish;
 use crate::course::Course;
-use crate::crew::{Crew, processors};
+use crate::crew::Crew;
 use crate::fault::{EngineFault, Stop};
 use crate::gate::Gate;
 use crate::pace::Pace;
+use crate::several::Hands;
 use crate::sink::Sink;
 use net_machine::Net;
 use scenario_image::Scenario;
@@ -26,8 +27,6 @@ use sim_time::Time;
 use std::alloc::{AllocError, Global};
 use std::marker::Model;
 use std::snapshot::Snapshot;
-use std::sync::Wait;
-use std::thread::Threads;
 use window_core::{Batch, Partition, Sheaf, Window};
 
 /// A scenario's run by windows on many workers. After a fault each call answers `Failed`.
@@ -162,17 +161,19 @@ impl Engine {
 
     /// Runs the next window by so many workers, to end by a moment at the latest, and gives its
     /// lines.
-    pub fn window<G: Gate, R: Threads + Wait + Sync>(
+    pub fn window<H: Hands>(
         &mut self,
-        rt: &R,
+        hands: &H,
         workers: usize,
-        gate: &G,
+        gate: &Gate,
         until: Time,
     ) -> Result<Batch, EngineFault>
+        requires ready { H.ready hands.now }
         requires workers { (0 < workers) × (workers ≤ 64) }
         ensures ok { IfOk result (λ batch. GoesOn self.old.net batch self.new.net) }
         ensures early { IfOk result (λ batch. AreBelow (window_end_by self.old until) batch.lines) }
         ensures none_left { OnOk result (NoneBelow (window_end_by self.old until) self.new.net.state) }
+        ensures some { IfOk result (λ batch. (time : ℕ) → IsNext until self.old.net.state time → 0 < length batch.lines) }
         ensures err { OnErr result (self.new.net.position ≡ self.old.net.position) }
         ensures fault { self.old.failed ≡ false → IfErr result (IsOfWorkers workers) }
         ensures full { IfErr result (λ fault. fault ≡ EngineFault.CountFull → HasTooMany self.old.net) }
@@ -182,9 +183,6 @@ impl Engine {
         ensures entries { self.new.entries ≡ self.old.entries }
         ensures ahead { self.new.ahead ≡ self.old.ahead }
     {
-        if workers == 1 {
-            return self.window_alone(gate, until);
-        }
         if self.failed {
             return Err(EngineFault::Failed);
         }
@@ -192,7 +190,6 @@ impl Engine {
         let alloc = self.course.alloc;
         let before = Snapshot::of(&self.course.window);
         let crew = Crew {
-            rt,
             gate,
             workers,
             // No text is made.
@@ -202,11 +199,11 @@ impl Engine {
         let mut none = Sheaf::new(alloc, 1);
         let mut scribes = Vec::new(alloc);
         let window = &mut self.course.window;
-        let hands = crew.hands(window, self.shared, 0, until);
-        let ran = if hands == 1 {
+        let many = crew.hands(window, self.shared, 0, until);
+        let ran = if many == 1 {
             Ok(false)
         } else {
-            crew.run_once(hands, until, window, &mut none, &mut scribes)
+            crew.run_once(hands, many, until, window, &mut none, &mut scribes)
         };
         let mut batch = Batch::new(alloc, 0);
         match finish(gate, workers, ran, until, &before, window, &mut batch) {
@@ -221,52 +218,17 @@ impl Engine {
         Ok(batch)
     }
 
-    /// Runs the next window on the calling thread, to end by a moment at the latest, and gives its
-    /// lines: what `window` does with one worker. It starts no thread and waits for none.
-    pub fn window_alone<G: Gate>(&mut self, gate: &G, until: Time) -> Result<Batch, EngineFault>
-        ensures ok { IfOk result (λ batch. GoesOn self.old.net batch self.new.net) }
-        ensures early { IfOk result (λ batch. AreBelow (window_end_by self.old until) batch.lines) }
-        ensures none_left { OnOk result (NoneBelow (window_end_by self.old until) self.new.net.state) }
-        ensures some { IfOk result (λ batch. (time : ℕ) → IsNext until self.old.net.state time → 0 < length batch.lines) }
-        ensures err { OnErr result (self.new.net.position ≡ self.old.net.position) }
-        ensures fault { self.old.failed ≡ false → IfErr result (IsOfWorkers 1) }
-        ensures full { IfErr result (λ fault. fault ≡ EngineFault.CountFull → HasTooMany self.old.net) }
-        ensures failed { self.new.failed ≡ is_err result }
-        ensures failed_before { self.old.failed ≡ true → result ≡ Err EngineFault.Failed }
-        ensures nothing_more { self.old.failed ≡ true → self.new ≡ self.old }
-        ensures entries { self.new.entries ≡ self.old.entries }
-        ensures ahead { self.new.ahead ≡ self.old.ahead }
-    {
-        if self.failed {
-            return Err(EngineFault::Failed);
-        }
-        let _reached = self.course.window.position();
-        let alloc = self.course.alloc;
-        let before = Snapshot::of(&self.course.window);
-        let window = &mut self.course.window;
-        let mut lines = Batch::new(alloc, 0);
-        match finish(gate, 1, Ok(false), until, &before, window, &mut lines) {
-            Ok(()) => {}
-            Err(fault) => {
-                self.failed = true;
-                return Err(fault);
-            }
-        }
-        self.course.position = self.course.window.position();
-        self.shared = lines.beside_most();
-        Ok(lines)
-    }
-
     /// Runs events by so many workers and writes their lines, up to the run's end or until none is left below a moment:
     /// by windows, or where these hold few one after another for a while.
-    pub fn run<G: Gate, S: Sink, R: Threads + Wait + Sync>(
+    pub fn run<H: Hands, S: Sink>(
         &mut self,
-        rt: &R,
+        hands: &H,
         workers: usize,
-        gate: &G,
+        gate: &Gate,
         until: Time,
         sink: &mut S,
     ) -> Result<Stop, EngineFault>
+        requires ready { H.ready hands.now }
         requires workers { (0 < workers) × (workers ≤ 64) }
         ensures commits { Commits until self.old.net result self.new.net (S.contents sink.old) (S.contents sink.new) }
         ensures stop { IfOk result (IsStop until self.new.net.state) }
@@ -279,50 +241,18 @@ impl Engine {
         ensures entries { self.new.entries ≡ self.old.entries }
         ensures ahead { self.new.ahead ≡ self.old.ahead }
     {
-        if workers == 1 {
-            return self.run_alone(gate, until, sink);
-        }
         if self.failed {
             return Err(EngineFault::Failed);
         }
         let _reached = self.course.window.position();
         let alloc = self.course.alloc;
         let crew = Crew {
-            rt,
             gate,
             workers,
-            processors: processors(rt),
+            processors: hands.processors(),
             alloc,
         };
-        let outcome = self.course.write_together(&crew, until, sink);
-        self.failed = outcome.is_err();
-        outcome
-    }
-
-    /// Runs events on the calling thread and writes their lines, up to the run's end or until none is left below a moment:
-    /// what `run` does with one worker. It starts no thread and waits for none.
-    pub fn run_alone<G: Gate, S: Sink>(
-        &mut self,
-        gate: &G,
-        until: Time,
-        sink: &mut S,
-    ) -> Result<Stop, EngineFault>
-        ensures commits { Commits until self.old.net result self.new.net (S.contents sink.old) (S.contents sink.new) }
-        ensures stop { IfOk result (IsStop until self.new.net.state) }
-        ensures fault { self.old.failed ≡ false → IfErr result (IsOfRun 1) }
-        ensures full { IfErr result (λ fault. fault ≡ EngineFault.CountFull → HasTooMany self.old.net) }
-        ensures failed { self.new.failed ≡ is_err result }
-        ensures failed_before { self.old.failed ≡ true → result ≡ Err EngineFault.Failed }
-        ensures nothing_more { self.old.failed ≡ true → self.new ≡ self.old }
-        ensures failures { S.failures sink.new ≡ sink_failures result (S.failures sink.old) }
-        ensures entries { self.new.entries ≡ self.old.entries }
-        ensures ahead { self.new.ahead ≡ self.old.ahead }
-    {
-        if self.failed {
-            return Err(EngineFault::Failed);
-        }
-        let _reached = self.course.window.position();
-        let outcome = self.course.write_alone(gate, until, sink);
+        let outcome = self.course.write_together(hands, &crew, until, sink);
         self.failed = outcome.is_err();
         outcome
     }

@@ -58,7 +58,7 @@ fn first_piece(pieces: usize, place: usize, workers: usize) -> Option<usize> {
 
 /// Goes over the board and makes text, and lays that down: a worker that has a piece of its own goes over the board first,
 /// one that has none takes only pieces that nobody has begun by the time that the text is made. The answer is the seat.
-pub(crate) fn serve<G: Gate>(tasks: &Tasks, gate: &G, begin: Begin) -> Seat
+pub(crate) fn serve(tasks: &Tasks, gate: &Gate, begin: Begin) -> Seat
     requires board { IsOf tasks.now.board begin.seat }
     requires idle { HoldsNothing begin.seat }
     requires pass { IsPassOf tasks.now.desk begin.pass }
@@ -90,7 +90,7 @@ pub(crate) fn serve<G: Gate>(tasks: &Tasks, gate: &G, begin: Begin) -> Seat
 
 /// What a thread is to do for a window.
 #[derive(Drop)]
-pub(crate) struct Order {
+pub struct Order {
     /// What it shares with the other workers.
     tasks: Arc<Tasks, Global>,
     /// What it begins with.
@@ -121,7 +121,7 @@ impl Order {
     }
 
     /// Carries it out. It keeps nothing of the tasks.
-    pub(crate) fn carry_out<G: Gate>(self, gate: &G) {
+    pub(crate) fn carry_out(self, gate: &Gate) {
         let Order { tasks, begin } = self;
         let _seat = serve(&tasks, gate, begin);
     }

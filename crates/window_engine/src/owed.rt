@@ -9,13 +9,13 @@ use std::snapshot::Snapshot;
 
 /// The text of a window that is made, and is written while the next one runs.
 #[derive(Drop)]
-pub(crate) struct Owed {
+pub struct Owed {
     /// The text.
-    pub text: Text,
+    pub(crate) text: Text,
     /// How many lines it has.
-    pub lines: u64,
+    pub(crate) lines: u64,
     /// How many bytes went out, where it was written: all of them, or those before the sink failed.
-    pub put: Option<Result<u128, u128>>,
+    pub(crate) put: Option<Result<u128, u128>>,
 }
 
 impl Owed {

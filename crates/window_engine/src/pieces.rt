@@ -23,12 +23,12 @@ use work_board::{Board, Piece};
 /// Runs the pieces by so many workers, the calling thread and threads of a pool, which then make the text
 /// of a sheaf's lines; that of the window before is written meanwhile. Then each piece is done, and its group comes back in its place. A refusal gives them
 /// up.
-pub(crate) fn run_pieces<G: Gate, R: Wait, S: Sink>(
+pub(crate) fn run_pieces<R: Wait, S: Sink>(
     rt: &R,
     pool: &ThreadPool<Order>,
     alloc: Global,
     workers: usize,
-    gate: &G,
+    gate: &Gate,
     pieces: Vec<Piece>,
     sheaf: &mut Sheaf,
     scribes: &mut Vec<Scribe>,

@@ -24,16 +24,14 @@ use crate::fault::{EngineFault, Stop};
 use crate::gate::Gate;
 use crate::order::Order;
 use crate::owed::Owed;
+use crate::several::Hands;
 use crate::sink::Sink;
 use crate::slice::FIRST_SLICE;
-use crate::sweep::keep_workers;
 use crate::text::Text;
 use sim_time::Time;
 use std::alloc::AllocError;
 use std::mem::swap;
 use std::snapshot::Snapshot;
-use std::sync::Wait;
-use std::thread::{Threads, join_mut};
 use thread_pool::ThreadPool;
 use window_core::{Sheaf, Window};
 
@@ -128,9 +126,9 @@ impl Course {
     /// have run or the calling thread runs; the sheaf then has its lines. The answer is how long the next window may
     /// be. Where the window can't be ended what is owed is written at once. How the course and the sink were as the call began, and the window before it was run, is
     /// for clauses alone.
-    fn go_on<G: Gate, S: Sink>(
+    fn go_on<S: Sink>(
         &mut self,
-        gate: &G,
+        gate: &Gate,
         workers: usize,
         _until: Time,
         plan: &Plan,
@@ -379,81 +377,13 @@ impl Course {
         Ok(())
     }
 
-    /// Runs windows on the calling thread and writes their lines, up to the run's end or until no event is
-    /// left below a moment. It starts no thread and waits for none. Where windows hold few events, events are run
-    /// one after another for a while.
-    pub(crate) fn write_alone<G: Gate, S: Sink>(
-        &mut self,
-        gate: &G,
-        until: Time,
-        sink: &mut S,
-    ) -> Result<Stop, EngineFault>
-        requires rest { AtRest self.old }
-        requires groups { HasGroups self.old }
-        ensures { HasEnded 1 until self.old self.new result (S.contents sink.old) (S.contents sink.new) (S.failures sink.old) (S.failures sink.new) }
-    {
-        let (Ok(mut text), Ok(mut owed)) = (Text::new(self.alloc), Owed::new(self.alloc)) else {
-            return Err(EngineFault::NoMemory);
-        };
-        let (began, known) = (Snapshot::of(self), Snapshot::of(sink));
-        self.sheaf = Sheaf::new(self.alloc, self.position + 1);
-        let mut slice = FIRST_SLICE;
-        let mut written: u128 = 0;
-        loop {
-            match self.write_singly(1, until, &began, &known, &mut text, &mut written, sink) {
-                Ok(()) => {}
-                Err(fault) => return Err(fault),
-            }
-            let plan = match self.plan(until, slice) {
-                Ok(plan) => plan,
-                Err(stop) => {
-                    return self.end(stop, 1, until, &began, &known, &mut text, written, sink);
-                }
-            };
-            let _reached = self.window.position();
-            let now = Snapshot::of(&self.window);
-            text.clear(&self.sheaf);
-            match self.go_on(
-                gate,
-                1,
-                until,
-                &plan,
-                Ok(false),
-                &began,
-                &known,
-                &now,
-                &mut text,
-                &mut owed,
-                written,
-                sink,
-            ) {
-                Ok(next) => slice = next,
-                Err(fault) => return Err(fault),
-            }
-            let (before, edge) = (Snapshot::of(sink), Snapshot::of(&self.window));
-            match self.settle(
-                1,
-                until,
-                &began,
-                &known,
-                &before,
-                &edge,
-                &mut owed,
-                &mut written,
-                sink,
-            ) {
-                Ok(()) => {}
-                Err(fault) => return Err(fault),
-            }
-        }
-    }
-
     /// Has a crew run windows, makes the text of each while the next one runs, and writes it while the one after that
     /// begins, until they end, or until threads are to share one and none wait for it. How the course and the sink were
     /// as the call began is for clauses alone.
-    fn write_on<G: Gate, S: Sink, R: Threads + Wait + Sync>(
+    fn write_on<H: Hands, S: Sink>(
         &mut self,
-        crew: &Crew<R, G>,
+        by: &H,
+        crew: &Crew,
         pool: Option<&ThreadPool<Order>>,
         until: Time,
         began: &Snapshot<Course>,
@@ -496,6 +426,7 @@ impl Course {
             let _reached = self.window.position();
             writing.text.clear(&self.sheaf);
             let ran = crew.run_or_leave(
+                by,
                 pool,
                 hands,
                 plan.bound,
@@ -541,9 +472,10 @@ impl Course {
     }
 
     /// The same with threads that wait for orders. It goes on to where windows end, and the threads may go then.
-    fn write_shared<G: Gate, S: Sink, R: Threads + Wait + Sync>(
+    fn write_shared<H: Hands, S: Sink>(
         &mut self,
-        crew: &Crew<R, G>,
+        by: &H,
+        crew: &Crew,
         pool: &ThreadPool<Order>,
         until: Time,
         began: &Snapshot<Course>,
@@ -554,8 +486,7 @@ impl Course {
         requires owing { AwaitsSink until began.now.value self.old writing.old.owed writing.old.written (S.contents known.now.value) (S.contents sink.old) (S.failures known.now.value) (S.failures sink.old) }
         ensures { HasEnded crew.now.workers until began.now.value self.new result (S.contents known.now.value) (S.contents sink.new) (S.failures known.now.value) (S.failures sink.new) }
     {
-        let stage = self.write_on(crew, Some(pool), until, began, known, writing, sink);
-        pool.end(crew.rt);
+        let stage = self.write_on(by, crew, Some(pool), until, began, known, writing, sink);
         match stage {
             Stage::Ended(outcome) => outcome,
             Stage::ToShare => unreachable!(),
@@ -563,15 +494,17 @@ impl Course {
     }
 
     /// Starts the threads that are to share windows, and goes on with them.
-    fn write_by_threads<G: Gate, S: Sink, R: Threads + Wait + Sync>(
+    fn write_by_threads<H: Hands, S: Sink>(
         &mut self,
-        crew: &Crew<R, G>,
+        by: &H,
+        crew: &Crew,
         until: Time,
         began: &Snapshot<Course>,
         known: &Snapshot<S>,
         writing: &mut Writing,
         sink: &mut S,
     ) -> Result<Stop, EngineFault>
+        requires ready { H.ready by.now }
         requires owing { AwaitsSink until began.now.value self.old writing.old.owed writing.old.written (S.contents known.now.value) (S.contents sink.old) (S.failures known.now.value) (S.failures sink.old) }
         ensures { HasEnded crew.now.workers until began.now.value self.new result (S.contents known.now.value) (S.contents sink.new) (S.failures known.now.value) (S.failures sink.new) }
     {
@@ -591,28 +524,29 @@ impl Course {
             )?;
             return Err(EngineFault::NoMemory);
         };
-        let (rt, gate, pool) = (crew.rt, crew.gate, &pool);
-        let (_, outcome) = join_mut(
-            rt,
-            &mut || keep_workers(rt, gate, pool),
+        let pool = &pool;
+        by.with_threads(
+            crew.gate,
+            pool,
             &mut || -> Result<Stop, EngineFault>
                 requires owing { AwaitsSink until began.now.value self.now writing.now.owed writing.now.written (S.contents known.now.value) (S.contents sink.now) (S.failures known.now.value) (S.failures sink.now) }
                 ensures { HasEnded crew.entry.now.workers until began.entry.now.value self.exit.now result (S.contents known.entry.now.value) (S.contents sink.exit.now) (S.failures known.entry.now.value) (S.failures sink.exit.now) }
-            { self.write_shared(crew, pool, until, began, known, writing, sink) },
-        );
-        outcome
+            { self.write_shared(by, crew, pool, until, began, known, writing, sink) },
+        )
     }
 
     /// Has a crew run windows, and writes the lines of each while later ones run, up to the run's end or
     /// until no event is left below a moment. Nothing is left to write where they end. Threads are started once
     /// a window is worth it, and stay. Where windows hold few events, or threads come late to them, events are run
     /// one after another for a while.
-    pub(crate) fn write_together<G: Gate, S: Sink, R: Threads + Wait + Sync>(
+    pub(crate) fn write_together<H: Hands, S: Sink>(
         &mut self,
-        crew: &Crew<R, G>,
+        by: &H,
+        crew: &Crew,
         until: Time,
         sink: &mut S,
     ) -> Result<Stop, EngineFault>
+        requires ready { H.ready by.now }
         requires rest { AtRest self.old }
         requires groups { HasGroups self.old }
         ensures { HasEnded crew.now.workers until self.old self.new result (S.contents sink.old) (S.contents sink.new) (S.failures sink.old) (S.failures sink.new) }
@@ -628,9 +562,10 @@ impl Course {
         };
         let (began, known) = (Snapshot::of(self), Snapshot::of(sink));
         self.sheaf = Sheaf::new(self.alloc, self.position + 1);
-        match self.write_on(crew, None, until, &began, &known, &mut writing, sink) {
+        match self.write_on(by, crew, None, until, &began, &known, &mut writing, sink) {
             Stage::Ended(outcome) => outcome,
             Stage::ToShare => self.write_by_threads(
+                by,
                 crew,
                 until,
                 &began,

@@ -26,13 +26,13 @@ pub(crate) struct Part {
 
 /// What one thread made of a window's text.
 #[derive(Drop)]
-pub(crate) struct Scribe {
+pub struct Scribe {
     /// How many groups of the next window the thread ran, before it made text.
-    pub ran: usize,
+    pub(crate) ran: usize,
     /// The text of its parts, one after another.
-    pub text: Pad,
+    pub(crate) text: Pad,
     /// Its parts.
-    pub parts: Vec<Part>,
+    pub(crate) parts: Vec<Part>,
 }
 
 /// Appends the text of the lines that a cursor comes to next, so many. Where memory is refused, some

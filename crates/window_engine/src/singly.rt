@@ -1,20 +1,21 @@
 //! Events one after another on the calling thread, by the net itself: no line is kept, and each is written into the
 //! text right behind its event. A run goes on so for a while where windows hold few events, or threads come late to
 //! them.
-ghost use Rattle.std.specs.Prelude.{◌≡◌, ◌<◌, ◌≤◌, [], true, false, IfOk, IfErr, OnOk};
+ghost use Rattle.std.specs.Prelude.{◌≡◌, ◌<◌, ◌≤◌, [], IfOk, IfErr, OnOk};
 ghost use Rattle.window_core.specs.Full.{HasTooMany};
 ghost use Rattle.window_core.specs.Partition.{groups_of};
 ghost use Rattle.window_engine.specs.Courses.{Broke, HasEnded, IsApart, Rests, RunsIn, Wrote, fails_after};
 ghost use Rattle.window_engine.specs.Edges.{IsAtEdge, reached_in};
 ghost use Rattle.window_engine.specs.Outcomes.{IsWorkersFault};
-ghost use Rattle.window_engine.specs.Singly.{CanStop, HasGone, IsBefore};
+ghost use Rattle.window_engine.specs.Singly.{HasGone};
 
 use crate::course::{Course, WriteFault, told};
 use crate::fault::EngineFault;
 use crate::parts::LINE_BYTES;
 use crate::put::put_all;
 use crate::sink::Sink;
-use net_machine::{Net, StepFault};
+use net_machine::{Due, Net, StepFault};
+use net_watch::{Watch, run_watched};
 use node_core::Line;
 use sim_time::Time;
 use std::alloc::{AllocError, Global};
@@ -49,26 +50,70 @@ impl Single {
     }
 }
 
-/// Whether a net goes on to its next event, before a moment, in nanoseconds: where many were run, only to one that is
-/// of the last one's moment. Unless that is asked, or the moment is sooner than the run's end, its next event is not
-/// looked at: a step finds it once more.
-#[inline(always)]
-fn goes_on(net: &Net, until: Time, sooner: bool, many: bool, last: Time) -> bool
-    requires until { until ≤ net.now.state.end }
-    requires whole { sooner ≡ false → net.now.state.end ≤ until }
-    ensures stops { result ≡ false → CanStop until last net.now.state }
-    ensures before { result ≡ true → IsBefore until net.now.state }
-{
-    if !sooner && !many {
-        return true;
+/// Who has the text of a net's next events on a page: of those before a moment, about so many as are written at once, or
+/// those that are left. It ends the run behind the last event of some moment.
+#[derive(Drop)]
+struct Paging<'a> {
+    /// Their text.
+    page: &'a mut Page,
+    /// Before which moment they are, in nanoseconds.
+    until: Time,
+    /// Whether that is sooner than the run's end.
+    sooner: bool,
+    /// From which position on only events of the last one's moment are run.
+    enough: u64,
+    /// When the last one was, in nanoseconds.
+    last: Time,
+    /// Whether memory was refused for the text of the last one.
+    refused: bool,
+}
+
+impl Watch for Paging<'_> {
+    ghost use Rattle.std.specs.Prelude.{◌≡◌, ◌≤◌, [], false, refl};
+    ghost use Rattle.window_engine.specs.Singly.{CanStop, IsBefore, IsPaged, going_none};
+
+    type Note = ();
+
+    ghost fits = { λ w at. (w.until ≤ at.state.end) × (w.sooner ≡ false → at.state.end ≤ w.until) };
+
+    ghost has = { λ began from w at goes_on. (w.page.ghost_name ≡ began.page.ghost_name) × (w.until ≡ began.until) × (w.sooner ≡ began.sooner) × (began.page.now ≡ [] → began.refused ≡ false → IsPaged goes_on began.until w.last from at w.page.now w.refused) };
+
+    ghost begins = { λ w at. (refl, refl, refl, λ empty none. (none, going_none w.until w.last at w.page.now empty)) };
+
+    ghost notes = { λ w at _. IsBefore w.until at.state };
+
+    ghost halts = { λ w at. CanStop w.until w.last at.state };
+
+    #[inline(always)]
+    fn ahead(&self, at: &Net, next: Option<Due>) -> Option<()> {
+        let many = at.position() >= self.enough;
+        if !self.sooner && !many {
+            return Some(());
+        }
+        let next = next?;
+        if next.time >= self.until {
+            return None;
+        }
+        if many && next.time > self.last {
+            return None;
+        }
+        Some(())
     }
-    let Some(key) = net.due_key() else {
-        return false;
-    };
-    if key.time >= until {
-        return false;
+
+    #[inline(always)]
+    fn see(&mut self, _note: (), _before: &Snapshot<Net>, after: &Net, line: &Line) -> bool {
+        let position = after.position();
+        match self.page.put_line(position, line) {
+            Ok(()) => {
+                self.last = self.last.max(line.key.time);
+                true
+            }
+            Err(_) => {
+                self.refused = true;
+                false
+            }
+        }
     }
-    !many || key.time <= last
 }
 
 /// Runs events of a net that are before a moment, in nanoseconds, one after another, and has their text on an empty page:
@@ -81,23 +126,19 @@ fn run_some(net: &mut Net, line: &mut Line, page: &mut Page, until: Time) -> Res
 {
     let enough = net.position().saturating_add(AT_ONCE as u64);
     let sooner = until < net.end();
-    let mut last: Time = 0;
-    loop {
-        let many = net.position() >= enough;
-        if !goes_on(net, until, sooner, many, last) {
-            return Ok(());
-        }
-        match net.step_into(line) {
-            Ok(true) => {}
-            Ok(false) => return Ok(()),
-            Err(StepFault::CountFull) => return Err(EngineFault::CountFull),
-            Err(StepFault::NoMemory) => return Err(EngineFault::NoMemory),
-        }
-        let position = net.position();
-        let Ok(()) = page.put_line(position, line) else {
-            return Err(EngineFault::NoMemory);
-        };
-        last = last.max(line.key.time);
+    let mut paging = Paging {
+        page,
+        until,
+        sooner,
+        enough,
+        last: 0,
+        refused: false,
+    };
+    match run_watched(net, &mut paging, line) {
+        Ok(_) if paging.refused => Err(EngineFault::NoMemory),
+        Ok(_) => Ok(()),
+        Err(StepFault::CountFull) => Err(EngineFault::CountFull),
+        Err(StepFault::NoMemory) => Err(EngineFault::NoMemory),
     }
 }
 

@@ -42,9 +42,9 @@ fn sole<T: Drop, R: Wait>(rt: &R, shared: Arc<T, Global>) -> T
 }
 
 /// Is the first of a pool's workers, starts the others, and ends once all have gone.
-pub(crate) fn keep_workers<G: Gate, R: Threads + Wait + Sync>(
+pub(crate) fn keep_workers<R: Threads + Wait + Sync>(
     rt: &R,
-    gate: &G,
+    gate: &Gate,
     pool: &ThreadPool<Order>,
 ) {
     run_workers(rt, &|order: Order| order.carry_out(gate), pool);
@@ -104,7 +104,7 @@ fn give_orders<R: Wait>(
 }
 
 /// Takes back what threads have not begun, and waits for what they have.
-fn end_orders<G: Gate, R: Wait>(rt: &R, gate: &G, pool: &ThreadPool<Order>, workers: usize) {
+fn end_orders<R: Wait>(rt: &R, gate: &Gate, pool: &ThreadPool<Order>, workers: usize) {
     for thread in 0..workers.saturating_sub(1) {
         if let Some(order) = pool.take_back(rt, thread) {
             order.carry_out(gate);
@@ -116,11 +116,11 @@ fn end_orders<G: Gate, R: Wait>(rt: &R, gate: &G, pool: &ThreadPool<Order>, work
 /// Has so many workers go over the board and then make the text of a sheaf's lines: the calling thread is one of
 /// them, and the others are threads of a pool. While they begin it writes the text of the window before. It waits for
 /// all of them, and gives the board and its own seat back. The scribes are then what each made of the text.
-pub(crate) fn sweep<G: Gate, R: Wait, S: Sink>(
+pub(crate) fn sweep<R: Wait, S: Sink>(
     rt: &R,
     pool: &ThreadPool<Order>,
     workers: usize,
-    gate: &G,
+    gate: &Gate,
     board: Board,
     seat: Seat,
     sheaf: &mut Sheaf,

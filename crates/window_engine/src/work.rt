@@ -8,21 +8,21 @@ use crate::gate::Gate;
 use work_board::{Board, Seat};
 
 /// Tells the gate of a piece that the seat has claimed: it is as it was laid.
-fn enter<G: Gate>(gate: &G, _seat: &Seat, piece: usize)
+fn enter(gate: &Gate, _seat: &Seat, piece: usize)
     requires { HoldsAsLaid _seat.now piece }
 {
     gate.enter(piece as u64);
 }
 
 /// Tells the gate of a piece that the seat has finished.
-fn leave<G: Gate>(gate: &G, _seat: &Seat, piece: usize)
+fn leave(gate: &Gate, _seat: &Seat, piece: usize)
     requires { Has _seat.now.view.finished piece }
 {
     gate.leave(piece as u64);
 }
 
 /// Tries a piece, and runs it where the seat claimed it: then it is counted.
-fn meet<G: Gate>(board: &Board, seat: &mut Seat, gate: &G, piece: usize, ran: &mut usize)
+fn meet(board: &Board, seat: &mut Seat, gate: &Gate, piece: usize, ran: &mut usize)
     requires board { IsOf board.now seat.old }
     requires idle { HoldsNothing seat.old }
     requires piece { piece < length board.now.pieces }
@@ -42,13 +42,7 @@ fn meet<G: Gate>(board: &Board, seat: &mut Seat, gate: &G, piece: usize, ran: &m
 
 /// Tries every piece, from one on and then those before it, so that a worker that begins where it did in the window
 /// before meets groups that its core's cache has. It runs those that it claimed, and counts them.
-pub(crate) fn work<G: Gate>(
-    board: &Board,
-    seat: Seat,
-    first: usize,
-    gate: &G,
-    ran: &mut usize,
-) -> Seat
+pub(crate) fn work(board: &Board, seat: Seat, first: usize, gate: &Gate, ran: &mut usize) -> Seat
     requires board { IsOf board.now seat }
     requires idle { HoldsNothing seat }
     ensures board { IsOf board.now result }

@@ -2,11 +2,10 @@
 
 use super::nets::{ONE_SEGMENT, one_flow};
 use super::{engine_of, run_to, window};
-use crate::hands::AllHands;
 use std::process::Abort;
 use std::sync::Wait;
 use std::thread::Threads;
-use window_engine::{Engine, OverWrite, Stop};
+use window_engine::{Engine, Gate, OverWrite, Stop};
 
 // Runs an engine up to a moment. The answer is its text.
 fn part_of(
@@ -18,7 +17,7 @@ fn part_of(
 ) -> Vec<u8> {
     let mut text = Vec::new(rt.alloc());
     let mut sink = OverWrite::new(&mut text);
-    let stop = run_to(rt, engine, workers, &AllHands, until, &mut sink);
+    let stop = run_to(rt, engine, workers, &Gate::for_all(), until, &mut sink);
     assert!(rt; stop == Ok(stops), "{workers} {until}");
     text
 }
@@ -81,7 +80,7 @@ fn expect_window(
     lines: usize,
 ) {
     let first = engine.position().saturating_add(1);
-    let told = window(rt, engine, workers, &AllHands, until);
+    let told = window(rt, engine, workers, &Gate::for_all(), until);
     assert!(rt; told == Ok((first, lines)), "{until}");
 }
 

@@ -3,12 +3,9 @@
 
 use super::nets::{long_flows, steady_flows};
 use super::{engine_of, run_to, text_of, whole_text, window};
-use crate::hands::AllHands;
 use scenario_image::Scenario;
 use std::process::Abort;
 use std::sync::Wait;
-use std::sync::atomic::AtomicU64;
-use std::sync::atomic::Ordering::SeqCst;
 use std::thread::Threads;
 use window_engine::{
     Gate, Load, MOST_PARTS, OverWrite, Stop, Turnout, WORTH, is_late, lateness, load_of,
@@ -17,40 +14,6 @@ use window_engine::{
 
 // Four groups, so that each window of theirs has four pieces.
 const GROUPS: [u8; 4] = [0, 1, 2, 3];
-
-// Counts the pieces that are entered, and keeps nobody.
-#[derive(Drop)]
-struct Count {
-    // How many events are worth a thread.
-    worth: usize,
-    entered: AtomicU64,
-}
-
-impl Count {
-    // Nobody has entered yet.
-    fn worth(worth: usize) -> Count {
-        Count {
-            worth,
-            entered: AtomicU64::new(0),
-        }
-    }
-
-    fn entered(&self) -> u64 {
-        self.entered.load(SeqCst)
-    }
-}
-
-impl Gate for Count {
-    fn enter(&self, _piece: u64) {
-        self.entered.fetch_add(1, SeqCst);
-    }
-
-    fn leave(&self, _piece: u64) {}
-
-    fn worth(&self) -> usize {
-        self.worth
-    }
-}
 
 // How many pieces are entered in a run by so many workers where so many events are worth a thread. Its text
 // is this.
@@ -61,10 +24,10 @@ fn entered(
     worth: usize,
     text: &[u8],
 ) -> u64 {
-    let gate = Count::worth(worth);
+    let gate = Gate::counting(worth);
     let found = text_of(rt, scenario, &GROUPS, workers, &gate);
     assert!(rt; found.as_slice() == text);
-    gate.entered()
+    gate.entered().0
 }
 
 // A window between two links of a millisecond holds some eight events: after the first windows there are no more for
@@ -72,7 +35,7 @@ fn entered(
 #[test]
 fn events_of_small_windows_are_run_one_after_another(rt: HostRuntime) {
     let scenario = steady_flows(&rt, 2_000);
-    let text = text_of(&rt, &scenario, &[0, 0, 0, 0], 1, &AllHands);
+    let text = text_of(&rt, &scenario, &[0, 0, 0, 0], 1, &Gate::for_all());
     let windows = entered(&rt, &scenario, 1, 0, text.as_slice()) / 4;
     let alone = entered(&rt, &scenario, 1, WORTH, text.as_slice()) / 4;
     let several = entered(&rt, &scenario, 4, WORTH, text.as_slice()) / 4;
@@ -86,7 +49,7 @@ fn events_of_small_windows_are_run_one_after_another(rt: HostRuntime) {
 #[test]
 fn windows_are_tried_again_after_a_while(rt: HostRuntime) {
     let scenario = long_flows(&rt);
-    let text = text_of(&rt, &scenario, &[0, 0, 0, 0], 1, &AllHands);
+    let text = text_of(&rt, &scenario, &[0, 0, 0, 0], 1, &Gate::for_all());
     let alone = entered(&rt, &scenario, 1, WORTH, text.as_slice()) / 4;
     let several = entered(&rt, &scenario, 4, WORTH, text.as_slice()) / 4;
     assert!(rt;
@@ -99,9 +62,9 @@ fn windows_are_tried_again_after_a_while(rt: HostRuntime) {
 // not stop.
 #[test]
 fn a_run_may_stop_while_events_are_run_one_after_another(rt: HostRuntime) {
-    let gate = Count::worth(WORTH);
+    let gate = Gate::counting(WORTH);
     let scenario = steady_flows(&rt, 2_000);
-    let whole = text_of(&rt, &scenario, &[0, 0, 0, 0], 1, &AllHands);
+    let whole = text_of(&rt, &scenario, &[0, 0, 0, 0], 1, &Gate::for_all());
     for workers in [1, 4] {
         let mut engine = engine_of(&rt, &scenario, &GROUPS);
         let mut text = Vec::new(rt.alloc());
@@ -127,16 +90,16 @@ fn a_run_may_stop_while_events_are_run_one_after_another(rt: HostRuntime) {
 // Half a run, then a window, and then the rest: for the window the nodes are in their groups.
 #[test]
 fn a_window_has_its_groups_after_events_one_after_another(rt: HostRuntime) {
-    let gate = Count::worth(WORTH);
+    let gate = Gate::counting(WORTH);
     let mut engine = engine_of(&rt, &steady_flows(&rt, 2_000), &GROUPS);
     let mut half = Vec::new(rt.alloc());
     let mut sink = OverWrite::new(&mut half);
     let stop = run_to(&rt, &mut engine, 1, &gate, 500_000_000, &mut sink);
     assert!(rt; stop == Ok(Stop::Until));
-    let before = gate.entered();
+    let (before, _) = gate.entered();
     let told = window(&rt, &mut engine, 1, &gate, u64::MAX);
     assert!(rt; matches!(told, Ok((_, lines)) if lines < 100));
-    assert!(rt; gate.entered() == before.saturating_add(4));
+    assert!(rt; gate.entered().0 == before.saturating_add(4));
     let _rest = whole_text(&rt, &mut engine, 1, &gate);
     drop(engine);
 }

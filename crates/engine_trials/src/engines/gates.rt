@@ -3,14 +3,10 @@
 
 use super::nets::{four_flows, two_flows};
 use super::{engine_of, run_to, whole_text, window};
-use crate::crowd::Crowd;
-use std::hint::spin_loop;
 use std::process::Abort;
 use std::sync::Wait;
-use std::sync::atomic::AtomicU64;
-use std::sync::atomic::Ordering::SeqCst;
 use std::thread::{Threads, available_parallelism};
-use window_engine::{Engine, Gate, Sink, SinkFail, Stop, WORTH};
+use window_engine::{Engine, Gate, Sink, SinkFail, Stop};
 
 // Four groups, so that each window has four pieces, of the numbers 0 to 3.
 const GROUPS: [u8; 4] = [0, 1, 2, 3];
@@ -19,7 +15,7 @@ const GROUPS: [u8; 4] = [0, 1, 2, 3];
 const CREWS: [(usize, u64); 5] = [(1, 1), (2, 2), (3, 1), (4, 4), (64, 4)];
 
 // Sees that in so many windows each piece was entered and left, and that nobody went on alone.
-fn expect_told(rt: &impl Abort, gate: &Crowd, windows: u64) {
+fn expect_told(rt: &impl Abort, gate: &Gate, windows: u64) {
     let all = (windows.saturating_mul(4), windows.saturating_mul(6));
     assert_eq!(rt; gate.entered(), all);
     assert_eq!(rt; gate.left(), all);
@@ -32,7 +28,7 @@ fn expect_windows(
     engine: &mut Engine,
     (workers, together): (usize, u64),
 ) {
-    let gate = Crowd::of(together);
+    let gate = Gate::of(together);
     for windows in 1..=10 {
         let next = engine.position().saturating_add(1);
         let told = window(rt, engine, workers, &gate, u64::MAX);
@@ -54,7 +50,7 @@ fn each_piece_of_a_window_is_entered_and_left(rt: HostRuntime) {
 fn each_piece_of_a_run_is_entered_and_left(rt: HostRuntime) {
     let scenario = two_flows(&rt, 4);
     for (workers, together) in CREWS {
-        let gate = Crowd::of(together);
+        let gate = Gate::of(together);
         let mut engine = engine_of(&rt, &scenario, &GROUPS);
         let _text = whole_text(&rt, &mut engine, workers, &gate);
         drop(engine);
@@ -67,7 +63,7 @@ fn each_piece_of_a_run_is_entered_and_left(rt: HostRuntime) {
 // Keeps no byte. It takes the first ones once a piece of the third window was entered.
 #[derive(Drop)]
 struct Patient<'a> {
-    gate: &'a Crowd,
+    gate: &'a Gate,
     // Whether it has taken bytes.
     began: bool,
     // Whether that piece was entered.
@@ -91,7 +87,7 @@ impl<'a> Sink for Patient<'a> {
 fn a_text_is_written_while_threads_run_a_window(rt: HostRuntime) {
     let scenario = two_flows(&rt, 4);
     for workers in [2, 4, 64] {
-        let gate = Crowd::of(1);
+        let gate = Gate::of(1);
         let mut engine = engine_of(&rt, &scenario, &GROUPS);
         let mut sink = Patient {
             gate: &gate,
@@ -105,58 +101,6 @@ fn a_text_is_written_while_threads_run_a_window(rt: HostRuntime) {
     }
 }
 
-// Holds each worker for some turns, until so many are at their pieces at once; then it holds nobody. A thread is worth it
-// for as many events as to users.
-#[derive(Drop)]
-struct Many {
-    // How many have to be at their pieces at once.
-    size: u64,
-    // For how many turns a worker is held.
-    turns: u64,
-    // How many are at their pieces.
-    inside: AtomicU64,
-    // Whether so many were, once: 1.
-    met: AtomicU64,
-}
-
-impl Many {
-    fn of(size: u64, turns: u64) -> Many {
-        Many {
-            size,
-            turns,
-            inside: AtomicU64::new(0),
-            met: AtomicU64::new(0),
-        }
-    }
-
-    // Whether so many were at their pieces at once.
-    fn has_met(&self) -> bool {
-        self.met.load(SeqCst) == 1
-    }
-}
-
-impl Gate for Many {
-    fn enter(&self, _piece: u64) {
-        if self.inside.fetch_add(1, SeqCst).saturating_add(1) >= self.size {
-            self.met.store(1, SeqCst);
-        }
-        for _turn in 0..self.turns {
-            if self.has_met() {
-                return;
-            }
-            spin_loop();
-        }
-    }
-
-    fn leave(&self, _piece: u64) {
-        self.inside.fetch_sub(1, SeqCst);
-    }
-
-    fn worth(&self) -> usize {
-        WORTH
-    }
-}
-
 // Whether so many of the workers are at their pieces at once in one of some runs: on a busy machine threads come late. In
 // each a worker is held for longer, up to half a million turns. A turn gives no processor away, so that all of them together
 // take seconds.
@@ -167,7 +111,7 @@ fn have_met<R: Threads + Wait + Abort + AllocGlobal + Sync>(
 ) -> bool {
     let scenario = four_flows(rt);
     for run in 0..64u32 {
-        let gate = Many::of(size, 2_000u64 << run.min(8));
+        let gate = Gate::until_met(size, 2_000u64 << run.min(8));
         let mut engine = engine_of(rt, &scenario, &[0, 0, 1, 1, 2, 2, 3, 3]);
         let _text = whole_text(rt, &mut engine, workers, &gate);
         drop(engine);
@@ -191,47 +135,15 @@ fn as_many_workers_as_pay_are_at_their_pieces_at_once(rt: HostRuntime) {
     }
 }
 
-// Lets two go together, and adds up the numbers of the two pieces of each window that are entered first.
-#[derive(Drop)]
-struct Pairs {
-    // Who is held.
-    crowd: Crowd,
-    // How many pieces were entered.
-    entered: AtomicU64,
-    // The numbers of those of each window that were entered first.
-    first: AtomicU64,
-}
-
-impl Gate for Pairs {
-    fn enter(&self, piece: u64) {
-        if self.entered.fetch_add(1, SeqCst) % 4 < 2 {
-            self.first.fetch_add(piece, SeqCst);
-        }
-        self.crowd.enter(piece);
-    }
-
-    fn leave(&self, piece: u64) {
-        self.crowd.leave(piece);
-    }
-
-    fn worth(&self) -> usize {
-        0
-    }
-}
-
 // Of four pieces two workers begin with the first and with the third.
 #[test]
 fn workers_begin_at_different_pieces(rt: HostRuntime) {
-    let gate = Pairs {
-        crowd: Crowd::of(2),
-        entered: AtomicU64::new(0),
-        first: AtomicU64::new(0),
-    };
+    let gate = Gate::of(2);
     let mut engine = engine_of(&rt, &two_flows(&rt, 4), &GROUPS);
     let _text = whole_text(&rt, &mut engine, 2, &gate);
     drop(engine);
-    let windows = gate.entered.load(SeqCst) / 4;
+    let windows = gate.entered().0 / 4;
     assert!(rt; windows >= 3);
-    assert_eq!(rt; gate.crowd.missed(), 0);
-    assert_eq!(rt; gate.first.load(SeqCst), windows.saturating_mul(2));
+    assert_eq!(rt; gate.missed(), 0);
+    assert_eq!(rt; gate.numbers_first(), windows.saturating_mul(2));
 }

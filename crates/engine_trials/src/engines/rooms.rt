@@ -2,23 +2,22 @@
 
 use super::nets::{ONE_SEGMENT, one_flow, two_flows};
 use super::{engine_of, run_to, text_of};
-use crate::hands::AllHands;
 use crate::refused::stays_failed;
 use scenario_image::Scenario;
 use std::process::Abort;
 use std::sync::Wait;
 use std::thread::Threads;
-use window_engine::{Engine, EngineFault, Gate, OpenGate, OverWrite, Stop};
+use window_engine::{Engine, EngineFault, Gate, OverWrite, Stop};
 
 // How a run ended, and how many events are committed.
 type Ended = (Result<Stop, EngineFault>, u64);
 
 // Runs an engine into a room of so many bytes, which then has the text's first.
-fn fills<G: Gate>(
+fn fills(
     rt: &(impl Threads + Wait + Abort + AllocGlobal + Sync),
     engine: &mut Engine,
     workers: usize,
-    gate: &G,
+    gate: &Gate,
     text: &[u8],
     size: usize,
 ) -> Ended {
@@ -30,11 +29,11 @@ fn fills<G: Gate>(
 }
 
 // The same of a scenario's run. An engine whose output failed has failed for good.
-fn run_into_room<G: Gate>(
+fn run_into_room(
     rt: &(impl Threads + Wait + Abort + AllocGlobal + Sync),
     (scenario, groups): (&Scenario, &[u8]),
     workers: usize,
-    gate: &G,
+    gate: &Gate,
     text: &[u8],
     size: usize,
 ) -> Ended {
@@ -71,7 +70,7 @@ fn a_full_room_has_the_first_bytes(rt: HostRuntime) {
         let wanted = ended_in(text, size);
         for workers in [1, 2] {
             let run = (&scenario, [0, 1].as_slice());
-            let ended = run_into_room(&rt, run, workers, &AllHands, text, size);
+            let ended = run_into_room(&rt, run, workers, &Gate::for_all(), text, size);
             assert!(rt; ended == wanted, "{size}");
         }
     }
@@ -84,11 +83,11 @@ fn expect_full(
     text: &[u8],
     size: usize,
 ) {
-    let one = run_into_room(rt, run, 1, &OpenGate, text, size);
+    let one = run_into_room(rt, run, 1, &Gate::open(), text, size);
     let written = size as u128;
     assert!(rt; one.0 == Err(EngineFault::Sink { written }));
     for workers in [2, 3] {
-        let ended = run_into_room(rt, run, workers, &OpenGate, text, size);
+        let ended = run_into_room(rt, run, workers, &Gate::open(), text, size);
         assert!(rt; ended == one);
     }
 }
@@ -97,7 +96,7 @@ fn expect_full(
 #[test]
 fn a_full_room_ends_a_long_run_after_whole_windows(rt: HostRuntime) {
     let scenario = two_flows(&rt, 2_000);
-    let text = text_of(&rt, &scenario, &[0, 0, 0, 0], 1, &OpenGate);
+    let text = text_of(&rt, &scenario, &[0, 0, 0, 0], 1, &Gate::open());
     let run = (&scenario, [0, 0, 1, 1].as_slice());
     expect_full(&rt, run, text.as_slice(), text.len() / 2);
     expect_full(&rt, run, text.as_slice(), text.len().saturating_sub(1));

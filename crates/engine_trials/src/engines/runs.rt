@@ -2,11 +2,11 @@
 
 use super::nets::{EQUAL_TIMES, ONE_SEGMENT, equal_times, one_flow, two_flows};
 use super::text_of;
-use crate::hands::AllHands;
 use scenario_image::Scenario;
 use std::process::Abort;
 use std::sync::Wait;
 use std::thread::Threads;
+use window_engine::Gate;
 
 // A scenario's run in these groups, by so many workers, writes this text.
 fn expect_run(
@@ -16,7 +16,7 @@ fn expect_run(
     workers: usize,
     text: &[u8],
 ) {
-    let found = text_of(rt, scenario, groups, workers, &AllHands);
+    let found = text_of(rt, scenario, groups, workers, &Gate::for_all());
     assert!(rt; found.as_slice() == text, "{workers}");
 }
 
@@ -51,7 +51,7 @@ fn equal_times_give_the_stored_lines(rt: HostRuntime) {
 #[test]
 fn threads_make_the_text_of_one_worker(rt: HostRuntime) {
     let scenario = two_flows(&rt, 2_000);
-    let plain = text_of(&rt, &scenario, &[0, 0, 0, 0], 1, &AllHands);
+    let plain = text_of(&rt, &scenario, &[0, 0, 0, 0], 1, &Gate::for_all());
     expect_run(&rt, &scenario, &[0, 1, 2, 3], 2, plain.as_slice());
     expect_run(&rt, &scenario, &[0, 0, 1, 1], 3, plain.as_slice());
 }

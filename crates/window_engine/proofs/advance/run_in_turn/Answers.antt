@@ -11,7 +11,7 @@ use Rattle.window_engine.proofs.Laying.{all_done_of}
 use Rattle.window_engine.proofs.advance.run_in_turn.Goals as goal
 
 pub returns-clause-done : goal.returns-clause-done
-returns-clause-done g c =
+returns-clause-done c =
     let was = c.loop-i.invariant in
     let until_is = ap (λ (w : WindowValue). w.until) was.0 in
     let past : length c.loop-i.window.groups ≤ c.loop-i.i = omega (arith, was.1, c.groups-i-end.ensures, c.loop-i-test.false) in
@@ -26,7 +26,7 @@ returns-clause-done g c =
     }
 
 pub returns-in-Err-clause-fault : goal.returns-in-Err-clause-fault
-returns-in-Err-clause-fault g c =
+returns-in-Err-clause-fault c =
     let was = c.loop-i.invariant in
     let v = c.args.window.now in
     let u = c.loop-i.window in

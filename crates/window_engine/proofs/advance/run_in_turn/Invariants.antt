@@ -7,7 +7,7 @@ use Rattle.window_core.specs.Window.{IsFrom, value_at}
 use Rattle.window_engine.proofs.advance.run_in_turn.Given as goal
 
 abbrev pub invariant-loop-i : goal.invariant-loop-i
-invariant-loop-i g l =
+invariant-loop-i l =
     (l.window ≡ record l.fn.window { groups = l.window.groups })
     × (length l.window.groups ≡ length l.fn.window.groups)
     × ((edge : State) → IsFrom edge l.fn.window → IsFrom edge l.window)

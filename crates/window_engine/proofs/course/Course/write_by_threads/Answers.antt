@@ -1,14 +1,9 @@
-use denote.Param.Send.{sendable}
 use Rattle.std.proofs.Common.{ap, subst, sym, ◌≡◌, ◌∙◌}
 use Rattle.window_core.specs.Window.{WindowValue}
 use Rattle.window_engine.specs.declared.course.Course.{Course}
 use Rattle.window_engine.specs.Courses.{IsWriting}
 use Rattle.window_engine.proofs.Called.{out_of_memory}
-use Rattle.window_engine.proofs.PoolSent.{pool_sync}
 use Rattle.window_engine.proofs.course.Course.write_by_threads.Goals as goal
-
-pub join_mut-outcome-requires-send-F : goal.join_mut-outcome-requires-send-F
-join_mut-outcome-requires-send-F g c κs within = search (sendable, pool_sync) depth 30
 
 pub returns-in_default : goal.returns-in_default
 returns-in_default g c =

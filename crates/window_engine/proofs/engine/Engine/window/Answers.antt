@@ -1,7 +1,7 @@
-use Rattle.std.proofs.Common.{ap, arith, length, min, refl, subst, sym}
+use Rattle.std.proofs.Common.{◌<◌, ℕ, ap, arith, length, min, refl, subst, sym}
 use Rattle.window_core.specs.Window.{WindowValue}
 use Rattle.window_engine.specs.Edges.{StaysNet, edge_of, reached_in}
-use Rattle.window_engine.specs.Engines.{EngineValue, GoesOn, NoneBelow, window_end_by}
+use Rattle.window_engine.specs.Engines.{EngineValue, GoesOn, IsNext, NoneBelow, window_end_by}
 use Rattle.window_core.specs.Full.{HasTooMany}
 use Rattle.window_core.specs.Sheaves.{SheafValue}
 use Rattle.window_core.specs.Windows.{AreBelow}
@@ -11,7 +11,7 @@ use Rattle.window_engine.proofs.Unwritten.{no_line}
 use Rattle.window_engine.proofs.engine.Engine.window.Goals as goal
 
 pub run_once-ran-requires-clause-fits : goal.run_once-ran-requires-clause-fits
-run_once-ran-requires-clause-fits g c κs within = omega (arith, ap (λ (s : SheafValue). s.first) c.new-none.ensures, ap length (no_line c.new-none.result 1 c.new-none.ensures))
+run_once-ran-requires-clause-fits g c = omega (arith, ap (λ (s : SheafValue). s.first) c.new-none.ensures, ap length (no_line c.new-none.result 1 c.new-none.ensures))
 
 pub returns-clause-none_left : goal.returns-clause-none_left
 returns-clause-none_left g c =
@@ -45,3 +45,10 @@ invariant_of-self-2 g c _ =
     let kept = c.self.invariant c.if-self.false in
     let now = c.position-self-inside.ensures in
     ran_on u (record u { window = w; position = c.position-self-inside.result }) c.finish.new.lines kept.0 kept.1 refl (subst (λ (x : WindowValue). StaysNet x w) c.of-before.ensures c.finish.ensures.stays) ran.edge (subst (λ (x : WindowValue). GoesOn (reached_in x) c.finish.new.lines (reached_in w)) c.of-before.ensures ran.gone) now.count now.is_window.split.fits
+
+pub returns-clause-some : goal.returns-clause-some
+returns-clause-some g c =
+    let e = c.self.inside in
+    let lines = c.finish.new.lines.lines in
+    subst (λ (v : EngineValue). (time : ℕ) → IsNext c.args.until v.net.state time → 0 < length lines) c.self.view_is
+    (subst (λ (w : WindowValue). (time : ℕ) → IsNext c.args.until (edge_of w) time → 0 < length lines) c.of-before.ensures c.in-Ok.ensures.some)

@@ -14,7 +14,7 @@ pub(crate) fn most_hands(groups: usize, processors: usize) -> usize {
 /// thread is worth it for so many events and the window before had so many beside those of its busiest group. One of
 /// them is the calling thread. There are no more than groups that have an event in the window, and those that so many
 /// processors have to make text, where there is some.
-pub(crate) fn hands(
+pub(crate) fn threads(
     window: &Window,
     workers: usize,
     worth: usize,
@@ -25,7 +25,7 @@ pub(crate) fn hands(
     requires workers { (0 < workers) × (workers ≤ 64) }
     ensures { (0 < result) × (result ≤ workers) }
 {
-    if worth == 0 {
+    if worth == 0 || workers == 1 {
         return workers;
     }
     let paid = (shared / worth).saturating_add(1);

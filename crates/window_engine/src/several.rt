@@ -1,0 +1,202 @@
+//! Who runs a window's groups: the calling thread alone, or several workers.
+ghost use Rattle.std.specs.Prelude.{◌≡◌, ◌+◌, ◌<◌, ◌≤◌, ◌^◌, length, IfOk, IfErr};
+ghost use Rattle.window_core.specs.Full.{HasTooMany};
+ghost use Rattle.window_core.specs.Partition.{groups_of};
+ghost use Rattle.window_core.specs.Sheaves.{merged};
+ghost use Rattle.window_engine.specs.Edges.{IsAtEdge, StaysNet, reached_in};
+ghost use Rattle.window_engine.specs.Laid.{HasRunOr};
+ghost use Rattle.window_engine.specs.Outcomes.{IsWorkersFault};
+ghost use Rattle.window_engine.specs.Owed.{Owes};
+ghost use Rattle.window_engine.specs.Parts.{AreRight};
+
+use crate::advance::run_apart;
+use crate::fault::EngineFault;
+use crate::gate::Gate;
+use crate::order::Order;
+use crate::owed::Owed;
+use crate::scribe::Scribe;
+use crate::sink::Sink;
+use crate::sweep::keep_workers;
+use sim_time::Time;
+use std::alloc::Global;
+use std::snapshot::Snapshot;
+use std::sync::Wait;
+use std::thread::{Threads, available_parallelism, join_mut};
+use thread_pool::ThreadPool;
+use window_core::{Sheaf, Window};
+
+/// Who runs a window's groups. What is written once for any of them is proved to return where its hands are: whether a
+/// method may wait is each one's own.
+pub trait Hands {
+    ghost use Rattle.std.specs.Prelude.{◌≡◌, ◌+◌, ◌<◌, ◌≤◌, ◌^◌, length, IfOk, IfErr};
+    ghost use Rattle.window_core.specs.Full.{HasTooMany};
+    ghost use Rattle.window_core.specs.Partition.{groups_of};
+    ghost use Rattle.window_core.specs.Sheaves.{merged};
+    ghost use Rattle.window_engine.specs.Edges.{IsAtEdge, StaysNet, reached_in};
+    ghost use Rattle.window_engine.specs.Laid.{HasRunOr};
+    ghost use Rattle.window_engine.specs.Outcomes.{IsWorkersFault};
+    ghost use Rattle.window_engine.specs.Owed.{Owes};
+    ghost use Rattle.window_engine.specs.Parts.{AreRight};
+
+    // Its threads may share what it shares.
+    ghost ready: { Self → Type 0 } = { λ _. Unit {0} };
+
+    /// On how many processors its threads may run: on one where that is not known.
+    fn processors(&self) -> usize;
+
+    /// Has so many workers, the calling thread and threads of a pool, run the groups up to the window's end
+    /// or a moment that is sooner, and then make the text of a sheaf's lines; the text of the window before is
+    /// written meanwhile. The answer is whether they did: where there is one worker alone, the window is left as it was.
+    /// After a fault the groups may be out.
+    fn run_shared<S: Sink>(
+        &self,
+        gate: &Gate,
+        pool: &ThreadPool<Order>,
+        alloc: Global,
+        workers: usize,
+        until: Time,
+        window: &mut Window,
+        sheaf: &mut Sheaf,
+        scribes: &mut Vec<Scribe>,
+        owed: &mut Owed,
+        before: &Snapshot<S>,
+        sink: &mut S,
+    ) -> Result<bool, EngineFault>
+        requires workers { (1 < workers) × (workers ≤ 64) }
+        requires edge { IsAtEdge window.old }
+        requires few { groups_of window.old.entries ≤ 64 }
+        requires right { AreRight sheaf.old scribes.old.items }
+        requires fits { sheaf.old.first + length (merged sheaf.old).lines < 2 ^ 63 }
+        requires owes { Owes owed.old (S.contents before.now.value) (S.contents sink.old) (S.failures before.now.value) (S.failures sink.old) }
+        ensures ran { IfOk result (λ ran. HasRunOr ran until window.old window.new) }
+        ensures stays { StaysNet window.old window.new }
+        ensures fault { IfErr result (IsWorkersFault workers (HasTooMany (reached_in window.old))) }
+        ensures sheaf { sheaf.new ≡ sheaf.old }
+        ensures right { AreRight sheaf.new scribes.new.items }
+        ensures owes { Owes owed.new (S.contents before.now.value) (S.contents sink.new) (S.failures before.now.value) (S.failures sink.new) }
+        ensures same { owed.new ≡ record owed.old { put = owed.new.put } };
+
+    /// Works while a pool's threads wait for orders, which go then.
+    fn with_threads<A, F: FnMut() -> A>(
+        &self,
+        gate: &Gate,
+        pool: &ThreadPool<Order>,
+        work: &mut F,
+    ) -> A
+        requires ready { ready self.now }
+        requires work { F.pre work.old }
+        ensures { F.step work.old result work.new };
+}
+
+/// The calling thread alone. It starts no thread and waits for none.
+#[derive(Clone, Copy, Debug, Drop)]
+pub struct Alone;
+
+impl Hands for Alone {
+    fn processors(&self) -> usize {
+        1
+    }
+
+    fn run_shared<S: Sink>(
+        &self,
+        _gate: &Gate,
+        _pool: &ThreadPool<Order>,
+        _alloc: Global,
+        _workers: usize,
+        _until: Time,
+        _window: &mut Window,
+        _sheaf: &mut Sheaf,
+        _scribes: &mut Vec<Scribe>,
+        _owed: &mut Owed,
+        _before: &Snapshot<S>,
+        _sink: &mut S,
+    ) -> Result<bool, EngineFault> {
+        Ok(false)
+    }
+
+    fn with_threads<A, F: FnMut() -> A>(
+        &self,
+        _gate: &Gate,
+        _pool: &ThreadPool<Order>,
+        work: &mut F,
+    ) -> A {
+        work()
+    }
+}
+
+/// Several workers, for which it may wait: the calling thread, and threads that carry out its orders.
+#[derive(Drop)]
+pub struct Several<'a, R: Threads + Wait + Sync> {
+    /// What starts threads.
+    pub rt: &'a R,
+}
+
+impl<'a, R: Threads + Wait + Sync> Hands for Several<'a, R> {
+    ghost use denote.Param.Send.{IsSync};
+
+    ghost ready = { λ _. IsSync R.row };
+
+    fn processors(&self) -> usize {
+        match available_parallelism(self.rt) {
+            Ok(count) => count.get(),
+            Err(_) => 1,
+        }
+    }
+
+    fn run_shared<S: Sink>(
+        &self,
+        gate: &Gate,
+        pool: &ThreadPool<Order>,
+        alloc: Global,
+        workers: usize,
+        until: Time,
+        window: &mut Window,
+        sheaf: &mut Sheaf,
+        scribes: &mut Vec<Scribe>,
+        owed: &mut Owed,
+        before: &Snapshot<S>,
+        sink: &mut S,
+    ) -> Result<bool, EngineFault> {
+        let _began = window.position();
+        window.limit(until);
+        let _limited = window.position();
+        run_apart(
+            self.rt, pool, alloc, workers, gate, window, sheaf, scribes, owed, before, sink,
+        )?;
+        Ok(true)
+    }
+
+    fn with_threads<A, F: FnMut() -> A>(
+        &self,
+        gate: &Gate,
+        pool: &ThreadPool<Order>,
+        work: &mut F,
+    ) -> A {
+        work_with_threads(self.rt, gate, pool, work)
+    }
+}
+
+/// Works while a pool's threads wait for orders, which go then.
+fn work_with_threads<R: Threads + Wait + Sync, A, F: FnMut() -> A>(
+    rt: &R,
+    gate: &Gate,
+    pool: &ThreadPool<Order>,
+    work: &mut F,
+) -> A
+    requires { F.pre work.old }
+    ensures { F.step work.old result work.new }
+{
+    let (_, done) = join_mut(
+        rt,
+        &mut || keep_workers(rt, gate, pool),
+        &mut || -> A
+            requires { F.pre work.now }
+            ensures { F.step work.entry.now result work.exit.now }
+        {
+            let done = work();
+            pool.end(rt);
+            done
+        },
+    );
+    done
+}
