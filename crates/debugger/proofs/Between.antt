@@ -1,6 +1,6 @@
 -- Lines between two positions of a run, as they are told one after another.
-use Rattle.std.proofs.Common.{◌≡◌, ◌≤◌, ◌+◌, ◌-◌, ◌∙◌, ℕ, suc, List, [], ◌∷◌, ◌++◌, Bool, true, false, cond, length, take, drop, reverse, refl, sym, ap, subst, arith, append_assoc, append-nil, length-append, length-drop, Some, None, Result, Ok, Err, OnOk}
-use Rattle.std.proofs.lemmas.List.{drop_all, drop-append-le, take-append-drop, reverse-append}
+use Rattle.std.proofs.Common.{◌≡◌, ◌≤◌, ◌+◌, ◌-◌, ◌∙◌, ℕ, suc, List, [], ◌∷◌, ◌++◌, Bool, true, false, true≢false, length, take, drop, reverse, refl, sym, ap, subst, arith, append_assoc, append-nil, length-append, length-drop, Some, Result, Ok, Err, OnOk}
+use Rattle.std.proofs.lemmas.List.{drop_all, drop-append-le, take-append-drop, reverse-append, length-take-le}
 use Rattle.std.specs.List.{concat}
 use Rattle.std.specs.Option.{option_map, option_and_then}
 use lib.Seq.{take_at, drop_at, take-append_seam, drop-append_seam, take-append-le}
@@ -12,16 +12,8 @@ use Rattle.trace_text.specs.Line.{line_bytes}
 use Rattle.debugger.specs.declared.fault.MoveFault.{MoveFault}
 use Rattle.debugger.specs.declared.passed.Order.{Order}
 use Rattle.debugger.specs.declared.passed.Order.TheVariants.{Rising, Falling}
-use Rattle.debugger.specs.Moves.{Passes, HasPosition}
-use Rattle.debugger.specs.Passed.{lines_of, lines_between, texts_from, texts_between, in_order, beside}
-use Rattle.debugger.proofs.Walks.{end_here, end_last}
-
--- a run that has a further position makes the step to it
-pub has_next : (start : State) (old new : Reached) (line : TraceLine) (fired : Bool) → Passes start old → HasPosition start (old.position + 1) → Stepped old (cond fired (Some line) None) new → Stepped old (Some line) new
-has_next start old new line true at more made = made
-has_next start old new line false at more made =
-    let last = end_last start old.position (record { state = more.0; position = old.position + 1 }) (end_here start old at made.0) more.1 in
-    absurd (omega (arith, last))
+use Rattle.debugger.specs.Moves.{Passes}
+use Rattle.debugger.specs.Passed.{lines_of, lines_between, texts_from, texts_between, in_order, beside, AreToldFrom, IsTold}
 
 -- the lines to a state of the run, and how many they are
 lines_to : (start : State) (at : Reached) (here : Passes start at) → lines_of (run start at.position) ≡ here.lines
@@ -81,17 +73,13 @@ told_beside : (order : Order) (texts : List (List ℕ)) (text : List ℕ) → co
 told_beside Rising texts text = concat_append texts (text ∷ []) ∙ ap (λ l. concat texts ++ l) (append-nil text)
 told_beside Falling texts text = ap concat (reverse-append texts (text ∷ []))
 
--- what was told so far of the lines from a position on
-abbrev pub ToldFrom : State → Order → ℕ → ℕ → List ℕ → List ℕ → Type 0
-ToldFrom start order m p before out = out ≡ before ++ concat (in_order order (texts_between start m p))
-
-pub told_none : (start : State) (order : Order) (at : Reached) (out : List ℕ) → Passes start at → ToldFrom start order at.position at.position out out
+pub told_none : (start : State) (order : Order) (at : Reached) (out : List ℕ) → Passes start at → AreToldFrom start order at.position at.position out out
 told_none start Rising at out here = sym (append-nil out) ∙ ap (λ ts. out ++ concat ts) (sym (none_between start at here))
 told_none start Falling at out here = sym (append-nil out) ∙ ap (λ ts. out ++ concat (reverse ts)) (sym (none_between start at here))
 
 -- a line more
 pub told_more : (start : State) (order : Order) (m n size : ℕ) (old new : Reached) (line : TraceLine) (before out made : List ℕ) → m ≤ old.position → Passes start old → Stepped old (Some line) new → n ≡ new.position → size ≡ length before
-    → ToldFrom start order m old.position before out → made ≡ take size out ++ beside order (drop size out) (line_bytes n line) → ToldFrom start order m new.position before made
+    → AreToldFrom start order m old.position before out → made ≡ take size out ++ beside order (drop size out) (line_bytes n line) → AreToldFrom start order m new.position before made
 told_more start order m n size old new line before out made from at next count whole told is =
     let texts = texts_between start m old.position in
     let so_far = concat (in_order order texts) in
@@ -104,15 +92,27 @@ told_more start order m n size old new line before out made from at next count w
     ∙ ap (λ l. before ++ l) (sym (told_beside order texts text))
     ∙ ap (λ ts. before ++ concat (in_order order ts)) (sym (text_next start m old new line from at next))
 
-pub told_longer : (start : State) (order : Order) (m p : ℕ) (before out : List ℕ) → ToldFrom start order m p before out → length before ≤ length out
-told_longer start order m p before out told =
-    let all = ap length told in
-    let size = length-append before (concat (in_order order (texts_between start m p))) in
-    omega (arith, all, size)
-
 -- what was there is there still
-pub told_begins : (start : State) (order : Order) (m p : ℕ) (before out : List ℕ) → ToldFrom start order m p before out → take (length before) out ≡ before
+pub told_begins : (start : State) (order : Order) (m p : ℕ) (before out : List ℕ) → AreToldFrom start order m p before out → take (length before) out ≡ before
 told_begins start order m p before out told = ap (take (length before)) told ∙ take-append_seam before (concat (in_order order (texts_between start m p)))
+
+-- and so it is by what is told at a run's end
+pub told_front : (start : State) (order : Order) (m p : ℕ) (before out : List ℕ) (is on : Bool) → IsTold start order m p before out false is on → take (length before) out ≡ before
+told_front start order m p before out is true told = told_begins start order m p before out told.0
+told_front start order m p before out is false told = told.0
+
+-- all is told where memory was not refused
+pub told_whole : (start : State) (order : Order) (m p : ℕ) (before out : List ℕ) (is on : Bool) → IsTold start order m p before out false is on → is ≡ false → (on ≡ true) × AreToldFrom start order m p before out
+told_whole start order m p before out is true told none = (refl, told.0)
+told_whole start order m p before out is false told none = absurd (true≢false (sym told.1 ∙ none))
+
+-- a place that stays within what is put from it on
+pub still_within : (out made more : List ℕ) (n : ℕ) → n ≤ length out → made ≡ take n out ++ more → n ≤ length made
+still_within out made more n within is =
+    let all = ap length is in
+    let parts = length-append (take n out) more in
+    let front = length-take-le n out within in
+    omega (arith, all, parts, front)
 
 -- what holds where a call was made holds of what follows from it
 pub on_ok : {P Q : Type 0} (r : Result (Unit {0}) MoveFault) → (P → Q) → OnOk r P → OnOk r Q

@@ -1,5 +1,5 @@
 -- Each packet whose arrival is pending is counted once.
-use Rattle.std.proofs.Common.{◌≡◌, ◌≢◌, ℕ, ◌+◌, ◌≤◌, min, true, false, cond, T, List, [], ◌∷◌, length, get_or, refl, sym, ap, subst, ◌∙◌, Some, arith, ⊎_elim, true≢false, eq-eqb}
+use Rattle.std.proofs.Common.{◌≡◌, ◌≢◌, ℕ, ◌+◌, ◌≤◌, min, cond, T, List, [], ◌∷◌, length, get_or, refl, sym, ap, subst, ◌∙◌, Some, arith, ⊎_elim, true≢false, eq-eqb}
 use Rattle.std.proofs.lemmas.Bool.{cases_eq}
 use Rattle.std.proofs.lemmas.List.{get_or-set_other}
 use Rattle.std.specs.List.{AllByRecursion}

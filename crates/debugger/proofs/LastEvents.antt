@@ -16,7 +16,7 @@ use Rattle.debugger.specs.Breaks.{Matches, IsHit, HitsFirst, IsFirstHit}
 use Rattle.net_machine.specs.Run.{Reached, Stepped}
 use Rattle.debugger.specs.declared.fault.MoveFault.{MoveFault}
 use Rattle.debugger.specs.declared.passed.LastEvent.{LastEvent}
-use Rattle.debugger.specs.LastEvents.{IsLastEvent}
+use Rattle.debugger.specs.LastEvents.{IsLastEvent, IsToldOf}
 use Rattle.debugger.specs.Moves.{Passes}
 
 module _ (breaks : List Break) (old : State) (line : TraceLine) (new : State) where
@@ -87,3 +87,9 @@ last_event start breaks old new line p (Ok event) at next here time first = reco
   first = first;
 }
 last_event start breaks old new line p (Err fault) at next here time first = tt
+
+-- what is told of the event that a position is behind
+pub told_last : (start : State) (breaks : List Break) (m p position : ℕ) (told : Result LastEvent MoveFault) (on : Bool) → IsToldOf start breaks m p told on → m + 1 ≡ position → IfOk told (IsLastEvent start breaks position)
+told_last start breaks m p position (Err fault) on h is = tt
+told_last start breaks m p position (Ok event) true h is = absurd h.1
+told_last start breaks m p position (Ok event) false h is = subst (λ q. IsLastEvent start breaks q event) (h.0 ∙ is) h.1

@@ -1,4 +1,5 @@
 pub mod Walks
+pub mod Watched
 pub mod Thinned
 pub mod Shown
 pub mod Faults

@@ -237,3 +237,7 @@ module _ (before after : Reached) (line : TraceLine) (is : IsRun before) (steppe
   -- what is counted is under way after each line
   pub counted_on : (counts : List ℕ) → AreUnderWay counts s → AreUnderWay (counted counts line) t
   counted_on counts all = after_sent (after_event counts line.event) (after_arrival counts all) (sent_flow line.acts) refl
+
+-- the same of what the code has counted
+pub counted_next : (old new : Reached) (line : TraceLine) (counts more : List ℕ) → IsRun old → Stepped old (Some line) new → AreUnderWay counts old.state → more ≡ counted counts line → AreUnderWay more new.state
+counted_next old new line counts more run next all is = subst (λ (xs : List ℕ). AreUnderWay xs new.state) (sym is) (counted_on old new line run next counts all)

@@ -28,13 +28,6 @@ passes_next start old new line at next = record {
       (ap (option_and_then one_more) at.comes ∙ ap (option_map {U = List TraceLine × State} (λ (next : TraceLine × State). (at.lines ++ next.0 ∷ [], next.1))) next.0);
 }
 
--- a step that was made, and one that was not
-pub was_made : (old new : Reached) (line : TraceLine) (b : Bool) → b ≡ true → Stepped old (cond b (Some line) None) new → Stepped old (Some line) new
-was_made old new line b is = subst (λ x. Stepped old (cond x (Some line) None) new) is
-
-pub none_made : (old new : Reached) (line : TraceLine) (b : Bool) → b ≡ false → Stepped old (cond b (Some line) None) new → Stepped old None new
-none_made old new line b is = subst (λ x. Stepped old (cond x (Some line) None) new) is
-
 -- a run has one state at each position
 pub same_state : (start : State) (a b : Reached) → Passes start a → Passes start b → a.position ≡ b.position → a.state ≡ b.state
 same_state start a b at bt same = ap (λ (q : List TraceLine × State). q.1) (same_some (at.lines, a.state) (bt.lines, b.state) (sym at.comes ∙ ap (run start) same ∙ bt.comes))

@@ -1,10 +1,7 @@
 -- Which line of a stretch of the run is the last that a breakpoint matches.
-use Rattle.std.specs.Prelude.{◌≡◌, ◌⊎◌, ◌<◌, ◌≤◌, ℕ, List, Option, None, Some}
-use Rattle.node_core.specs.TraceLine.{TraceLine}
+use Rattle.std.specs.Prelude.{◌<◌, ◌≤◌, ℕ, List, Option, None, Some}
 use Rattle.table_run.specs.State.{State}
-use Rattle.net_machine.specs.Run.{Reached}
 use Rattle.debugger.specs.declared.breaks.Break.{Break}
-use Rattle.debugger.specs.Breaks.{IsHit}
 use Rattle.debugger.specs.Moves.{StopsAt}
 
 -- no line from past one position up to another matches
@@ -21,11 +18,6 @@ pub record IsLastStop (start : State) (breaks : List Break) (from upto p : ℕ) 
 abbrev pub FindsLast : State → List Break → ℕ → ℕ → Option ℕ → Type 0
 FindsLast start breaks from upto None = NoneStops start breaks from upto
 FindsLast start breaks from upto (Some p) = IsLastStop start breaks from upto p
-
--- the position behind a line that matches, and else what was found before it
-abbrev pub IsLaterStop : List Break → Reached → TraceLine → Reached → Option ℕ → Option ℕ → Type 0
-IsLaterStop breaks before line after found later =
-    (IsHit breaks before.state line after.state × (later ≡ Some after.position)) ⊎ ((¬ IsHit breaks before.state line after.state) × (later ≡ found))
 
 -- a stretch up to a position, which has a line at least, was searched for the last that matches
 pub record IsSearched (start : State) (breaks : List Break) (from upto : ℕ) (found : Option ℕ) : Type 0 where

@@ -1,8 +1,9 @@
 -- What the last event was, and which breakpoint stops at it.
-use Rattle.std.specs.Prelude.{◌≡◌, ℕ, List}
+use Rattle.std.specs.Prelude.{◌≡◌, ◌+◌, ℕ, Bool, true, false, List, Result, IfOk}
 use Rattle.node_core.specs.TraceLine.{TraceLine}
 use Rattle.table_run.specs.State.{State}
 use Rattle.debugger.specs.declared.breaks.Break.{Break}
+use Rattle.debugger.specs.declared.fault.MoveFault.{MoveFault}
 use Rattle.debugger.specs.declared.passed.LastEvent.{LastEvent}
 use Rattle.debugger.specs.Breaks.{IsFirstHit}
 use Rattle.debugger.specs.Moves.{GivesAt}
@@ -13,3 +14,8 @@ pub record IsLastEvent (start : State) (breaks : List Break) (p : ℕ) (event : 
   pub given : GivesAt start line p
   pub time : event.time ≡ line.key.time
   pub first : IsFirstHit breaks given.before.state line given.after event.hit
+
+-- no event was run, and nothing is told; or one was, and it is told of, where there was memory
+abbrev pub IsToldOf : State → List Break → ℕ → ℕ → Result LastEvent MoveFault → Bool → Type 0
+IsToldOf start breaks m p told true = (p ≡ m) × IfOk told (λ _. ⊥)
+IsToldOf start breaks m p told false = (p ≡ m + 1) × IfOk told (IsLastEvent start breaks p)

@@ -3,6 +3,7 @@ pub mod Faults
 pub mod Moves
 pub mod Passed
 pub mod Backwards
+pub mod Stops
 pub mod LastEvents
 pub mod Courses
 pub mod Aims

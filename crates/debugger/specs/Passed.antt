@@ -1,5 +1,6 @@
 -- Lines of the trace between two positions of a run, as texts.
-use Rattle.std.specs.Prelude.{ℕ, ◌+◌, List, [], ◌∷◌, ◌++◌, drop, reverse, Option, None, Some}
+use Rattle.std.specs.Prelude.{◌≡◌, ℕ, ◌+◌, Bool, true, false, List, [], ◌∷◌, ◌++◌, length, take, drop, reverse, Option, None, Some}
+use Rattle.std.specs.List.{concat}
 use Rattle.node_core.specs.TraceLine.{TraceLine}
 use Rattle.table_run.specs.State.{State, run}
 use Rattle.trace_text.specs.Line.{line_bytes}
@@ -37,3 +38,12 @@ stretch_texts start s = in_order s.order (texts_between start s.from (s.from + s
 abbrev pub beside : Order → List ℕ → List ℕ → List ℕ
 beside Rising so_far text = so_far ++ text
 beside Falling so_far text = text ++ so_far
+
+-- what was told so far of the lines from a position on
+abbrev pub AreToldFrom : State → Order → ℕ → ℕ → List ℕ → List ℕ → Type 0
+AreToldFrom start order m p before out = out ≡ before ++ concat (in_order order (texts_between start m p))
+
+-- all lines so far are told, or memory was refused, and what was there is there still
+abbrev pub IsTold : State → Order → ℕ → ℕ → List ℕ → List ℕ → Bool → Bool → Bool → Type 0
+IsTold start order m p before out was is true = AreToldFrom start order m p before out × (is ≡ was)
+IsTold start order m p before out was is false = (take (length before) out ≡ before) × (is ≡ true)

@@ -1,21 +1,17 @@
 //! Back to the last line before a position that a breakpoint matches.
-ghost use Rattle.std.specs.Prelude.{◌≡◌, ◌≢◌, ◌+◌, ◌<◌, ◌≤◌, Some, IfOk, IfErr};
-ghost use Rattle.node_core.specs.TraceLine.{shown};
-ghost use Rattle.net_machine.specs.Run.{Reached, IsRun, Stepped};
-ghost use Rattle.debugger.specs.Backwards.{FindsLast, IsLaterStop, IsSearched};
+ghost use Rattle.std.specs.Prelude.{◌≡◌, ◌≢◌, ◌+◌, ◌<◌, ◌≤◌, IfOk, IfErr};
+ghost use Rattle.debugger.specs.Backwards.{FindsLast, IsSearched};
 ghost use Rattle.debugger.specs.Moves.{Passes, HasPosition, ReverseGoesTo, IsTooLong};
-ghost use Rattle.debugger.specs.UnderWay.{AreUnderWay};
 
 use crate::breaks::Breaks;
 use crate::fault::MoveFault;
-use crate::passed::run_next;
 use crate::reached::net_at;
 use crate::saved::Saved;
-use crate::to_stop::is_stop;
-use crate::under_way::{count_on, counts_of};
+use crate::to_stop::Stops;
+use crate::under_way::counts_of;
+use crate::walk::reach_watched;
 use net_machine::Net;
 use node_core::Line;
-use std::alloc::AllocError;
 
 /// What was found in a stretch of the run that was run again.
 #[derive(Drop)]
@@ -26,27 +22,8 @@ struct Searched {
     found: Option<u64>,
 }
 
-/// The position of a net, where a breakpoint matches the line that led to it; and else what was found before.
-#[tactic(none)]
-fn later_stop(
-    found: Option<u64>,
-    net: &Net,
-    line: &Line,
-    breaks: &Breaks,
-    counts: &[u64],
-) -> Result<Option<u64>, AllocError>
-    ensures { (before : Reached) → IsRun before → Stepped before (Some (shown line.now)) net.now → AreUnderWay counts.now net.now.state → IfOk result (IsLaterStop breaks.now before (shown line.now) net.now found) }
-{
-    match is_stop(breaks, counts, net, line) {
-        Ok(true) => Ok(Some(net.position())),
-        Ok(false) => Ok(found),
-        Err(fault) => Err(fault),
-    }
-}
-
 /// Runs events up to a position, and answers the last position on the way whose line a breakpoint
 /// matches.
-#[tactic(none)]
 fn last_stop(
     net: &mut Net,
     upto: u64,
@@ -62,22 +39,19 @@ fn last_stop(
     ensures no_worker { IfErr result (λ fault. fault ≢ MoveFault.NoWorker) }
     ensures same { saved.new ≡ saved.old }
 {
-    let mut found = None;
-    let mut counts = counts_of(breaks.allocator(), net);
-    let count = upto - net.position();
-    for passed in 0..count {
-        let _before = net.position();
-        match run_next(net, saved, line) {
-            Ok(()) => {}
-            Err(fault) => return Err(fault),
-        }
-        count_on(&mut counts, line);
-        match later_stop(found, net, line, breaks, counts.as_slice()) {
-            Ok(stop) => found = stop,
-            Err(_) => return Err(MoveFault::NoMemory),
-        }
+    let _count = net.position();
+    let mut stops = Stops {
+        breaks,
+        counts: counts_of(breaks.allocator(), net),
+        first: false,
+        found: None,
+        refused: false,
+    };
+    match reach_watched(net, upto, saved, &mut stops, line) {
+        Ok(_) if stops.refused => Err(MoveFault::NoMemory),
+        Ok(_) => Ok(stops.found),
+        Err(fault) => Err(fault.into()),
     }
-    Ok(found)
 }
 
 /// The same over the stretch up to a position that begins at the nearest saved state before it.

@@ -11,10 +11,8 @@ use net_machine::Net;
 use node_core::Line;
 use sim_time::Time;
 use std::alloc::{AllocError, Global};
-use std::sync::Wait;
-use std::thread::Threads;
 use window_core::{Batch, Partition};
-use window_engine::{Engine, FIRST_SLICE, Gate, next_slice};
+use window_engine::{Engine, FIRST_SLICE, Gate, Hands, next_slice};
 
 /// The net behind is left behind by fewer events than these, and those of a window.
 const MOST_BEHIND: u64 = 8_192;
@@ -69,36 +67,18 @@ impl Course {
         }
     }
 
-    /// Runs the next window by workers, and gives its lines; none where no event is left.
-    pub(crate) fn window<G: Gate, R: Threads + Wait + Sync>(
+    /// Runs the next window by so many workers, and gives its lines; none where no event is left. A window that is run
+    /// has a line.
+    pub(crate) fn window<H: Hands>(
         &mut self,
-        rt: &R,
-        gate: &G,
+        hands: &H,
+        gate: &Gate,
         workers: usize,
     ) -> Result<Option<Batch>, MoveFault>
-        requires running { self.old.engine.failed ≡ false }
-        requires workers { (0 < workers) × (workers ≤ 64) }
-        ensures gone { IfOk result (λ batch. WentOn self.old.engine.net batch self.new.engine.net) }
-        ensures few { OnOk result (self.new.engine.net.position ≤ 1000000000000000) }
-        ensures running { OnOk result (self.new.engine.failed ≡ false) }
-        ensures full { IfErr result (λ fault. fault ≡ MoveFault.CountFull → HasTooMany self.old.engine.net) }
-        ensures behind { self.new.behind ≡ self.old.behind }
-    {
-        let Some(next) = self.engine.next() else {
-            let _reached = self.engine.position();
-            return Ok(None);
-        };
-        let until = next.saturating_add(self.slice);
-        let batch = self.engine.window(rt, workers, gate, until)?;
-        self.slice = next_slice(self.slice, &batch, workers);
-        let _reached = self.engine.position();
-        Ok(Some(batch))
-    }
-
-    /// The same on the calling thread. A window that is run has a line.
-    pub(crate) fn window_alone<G: Gate>(&mut self, gate: &G) -> Result<Option<Batch>, MoveFault>
+        requires ready { H.ready hands.now }
         requires running { self.old.engine.failed ≡ false }
         requires slice { 1 ≤ self.old.slice }
+        requires workers { (0 < workers) × (workers ≤ 64) }
         ensures gone { IfOk result (λ batch. WentOn self.old.engine.net batch self.new.engine.net) }
         ensures some { IfOk result (λ batch. IfSome batch (λ _. self.old.engine.net.position < self.new.engine.net.position)) }
         ensures few { OnOk result (self.new.engine.net.position ≤ 1000000000000000) }
@@ -112,8 +92,8 @@ impl Course {
             return Ok(None);
         };
         let until = next.saturating_add(self.slice);
-        let batch = self.engine.window_alone(gate, until)?;
-        self.slice = next_slice(self.slice, &batch, 1);
+        let batch = self.engine.window(hands, workers, gate, until)?;
+        self.slice = next_slice(self.slice, &batch, workers);
         let _reached = self.engine.position();
         Ok(Some(batch))
     }

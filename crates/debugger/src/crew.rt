@@ -1,4 +1,4 @@
-//! Moves by windows, which workers run.
+//! Moves by windows, which workers run, or the calling thread alone.
 ghost use Rattle.std.specs.Prelude.{◌≡◌, ◌<◌, ◌≤◌, false, length, IfOk, IfErr};
 ghost use Rattle.debugger.specs.Moves.{Passes, IsTooLong};
 ghost use Rattle.debugger.specs.Aims.{GoesTo, IsSought};
@@ -10,10 +10,8 @@ use crate::saved::Saved;
 use net_machine::Net;
 use node_core::Line;
 use std::alloc::Global;
-use std::sync::Wait;
-use std::thread::Threads;
 use window_core::Partition;
-use window_engine::Gate;
+use window_engine::{Gate, Hands};
 
 /// How windows are run: by which groups of nodes, and by how many workers.
 #[derive(Drop)]
@@ -29,16 +27,22 @@ pub struct Crew {
 }
 
 impl Crew {
+    /// Whether the calling thread alone runs all: there is one worker, or one group.
+    pub(crate) fn is_alone(&self) -> bool {
+        self.workers == 1 || self.partition.groups() < 2
+    }
+
     /// The net at the position that a move from the present one goes to.
-    pub(crate) fn find<G: Gate, R: Threads + Wait + Sync>(
+    pub(crate) fn find<H: Hands>(
         &self,
-        rt: &R,
-        gate: &G,
+        hands: &H,
+        gate: &Gate,
         present: &Net,
         aim: &Aim,
         saved: &mut Saved,
         line: &mut Line,
     ) -> Result<Net, MoveFault>
+        requires ready { H.ready hands.now }
         requires on_run { Passes saved.old present.now }
         requires nodes { length self.now.partition ≡ length present.now.state.parts }
         ensures on_run { IfOk result (Passes saved.old) }
@@ -47,7 +51,7 @@ impl Crew {
         ensures same { saved.new ≡ saved.old }
     {
         let mut course = Course::new(self.alloc, present, &self.partition)?;
-        match self.seek(rt, gate, present, aim, saved, &mut course) {
+        match self.seek(hands, gate, present, aim, saved, &mut course) {
             Ok(Some(target)) => course.into_net_at(target, saved, line),
             Ok(None) => course.into_edge(),
             Err(fault) => {
@@ -58,27 +62,29 @@ impl Crew {
     }
 
     // The position that a move from the present one goes to, where a window of a course has it; none
-    // where the course ends first, and the move with it.
-    fn seek<G: Gate, R: Threads + Wait + Sync>(
+    // where the course ends first, and the move with it. Each window has an event, and a run has at most 10^15.
+    fn seek<H: Hands>(
         &self,
-        rt: &R,
-        gate: &G,
+        hands: &H,
+        gate: &Gate,
         present: &Net,
         aim: &Aim,
         saved: &mut Saved,
         course: &mut Course,
     ) -> Result<Option<u64>, MoveFault>
+        requires ready { H.ready hands.now }
         requires on_run { Passes saved.old present.now }
         requires net { course.old.engine.net ≡ present.now }
         requires running { course.old.engine.failed ≡ false }
         requires behind { course.old.behind ≡ present.now }
         requires few { present.now.position ≤ 1000000000000000 }
+        requires slice { 1 ≤ course.old.slice }
         ensures found { IfOk result (IsSought saved.old aim.now present.now.position course.new) }
         ensures full { IfErr result (λ fault. fault ≡ MoveFault.CountFull → IsTooLong saved.old) }
         ensures same { saved.new ≡ saved.old }
     {
-        for _ in rt.forever() {
-            let Some(batch) = course.window(rt, gate, self.workers)? else {
+        loop {
+            let Some(batch) = course.window(hands, gate, self.workers)? else {
                 return Ok(None);
             };
             let found = aim.end_in(&batch);
@@ -88,64 +94,5 @@ impl Crew {
             }
             course.follow(saved);
         }
-        unreachable!()
-    }
-
-    /// As `find`, by windows that the calling thread runs, however many workers there are.
-    pub(crate) fn find_alone<G: Gate>(
-        &self,
-        gate: &G,
-        present: &Net,
-        aim: &Aim,
-        saved: &mut Saved,
-        line: &mut Line,
-    ) -> Result<Net, MoveFault>
-        requires on_run { Passes saved.old present.now }
-        requires nodes { length self.now.partition ≡ length present.now.state.parts }
-        ensures on_run { IfOk result (Passes saved.old) }
-        ensures goes { IfOk result (λ net. GoesTo saved.old aim.now present.now.position net.position) }
-        ensures full { IfErr result (λ fault. fault ≡ MoveFault.CountFull → IsTooLong saved.old) }
-        ensures same { saved.new ≡ saved.old }
-    {
-        let mut course = Course::new(self.alloc, present, &self.partition)?;
-        match seek_alone(gate, present, aim, saved, &mut course) {
-            Ok(Some(target)) => course.into_net_at(target, saved, line),
-            Ok(None) => course.into_edge(),
-            Err(fault) => {
-                drop(course);
-                Err(fault)
-            }
-        }
-    }
-}
-
-// As `seek`, by windows that the calling thread runs: each has an event, and a run has at most 10^15.
-fn seek_alone<G: Gate>(
-    gate: &G,
-    present: &Net,
-    aim: &Aim,
-    saved: &mut Saved,
-    course: &mut Course,
-) -> Result<Option<u64>, MoveFault>
-    requires on_run { Passes saved.old present.now }
-    requires net { course.old.engine.net ≡ present.now }
-    requires running { course.old.engine.failed ≡ false }
-    requires behind { course.old.behind ≡ present.now }
-    requires few { present.now.position ≤ 1000000000000000 }
-    requires slice { 1 ≤ course.old.slice }
-    ensures found { IfOk result (IsSought saved.old aim.now present.now.position course.new) }
-    ensures full { IfErr result (λ fault. fault ≡ MoveFault.CountFull → IsTooLong saved.old) }
-    ensures same { saved.new ≡ saved.old }
-{
-    loop {
-        let Some(batch) = course.window_alone(gate)? else {
-            return Ok(None);
-        };
-        let found = aim.end_in(&batch);
-        drop(batch);
-        if let Some(target) = found {
-            return Ok(Some(target));
-        }
-        course.follow(saved);
     }
 }

@@ -31,11 +31,9 @@ use sim_time::{Key, Time};
 use std::alloc::{AllocError, Global};
 use std::marker::Model;
 use std::mem;
-use std::sync::Wait;
-use std::thread::Threads;
 use trace_text::{DumpPart, dump_text, part_text};
 use window_core::Partition;
-use window_engine::Gate;
+use window_engine::{Gate, Hands};
 
 /// A debugger of one scenario.
 #[derive(Drop)]
@@ -165,50 +163,27 @@ impl Debugger {
         self.show(found)
     }
 
-    /// At the next position whose line a breakpoint matches, or at the run's end. Where one of them asks for a
-    /// stall, the calling thread runs one event after another, and no windows are made.
-    pub fn run<G: Gate, R: Threads + Wait + Sync>(
-        &mut self,
-        rt: &R,
-        gate: &G,
-    ) -> Result<u64, MoveFault>
+    /// At the next position whose line a breakpoint matches, or at the run's end. By one worker, or where one of them
+    /// asks for a stall, the calling thread runs one event after another, and no windows are made.
+    pub fn run<H: Hands>(&mut self, hands: &H, gate: &Gate) -> Result<u64, MoveFault>
+        requires ready { H.ready hands.now }
         ensures moved { IfOk result (HasMoved self.old self.new) }
         ensures goes { IfOk result (RunGoesTo self.old.start self.old.breaks self.old.shown.position) }
         ensures full { IfErr result (λ fault. fault ≡ MoveFault.CountFull → IsTooLong self.old.start) }
         ensures err { OnErr result (self.new ≡ self.old) }
     {
-        if self.breaks.asks_stall() {
+        if self.crew.is_alone() {
             return self.run_singly();
         }
-        if self.crew.workers == 1 {
-            return self.run_alone(gate);
-        }
-        let aim = &Aim::Hit(&self.breaks);
-        let found = self
-            .crew
-            .find(rt, gate, &self.net, aim, &mut self.saved, &mut self.line);
-        self.show(found)
-    }
-
-    /// What `run` does with one worker, however many there are: the calling thread runs the windows,
-    /// and waits for no other.
-    pub fn run_alone<G: Gate>(&mut self, gate: &G) -> Result<u64, MoveFault>
-        ensures moved { IfOk result (HasMoved self.old self.new) }
-        ensures goes { IfOk result (RunGoesTo self.old.start self.old.breaks self.old.shown.position) }
-        ensures full { IfErr result (λ fault. fault ≡ MoveFault.CountFull → IsTooLong self.old.start) }
-        ensures err { OnErr result (self.new ≡ self.old) }
-    {
         if self.breaks.asks_stall() {
             return self.run_singly();
         }
         let aim = &Aim::Hit(&self.breaks);
-        let found = self
-            .crew
-            .find_alone(gate, &self.net, aim, &mut self.saved, &mut self.line);
+        let found = self.crew.find(hands, gate, &self.net, aim, &mut self.saved, &mut self.line);
         self.show(found)
     }
 
-    // What `run` does where a stall is asked for: one event after another, without windows.
+    // What `run` does by one worker, or where a stall is asked for: one event after another, without windows.
     fn run_singly(&mut self) -> Result<u64, MoveFault>
         ensures moved { IfOk result (HasMoved self.old self.new) }
         ensures goes { IfOk result (RunGoesTo self.old.start self.old.breaks self.old.shown.position) }
@@ -220,39 +195,15 @@ impl Debugger {
     }
 
     /// At the first position, from the present one on, where all events before a time are run.
-    pub fn until<G: Gate, R: Threads + Wait + Sync>(
-        &mut self,
-        rt: &R,
-        gate: &G,
-        time: Time,
-    ) -> Result<u64, MoveFault>
-        ensures moved { IfOk result (HasMoved self.old self.new) }
-        ensures goes { IfOk result (UntilGoesTo self.old.start time self.old.shown.position) }
-        ensures full { IfErr result (λ fault. fault ≡ MoveFault.CountFull → IsTooLong self.old.start) }
-        ensures err { OnErr result (self.new ≡ self.old) }
-    {
-        if self.crew.workers == 1 {
-            return self.until_alone(gate, time);
-        }
-        let aim = &Aim::Moment(time);
-        let found = self
-            .crew
-            .find(rt, gate, &self.net, aim, &mut self.saved, &mut self.line);
-        self.show(found)
-    }
-
-    /// What `until` does with one worker, however many there are: the calling thread runs the windows,
-    /// and waits for no other.
-    pub fn until_alone<G: Gate>(&mut self, gate: &G, time: Time) -> Result<u64, MoveFault>
+    pub fn until<H: Hands>(&mut self, hands: &H, gate: &Gate, time: Time) -> Result<u64, MoveFault>
+        requires ready { H.ready hands.now }
         ensures moved { IfOk result (HasMoved self.old self.new) }
         ensures goes { IfOk result (UntilGoesTo self.old.start time self.old.shown.position) }
         ensures full { IfErr result (λ fault. fault ≡ MoveFault.CountFull → IsTooLong self.old.start) }
         ensures err { OnErr result (self.new ≡ self.old) }
     {
         let aim = &Aim::Moment(time);
-        let found = self
-            .crew
-            .find_alone(gate, &self.net, aim, &mut self.saved, &mut self.line);
+        let found = self.crew.find(hands, gate, &self.net, aim, &mut self.saved, &mut self.line);
         self.show(found)
     }
 

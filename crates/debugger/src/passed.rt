@@ -1,23 +1,25 @@
 //! Lines of the trace that a run has passed, told by running again.
-ghost use Rattle.std.specs.Prelude.{◌≡◌, ◌≢◌, ◌+◌, ◌-◌, ◌<◌, ◌≤◌, ◌⊎◌, ◌++◌, take, drop, length, vec_len, Some, IfOk, IfErr, OnOk, OnErr};
+ghost use Rattle.std.specs.Prelude.{◌≡◌, ◌+◌, ◌-◌, ◌<◌, ◌≤◌, ◌⊎◌, ◌++◌, take, drop, length, vec_len, Some, IfOk, OnOk, OnErr};
 ghost use Rattle.std.specs.List.{concat};
 ghost use Rattle.node_core.specs.TraceLine.{shown};
 ghost use Rattle.net_machine.specs.Run.{Reached, IsRun, Stepped};
 ghost use Rattle.trace_text.specs.Line.{line_bytes};
 ghost use Rattle.debugger.specs.Breaks.{IsFirstHit};
 ghost use Rattle.debugger.specs.LastEvents.{IsLastEvent};
-ghost use Rattle.debugger.specs.Moves.{Passes, HasPosition, IsTooLong};
+ghost use Rattle.debugger.specs.Moves.{Passes, HasPosition};
 ghost use Rattle.debugger.specs.Passed.{beside, stretch_texts};
 
 use crate::breaks::{Breaks, Hit};
 use crate::fault::MoveFault;
 use crate::reached::net_at;
 use crate::saved::Saved;
-use crate::walk::run_one;
-use net_machine::Net;
+use crate::walk::reach_watched;
+use net_machine::{Due, Net};
+use net_watch::{Watch, run_by_two};
 use node_core::Line;
 use sim_time::Time;
 use std::alloc::AllocError;
+use std::snapshot::Snapshot;
 use trace_text::line_text;
 
 /// In which order lines are told.
@@ -60,23 +62,6 @@ pub(crate) fn nearer<'a>(present: &'a Net, left: &'a Option<Net>, target: u64) -
     }
 }
 
-/// Runs the next event, which the run has, and saves the state after it where it is time to.
-#[tactic(none)]
-pub(crate) fn run_next(net: &mut Net, saved: &mut Saved, line: &mut Line) -> Result<(), MoveFault>
-    requires on_run { Passes saved.old net.old }
-    requires next { HasPosition saved.old (net.old.position + 1) }
-    ensures stepped { OnOk result (Stepped net.old (Some (shown line.new)) net.new) }
-    ensures on_run { OnOk result (Passes saved.old net.new) }
-    ensures full { IfErr result (λ fault. fault ≡ MoveFault.CountFull → IsTooLong saved.old) }
-    ensures no_worker { IfErr result (λ fault. fault ≢ MoveFault.NoWorker) }
-    ensures same { saved.new ≡ saved.old }
-{
-    match run_one(net, saved, line) {
-        Ok(_) => Ok(()),
-        Err(fault) => Err(fault.into()),
-    }
-}
-
 // Puts the bytes from `end` on before those from `start` on, where the order is so.
 fn put_in_order(bytes: &mut [u8], start: usize, end: usize, order: Order)
     requires start { start ≤ end }
@@ -111,9 +96,50 @@ fn put_line(
     }
 }
 
+/// Who puts the texts of lines behind what stands from a place on, or each before it.
+#[derive(Drop)]
+struct Texts<'a> {
+    /// The place, and what stands there.
+    out: &'a mut Vec<u8>,
+    /// Where it is.
+    start: usize,
+    /// In which order they are put.
+    order: Order,
+    /// Whether memory was refused for a text.
+    refused: bool,
+}
+
+impl Watch for Texts<'_> {
+    ghost use Rattle.std.specs.Prelude.{◌≡◌, ◌≤◌, ℕ, List, length, vec_len, refl};
+    ghost use Rattle.table_run.specs.State.{State};
+    ghost use Rattle.debugger.specs.Moves.{Passes};
+    ghost use Rattle.debugger.specs.Passed.{AreToldFrom, IsTold};
+
+    type Note = ();
+
+    ghost fits = { λ w _. w.start ≤ vec_len w.out.now };
+
+    ghost has = { λ began from w at goes_on. (w.out.ghost_name ≡ began.out.ghost_name) × (w.start ≡ began.start) × (w.order ≡ began.order) × ((start : State) (m : ℕ) (before : List ℕ) → m ≤ from.position → Passes start from → began.start ≡ length before → AreToldFrom start began.order m from.position before began.out.now.items → IsTold start began.order m at.position before w.out.now.items began.refused w.refused goes_on) };
+
+    ghost begins = { λ _ _. (refl, refl, refl, λ _ _ _ _ _ _ told. (told, refl)) };
+
+    fn ahead(&self, _at: &Net, _next: Option<Due>) -> Option<()> {
+        Some(())
+    }
+
+    fn see(&mut self, _note: (), _before: &Snapshot<Net>, after: &Net, line: &Line) -> bool {
+        match put_line(self.out, self.start, self.order, after.position(), line) {
+            Ok(()) => true,
+            Err(_) => {
+                self.refused = true;
+                false
+            }
+        }
+    }
+}
+
 /// Runs a stretch of the run from its beginning, and appends its lines. On a fault some may have been
 /// appended.
-#[tactic(none)]
 fn run_stretch(
     net: &mut Net,
     stretch: &Stretch,
@@ -128,18 +154,21 @@ fn run_stretch(
     ensures err { OnErr result (take (length out.old.items) out.new.items ≡ out.old.items) }
     ensures same { saved.new ≡ saved.old }
 {
+    let upto = net.position().saturating_add(stretch.count);
     let start = out.len();
-    for passed in 0..stretch.count {
-        match run_next(net, saved, line) {
-            Ok(()) => {}
-            Err(fault) => return Err(fault),
-        }
-        match put_line(out, start, stretch.order, net.position(), line) {
-            Ok(()) => {}
-            Err(_) => return Err(MoveFault::NoMemory),
-        }
+    let mut texts = Texts {
+        out,
+        start,
+        order: stretch.order,
+        refused: false,
+    };
+    let ended = reach_watched(net, upto, saved, &mut texts, line);
+    let _count = net.position();
+    match ended {
+        Ok(_) if texts.refused => Err(MoveFault::NoMemory),
+        Ok(_) => Ok(()),
+        Err(fault) => Err(fault.into()),
     }
-    Ok(())
 }
 
 /// Appends the lines of a stretch of the run. On a fault some may have been appended.
@@ -182,8 +211,42 @@ fn event_told(net: &Net, line: &Line, breaks: &Breaks) -> Result<LastEvent, Move
     }
 }
 
+/// Who tells what the next event is, and which of the breakpoints stops at it.
+#[derive(Drop)]
+struct OneEvent<'a> {
+    /// The breakpoints.
+    breaks: &'a Breaks,
+    /// What is told; no memory, before the event.
+    told: Result<LastEvent, MoveFault>,
+}
+
+impl Watch for OneEvent<'_> {
+    ghost use Rattle.std.specs.Prelude.{◌≡◌, IfOk, refl};
+    ghost use Rattle.table_run.specs.State.{State};
+    ghost use Rattle.net_machine.specs.Run.{IsRun};
+    ghost use Rattle.debugger.specs.Moves.{Passes};
+    ghost use Rattle.debugger.specs.LastEvents.{IsToldOf};
+
+    type Note = ();
+
+    ghost fits = { λ _ at. IsRun at };
+
+    ghost has = { λ began from w at goes_on. (w.breaks.now ≡ began.breaks.now) × ((start : State) → Passes start from → IfOk began.told (λ _. ⊥) → IsToldOf start began.breaks.now from.position at.position w.told goes_on) };
+
+    ghost begins = { λ _ _. (refl, λ _ _ none. (refl, none)) };
+
+    fn ahead(&self, _at: &Net, _next: Option<Due>) -> Option<()> {
+        Some(())
+    }
+
+    fn see(&mut self, _note: (), _before: &Snapshot<Net>, after: &Net, line: &Line) -> bool {
+        let _count = after.position();
+        self.told = event_told(after, line, self.breaks);
+        false
+    }
+}
+
 /// What the event before a position was, which is run again, and which of the breakpoints stops at it.
-#[tactic(none)]
 pub(crate) fn event_at(
     present: &Net,
     position: u64,
@@ -197,15 +260,14 @@ pub(crate) fn event_at(
     ensures ok { IfOk result (IsLastEvent saved.old breaks.now position) }
     ensures same { saved.new ≡ saved.old }
 {
-    match net_at(present, position - 1, saved, line) {
-        Ok(net) => {
-            let mut net = net;
-            let _before = net.position();
-            match run_next(&mut net, saved, line) {
-                Ok(()) => event_told(&net, line, breaks),
-                Err(fault) => Err(fault),
-            }
-        }
-        Err(fault) => Err(fault),
+    let mut net = net_at(present, position - 1, saved, line)?;
+    let _before = net.position();
+    let mut event = OneEvent {
+        breaks,
+        told: Err(MoveFault::NoMemory),
+    };
+    match run_by_two(&mut net, saved, &mut event, line) {
+        Ok(_) => event.told,
+        Err(fault) => Err(fault.into()),
     }
 }

@@ -2,10 +2,12 @@
 ghost use Rattle.std.specs.Prelude.{◌≡◌, ◌≤◌, ◌++◌, [], ◌∷◌, if◌then◌else◌, Bool, All, Contains, IfOk};
 ghost use Rattle.debugger.specs.Moves.{Passes};
 
-use net_machine::Net;
-use node_core::Node;
+use net_machine::{Due, Net};
+use net_watch::Watch;
+use node_core::{Line, Node};
 use std::alloc::{AllocError, Global};
 use std::marker::Model;
+use std::snapshot::Snapshot;
 
 /// The most states that are saved beside the opening one.
 const MOST_LATER: usize = 31;
@@ -158,5 +160,29 @@ impl Saved {
             best = present;
         }
         best.copy()
+    }
+}
+
+impl Watch for Saved {
+    ghost use Rattle.std.specs.Prelude.{◌≡◌, true, refl};
+    ghost use Rattle.debugger.specs.Moves.{Passes};
+
+    type Note = ();
+
+    ghost fits = { λ w at. Passes w at };
+
+    ghost has = { λ began _ w _ goes_on. (goes_on ≡ true) × (w ≡ began) };
+
+    ghost begins = { λ _ _. (refl, refl) };
+
+    #[inline(always)]
+    fn ahead(&self, _at: &Net, _next: Option<Due>) -> Option<()> {
+        Some(())
+    }
+
+    #[inline(always)]
+    fn see(&mut self, _note: (), _before: &Snapshot<Net>, after: &Net, _line: &Line) -> bool {
+        self.keep(after);
+        true
     }
 }

@@ -1,4 +1,4 @@
-//! On to the next line that a breakpoint matches, one event after another.
+//! Lines of a run that a breakpoint matches, one event after another, and on to the next.
 ghost use Rattle.std.specs.Prelude.{◌≡◌, ◌↔◌, Some, IsTrue, IfOk, IfErr, OnOk};
 ghost use Rattle.node_core.specs.TraceLine.{shown};
 ghost use Rattle.net_machine.specs.Run.{Reached, IsRun, Stepped};
@@ -10,10 +10,11 @@ use crate::breaks::Breaks;
 use crate::fault::MoveFault;
 use crate::saved::Saved;
 use crate::under_way::{count_on, counts_of, leaves_moving};
-use crate::walk::run_one;
-use net_machine::Net;
+use net_machine::{Due, Net};
+use net_watch::{Watch, run_by_two};
 use node_core::Line;
 use std::alloc::AllocError;
+use std::snapshot::Snapshot;
 
 /// Whether a breakpoint matches a line, after which a net stands. Where what is counted of packets under way tells that
 /// no flow becomes stalled, no stall is looked for.
@@ -34,8 +35,59 @@ pub(crate) fn is_stop(
     }
 }
 
+/// Who finds the lines of a run that a breakpoint matches: the first, which ends the run, or the last.
+#[derive(Drop)]
+pub(crate) struct Stops<'a> {
+    /// The breakpoints.
+    pub breaks: &'a Breaks,
+    /// Of each flow how many packets are known to be under way.
+    pub counts: Vec<u64>,
+    /// Whether the first that is found ends the run.
+    pub first: bool,
+    /// The position behind the last that was found.
+    pub found: Option<u64>,
+    /// Whether memory was refused, as a stall was looked for.
+    pub refused: bool,
+}
+
+impl Watch for Stops<'_> {
+    ghost use Rattle.std.specs.Prelude.{◌≡◌, None, refl};
+    ghost use Rattle.table_run.specs.State.{State};
+    ghost use Rattle.net_machine.specs.Run.{IsRun};
+    ghost use Rattle.debugger.specs.Moves.{Passes};
+    ghost use Rattle.debugger.specs.Stops.{HasSought, none_sought};
+    ghost use Rattle.debugger.specs.UnderWay.{AreUnderWay};
+
+    type Note = ();
+
+    ghost fits = { λ w at. IsRun at × AreUnderWay w.counts.items at.state };
+
+    ghost has = { λ began from w at goes_on. (w.breaks.now ≡ began.breaks.now) × (w.first ≡ began.first) × ((start : State) → Passes start from → began.found ≡ None → HasSought start began.breaks.now from.position at.position began.first w.found began.refused w.refused goes_on) };
+
+    ghost begins = { λ w at. (refl, refl, λ start _ none. none_sought start w.breaks.now at.position w.first w.found w.refused none) };
+
+    fn ahead(&self, _at: &Net, _next: Option<Due>) -> Option<()> {
+        Some(())
+    }
+
+    fn see(&mut self, _note: (), _before: &Snapshot<Net>, after: &Net, line: &Line) -> bool {
+        let position = after.position();
+        count_on(&mut self.counts, line);
+        match is_stop(self.breaks, self.counts.as_slice(), after, line) {
+            Ok(true) => {
+                self.found = Some(position);
+                !self.first
+            }
+            Ok(false) => true,
+            Err(_) => {
+                self.refused = true;
+                false
+            }
+        }
+    }
+}
+
 /// Runs events up to the next position whose line a breakpoint matches, or to the run's end.
-#[tactic(none)]
 fn run_to_stop(
     net: &mut Net,
     breaks: &Breaks,
@@ -48,20 +100,18 @@ fn run_to_stop(
     ensures full { IfErr result (λ fault. fault ≡ MoveFault.CountFull → IsTooLong saved.old) }
     ensures same { saved.new ≡ saved.old }
 {
-    let mut counts = counts_of(breaks.allocator(), net);
-    loop {
-        let _before = net.position();
-        match run_one(net, saved, line) {
-            Ok(true) => {}
-            Ok(false) => return Ok(()),
-            Err(fault) => return Err(fault.into()),
-        }
-        count_on(&mut counts, line);
-        match is_stop(breaks, counts.as_slice(), net, line) {
-            Ok(true) => return Ok(()),
-            Ok(false) => {}
-            Err(_) => return Err(MoveFault::NoMemory),
-        }
+    let _count = net.position();
+    let mut stops = Stops {
+        breaks,
+        counts: counts_of(breaks.allocator(), net),
+        first: true,
+        found: None,
+        refused: false,
+    };
+    match run_by_two(net, saved, &mut stops, line) {
+        Ok(_) if stops.refused => Err(MoveFault::NoMemory),
+        Ok(_) => Ok(()),
+        Err(fault) => Err(fault.into()),
     }
 }
 

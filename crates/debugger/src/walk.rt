@@ -1,34 +1,13 @@
 //! From one state of a run to a later one.
-ghost use Rattle.std.specs.Prelude.{◌≡◌, ◌≤◌, if◌then◌else◌, IsTrue, IfOk, IfErr, OnOk, is_none};
-ghost use Rattle.node_core.specs.TraceLine.{shown};
+ghost use Rattle.std.specs.Prelude.{◌≡◌, ◌≤◌, ◌⊎◌, true, Ok, IfOk, IfErr, OnOk, is_none};
 ghost use Rattle.table_run.specs.State.{due};
-ghost use Rattle.net_machine.specs.Run.{Stepped};
+ghost use Rattle.net_watch.specs.Watched.{Watched, goes_on};
 ghost use Rattle.debugger.specs.Moves.{Passes, HasPosition, StepGoesTo, IsTooLong};
 
 use crate::saved::Saved;
 use net_machine::{Net, StepFault};
+use net_watch::{Both, RunEnd, UpTo, Watch, run_by_two};
 use node_core::Line;
-
-/// Runs the next event, and saves the state after it where it is time to. The answer is whether
-/// there was one.
-#[tactic(none)]
-pub(crate) fn run_one(net: &mut Net, saved: &mut Saved, line: &mut Line) -> Result<bool, StepFault>
-    requires { Passes saved.old net.old }
-    ensures stepped { IfOk result (λ fired. Stepped net.old (if fired then Some (shown line.new) else None) net.new) }
-    ensures on_run { OnOk result (Passes saved.old net.new) }
-    ensures limit { IfOk result (λ fired. IsTrue fired → net.new.position ≤ 1000000000000000) }
-    ensures full { IfErr result (λ fault. fault ≡ StepFault.CountFull → IsTooLong saved.old) }
-    ensures same { saved.new ≡ saved.old }
-{
-    match net.step_into(line) {
-        Ok(true) => {
-            saved.keep(net);
-            Ok(true)
-        }
-        Ok(false) => Ok(false),
-        Err(fault) => Err(fault),
-    }
-}
 
 /// Whether no event is left below the end.
 pub(crate) fn is_ended(net: &Net) -> bool
@@ -41,7 +20,6 @@ pub(crate) fn is_ended(net: &Net) -> bool
 }
 
 /// Runs so many events, or all that are left where there are fewer.
-#[tactic(none)]
 pub fn forward(
     net: &mut Net,
     count: u64,
@@ -54,14 +32,15 @@ pub fn forward(
     ensures full { IfErr result (λ fault. fault ≡ StepFault.CountFull → IsTooLong saved.old) }
     ensures same { saved.new ≡ saved.old }
 {
-    for passed in 0..count {
-        match run_one(net, saved, line) {
-            Ok(true) => {}
-            Ok(false) => return Ok(()),
-            Err(fault) => return Err(fault),
-        }
+    let mut upto = UpTo {
+        position: net.position().saturating_add(count),
+    };
+    let ended = run_by_two(net, saved, &mut upto, line);
+    let _count = net.position();
+    match ended {
+        Ok(_) => Ok(()),
+        Err(fault) => Err(fault),
     }
-    Ok(())
 }
 
 /// Runs events up to a position that the run has.
@@ -85,4 +64,29 @@ pub fn reach(
         Ok(()) => Ok(()),
         Err(fault) => Err(fault),
     }
+}
+
+/// Runs events up to a position that the run has, and has each watched. The run ends before it where the watcher says so.
+pub(crate) fn reach_watched<W: Watch>(
+    net: &mut Net,
+    target: u64,
+    saved: &mut Saved,
+    watch: &mut W,
+    line: &mut Line,
+) -> Result<RunEnd, StepFault>
+    requires on_run { Passes saved.old net.old }
+    requires below { net.old.position ≤ target }
+    requires position { HasPosition saved.old target }
+    requires fits { W.fits watch.old net.old }
+    ensures watched { Watched W.has net.old watch.old net.new watch.new (goes_on result) }
+    ensures on_run { Passes saved.old net.new }
+    ensures reached { IfOk result (λ end. goes_on (Ok end) ≡ true → W.halts watch.new net.new ⊎ (net.new.position ≡ target)) }
+    ensures full { IfErr result (λ fault. fault ≡ StepFault.CountFull → IsTooLong saved.old) }
+    ensures same { saved.new ≡ saved.old }
+{
+    let mut both = Both {
+        first: watch,
+        second: UpTo { position: target },
+    };
+    run_by_two(net, saved, &mut both, line)
 }

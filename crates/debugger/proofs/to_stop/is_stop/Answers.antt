@@ -1,4 +1,4 @@
-use Rattle.std.proofs.Common.{◌∙◌, true, sym, true≢false}
+use Rattle.std.proofs.Common.{◌∙◌, sym, true≢false}
 use Rattle.std.specs.Prelude.{IsTrue, IsNone}
 use Rattle.node_core.specs.TraceLine.{shown}
 use Rattle.debugger.specs.declared.breaks.Break.{Break}

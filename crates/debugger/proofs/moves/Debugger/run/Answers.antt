@@ -13,11 +13,14 @@ use Rattle.debugger.proofs.Batches.{same_nodes}
 use Rattle.debugger.proofs.Shown.{ok_shown, err_shown}
 use Rattle.debugger.proofs.moves.Debugger.run.Goals as goal
 
+pub find-found-requires-clause-ready : goal.find-found-requires-clause-ready
+find-found-requires-clause-ready g c = c.requires.ready
+
 pub find-found-requires-clause-on_run : goal.find-found-requires-clause-on_run
-find-found-requires-clause-on_run g c κs within = c.self.invariant.moves.shown
+find-found-requires-clause-on_run g c = c.self.invariant.moves.shown
 
 pub find-found-requires-clause-nodes : goal.find-found-requires-clause-nodes
-find-found-requires-clause-nodes g c κs within = c.self.invariant.nodes ∙ sym (same_nodes c.self.inside.saved c.self.inside.net c.self.invariant.moves.shown)
+find-found-requires-clause-nodes g c = c.self.invariant.nodes ∙ sym (same_nodes c.self.inside.saved c.self.inside.net c.self.invariant.moves.shown)
 
 pub invariant_of-self : goal.invariant_of-self
 invariant_of-self g c =
@@ -57,34 +60,33 @@ returns-clause-err g c =
     let kept : ◌≡◌ {A = Debugging} (record { start = c.find-found.new.saved; shown = c.self.inside.net; left = c.self.inside.left; breaks = c.self.inside.breaks }) c.args.self.now = (λ i. record { start = same i; shown = c.self.inside.net; left = c.self.inside.left; breaks = c.self.inside.breaks }) ∙ c.self.view_is in
     subst (λ (d : Debugging). OnErr c.show.result (c.show.new.self ≡ d)) kept c.show.ensures.err
 
--- by one worker
+-- by one worker, and where a stall is asked for
+pub returns-then-is_alone-clause-moved : goal.returns-then-is_alone-clause-moved
+returns-then-is_alone-clause-moved g c = c.run_singly.ensures.moved
+
+pub returns-then-is_alone-clause-goes : goal.returns-then-is_alone-clause-goes
+returns-then-is_alone-clause-goes g c = c.run_singly.ensures.goes
+
+pub returns-then-is_alone-clause-full : goal.returns-then-is_alone-clause-full
+returns-then-is_alone-clause-full g c = c.run_singly.ensures.full
+
+pub returns-then-is_alone-clause-err : goal.returns-then-is_alone-clause-err
+returns-then-is_alone-clause-err g c = c.run_singly.ensures.err
+
+pub returns-then-asks_stall-clause-moved : goal.returns-then-asks_stall-clause-moved
+returns-then-asks_stall-clause-moved g c = c.run_singly-then-asks_stall.ensures.moved
+
+pub returns-then-asks_stall-clause-goes : goal.returns-then-asks_stall-clause-goes
+returns-then-asks_stall-clause-goes g c = c.run_singly-then-asks_stall.ensures.goes
+
+pub returns-then-asks_stall-clause-full : goal.returns-then-asks_stall-clause-full
+returns-then-asks_stall-clause-full g c = c.run_singly-then-asks_stall.ensures.full
+
+pub returns-then-asks_stall-clause-err : goal.returns-then-asks_stall-clause-err
+returns-then-asks_stall-clause-err g c = c.run_singly-then-asks_stall.ensures.err
+
 pub same-self : goal.same-self
 same-self g c = refl
 
-pub returns-then-self-eq1-clause-moved : goal.returns-then-self-eq1-clause-moved
-returns-then-self-eq1-clause-moved g c = c.run_alone.ensures.moved
-
-pub returns-then-self-eq1-clause-goes : goal.returns-then-self-eq1-clause-goes
-returns-then-self-eq1-clause-goes g c = c.run_alone.ensures.goes
-
-pub returns-then-self-eq1-clause-full : goal.returns-then-self-eq1-clause-full
-returns-then-self-eq1-clause-full g c = c.run_alone.ensures.full
-
-pub returns-then-self-eq1-clause-err : goal.returns-then-self-eq1-clause-err
-returns-then-self-eq1-clause-err g c = c.run_alone.ensures.err
-
--- where a stall is asked for
-pub returns-then-asks_stall-clause-moved : goal.returns-then-asks_stall-clause-moved
-returns-then-asks_stall-clause-moved g c = c.run_singly.ensures.moved
-
-pub returns-then-asks_stall-clause-goes : goal.returns-then-asks_stall-clause-goes
-returns-then-asks_stall-clause-goes g c = c.run_singly.ensures.goes
-
-pub returns-then-asks_stall-clause-full : goal.returns-then-asks_stall-clause-full
-returns-then-asks_stall-clause-full g c = c.run_singly.ensures.full
-
-pub returns-then-asks_stall-clause-err : goal.returns-then-asks_stall-clause-err
-returns-then-asks_stall-clause-err g c = c.run_singly.ensures.err
-
-pub same-self-then-self-eq1 : goal.same-self-then-self-eq1
-same-self-then-self-eq1 g c = refl
+pub same-self-then-asks_stall : goal.same-self-then-asks_stall
+same-self-then-asks_stall g c = refl

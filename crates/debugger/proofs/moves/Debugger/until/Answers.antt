@@ -1,4 +1,4 @@
-use Rattle.std.proofs.Common.{◌≡◌, refl, sym, subst, ◌∙◌, IfOk, IfErr, OnErr, length}
+use Rattle.std.proofs.Common.{◌≡◌, sym, subst, ◌∙◌, IfOk, IfErr, OnErr, length}
 use Rattle.table_run.specs.State.{State}
 use Rattle.debugger.specs.declared.fault.MoveFault.{MoveFault}
 use Rattle.debugger.specs.declared.fault.MoveFault.TheVariants.{CountFull}
@@ -9,11 +9,14 @@ use Rattle.debugger.proofs.Batches.{same_nodes}
 use Rattle.debugger.proofs.Shown.{ok_shown, err_shown}
 use Rattle.debugger.proofs.moves.Debugger.until.Goals as goal
 
+pub find-found-requires-clause-ready : goal.find-found-requires-clause-ready
+find-found-requires-clause-ready g c = c.requires.ready
+
 pub find-found-requires-clause-on_run : goal.find-found-requires-clause-on_run
-find-found-requires-clause-on_run g c κs within = c.self.invariant.moves.shown
+find-found-requires-clause-on_run g c = c.self.invariant.moves.shown
 
 pub find-found-requires-clause-nodes : goal.find-found-requires-clause-nodes
-find-found-requires-clause-nodes g c κs within = c.self.invariant.nodes ∙ sym (same_nodes c.self.inside.saved c.self.inside.net c.self.invariant.moves.shown)
+find-found-requires-clause-nodes g c = c.self.invariant.nodes ∙ sym (same_nodes c.self.inside.saved c.self.inside.net c.self.invariant.moves.shown)
 
 pub invariant_of-self : goal.invariant_of-self
 invariant_of-self g c =
@@ -47,19 +50,3 @@ returns-clause-err g c =
     let same = c.find-found.ensures.same in
     let kept : ◌≡◌ {A = Debugging} (record { start = c.find-found.new.saved; shown = c.self.inside.net; left = c.self.inside.left; breaks = c.self.inside.breaks }) c.args.self.now = (λ i. record { start = same i; shown = c.self.inside.net; left = c.self.inside.left; breaks = c.self.inside.breaks }) ∙ c.self.view_is in
     subst (λ (d : Debugging). OnErr c.show.result (c.show.new.self ≡ d)) kept c.show.ensures.err
-
--- by one worker
-pub same-self : goal.same-self
-same-self g c = refl
-
-pub returns-then-self-eq1-clause-moved : goal.returns-then-self-eq1-clause-moved
-returns-then-self-eq1-clause-moved g c = c.until_alone.ensures.moved
-
-pub returns-then-self-eq1-clause-goes : goal.returns-then-self-eq1-clause-goes
-returns-then-self-eq1-clause-goes g c = c.until_alone.ensures.goes
-
-pub returns-then-self-eq1-clause-full : goal.returns-then-self-eq1-clause-full
-returns-then-self-eq1-clause-full g c = c.until_alone.ensures.full
-
-pub returns-then-self-eq1-clause-err : goal.returns-then-self-eq1-clause-err
-returns-then-self-eq1-clause-err g c = c.until_alone.ensures.err

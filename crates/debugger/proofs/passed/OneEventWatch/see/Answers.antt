@@ -1,0 +1,25 @@
+use Rattle.std.proofs.Common.{List, IfOk, refl, subst, arith}
+use Rattle.node_core.specs.TraceLine.{shown}
+use Rattle.debugger.specs.declared.breaks.Break.{Break}
+use Rattle.debugger.specs.declared.passed.LastEvent.{LastEvent}
+use Rattle.debugger.specs.Breaks.{IsFirstHit}
+use Rattle.debugger.proofs.LastEvents.{last_event}
+use Rattle.debugger.proofs.Watched.{passes_on}
+use Rattle.debugger.proofs.passed.OneEventWatch.see.Goals as goal
+
+pub returns-clause-has : goal.returns-clause-has
+returns-clause-has c began from runs was = (
+  was.0,
+  λ start at none.
+      let old = c.args._before.now.value in
+      let new = c.args.after.now in
+      let line = shown c.args.line.now in
+      let told = c.event_told-self.result in
+      let next = c.requires.stepped in
+      let here = (was.1 start at none).0 in
+      let first = subst (λ (breaks : List Break). IfOk told (λ (event : LastEvent). IsFirstHit breaks old.state line new.state event.hit)) was.0 (c.event_told-self.ensures.first old c.requires.fits next) in
+      (omega (arith, here, next.1), last_event start began.breaks.now old new line new.position told (passes_on start from old at runs) next refl c.event_told-self.ensures.time first),
+)
+
+pub returns-clause-fits : goal.returns-clause-fits
+returns-clause-fits c = c.position-count.ensures.is_run
