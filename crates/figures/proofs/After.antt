@@ -17,7 +17,7 @@ use Rattle.figures.specs.declared.figures.Figures.{Figures}
 use Rattle.figures.specs.Turns.{Turn, Keeps, HasActedFrom, planned_by}
 use Rattle.figures.specs.Senders.{AreOfTurns}
 use Rattle.figures.specs.Links.{is_free}
-use Rattle.figures.specs.Moments.{Moment, cause_of, turn_by, turn_at, turns_at}
+use Rattle.figures.specs.Moments.{Moment, Base, cause_of, turn_by, turn_at, turns_at}
 use Rattle.figures.specs.Figures.{IsOfNode, AreAfter}
 use Rattle.node_core.specs.Part.{PartState}
 use Rattle.node_core.specs.Node.{NodeState}
@@ -83,7 +83,7 @@ within_parts t node g is =
     (λ (past : length t.parts ≤ node). let none : part_at t node ≡ no_part = get_or-eq_default t.parts no_part past in absurd (not_some (sym (is ∙ ap (λ (p : PartState). option_map (λ (found : ℕ × SenderFields). found.1) (sender_in p.role)) none))))
     (cases_lt node (length t.parts))
 
-module _ (ms : List Moment) (s : State) (line : TraceLine) (t : State) (is_next : step s ≡ Some (line, t)) where
+module _ (b : Base) (ms : List Moment) (s : State) (line : TraceLine) (t : State) (is_next : step s ≡ Some (line, t)) where
   abbrev pub m : Moment
   m = record { before = s; line = line; after = t }
 
@@ -91,13 +91,13 @@ module _ (ms : List Moment) (s : State) (line : TraceLine) (t : State) (is_next 
   is_its = is_step s line t is_next
 
   -- a node's sender does nothing, and keeps what it kept
-  still : (node : ℕ) (f : SenderFigures) → turn_at node m ≡ None → sender_in (part_at t node).role ≡ sender_in (part_at s node).role → IsOfNode ms s node f → IsOfNode (ms ++ m ∷ []) t node f
+  still : (node : ℕ) (f : SenderFigures) → turn_at node m ≡ None → sender_in (part_at t node).role ≡ sender_in (part_at s node).role → IsOfNode b ms s node f → IsOfNode b (ms ++ m ∷ []) t node f
   still node f none same is = record {
-    counted = subst (λ ts. AreOfTurns ts f) (sym (given_more (turn_at node) ms m ∙ ap (λ o. turns_at node ms ++ option_to_list o) none ∙ append-nil (turns_at node ms))) is.counted;
+    counted = subst (λ ts. AreOfTurns (turns_at node b.earlier) ts f) (sym (given_more (turn_at node) ms m ∙ ap (λ o. turns_at node ms ++ option_to_list o) none ∙ append-nil (turns_at node ms))) is.counted;
     keeps = subst (λ o. IfSome o (λ found. Keeps f.kept found.1)) (sym same) is.keeps;
   }
 
-  elsewhere : (node : ℕ) (f : SenderFigures) → node ≢ line.key.node → IsOfNode ms s node f → IsOfNode (ms ++ m ∷ []) t node f
+  elsewhere : (node : ℕ) (f : SenderFigures) → node ≢ line.key.node → IsOfNode b ms s node f → IsOfNode b (ms ++ m ∷ []) t node f
   elsewhere node f other =
       still node f (ap (λ b. cond b (turn_by (sender_in (part_at s node).role) line.event line.key.time) None) (test_no line.key.node node (λ e. other (sym e)))) (sender_elsewhere s line t is_its node other)
 
@@ -114,17 +114,17 @@ module _ (ms : List Moment) (s : State) (line : TraceLine) (t : State) (is_next 
   same_sender (inl none) = sender_here s line t is_its ∙ no_cause (sender_in (part_at s line.key.node).role) (cause_of line.event) line.key.time none
   same_sender (inr none) = sender_here s line t is_its ∙ ap (λ o. after_event o (cause_of line.event) line.key.time) none ∙ sym none
 
-  here_still : (f : SenderFigures) → (cause_of line.event ≡ None) ⊎ (sender_in (part_at s line.key.node).role ≡ None) → IsOfNode ms s line.key.node f → IsOfNode (ms ++ m ∷ []) t line.key.node f
+  here_still : (f : SenderFigures) → (cause_of line.event ≡ None) ⊎ (sender_in (part_at s line.key.node).role ≡ None) → IsOfNode b ms s line.key.node f → IsOfNode b (ms ++ m ∷ []) t line.key.node f
   here_still f either = still line.key.node f (at_node ∙ without (sender_in (part_at s line.key.node).role) either) (same_sender either)
 
   -- the event is none of a sender's
-  pub quiet : (f g : Figures) → g.senders.items ≡ f.senders.items → (cause_of line.event ≡ None) ⊎ (sender_in (part_at s line.key.node).role ≡ None) → AreAfter ms s f → AreAfter (ms ++ m ∷ []) t g
+  pub quiet : (f g : Figures) → g.senders.items ≡ f.senders.items → (cause_of line.event ≡ None) ⊎ (sender_in (part_at s line.key.node).role ≡ None) → AreAfter b ms s f → AreAfter b (ms ++ m ∷ []) t g
   quiet f g same either is = record {
     size = ap length same ∙ is.size ∙ sym (size_stays s line t is_its);
     each = λ node other within.
-        let old : IsOfNode ms s node (get_or g.senders.items node other) = subst (λ items. IsOfNode ms s node (get_or items node other)) (sym same) (is.each node other (omega (arith, within, size_stays s line t is_its))) in
+        let old : IsOfNode b ms s node (get_or g.senders.items node other) = subst (λ items. IsOfNode b ms s node (get_or items node other)) (sym same) (is.each node other (omega (arith, within, size_stays s line t is_its))) in
         ⊎_elim
-        (λ (here : node ≡ line.key.node). subst (λ n. IsOfNode ms s n (get_or g.senders.items node other) → IsOfNode (ms ++ m ∷ []) t n (get_or g.senders.items node other)) (sym here) (here_still (get_or g.senders.items node other) either) old)
+        (λ (here : node ≡ line.key.node). subst (λ n. IsOfNode b ms s n (get_or g.senders.items node other) → IsOfNode b (ms ++ m ∷ []) t n (get_or g.senders.items node other)) (sym here) (here_still (get_or g.senders.items node other) either) old)
         (λ (apart : node ≢ line.key.node). elsewhere node (get_or g.senders.items node other) apart old)
         (cases_eq node line.key.node);
   }
@@ -138,28 +138,28 @@ module _ (ms : List Moment) (s : State) (line : TraceLine) (t : State) (is_next 
     abbrev pub has : HasActed (sender_in (part_at s line.key.node).role) (sender_in (part_at t line.key.node).role) cause line.key.time g
     has = acted (sender_in (part_at s line.key.node).role) (sender_in (part_at t line.key.node).role) cause line.key.time g (sender_here s line t is_its ∙ ap (λ c. after_event (sender_in (part_at s line.key.node).role) c line.key.time) cause_is) g_is
 
-    pub kept_was : (f : SenderFigures) → IsOfNode ms s line.key.node f → Keeps f.kept has.fields
+    pub kept_was : (f : SenderFigures) → IsOfNode b ms s line.key.node f → Keeps f.kept has.fields
     kept_was f is = subst (λ o. IfSome o (λ found. Keeps f.kept found.1)) has.was is.keeps
 
-    pub acted_from : (f : SenderFigures) → IsOfNode ms s line.key.node f → HasActedFrom f.kept cause line.key.time g
+    pub acted_from : (f : SenderFigures) → IsOfNode b ms s line.key.node f → HasActedFrom f.kept cause line.key.time g
     acted_from f is = record { old = has.fields; kept = kept_was f is; planned = has.planned }
 
     -- a turn is counted, whatever it began from
     abbrev pub Counts : SenderFigures → SenderFigures → Type 0
-    Counts f f' = (ts : List Turn) (x : SenderFields) → Keeps f.kept x → g ≡ (planned_by x cause line.key.time).fields → AreOfTurns ts f → AreOfTurns (ts ++ record { old = x; cause = cause; now = line.key.time } ∷ []) f'
+    Counts f f' = (before ts : List Turn) (x : SenderFields) → Keeps f.kept x → g ≡ (planned_by x cause line.key.time).fields → AreOfTurns before ts f → AreOfTurns before (ts ++ record { old = x; cause = cause; now = line.key.time } ∷ []) f'
 
-    here_acted : (f f' : SenderFigures) → Counts f f' → Keeps f'.kept g → IsOfNode ms s line.key.node f → IsOfNode (ms ++ m ∷ []) t line.key.node f'
+    here_acted : (f f' : SenderFigures) → Counts f f' → Keeps f'.kept g → IsOfNode b ms s line.key.node f → IsOfNode b (ms ++ m ∷ []) t line.key.node f'
     here_acted f f' more kept is =
         let turn : turn_at line.key.node m ≡ Some (record { old = has.fields; cause = cause; now = line.key.time }) =
         at_node ∙ ap (λ o. turn_by o line.event line.key.time) has.was
         ∙ ap (option_map (λ (c : Cause). record { old = has.fields; cause = c; now = line.key.time })) cause_is in
         record {
-          counted = subst (λ ts. AreOfTurns ts f') (sym (given_more (turn_at line.key.node) ms m ∙ ap (λ o. turns_at line.key.node ms ++ option_to_list o) turn)) (more (turns_at line.key.node ms) has.fields (kept_was f is) has.planned is.counted);
+          counted = subst (λ ts. AreOfTurns (turns_at line.key.node b.earlier) ts f') (sym (given_more (turn_at line.key.node) ms m ∙ ap (λ o. turns_at line.key.node ms ++ option_to_list o) turn)) (more (turns_at line.key.node b.earlier) (turns_at line.key.node ms) has.fields (kept_was f is) has.planned is.counted);
           keeps = subst (λ o. IfSome o (λ found. Keeps f'.kept found.1)) (sym has.is) kept;
         }
 
     pub one_acted : (f g' : Figures) (before after : SenderFigures) → line.key.node < length f.senders.items → before ≡ get_or f.senders.items line.key.node before → g'.senders.items ≡ set f.senders.items line.key.node after →
-        Counts before after → Keeps after.kept g → AreAfter ms s f → AreAfter (ms ++ m ∷ []) t g'
+        Counts before after → Keeps after.kept g → AreAfter b ms s f → AreAfter b (ms ++ m ∷ []) t g'
     one_acted f g' before after within before_is items more kept is =
         let size = size_stays s line t is_its in
         record {
@@ -167,11 +167,11 @@ module _ (ms : List Moment) (s : State) (line : TraceLine) (t : State) (is_next 
           each = λ node other inside.
               ⊎_elim
               (λ (here : node ≡ line.key.node).
-              let old : IsOfNode ms s line.key.node before = subst (IsOfNode ms s line.key.node) (sym before_is) (is.each line.key.node before (omega (arith, within, is.size))) in
+              let old : IsOfNode b ms s line.key.node before = subst (IsOfNode b ms s line.key.node) (sym before_is) (is.each line.key.node before (omega (arith, within, is.size))) in
               let now : get_or g'.senders.items node other ≡ after = ap (λ xs. get_or xs node other) items ∙ ap (λ n. get_or (set f.senders.items line.key.node after) n other) here ∙ get_or-set_same f.senders.items line.key.node after other within in
-              subst (λ x. IsOfNode (ms ++ m ∷ []) t node x) (sym now) (subst (λ n. IsOfNode (ms ++ m ∷ []) t n after) (sym here) (here_acted before after more kept old)))
+              subst (λ x. IsOfNode b (ms ++ m ∷ []) t node x) (sym now) (subst (λ n. IsOfNode b (ms ++ m ∷ []) t n after) (sym here) (here_acted before after more kept old)))
               (λ (apart : node ≢ line.key.node).
               let same : get_or g'.senders.items node other ≡ get_or f.senders.items node other = ap (λ xs. get_or xs node other) items ∙ get_or-set_other f.senders.items line.key.node node after other apart in
-              subst (λ x. IsOfNode (ms ++ m ∷ []) t node x) (sym same) (elsewhere node (get_or f.senders.items node other) apart (is.each node other (omega (arith, inside, size)))))
+              subst (λ x. IsOfNode b (ms ++ m ∷ []) t node x) (sym same) (elsewhere node (get_or f.senders.items node other) apart (is.each node other (omega (arith, inside, size)))))
               (cases_eq node line.key.node);
         }

@@ -17,7 +17,7 @@ use Rattle.table_run.proofs.Due.{IsDue, is_due}
 use Rattle.table_run.proofs.Links.{one_index}
 use Rattle.table_run.proofs.Moved.{node_there}
 use Rattle.table_run.proofs.RunLaws.{sound_run}
-use Rattle.figures.specs.Links.{port_at, frees, wait_of_given, TellsWait}
+use Rattle.figures.specs.Links.{port_at, frees, wait_of_given, TellsWait, IsNextWait}
 use Rattle.net_machine.specs.Run.{Reached}
 use Rattle.figures.specs.declared.figures.Figures.{Figures}
 use Rattle.figures.specs.Figures.{AreOfSomeRun}
@@ -68,18 +68,17 @@ module _ (p : ScenarioParts) (is_scenario : IsScenario p) (n : ℕ) (lines : Lis
   freed i inside is = freed_one line.event i inside belongs is
 
   -- so what the packet that is given has waited is told of the link that is freed
-  pub tells : (given : Option ℕ) → ((k : Key) (v : Event) → due s ≡ Some (k, v) → k.source ≡ 0 → 3 ≤ k.number → given ≡ wait_of_given k.time (port_at s k.node (k.number - 3))) → TellsWait s line t given
+  pub tells : (given : Option ℕ) → IsNextWait s given → TellsWait s line t given
   tells given told i inside is =
       let key = freed i inside is in
       told line.key line.event (of_due s (due s) line t next) key.0 (let number = key.1 in omega (arith, number))
       ∙ ap (λ j. wait_of_given line.key.time (port_at s line.key.node j)) (let number = key.1 in omega (arith, number))
 
-pub tells_in_run : (f : Figures) (r : Reached) (line : TraceLine) (t : State) (given : Option ℕ) → AreOfSomeRun f r → step r.state ≡ Some (line, t) → ((k : Key) (v : Event) → due r.state ≡ Some (k, v) → k.source ≡ 0 → 3 ≤ k.number → given ≡ wait_of_given k.time (port_at r.state k.node (k.number - 3))) → TellsWait r.state line t given
+pub tells_in_run : (f : Figures) (r : Reached) (line : TraceLine) (t : State) (given : Option ℕ) → AreOfSomeRun f r → step r.state ≡ Some (line, t) → IsNextWait r.state given → TellsWait r.state line t given
 tells_in_run f r line t given some next told = tells some.scenario some.is_scenario r.position some.of.lines r.state some.of.comes line t next given told
 
 -- what is told of the key that is due is told of the event that is due
-pub told_of_due : (s : State) (key : Key) → Some key ≡ option_map (λ (entry : Key × Event). entry.0) (due s) → (given : Option ℕ) → (key.source ≡ 0 → 3 ≤ key.number → given ≡ wait_of_given key.time (port_at s key.node (key.number - 3))) →
-    (k : Key) (v : Event) → due s ≡ Some (k, v) → k.source ≡ 0 → 3 ≤ k.number → given ≡ wait_of_given k.time (port_at s k.node (k.number - 3))
+pub told_of_due : (s : State) (key : Key) → Some key ≡ option_map (λ (entry : Key × Event). entry.0) (due s) → (given : Option ℕ) → (key.source ≡ 0 → 3 ≤ key.number → given ≡ wait_of_given key.time (port_at s key.node (key.number - 3))) → IsNextWait s given
 told_of_due s key is given told k v due_is =
     let same : key ≡ k = same_some key k (is ∙ ap (option_map (λ (entry : Key × Event). entry.0)) due_is) in
     subst (λ (q : Key). q.source ≡ 0 → 3 ≤ q.number → given ≡ wait_of_given q.time (port_at s q.node (q.number - 3))) same told

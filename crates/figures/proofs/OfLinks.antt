@@ -12,7 +12,7 @@ use Rattle.node_core.specs.TraceLine.{TraceLine}
 use Rattle.table_run.specs.State.{State, part_at}
 use Rattle.figures.specs.declared.link.LinkFigures.{LinkFigures}
 use Rattle.figures.specs.Classes.{greatest}
-use Rattle.figures.specs.Moments.{Moment}
+use Rattle.figures.specs.Moments.{Moment, Base}
 use Rattle.figures.specs.Tallied.{IsTallyOf}
 use Rattle.figures.specs.Links.{port_at, waiting_at, busy_at, frees, acts_between, wait_of_given, wait_in, wait_at, waits_of, acts_at, dropped_in, tx_in, bytes_in, dropped_of, tx_of, bytes_of, last_from, summed_over, waited_of, busy_of, IsLinkBegun, AreOfLink, IsLinkAfter}
 use Rattle.figures.proofs.Counts.{greatest_more, test_no}
@@ -52,8 +52,9 @@ greatest_before node index ms m =
     ∙ greatest_more (map (λ (n : Moment). waiting_at (port_at n.before node index)) ms) (waiting_at (port_at m.before node index))
 
 -- the figures of a link before any event
-pub link_begun : (s : State) (node index : ℕ) (f : LinkFigures) → IsLinkBegun (port_at s node index) f → AreOfLink [] s node index f
-link_begun s node index f is = record {
+pub link_begun : (since before : ℕ) (s : State) (earlier : List Moment) (node index : ℕ) (f : LinkFigures) → IsLinkBegun since (port_at s node index) f → AreOfLink (record { since = since; state = s; before = before; earlier = earlier }) [] s node index f
+link_begun since before s earlier node index f is = record {
+  first = is.first;
   offered = is.offered;
   waiting = is.waiting;
   busy = is.busy;
@@ -63,41 +64,46 @@ link_begun s node index f is = record {
   codel = is.codel;
   sent = is.sent;
   bytes = is.bytes;
-  waited = let none = ap (λ n. f.waiting * (0 - n)) is.since in let zero_is = mul-zero f.waiting in let w = is.waited in omega (arith, none, zero_is, w);
-  busy_for = ap (λ n. n + cond f.busy (0 - f.since) 0) is.busy_for ∙ nothing f.busy f.since is.since;
+  waited =
+      let gone : since - f.since ≡ 0 = (let at = is.since in omega (arith, at)) in
+      let none = ap (λ n. f.waiting * n) gone in
+      let zero_is = mul-zero f.waiting in
+      let w = is.waited in
+      omega (arith, none, zero_is, w);
+  busy_for = ap (λ n. n + cond f.busy (since - f.since) 0) is.busy_for ∙ nothing f.busy f.since is.since;
   longest = let long = is.longest in omega (arith, long);
   waits = is.waits;
   turns = let none = is.turns in omega (arith, none);
 }
   where
-    nothing : (b : Bool) (n : ℕ) → n ≡ 0 → 0 + cond b (0 - n) 0 ≡ 0
+    nothing : (b : Bool) (n : ℕ) → n ≡ since → 0 + cond b (since - n) 0 ≡ 0
     nothing true n e = omega (arith, e)
     nothing false n e = omega arith
 
-module _ (ms : List Moment) (s : State) (line : TraceLine) (t : State) (node index : ℕ) (order : last_from 0 ms ≤ line.key.time) where
+module _ (base : Base) (ms : List Moment) (s : State) (line : TraceLine) (t : State) (node index : ℕ) (order : last_from base.since ms ≤ line.key.time) where
   abbrev m : Moment
   m = record { before = s; line = line; after = t }
 
   -- the integrals of a link's numbers
-  waited_more : (f : LinkFigures) → AreOfLink ms s node index f → f.waited + f.waiting * (line.key.time - f.since) ≡ waited_of node index (ms ++ m ∷ [])
+  waited_more : (f : LinkFigures) → AreOfLink base ms s node index f → f.waited + f.waiting * (line.key.time - f.since) ≡ waited_of node index base.since (ms ++ m ∷ [])
   waited_more f is =
-      passed_on f.waited f.waiting f.since (last_from 0 ms) line.key.time is.since order
-      ∙ ap (λ n. n + f.waiting * (line.key.time - last_from 0 ms)) is.waited
-      ∙ ap (λ w. waited_of node index ms + w * (line.key.time - last_from 0 ms)) is.waiting
-      ∙ sym (summed_more (λ (u : State). waiting_at (port_at u node index)) 0 ms m)
+      passed_on f.waited f.waiting f.since (last_from base.since ms) line.key.time is.since order
+      ∙ ap (λ n. n + f.waiting * (line.key.time - last_from base.since ms)) is.waited
+      ∙ ap (λ w. waited_of node index base.since ms + w * (line.key.time - last_from base.since ms)) is.waiting
+      ∙ sym (summed_more (λ (u : State). waiting_at (port_at u node index)) base.since ms m)
 
-  busy_more : (f : LinkFigures) → AreOfLink ms s node index f → f.busy_for + cond f.busy (line.key.time - f.since) 0 ≡ busy_of node index (ms ++ m ∷ [])
+  busy_more : (f : LinkFigures) → AreOfLink base ms s node index f → f.busy_for + cond f.busy (line.key.time - f.since) 0 ≡ busy_of node index base.since (ms ++ m ∷ [])
   busy_more f is =
       ap (λ n. f.busy_for + n) (chosen f.busy (line.key.time - f.since))
-      ∙ passed_on f.busy_for (cond f.busy 1 0) f.since (last_from 0 ms) line.key.time is.since order
-      ∙ ap (λ n. f.busy_for + n + cond f.busy 1 0 * (line.key.time - last_from 0 ms)) (sym (chosen f.busy (last_from 0 ms - f.since)))
-      ∙ ap (λ n. n + cond f.busy 1 0 * (line.key.time - last_from 0 ms)) is.busy_for
-      ∙ ap (λ b. busy_of node index ms + cond b 1 0 * (line.key.time - last_from 0 ms)) is.busy
-      ∙ sym (summed_more (λ (u : State). busy_at (port_at u node index)) 0 ms m)
+      ∙ passed_on f.busy_for (cond f.busy 1 0) f.since (last_from base.since ms) line.key.time is.since order
+      ∙ ap (λ n. f.busy_for + n + cond f.busy 1 0 * (line.key.time - last_from base.since ms)) (sym (chosen f.busy (last_from base.since ms - f.since)))
+      ∙ ap (λ n. n + cond f.busy 1 0 * (line.key.time - last_from base.since ms)) is.busy_for
+      ∙ ap (λ b. busy_of node index base.since ms + cond b 1 0 * (line.key.time - last_from base.since ms)) is.busy
+      ∙ sym (summed_more (λ (u : State). busy_at (port_at u node index)) base.since ms m)
 
   -- an event at the link's node
   module _ (here : line.key.node ≡ node) (given : Option ℕ) (tells : frees (port_at t node index).link line.event ≡ true → given ≡ wait_of_given line.key.time (port_at s node index))
-      (f g : LinkFigures) (is : AreOfLink ms s node index f) (after : IsLinkAfter f (port_at t node index) line given g) where
+      (f g : LinkFigures) (is : AreOfLink base ms s node index f) (after : IsLinkAfter f (port_at t node index) line given g) where
     acts : acts_at node index m ≡ acts_between f.offered (port_at t node index) line
     acts = ap (λ b. cond b (acts_between (port_at s node index).offered (port_at t node index) line) []) (eq-eqb line.key.node node here) ∙ ap (λ n. acts_between n (port_at t node index) line) (sym is.offered)
 
@@ -113,11 +119,12 @@ module _ (ms : List Moment) (s : State) (line : TraceLine) (t : State) (node ind
         ∙ ap (λ n. wait_in n (port_at t node index) line (wait_of_given line.key.time (port_at s node index))) (sym is.offered)
         ∙ told_where (frees (port_at t node index).link line.event) given (wait_of_given line.key.time (port_at s node index)) _ tells
 
-    nothing_since : g.since ≡ last_from 0 (ms ++ m ∷ [])
-    nothing_since = after.since ∙ sym (last_more 0 ms m)
+    nothing_since : g.since ≡ last_from base.since (ms ++ m ∷ [])
+    nothing_since = after.since ∙ sym (last_more base.since ms m)
 
-    pub link_here : AreOfLink (ms ++ m ∷ []) t node index g
+    pub link_here : AreOfLink base (ms ++ m ∷ []) t node index g
     link_here = record {
+      first = after.first ∙ is.first;
       offered = after.offered;
       waiting = after.waiting;
       busy = after.busy;
@@ -129,8 +136,8 @@ module _ (ms : List Moment) (s : State) (line : TraceLine) (t : State) (node ind
           ∙ ap (λ list. tx_of node index ms + tx_in list) (sym acts) ∙ sym (sum_more (λ (n : Moment). tx_in (acts_at node index n)) ms m);
       bytes = after.bytes ∙ ap (λ n. n + bytes_in (acts_between f.offered (port_at t node index) line)) is.bytes
           ∙ ap (λ list. bytes_of node index ms + bytes_in list) (sym acts) ∙ sym (sum_more (λ (n : Moment). bytes_in (acts_at node index n)) ms m);
-      waited = ap (λ n. g.waited + g.waiting * n) {x = last_from 0 (ms ++ m ∷ []) - g.since} {y = 0} (let at = nothing_since in omega (arith, at)) ∙ ap (λ n. g.waited + n) (mul-zero g.waiting) ∙ plus_none g.waited ∙ after.waited ∙ waited_more f is;
-      busy_for = ap (λ n. g.busy_for + cond g.busy n 0) {x = last_from 0 (ms ++ m ∷ []) - g.since} {y = 0} (let at = nothing_since in omega (arith, at)) ∙ ap (λ n. g.busy_for + n) (either g.busy) ∙ plus_none g.busy_for ∙ after.busy_for ∙ busy_more f is;
+      waited = ap (λ n. g.waited + g.waiting * n) {x = last_from base.since (ms ++ m ∷ []) - g.since} {y = 0} (let at = nothing_since in omega (arith, at)) ∙ ap (λ n. g.waited + n) (mul-zero g.waiting) ∙ plus_none g.waited ∙ after.waited ∙ waited_more f is;
+      busy_for = ap (λ n. g.busy_for + cond g.busy n 0) {x = last_from base.since (ms ++ m ∷ []) - g.since} {y = 0} (let at = nothing_since in omega (arith, at)) ∙ ap (λ n. g.busy_for + n) (either g.busy) ∙ plus_none g.busy_for ∙ after.busy_for ∙ busy_more f is;
       longest = after.longest ∙ ap (λ n. max n (waiting_at (port_at t node index))) (is.longest ∙ sym (greatest_before node index ms m));
       waits = subst (λ xs. IsTallyOf xs g.waits) (sym (given_more (wait_at node index) ms m ∙ ap (λ o. waits_of node index ms ++ option_to_list o) wait)) (after.waits (waits_of node index ms) is.waits);
       turns = let count = length-append ms (m ∷ []) in let before = is.turns in let more = after.turns in omega (arith, count, before, more);
@@ -144,26 +151,27 @@ module _ (ms : List Moment) (s : State) (line : TraceLine) (t : State) (node ind
         either false = refl
 
   -- an event that does nothing at the link
-  module _ (no_acts : acts_at node index m ≡ []) (no_wait : wait_at node index m ≡ None) (port_same : port_at t node index ≡ port_at s node index) (f : LinkFigures) (is : AreOfLink ms s node index f) where
+  module _ (no_acts : acts_at node index m ≡ []) (no_wait : wait_at node index m ≡ None) (port_same : port_at t node index ≡ port_at s node index) (f : LinkFigures) (is : AreOfLink base ms s node index f) where
     none_dropped : (reason : DropReason) (was : ℕ) → was ≡ dropped_of reason node index ms → was ≡ dropped_of reason node index (ms ++ m ∷ [])
     none_dropped reason was before =
         let more = sum_more (λ (n : Moment). dropped_in reason (acts_at node index n)) ms m in
         let none : dropped_in reason (acts_at node index m) ≡ 0 = ap (dropped_in reason) no_acts in
         omega (arith, before, more, none)
 
-    pub link_kept : AreOfLink (ms ++ m ∷ []) t node index f
+    pub link_kept : AreOfLink base (ms ++ m ∷ []) t node index f
     link_kept = record {
+      first = is.first;
       offered = is.offered ∙ ap (λ (p : PortState). p.offered) (sym port_same);
       waiting = is.waiting ∙ ap (λ (p : PortState). waiting_at p) (sym port_same);
       busy = is.busy ∙ ap (λ (p : PortState). is_some p.next_free) (sym port_same);
-      since = let at = last_more 0 ms m in let before = is.since in omega (arith, at, before, order);
+      since = let at = last_more base.since ms m in let before = is.since in omega (arith, at, before, order);
       lost = none_dropped Lost f.lost is.lost;
       full = none_dropped Full f.full is.full;
       codel = none_dropped (Take Codel) f.codel is.codel;
       sent = (let more = sum_more (λ (n : Moment). tx_in (acts_at node index n)) ms m in let none : tx_in (acts_at node index m) ≡ 0 = ap tx_in no_acts in let before = is.sent in omega (arith, before, more, none));
       bytes = (let more = sum_more (λ (n : Moment). bytes_in (acts_at node index n)) ms m in let none : bytes_in (acts_at node index m) ≡ 0 = ap bytes_in no_acts in let before = is.bytes in omega (arith, before, more, none));
-      waited = ap (λ n. f.waited + f.waiting * (n - f.since)) (last_more 0 ms m) ∙ waited_more f is;
-      busy_for = ap (λ n. f.busy_for + cond f.busy (n - f.since) 0) (last_more 0 ms m) ∙ busy_more f is;
+      waited = ap (λ n. f.waited + f.waiting * (n - f.since)) (last_more base.since ms m) ∙ waited_more f is;
+      busy_for = ap (λ n. f.busy_for + cond f.busy (n - f.since) 0) (last_more base.since ms m) ∙ busy_more f is;
       longest = (let before = greatest_before node index ms m in let long = is.longest in let still : waiting_at (port_at t node index) ≡ waiting_at (port_at s node index) = ap (λ (p : PortState). waiting_at p) port_same in omega (arith, before, long, still));
       waits = subst (λ xs. IsTallyOf xs f.waits)
           (sym (given_more (wait_at node index) ms m ∙ ap (λ o. waits_of node index ms ++ option_to_list o) no_wait ∙ append-nil (waits_of node index ms))) is.waits;
@@ -179,7 +187,7 @@ module _ (ms : List Moment) (s : State) (line : TraceLine) (t : State) (node ind
     no_wait =
         ap (λ b. cond b (wait_in (port_at s node index).offered (port_at t node index) line (wait_of_given line.key.time (port_at s node index))) None) (test_no line.key.node node (λ e. apart (sym e)))
 
-    pub link_elsewhere : (f : LinkFigures) → AreOfLink ms s node index f → AreOfLink (ms ++ m ∷ []) t node index f
+    pub link_elsewhere : (f : LinkFigures) → AreOfLink base ms s node index f → AreOfLink base (ms ++ m ∷ []) t node index f
     link_elsewhere = link_kept no_acts no_wait (ap (λ (p : PartState). (link_at p.links index).port) same)
 
   -- an event at the link's node that is not counted of the link
@@ -198,5 +206,5 @@ module _ (ms : List Moment) (s : State) (line : TraceLine) (t : State) (node ind
         ∙ ap (λ b. cond b (wait_of_given line.key.time (port_at s node index)) (cond (nat_lt 0 (tx_in (acts_between (port_at s node index).offered (port_at t node index) line))) (Some 0) None)) unfreed
         ∙ ap (λ acts. cond (nat_lt 0 (tx_in acts)) (Some 0) None) none_between
 
-    pub link_untouched : (f : LinkFigures) → AreOfLink ms s node index f → AreOfLink (ms ++ m ∷ []) t node index f
+    pub link_untouched : (f : LinkFigures) → AreOfLink base ms s node index f → AreOfLink base (ms ++ m ∷ []) t node index f
     link_untouched = link_kept no_acts_here no_wait_here same

@@ -14,7 +14,7 @@ use Rattle.net_machine.specs.Nodes.{parts_of, node_at}
 use Rattle.figures.specs.declared.links.NodeLinks.{NodeLinks}
 use Rattle.figures.specs.Figures.{AreOfLinks}
 use Rattle.figures.specs.Links.{port_at, is_free, AreOfNode, OffersToOne}
-use Rattle.figures.specs.Moments.{Moment}
+use Rattle.figures.specs.Moments.{Moment, Base}
 use Rattle.figures.proofs.Begun.{part_is}
 use Rattle.figures.proofs.Offerings.{OffersTo, Offering, start_offers, rto_offers, delack_offers, arrival_offers}
 use Rattle.figures.proofs.Passages.{changed_elsewhere}
@@ -52,12 +52,12 @@ module _ (s : State) (line : TraceLine) (t : State) (next : step s ≡ Some (lin
       by_row (row part line.key line.event) (offers line.event none) (ap (λ (p : PartState). p.links) (part_here s line t (is_step s line t next) within)) i j first second one other
 
   -- so it is told by what was counted before
-  pub one_link : (ms : List Moment) (nodes : List NodeState) → parts_of nodes ≡ t.parts → (fs old : List NodeLinks) → old ≡ fs → AreOfLinks ms s fs → is_free line.event ≡ false →
+  pub one_link : (b : Base) (ms : List Moment) (nodes : List NodeState) → parts_of nodes ≡ t.parts → (fs old : List NodeLinks) → old ≡ fs → AreOfLinks b ms s fs → is_free line.event ≡ false →
       (other : NodeLinks) → line.key.node < length old → OffersToOne (get_or old line.key.node other).figures.items (node_at nodes line.key.node).part.links
-  one_link ms nodes parts fs old old_is is none other within i j f g first second one another =
+  one_link b ms nodes parts fs old old_is is none other within i j f g first second one another =
       let node = line.key.node in
-      let all : AreOfNode ms s node (get_or old node other).figures.items =
-      subst (λ (xs : List NodeLinks). AreOfNode ms s node (get_or xs node other).figures.items) (sym old_is) (is.each node other (let same = ap length old_is in omega (arith, within, same, is.count))) in
+      let all : AreOfNode b ms s node (get_or old node other).figures.items =
+      subst (λ (xs : List NodeLinks). AreOfNode b ms s node (get_or xs node other).figures.items) (sym old_is) (is.each node other (let same = ap length old_is in omega (arith, within, same, is.count))) in
       let now_is : (k : ℕ) → (link_at (node_at nodes node).part.links k).port.offered ≡ (port_at t node k).offered = λ k. ap (λ (p : PartState). (link_at p.links k).port.offered) (part_is nodes t node parts) in
       one_offered none i j (omega (arith, first, all.size)) (omega (arith, second, all.size))
       (λ same. one (now_is i ∙ same ∙ sym (all.each i f first).offered))

@@ -10,13 +10,14 @@ use Rattle.aqm.specs.declared.drop_reason.DropReason.{DropReason}
 use Rattle.aqm.specs.declared.drop_reason.DropReason.TheVariants.{Lost, Full, Take}
 use Rattle.aqm.specs.declared.drop_reason.TakeDrop.TheVariants.{Codel}
 use Rattle.port.specs.Port.{PortState}
+use Rattle.sim_time.specs.declared.key.Key.{Key}
 use Rattle.node_core.specs.declared.event.Event.{Event}
 use Rattle.node_core.specs.declared.event.Event.TheVariants.{Start, Rto, DelAck, Free, Arrive}
 use Rattle.node_core.specs.Part.{LinkState, link_at}
 use Rattle.node_core.specs.TraceLine.{TraceLine}
-use Rattle.table_run.specs.State.{State, part_at}
+use Rattle.table_run.specs.State.{State, part_at, due}
 use Rattle.figures.specs.Classes.{greatest}
-use Rattle.figures.specs.Moments.{Moment}
+use Rattle.figures.specs.Moments.{Moment, Base}
 use Rattle.figures.specs.Tallied.{IsTallyOf}
 use Rattle.figures.specs.declared.link.LinkFigures.{LinkFigures}
 
@@ -110,6 +111,11 @@ abbrev pub TellsWait : State → TraceLine → State → Option ℕ → Type 0
 TellsWait before line after given =
     (i : ℕ) → i < length (part_at before line.key.node).links → frees (port_at after line.key.node i).link line.event ≡ true → given ≡ wait_of_given line.key.time (port_at before line.key.node i)
 
+-- before an event, for how long the packet has waited that it begins to send, where it frees a link
+abbrev pub IsNextWait : State → Option ℕ → Type 0
+IsNextWait before given =
+    (k : Key) (v : Event) → due before ≡ Some (k, v) → k.source ≡ 0 → 3 ≤ k.number → given ≡ wait_of_given k.time (port_at before k.node (k.number - 3))
+
 -- the event is that some link has sent a packet whole
 abbrev pub is_free : Event → Bool
 is_free (Start flow) = false
@@ -138,23 +144,24 @@ abbrev pub summed_over : (State → ℕ) → ℕ → List Moment → ℕ
 summed_over value since [] = 0
 summed_over value since (m ∷ ms) = value m.before * (m.line.key.time - since) + summed_over value m.line.key.time ms
 
--- how many packets waited, times how long; and how long the link was busy
-abbrev pub waited_of : ℕ → ℕ → List Moment → ℕ
-waited_of node index ms = summed_over (λ s. waiting_at (port_at s node index)) 0 ms
+-- how many packets waited, times how long, from a moment on up to the last event; and how long the link was busy
+abbrev pub waited_of : ℕ → ℕ → ℕ → List Moment → ℕ
+waited_of node index since ms = summed_over (λ s. waiting_at (port_at s node index)) since ms
 
-abbrev pub busy_of : ℕ → ℕ → List Moment → ℕ
-busy_of node index ms = summed_over (λ s. busy_at (port_at s node index)) 0 ms
+abbrev pub busy_of : ℕ → ℕ → ℕ → List Moment → ℕ
+busy_of node index since ms = summed_over (λ s. busy_at (port_at s node index)) since ms
 
 -- the longest queue of any state up to the last, which is s
 abbrev pub longest_of : ℕ → ℕ → List Moment → State → ℕ
 longest_of node index ms s = max (greatest (map (λ m. waiting_at (port_at m.before node index)) ms)) (waiting_at (port_at s node index))
 
--- nothing is counted yet of a link
-pub record IsLinkBegun (port : PortState) (f : LinkFigures) : Type 0 where
+-- nothing is counted yet of a link, from a moment on
+pub record IsLinkBegun (from : ℕ) (port : PortState) (f : LinkFigures) : Type 0 where
+  pub first : f.first ≡ port.offered
   pub offered : f.offered ≡ port.offered
   pub waiting : f.waiting ≡ waiting_at port
   pub busy : f.busy ≡ is_some port.next_free
-  pub since : f.since ≡ 0
+  pub since : f.since ≡ from
   pub lost : f.lost ≡ 0
   pub full : f.full ≡ 0
   pub codel : f.codel ≡ 0
@@ -166,25 +173,27 @@ pub record IsLinkBegun (port : PortState) (f : LinkFigures) : Type 0 where
   pub waits : IsTallyOf [] f.waits
   pub turns : f.turns ≡ 0
 
--- the figures are those of a link after these events, the last state being s; what has passed since they were read last is added to the two that count time
-pub record AreOfLink (ms : List Moment) (s : State) (node index : ℕ) (f : LinkFigures) : Type 0 where
+-- the figures are those of a link after these events from a base on, the last state being s; what has passed since they were read last is added to the two that count time
+pub record AreOfLink (b : Base) (ms : List Moment) (s : State) (node index : ℕ) (f : LinkFigures) : Type 0 where
+  pub first : f.first ≡ (port_at b.state node index).offered
   pub offered : f.offered ≡ (port_at s node index).offered
   pub waiting : f.waiting ≡ waiting_at (port_at s node index)
   pub busy : f.busy ≡ is_some (port_at s node index).next_free
-  pub since : f.since ≤ last_from 0 ms
+  pub since : f.since ≤ last_from b.since ms
   pub lost : f.lost ≡ dropped_of Lost node index ms
   pub full : f.full ≡ dropped_of Full node index ms
   pub codel : f.codel ≡ dropped_of (Take Codel) node index ms
   pub sent : f.sent ≡ tx_of node index ms
   pub bytes : f.bytes ≡ bytes_of node index ms
-  pub waited : f.waited + f.waiting * (last_from 0 ms - f.since) ≡ waited_of node index ms
-  pub busy_for : f.busy_for + (if f.busy then last_from 0 ms - f.since else 0) ≡ busy_of node index ms
+  pub waited : f.waited + f.waiting * (last_from b.since ms - f.since) ≡ waited_of node index b.since ms
+  pub busy_for : f.busy_for + (if f.busy then last_from b.since ms - f.since else 0) ≡ busy_of node index b.since ms
   pub longest : f.longest ≡ longest_of node index ms s
   pub waits : IsTallyOf (waits_of node index ms) f.waits
   pub turns : f.turns ≤ length ms
 
 -- a moment has come, and the link is now as it is
 pub record IsPassed (f : LinkFigures) (port : PortState) (now : ℕ) (g : LinkFigures) : Type 0 where
+  pub first : g.first ≡ f.first
   pub offered : g.offered ≡ port.offered
   pub waiting : g.waiting ≡ waiting_at port
   pub busy : g.busy ≡ is_some port.next_free
@@ -202,6 +211,7 @@ pub record IsPassed (f : LinkFigures) (port : PortState) (now : ℕ) (g : LinkFi
 
 -- an event at its node with these acts at the link is counted, and no time
 pub record IsCountedOf (f : LinkFigures) (acts : List Act) (g : LinkFigures) : Type 0 where
+  pub first : g.first ≡ f.first
   pub lost : g.lost ≡ f.lost + dropped_in Lost acts
   pub full : g.full ≡ f.full + dropped_in Full acts
   pub codel : g.codel ≡ f.codel + dropped_in (Take Codel) acts
@@ -219,6 +229,7 @@ pub record IsCountedOf (f : LinkFigures) (acts : List Act) (g : LinkFigures) : T
 
 -- an event at its node is counted at a moment: it did this at the link, where a packet that began to be sent has waited so long, and the link is now as it is
 pub record IsLinkCounted (f : LinkFigures) (port : PortState) (now : ℕ) (acts : List Act) (wait : Option ℕ) (g : LinkFigures) : Type 0 where
+  pub first : g.first ≡ f.first
   pub offered : g.offered ≡ port.offered
   pub waiting : g.waiting ≡ waiting_at port
   pub busy : g.busy ≡ is_some port.next_free
@@ -243,10 +254,10 @@ pub record IsLinkAfterIf (counts : Bool) (f : LinkFigures) (port : PortState) (l
   pub counted : counts ≡ true → IsLinkAfter f port line given g
   pub kept : counts ≡ false → g ≡ f
 
--- the links of a node, of each of which nothing is counted yet
-pub record AreLinksBegun (links : List LinkState) (fs : List LinkFigures) : Type 0 where
+-- the links of a node, of each of which nothing is counted yet, from a moment on
+pub record AreLinksBegun (from : ℕ) (links : List LinkState) (fs : List LinkFigures) : Type 0 where
   pub size : length fs ≡ length links
-  pub each : (i : ℕ) (other : LinkFigures) → i < length links → IsLinkBegun (link_at links i).port (slice_index_or fs i other)
+  pub each : (i : ℕ) (other : LinkFigures) → i < length links → IsLinkBegun from (link_at links i).port (slice_index_or fs i other)
 
 -- the links of a node, each after an event at it
 abbrev pub AreLinksAfter : List LinkFigures → List LinkState → TraceLine → Option ℕ → List LinkFigures → Type 0
@@ -275,7 +286,7 @@ pub record IsFound (figures : List LinkFigures) (links : List LinkState) (at : �
   pub some : at < length figures → IsOffered figures links at
   pub none : length figures ≤ at → (i : ℕ) → i < length figures → IsUnoffered figures links i
 
--- the figures of all links of a node after these events
-pub record AreOfNode (ms : List Moment) (s : State) (node : ℕ) (fs : List LinkFigures) : Type 0 where
+-- the figures of all links of a node after these events from a base on
+pub record AreOfNode (b : Base) (ms : List Moment) (s : State) (node : ℕ) (fs : List LinkFigures) : Type 0 where
   pub size : length fs ≡ length (part_at s node).links
-  pub each : (i : ℕ) (other : LinkFigures) → i < length fs → AreOfLink ms s node i (slice_index_or fs i other)
+  pub each : (i : ℕ) (other : LinkFigures) → i < length fs → AreOfLink b ms s node i (slice_index_or fs i other)

@@ -30,6 +30,13 @@ abbrev pub moments : State → ℕ → List Moment
 moments s zero = []
 moments s (suc n) = moments s n ++ following (run s n)
 
+-- from where on a run is counted: a moment, the state in which the first event is due that is counted, how many events were before it, and these
+pub record Base : Type 0 where
+  pub since : ℕ
+  pub state : State
+  pub before : ℕ
+  pub earlier : List Moment
+
 -- why a sender acts at an event that is due at its node, if it does
 abbrev pub arrived : Kind → ℕ → Option Cause
 arrived Data number = None

@@ -1,7 +1,7 @@
 -- What is counted of a sender, over its turns.
-use Rattle.std.specs.Prelude.{◌≡◌, ℕ, if◌then◌else◌, List, [], length, count_by, find, Option, IfSome}
-use Rattle.std.specs.List.{sum_by, filter_map}
-use Rattle.std.specs.Option.{option_map}
+use Rattle.std.specs.Prelude.{◌≡◌, ℕ, if◌then◌else◌, List, [], ◌++◌, length, count_by, find, Option, IfSome}
+use Rattle.std.specs.List.{sum_by, filter_map, slice_get}
+use Rattle.std.specs.Option.{option_map, option_and_then}
 use Rattle.node_core.specs.declared.role.Role.{Role}
 use Rattle.node_core.specs.Part.{sender_in}
 use Rattle.figures.specs.Turns.{Turn, Keeps, planned_in, again_in, in_recovery, is_timeout, sample_in, is_complete}
@@ -30,17 +30,21 @@ trips_of ts = filter_map sample_in ts
 abbrev pub completed_of : List Turn → Option ℕ
 completed_of ts = option_map (λ (t : Turn). t.now) (find (λ t. is_complete (planned_in t).fields) ts)
 
--- the figures are those of these turns
-pub record AreOfTurns (ts : List Turn) (f : SenderFigures) : Type 0 where
+-- when all bytes were acknowledged that a node's sender has, by what was counted of each
+abbrev pub completed_in : List SenderFigures → ℕ → Option ℕ
+completed_in counted node = option_and_then (λ (f : SenderFigures). f.completed) (slice_get counted node)
+
+-- the figures are those of these turns, which follow others; the moment at which all bytes are acknowledged is that of all turns
+pub record AreOfTurns (before ts : List Turn) (f : SenderFigures) : Type 0 where
   pub sent : f.sent ≡ sent_of ts
   pub again_in_recovery : f.again_in_recovery ≡ again_in_recovery_of ts
   pub again_otherwise : f.again_otherwise ≡ again_otherwise_of ts
   pub timeouts : f.timeouts ≡ timeouts_of ts
-  pub completed : f.completed ≡ completed_of ts
+  pub completed : f.completed ≡ completed_of (before ++ ts)
   pub trips : IsTallyOf (trips_of ts) f.trips
 
--- nothing is counted yet of a node's sender, if it has one
-pub record IsBegun (role : Role) (f : SenderFigures) : Type 0 where
-  pub figures : AreOfTurns [] f
+-- nothing is counted yet of a node's sender, if it has one, behind turns by which all bytes were acknowledged then, or not yet
+pub record IsBegun (completed : Option ℕ) (role : Role) (f : SenderFigures) : Type 0 where
+  pub figures : (before : List Turn) → completed ≡ completed_of before → AreOfTurns before [] f
   pub keeps : IfSome (sender_in role) (λ found. Keeps f.kept found.1)
   pub turns : f.turns ≡ 0

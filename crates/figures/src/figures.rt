@@ -4,7 +4,8 @@ ghost use Rattle.std.specs.Option.{option_map};
 ghost use Rattle.node_core.specs.Part.{sender_in};
 ghost use Rattle.net_machine.specs.Nodes.{node_at};
 ghost use Rattle.figures.specs.Moments.{cause_of as cause_is, arrived};
-ghost use Rattle.figures.specs.Senders.{IsBegun};
+ghost use Rattle.table_run.specs.Flow.{next_at};
+ghost use Rattle.figures.specs.Senders.{IsBegun, completed_in};
 ghost use Rattle.figures.specs.declared.sender.SenderFigures.{SenderFigures};
 ghost use Rattle.figures.specs.declared.links.NodeLinks.{NodeLinks};
 ghost use Rattle.figures.specs.Links.{AreLinksBegun};
@@ -12,9 +13,7 @@ ghost use Rattle.figures.specs.Links.{AreLinksBegun};
 use crate::links::{NodeLinks, count_links, is_free};
 use crate::sender::SenderFigures;
 use crate::turn::Cause;
-use crate::waits::next_wait;
-use net_machine::net::MOST_EVENTS;
-use net_machine::{Net, StepFault};
+use net_machine::Net;
 use node_core::{Event, Line, Node};
 use packet_chain::{Kind, Packet};
 use reno_sender::Sender;
@@ -29,9 +28,11 @@ pub struct Figures {
     pub senders: Vec<SenderFigures>,
     /// Of each node what is counted of the links that leave it.
     pub links: Vec<NodeLinks>,
+    /// Of each node the next byte for which its receiver waited where counting began; 0 of a node that has none.
+    pub received: Vec<u64>,
     /// How many events were run.
     pub events: u64,
-    /// When the last of them was run, in nanoseconds; 0 before the first.
+    /// When the last of them was run, in nanoseconds; before the first the moment from which on is counted.
     pub last: Time,
     ghost parts: { (node : ℕ) (counted : SenderFigures) → node < length senders.items → (slice_index_or senders.items node counted).turns ≤ events },
 }
@@ -86,39 +87,76 @@ fn sender_at(nodes: &[Node], place: usize) -> Option<&Sender>
     }
 }
 
-// Nothing is counted yet of a node's sender, if it has one.
-fn begun(alloc: Global, node: &Node) -> Result<SenderFigures, AllocError>
-    ensures { IfOk result (IsBegun node.now.part.role) }
+// Nothing is counted yet of a node's sender, if it has one, behind what has completed its flow, if anything has.
+fn begun(alloc: Global, node: &Node, completed: Option<Time>) -> Result<SenderFigures, AllocError>
+    ensures { IfOk result (IsBegun completed node.now.part.role) }
 {
     match node.sender() {
-        Some((_, sender)) => SenderFigures::new(alloc, sender),
+        Some((_, sender)) => SenderFigures::new(alloc, sender, completed),
         None => {
             let settings = plain_flow(0, 0).sender_settings();
-            SenderFigures::new(alloc, &Sender::new(settings))
+            SenderFigures::new(alloc, &Sender::new(settings), completed)
         }
     }
 }
 
-// Nothing is counted yet of the nodes' senders.
-fn all_begun(alloc: Global, nodes: &[Node]) -> Result<Vec<SenderFigures>, AllocError>
+// When all bytes of the flow of a node's sender were acknowledged, by what was counted of each.
+fn completed_at(earlier: &[SenderFigures], place: usize) -> Option<Time>
+    ensures { result ≡ completed_in earlier.now place }
+{
+    match earlier.get(place) {
+        Some(counted) => counted.completed,
+        None => None,
+    }
+}
+
+// Nothing is counted yet of the nodes' senders, behind what was counted of them earlier.
+fn all_begun(
+    alloc: Global,
+    nodes: &[Node],
+    earlier: &[SenderFigures],
+) -> Result<Vec<SenderFigures>, AllocError>
     ensures size { IfOk result (λ all. length all.items ≡ length nodes.now) }
-    ensures figures { IfOk result (λ all. (place : ℕ) (other : SenderFigures) → place < length nodes.now → IsBegun (node_at nodes.now place).part.role (slice_index_or all.items place other)) }
+    ensures figures { IfOk result (λ all. (place : ℕ) (other : SenderFigures) → place < length nodes.now → IsBegun (completed_in earlier.now place) (node_at nodes.now place).part.role (slice_index_or all.items place other)) }
 {
     let mut all = Vec::new(alloc);
-    for node in nodes {
-        all.push(begun(alloc, node)?)?;
+    for place in 0..nodes.len() {
+        let node = &nodes[place];
+        all.push(begun(alloc, node, completed_at(earlier, place))?)?;
     }
     Ok(all)
 }
 
-// Nothing is counted yet of the nodes' links.
-fn all_links_begun(alloc: Global, nodes: &[Node]) -> Result<Vec<NodeLinks>, AllocError>
+// Nothing is counted yet of the nodes' links, which are from a moment on.
+fn all_links_begun(alloc: Global, nodes: &[Node], since: Time) -> Result<Vec<NodeLinks>, AllocError>
     ensures size { IfOk result (λ all. length all.items ≡ length nodes.now) }
-    ensures figures { IfOk result (λ all. (place : ℕ) (other : NodeLinks) → place < length nodes.now → AreLinksBegun (node_at nodes.now place).part.links (slice_index_or all.items place other).figures.items) }
+    ensures figures { IfOk result (λ all. (place : ℕ) (other : NodeLinks) → place < length nodes.now → AreLinksBegun since (node_at nodes.now place).part.links (slice_index_or all.items place other).figures.items) }
 {
     let mut all = Vec::new(alloc);
     for node in nodes {
-        all.push(NodeLinks::new(alloc, node.ports())?)?;
+        all.push(NodeLinks::new(alloc, node.ports(), since)?)?;
+    }
+    Ok(all)
+}
+
+// The next byte for which a node's receiver waits, if it has one.
+fn received_at(node: &Node) -> u64
+    ensures { result ≡ next_at node.now.part.role }
+{
+    match node.receiver() {
+        Some((_, receiver)) => receiver.next(),
+        None => 0,
+    }
+}
+
+// The same of each node.
+fn all_received(alloc: Global, nodes: &[Node]) -> Result<Vec<u64>, AllocError>
+    ensures size { IfOk result (λ all. length all.items ≡ length nodes.now) }
+    ensures bytes { IfOk result (λ all. (place other : ℕ) → place < length nodes.now → slice_index_or all.items place other ≡ next_at (node_at nodes.now place).part.role) }
+{
+    let mut all = Vec::new(alloc);
+    for node in nodes {
+        all.push(received_at(node))?;
     }
     Ok(all)
 }
@@ -126,38 +164,64 @@ fn all_links_begun(alloc: Global, nodes: &[Node]) -> Result<Vec<NodeLinks>, Allo
 impl Figures {
     ghost use Rattle.sim_time.specs.Moment.{IsMoment};
     ghost use Rattle.node_core.specs.TraceLine.{shown};
-    ghost use Rattle.table_run.specs.State.{State, opening, step, due};
-    ghost use Rattle.figures.specs.Moments.{Moment};
+    ghost use Rattle.table_run.specs.State.{State, opening, step};
+    ghost use Rattle.figures.specs.Moments.{Moment, Base, turns_at};
+    ghost use Rattle.figures.specs.Senders.{completed_of};
     ghost use Rattle.figures.specs.Links.{TellsWait, KeepsLinks};
-    ghost use Rattle.figures.specs.Figures.{AreAfter, AreOfLinks, AreFigures, Follows, AreOfRun, AreOfSomeRun};
+    ghost use Rattle.figures.specs.Figures.{AreAfter, AreOfLinks, AreFigures, Follows, NoneBefore, base_at, whole, AreOfRun, AreOfSomeRun};
     ghost use Rattle.scenario_image.specs.declared.parts.ScenarioParts.{ScenarioParts};
     ghost use Rattle.scenario_image.specs.Scenario.{IsScenario};
-    ghost use Rattle.net_machine.specs.Run.{Stepped};
 
-    /// Nothing is counted yet of a net.
-    pub fn new(alloc: Global, net: &Net) -> Result<Figures, AllocError>
-        ensures run { IfOk result (λ f. (p : ScenarioParts) → net.now ≡ record { state = opening p; position = 0 } → AreOfRun p f net.now) }
-        ensures some { IfOk result (λ f. (p : ScenarioParts) → IsScenario p → net.now ≡ record { state = opening p; position = 0 } → AreOfSomeRun f net.now) }
+    // Nothing is counted yet of a net, which is from a moment on, behind what was counted of its senders earlier.
+    fn begun(
+        alloc: Global,
+        net: &Net,
+        since: Time,
+        earlier: &[SenderFigures],
+    ) -> Result<Figures, AllocError>
+        ensures { IfOk result (λ f. (n : ℕ) (before : List Moment) → ((node : ℕ) → node < length net.now.state.parts → completed_in earlier.now node ≡ completed_of (turns_at node before)) → AreFigures (record { since = since; state = net.now.state; before = n; earlier = before }) [] net.now.state f) }
     {
         Ok(Figures {
-            senders: all_begun(alloc, net.nodes())?,
-            links: all_links_begun(alloc, net.nodes())?,
+            senders: all_begun(alloc, net.nodes(), earlier)?,
+            links: all_links_begun(alloc, net.nodes(), since)?,
+            received: all_received(alloc, net.nodes())?,
             events: 0,
-            last: 0,
+            last: since,
         })
     }
 
-    // The net has run one more event, of which the line tells. Where it frees a link, the packet
-    // that is sent then has waited for `given`.
+    /// Nothing is counted yet of a net.
+    pub fn new(alloc: Global, net: &Net) -> Result<Figures, AllocError>
+        ensures run { IfOk result (λ f. (p : ScenarioParts) → net.now ≡ record { state = opening p; position = 0 } → AreOfRun p (whole p) f net.now) }
+        ensures some { IfOk result (λ f. (p : ScenarioParts) → IsScenario p → net.now ≡ record { state = opening p; position = 0 } → AreOfSomeRun f net.now) }
+    {
+        let figures = Figures::begun(alloc, net, 0, &[])?;
+        Ok(figures)
+    }
+
+    /// Nothing is counted yet of a net from a moment on, up to where these figures are counted. When a flow
+    /// was completed is known still.
+    pub fn from_here(&self, alloc: Global, net: &Net, since: Time) -> Result<Figures, AllocError>
+        ensures run { IfOk result (λ f. (p : ScenarioParts) (b : Base) → since ≤ p.end → AreOfRun p b self.now net.now → AreOfRun p (base_at p since net.now) f net.now) }
+        ensures some { IfOk result (λ f. (p : ScenarioParts) (b : Base) → IsScenario p → since ≤ p.end → NoneBefore since net.now.state → AreOfRun p b self.now net.now → AreOfSomeRun f net.now) }
+    {
+        let _position = net.position();
+        let figures = Figures::begun(alloc, net, since, &self.senders)?;
+        Ok(figures)
+    }
+
+    /// The net has run one more event, of which the line tells. Where it frees a link, the packet
+    /// that is sent then has waited for `given`.
     #[inline(always)]
-    fn after(&mut self, net: &Net, line: &Line, given: Option<Time>)
+    pub(crate) fn after(&mut self, net: &Net, line: &Line, given: Option<Time>)
         requires few { self.old.events < 1000000000000000 }
         requires moment { IsMoment line.now.key.time }
         requires order { self.old.last ≤ line.now.key.time }
         requires follows { Follows self.old (shown line.now) net.now.state }
         requires given { IfSome given (λ wait. wait < 2 ^ 50) }
-        ensures senders { (ms : List Moment) (s : State) → AreAfter ms s self.old → step s ≡ Some (shown line.now, net.now.state) → AreAfter (ms ++ record { before = s; line = shown line.now; after = net.now.state } ∷ []) net.now.state self.new }
-        ensures links { (ms : List Moment) (s : State) → AreFigures ms s self.old → step s ≡ Some (shown line.now, net.now.state) → TellsWait s (shown line.now) net.now.state given → KeepsLinks s (shown line.now) net.now.state → AreOfLinks (ms ++ record { before = s; line = shown line.now; after = net.now.state } ∷ []) net.now.state self.new.links.items }
+        ensures senders { (b : Base) (ms : List Moment) (s : State) → AreAfter b ms s self.old → step s ≡ Some (shown line.now, net.now.state) → AreAfter b (ms ++ record { before = s; line = shown line.now; after = net.now.state } ∷ []) net.now.state self.new }
+        ensures links { (b : Base) (ms : List Moment) (s : State) → AreFigures b ms s self.old → step s ≡ Some (shown line.now, net.now.state) → TellsWait s (shown line.now) net.now.state given → KeepsLinks s (shown line.now) net.now.state → AreOfLinks b (ms ++ record { before = s; line = shown line.now; after = net.now.state } ∷ []) net.now.state self.new.links.items }
+        ensures received { self.new.received.items ≡ self.old.received.items }
         ensures last { self.new.last ≡ line.now.key.time }
         ensures events { self.new.events ≡ self.old.events + 1 }
     {
@@ -176,35 +240,6 @@ impl Figures {
                 let counted = &mut self.senders[place];
                 counted.turn(sender, cause, line.key.time);
             }
-        }
-    }
-
-    /// Runs the event of the least key below the end, where there is one, and tells of it in
-    /// `line`, as [`Net::step_into`] does; the figures are then those of the run up to there.
-    #[inline(always)]
-    pub fn step(&mut self, net: &mut Net, line: &mut Line) -> Result<bool, StepFault>
-        requires { AreOfSomeRun self.old net.old }
-        ensures ok { IfOk result (λ fired. Stepped net.old (if fired then Some (shown line.new) else None) net.new) }
-        ensures full { IfErr result (λ fault. fault ≡ StepFault.CountFull → (due net.old.state ≢ None) × (net.old.position ≡ 1000000000000000)) }
-        ensures none { due net.old.state ≡ None → result ≡ Ok false }
-        ensures count { due net.old.state ≢ None → net.old.position ≡ 1000000000000000 → result ≡ Err StepFault.CountFull }
-        ensures err { OnErr result (net.new ≡ net.old) }
-        ensures figures { (p : ScenarioParts) → AreOfRun p self.old net.old → AreOfRun p self.new net.new }
-        ensures goes_on { AreOfSomeRun self.new net.new }
-    {
-        let Some(key) = net.due_key() else {
-            return Ok(false);
-        };
-        if net.position() == MOST_EVENTS {
-            return Err(StepFault::CountFull);
-        }
-        let given = next_wait(net, key);
-        match net.fire_into(key.node, line) {
-            Ok(()) => {
-                self.after(net, line, given);
-                Ok(true)
-            }
-            Err(_) => Err(StepFault::NoMemory),
         }
     }
 }

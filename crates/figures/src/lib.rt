@@ -13,6 +13,7 @@ pub mod tally;
 mod told;
 mod turn;
 mod waits;
+mod watching;
 
 pub use figures::Figures;
 pub use link::LinkFigures;

@@ -11,6 +11,8 @@ use std::alloc::{AllocError, Global};
 /// What is counted of a link.
 #[derive(Drop)]
 pub struct LinkFigures {
+    /// How many packets were offered to it before it was counted.
+    pub first: u128,
     /// How many packets were offered to it.
     pub offered: u128,
     /// How many packets wait at it.
@@ -82,15 +84,16 @@ impl LinkFigures {
     ghost use Rattle.port.specs.declared.acts.Act.{Act};
     ghost use Rattle.figures.specs.Links.{acts_between, is_free, tx_in, IsSentAlone, IsCountedOf, IsPassed, IsLinkCounted, IsLinkBegun, IsLinkAfter};
 
-    /// Nothing is counted yet of a link.
-    pub fn new(alloc: Global, port: &Port) -> Result<LinkFigures, AllocError>
-        ensures { IfOk result (IsLinkBegun port.now) }
+    /// Nothing is counted yet of a link, which is from a moment on.
+    pub fn new(alloc: Global, port: &Port, since: Time) -> Result<LinkFigures, AllocError>
+        ensures { IfOk result (IsLinkBegun since port.now) }
     {
         Ok(LinkFigures {
+            first: port.offered(),
             offered: port.offered(),
             waiting: port.queue().len(),
             busy: port.next_free().is_some(),
-            since: 0,
+            since,
             lost: 0,
             full: 0,
             codel: 0,

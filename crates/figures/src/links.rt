@@ -24,13 +24,13 @@ pub struct NodeLinks {
     pub exits: Exits,
 }
 
-// Nothing is counted yet of some links.
-fn links_begun(alloc: Global, links: &[Link]) -> Result<Vec<LinkFigures>, AllocError>
-    ensures { IfOk result (λ all. AreLinksBegun links.now all.items) }
+// Nothing is counted yet of some links, which are from a moment on.
+fn links_begun(alloc: Global, links: &[Link], since: Time) -> Result<Vec<LinkFigures>, AllocError>
+    ensures { IfOk result (λ all. AreLinksBegun since links.now all.items) }
 {
     let mut all = Vec::new(alloc);
     for link in links {
-        all.push(LinkFigures::new(alloc, link.port())?)?;
+        all.push(LinkFigures::new(alloc, link.port(), since)?)?;
     }
     Ok(all)
 }
@@ -90,12 +90,12 @@ fn find_offered(figures: &[LinkFigures], links: &[Link]) -> usize
 }
 
 impl NodeLinks {
-    /// Nothing is counted yet of some links.
-    pub(crate) fn new(alloc: Global, links: &[Link]) -> Result<NodeLinks, AllocError>
-        ensures { IfOk result (λ all. AreLinksBegun links.now all.figures.items) }
+    /// Nothing is counted yet of some links, which are from a moment on.
+    pub(crate) fn new(alloc: Global, links: &[Link], since: Time) -> Result<NodeLinks, AllocError>
+        ensures { IfOk result (λ all. AreLinksBegun since links.now all.figures.items) }
     {
         Ok(NodeLinks {
-            figures: links_begun(alloc, links)?,
+            figures: links_begun(alloc, links, since)?,
             exits: Exits::new(alloc)?,
         })
     }

@@ -1,18 +1,18 @@
 //! The figures of a whole run.
 ghost use Rattle.std.specs.Prelude.{◌≡◌, None, IfOk};
 ghost use Rattle.table_run.specs.State.{due};
-ghost use Rattle.figures.specs.Figures.{AreOfRun};
+ghost use Rattle.figures.specs.Figures.{AreOfRun, whole};
 
 use crate::figures::Figures;
-use net_machine::net::MOST_EVENTS;
 use net_machine::{Net, StepFault};
+use net_watch::run_watched;
 use node_core::Line;
 use scenario_image::Scenario;
 use std::alloc::Global;
 
 /// Runs a scenario to its end, and answers its figures, with the net as it is then.
 pub fn run_figures(alloc: Global, scenario: &Scenario) -> Result<(Figures, Net), StepFault>
-    ensures figures { IfOk result (λ all. AreOfRun scenario.now all.0 all.1) }
+    ensures figures { IfOk result (λ all. AreOfRun scenario.now (whole scenario.now) all.0 all.1) }
     ensures ended { IfOk result (λ all. due all.1.state ≡ None) }
 {
     let _parts = scenario.parts();
@@ -23,10 +23,8 @@ pub fn run_figures(alloc: Global, scenario: &Scenario) -> Result<(Figures, Net),
         return Err(StepFault::NoMemory);
     };
     let mut line = Line::new(alloc);
-    for _turn in 0..=MOST_EVENTS {
-        if !figures.step(&mut net, &mut line)? {
-            return Ok((figures, net));
-        }
+    match run_watched(&mut net, &mut figures, &mut line) {
+        Ok(_end) => Ok((figures, net)),
+        Err(fault) => Err(fault),
     }
-    Err(StepFault::CountFull)
 }

@@ -119,17 +119,22 @@ impl SenderFigures {
     ghost use Rattle.sim_time.specs.Moment.{IsMoment};
     ghost use Rattle.reno_sender.specs.declared.fields.SenderFields.{SenderFields};
     ghost use Rattle.figures.specs.Turns.{Turn, Keeps, HasActedFrom, planned_by};
-    ghost use Rattle.figures.specs.Senders.{AreOfTurns};
+    ghost use Rattle.figures.specs.Senders.{AreOfTurns, completed_of};
 
-    /// Nothing is counted yet of a sender that keeps these fields.
-    pub fn new(alloc: Global, kept: &Sender) -> Result<SenderFigures, AllocError>
-        ensures figures { IfOk result (AreOfTurns []) }
+    /// Nothing is counted yet of a sender that keeps these fields, behind turns by which all bytes of its
+    /// flow were acknowledged at a moment, or not yet.
+    pub fn new(
+        alloc: Global,
+        kept: &Sender,
+        completed: Option<Time>,
+    ) -> Result<SenderFigures, AllocError>
+        ensures figures { (before : List Turn) → completed ≡ completed_of before → IfOk result (AreOfTurns before []) }
         ensures kept { IfOk result (λ f. Keeps f.kept kept.now) }
         ensures turns { IfOk result (λ f. f.turns ≡ 0) }
     {
         Ok(SenderFigures {
             kept: kept_of(kept.as_fields()),
-            completed: None,
+            completed,
             sent: 0,
             again_in_recovery: 0,
             again_otherwise: 0,
@@ -145,7 +150,7 @@ impl SenderFigures {
         requires few { self.old.turns < 2 ^ 60 }
         requires moment { IsMoment now }
         requires acted { HasActedFrom self.old.kept cause now new.now }
-        ensures figures { (ts : List Turn) (f : SenderFields) → Keeps self.old.kept f → new.now ≡ (planned_by f cause now).fields → AreOfTurns ts self.old → AreOfTurns (ts ++ record { old = f; cause = cause; now = now } ∷ []) self.new }
+        ensures figures { (before ts : List Turn) (f : SenderFields) → Keeps self.old.kept f → new.now ≡ (planned_by f cause now).fields → AreOfTurns before ts self.old → AreOfTurns before (ts ++ record { old = f; cause = cause; now = now } ∷ []) self.new }
         ensures kept { Keeps self.new.kept new.now }
         ensures turns { self.new.turns ≡ self.old.turns + 1 }
     {
@@ -163,7 +168,7 @@ impl SenderFigures {
         requires few { self.old.turns < 2 ^ 60 }
         requires moment { IsMoment now }
         requires acted { HasActedFrom self.old.kept cause now new.now }
-        ensures figures { (ts : List Turn) (f : SenderFields) → Keeps self.old.kept f → new.now ≡ (planned_by f cause now).fields → AreOfTurns ts self.old → AreOfTurns (ts ++ record { old = f; cause = cause; now = now } ∷ []) self.new }
+        ensures figures { (before ts : List Turn) (f : SenderFields) → Keeps self.old.kept f → new.now ≡ (planned_by f cause now).fields → AreOfTurns before ts self.old → AreOfTurns before (ts ++ record { old = f; cause = cause; now = now } ∷ []) self.new }
         ensures kept { Keeps self.new.kept new.now }
         ensures turns { self.new.turns ≡ self.old.turns + 1 }
     {
@@ -176,7 +181,7 @@ impl SenderFigures {
         requires few { self.old.turns < 2 ^ 60 }
         requires moment { IsMoment now }
         requires acted { HasActedFrom self.old.kept cause now new.now }
-        ensures figures { (ts : List Turn) (f : SenderFields) → Keeps self.old.kept f → new.now ≡ (planned_by f cause now).fields → AreOfTurns ts self.old → AreOfTurns (ts ++ record { old = f; cause = cause; now = now } ∷ []) self.new }
+        ensures figures { (before ts : List Turn) (f : SenderFields) → Keeps self.old.kept f → new.now ≡ (planned_by f cause now).fields → AreOfTurns before ts self.old → AreOfTurns before (ts ++ record { old = f; cause = cause; now = now } ∷ []) self.new }
         ensures kept { Keeps self.new.kept new.now }
         ensures turns { self.new.turns ≡ self.old.turns + 1 }
     {

@@ -22,11 +22,11 @@ use Rattle.table_run.specs.Sound.{afresh}
 use Rattle.table_run.specs.State.{State, part_at, no_part, opening, run, step}
 use Rattle.table_run.proofs.Due.{is_due}
 use Rattle.table_run.proofs.RunLaws.{sound_run}
-use Rattle.table_run.proofs.Runs.{of_run, of_step, step_end}
+use Rattle.table_run.proofs.Runs.{of_run, of_step, run_end, step_end}
 use Rattle.net_machine.specs.Run.{Reached}
 use Rattle.net_machine.specs.Wiring.{from_of, exit_of, no_link_part}
 use Rattle.net_machine.proofs.Counting.{passing, count-cons}
-use Rattle.figures.specs.Moments.{moments, turns_at}
+use Rattle.figures.specs.Moments.{Moment, Base, moments, turns_at}
 use Rattle.figures.specs.Senders.{AreOfTurns}
 use Rattle.figures.specs.Links.{AreOfLink}
 use Rattle.figures.specs.Figures.{last_line, AreOfRun}
@@ -87,28 +87,33 @@ pub exit_within : (links : List LinkPart) (number : ℕ) → number < length lin
 exit_within links number under = count_under (λ (link : LinkPart). link.from == from_of links number) 0 links number no_link_part under (same_number (from_of links number))
 
 -- what was counted of a flow's sender
-pub record IsCounted (p : ScenarioParts) (f : Figures) (r : Reached) (flow : FlowPart) : Type 0 where
+pub record IsCounted (b : Base) (ms : List Moment) (f : Figures) (flow : FlowPart) : Type 0 where
   pub within : flow.sender < length f.senders.items
-  pub turns : (other : SenderFigures) → AreOfTurns (turns_at flow.sender (moments (opening p) r.position)) (get_or f.senders.items flow.sender other)
+  pub turns : (other : SenderFigures) → AreOfTurns (turns_at flow.sender b.earlier) (turns_at flow.sender ms) (get_or f.senders.items flow.sender other)
 
 -- and of a link
-pub record IsExitCounted (p : ScenarioParts) (f : Figures) (r : Reached) (number : ℕ) : Type 0 where
+pub record IsExitCounted (p : ScenarioParts) (b : Base) (ms : List Moment) (s : State) (f : Figures) (number : ℕ) : Type 0 where
   pub within : from_of p.links number < length f.links.items
   pub index : (other : NodeLinks) → exit_of p.links number < length (get_or f.links.items (from_of p.links number) other).figures.items
-  pub link : (other : NodeLinks) (link : LinkFigures) → AreOfLink (moments (opening p) r.position) r.state (from_of p.links number) (exit_of p.links number) (get_or (get_or f.links.items (from_of p.links number) other).figures.items (exit_of p.links number) link)
+  pub link : (other : NodeLinks) (link : LinkFigures) → AreOfLink b ms s (from_of p.links number) (exit_of p.links number) (get_or (get_or f.links.items (from_of p.links number) other).figures.items (exit_of p.links number) link)
 
-module _ (p : ScenarioParts) (f : Figures) (r : Reached) (is_scenario : IsScenario p) (of : AreOfRun p f r) where
+module _ (p : ScenarioParts) (b : Base) (f : Figures) (r : Reached) (is_scenario : IsScenario p) (of : AreOfRun p b f r) where
   abbrev sound : IsSoundRun p of.lines r.state
   sound = sound_run p r.position of.lines r.state is_scenario of.comes
 
+  abbrev events : List Moment
+  events = moments b.state of.count
+
   -- no event was past the end
   pub last_most : f.last ≤ p.end
-  last_most = subst (λ n. n ≤ p.end) (sym of.last) (last_by 0 p.end of.lines (omega arith) (lines_by r.position (opening p) r.state of.lines p.end refl of.comes))
+  last_most =
+      subst (λ n. n ≤ p.end) (sym of.last)
+      (last_by b.since p.end of.counted of.base.in_time (lines_by of.count b.state r.state of.counted p.end (run_end b.before (opening p) b.state of.base.lines of.base.comes) of.goes_on))
 
   pub end_most : p.end ≤ 1000000000000000
   end_most = let most = is_scenario.in_limits.end_range.1 in omega (arith, most)
 
-  pub flow_counted : (i : ℕ) (d : FlowPart) → i < length p.flows → IsCounted p f r (get_or p.flows i d)
+  pub flow_counted : (i : ℕ) (d : FlowPart) → i < length p.flows → IsCounted b events f (get_or p.flows i d)
   flow_counted i d under =
       let flow = get_or p.flows i d in
       let ends = sound.sound.each_flow i flow (slice_get-get_or p.flows i d under) in
@@ -119,7 +124,7 @@ module _ (p : ScenarioParts) (f : Figures) (r : Reached) (is_scenario : IsScenar
   links_of node inside =
       sym (length-map (part_at r.state node).links afresh) ∙ ap (λ (links : List LinkState). length links) (sound.sound.each_node node inside).its_links ∙ length-map (leaving_links p.links node) opening_link
 
-  pub link_counted : (number : ℕ) → number < length p.links → IsExitCounted p f r number
+  pub link_counted : (number : ℕ) → number < length p.links → IsExitCounted p b events r.state f number
   link_counted number under =
       let node = from_of p.links number in
       let index = exit_of p.links number in
@@ -134,20 +139,19 @@ abbrev pub no_flow_part : FlowPart
 no_flow_part = record { sender = 0; receiver = 0; mss = 0; segments = 0; start = 0; rwnd = 0; delack = 0; variant = record { newreno = false; iw = Iw3 } }
 
 -- what is said of them, one by one
-pub flow_said : (p : ScenarioParts) (r : Reached) (i : ℕ) (d : FlowPart) (e : FlowSummary) → i < length p.flows
-    → get_or (flow_summaries p (moments (opening p) r.position) r.state) i e ≡ flow_summary (moments (opening p) r.position) r.state (get_or p.flows i d)
-flow_said p r i d e under = get_or-map (flow_summary (moments (opening p) r.position) r.state) p.flows i d e under
+module _ (p : ScenarioParts) (b : Base) (ms : List Moment) (s : State) where
+  pub flow_said : (i : ℕ) (d : FlowPart) (e : FlowSummary) → i < length p.flows → get_or (flow_summaries p b ms s) i e ≡ flow_summary b ms s (get_or p.flows i d)
+  flow_said i d e under = get_or-map (flow_summary b ms s) p.flows i d e under
 
-pub flows_many : (p : ScenarioParts) (r : Reached) → length (flow_summaries p (moments (opening p) r.position) r.state) ≡ length p.flows
-flows_many p r = length-map p.flows (flow_summary (moments (opening p) r.position) r.state)
+  pub flows_many : length (flow_summaries p b ms s) ≡ length p.flows
+  flows_many = length-map p.flows (flow_summary b ms s)
 
-pub link_said : (p : ScenarioParts) (r : Reached) (i : ℕ) (e : LinkSummary) → i < length p.links
-    → get_or (link_summaries p (moments (opening p) r.position) r.state) i e ≡ link_summary p (moments (opening p) r.position) r.state i
-link_said p r i e under =
-    let inside : i < length (enumerate_from 0 p.links) = subst (λ n. i < n) (sym (length-enumerate_from 0 p.links)) under in
-    get_or-map (λ (numbered : ℕ × LinkPart). link_summary p (moments (opening p) r.position) r.state numbered.0) (enumerate_from 0 p.links) i (0, no_link_part) e inside
-    ∙ ap (λ (numbered : ℕ × LinkPart). link_summary p (moments (opening p) r.position) r.state numbered.0) (get_or-enumerate_from 0 p.links i (0, no_link_part) under)
-    ∙ (let same : 0 + i ≡ i = omega arith in ap (link_summary p (moments (opening p) r.position) r.state) same)
+  pub link_said : (i : ℕ) (e : LinkSummary) → i < length p.links → get_or (link_summaries p b ms s) i e ≡ link_summary p b ms s i
+  link_said i e under =
+      let inside : i < length (enumerate_from 0 p.links) = subst (λ n. i < n) (sym (length-enumerate_from 0 p.links)) under in
+      get_or-map (λ (numbered : ℕ × LinkPart). link_summary p b ms s numbered.0) (enumerate_from 0 p.links) i (0, no_link_part) e inside
+      ∙ ap (λ (numbered : ℕ × LinkPart). link_summary p b ms s numbered.0) (get_or-enumerate_from 0 p.links i (0, no_link_part) under)
+      ∙ (let same : 0 + i ≡ i = omega arith in ap (link_summary p b ms s) same)
 
-pub links_many : (p : ScenarioParts) (r : Reached) → length (link_summaries p (moments (opening p) r.position) r.state) ≡ length p.links
-links_many p r = length-map (enumerate_from 0 p.links) (λ (numbered : ℕ × LinkPart). link_summary p (moments (opening p) r.position) r.state numbered.0) ∙ length-enumerate_from 0 p.links
+  pub links_many : length (link_summaries p b ms s) ≡ length p.links
+  links_many = length-map (enumerate_from 0 p.links) (λ (numbered : ℕ × LinkPart). link_summary p b ms s numbered.0) ∙ length-enumerate_from 0 p.links

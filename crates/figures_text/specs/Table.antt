@@ -2,7 +2,7 @@
 use Rattle.std.specs.Prelude.{ℕ, List, [], ◌∷◌, ◌++◌, codes, decimal, Option, None, Some}
 use Rattle.std.specs.List.{flat_map, enumerate_from}
 use Rattle.figures_text.specs.declared.figure.Figure.{Figure}
-use Rattle.figures_text.specs.declared.figure.Figure.TheVariants.{Start, Delivered, Completed, SentSegments, AgainInRecovery, AgainOtherwise, Timeouts, RoundTrips, LeastTrip, MedianTrip, HighTrip, GreatestTrip, Offered, Lost, Full, Codel, SentPackets, SentBytes, Busy, GreatestQueue, Waited, MedianDelay, HighDelay, GreatestDelay, Events, End}
+use Rattle.figures_text.specs.declared.figure.Figure.TheVariants.{Start, Delivered, Completed, SentSegments, AgainInRecovery, AgainOtherwise, Timeouts, RoundTrips, LeastTrip, MedianTrip, HighTrip, HighestTrip, GreatestTrip, Offered, Lost, Full, Codel, SentPackets, SentBytes, Busy, GreatestQueue, Waited, MedianDelay, HighDelay, HighestDelay, GreatestDelay, Events, End}
 use Rattle.figures_text.specs.declared.row.Row.{Row}
 use Rattle.figures_text.specs.declared.subject.Subject.{Subject}
 use Rattle.figures_text.specs.declared.subject.Subject.TheVariants.{Flow, Link, Run}
@@ -37,19 +37,21 @@ label_of Timeouts = codes "timeouts,times"
 label_of RoundTrips = codes "round trips,times"
 label_of LeastTrip = codes "least round trip,ns"
 label_of MedianTrip = codes "median round trip,ns"
-label_of HighTrip = codes "99th percentile of round trips,ns"
+label_of HighTrip = codes "95th percentile of round trips,ns"
+label_of HighestTrip = codes "99th percentile of round trips,ns"
 label_of GreatestTrip = codes "greatest round trip,ns"
 label_of Offered = codes "offered,packets"
 label_of Lost = codes "dropped as lost,packets"
 label_of Full = codes "dropped as full,packets"
 label_of Codel = codes "dropped by CoDel,packets"
-label_of SentPackets = codes "sent,packets"
-label_of SentBytes = codes "sent,bytes"
+label_of SentPackets = codes "sent packets,packets"
+label_of SentBytes = codes "sent bytes,bytes"
 label_of Busy = codes "busy,ns"
 label_of GreatestQueue = codes "greatest queue,packets"
 label_of Waited = codes "waited,packet-ns"
 label_of MedianDelay = codes "median delay in the queue,ns"
-label_of HighDelay = codes "99th percentile of delay in the queue,ns"
+label_of HighDelay = codes "95th percentile of delay in the queue,ns"
+label_of HighestDelay = codes "99th percentile of delay in the queue,ns"
 label_of GreatestDelay = codes "greatest delay in the queue,ns"
 label_of Events = codes "events,events"
 label_of End = codes "end,ns"
@@ -92,6 +94,7 @@ flow_rows flow =
     ∷ or_none LeastTrip flow.least
     ∷ or_none MedianTrip flow.median
     ∷ or_none HighTrip flow.high
+    ∷ or_none HighestTrip flow.highest
     ∷ or_none GreatestTrip flow.greatest
     ∷ []
 
@@ -109,12 +112,13 @@ link_rows link =
     ∷ counted Waited link.waited
     ∷ or_none MedianDelay link.median
     ∷ or_none HighDelay link.high
+    ∷ or_none HighestDelay link.highest
     ∷ or_none GreatestDelay link.greatest
     ∷ []
 
--- what is said of the run as a whole: its events, and when it ended
+-- what is said of the run as a whole: its events, and when the last of them was
 abbrev pub run_rows : RunSummary → List Row
-run_rows run = counted Events run.events ∷ counted End run.end ∷ []
+run_rows run = counted Events run.events ∷ or_none End run.end ∷ []
 
 -- the lines of a flow, with its number
 abbrev pub flow_lines : ℕ × FlowSummary → List ℕ

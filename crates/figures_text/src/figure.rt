@@ -27,8 +27,10 @@ pub enum Figure {
     LeastTrip,
     /// Their median.
     MedianTrip,
-    /// Their 99th percentile.
+    /// Their 95th percentile.
     HighTrip,
+    /// Their 99th percentile.
+    HighestTrip,
     /// The greatest of them.
     GreatestTrip,
     /// The packets that were offered to a link.
@@ -51,8 +53,10 @@ pub enum Figure {
     Waited,
     /// The median of the packets' delays in its queue.
     MedianDelay,
-    /// Their 99th percentile.
+    /// Their 95th percentile.
     HighDelay,
+    /// Their 99th percentile.
+    HighestDelay,
     /// The greatest of them.
     GreatestDelay,
     /// How many events a run had.
@@ -76,19 +80,21 @@ fn label(figure: Figure) -> &'static [u8]
         Figure::RoundTrips => b"round trips,times",
         Figure::LeastTrip => b"least round trip,ns",
         Figure::MedianTrip => b"median round trip,ns",
-        Figure::HighTrip => b"99th percentile of round trips,ns",
+        Figure::HighTrip => b"95th percentile of round trips,ns",
+        Figure::HighestTrip => b"99th percentile of round trips,ns",
         Figure::GreatestTrip => b"greatest round trip,ns",
         Figure::Offered => b"offered,packets",
         Figure::Lost => b"dropped as lost,packets",
         Figure::Full => b"dropped as full,packets",
         Figure::Codel => b"dropped by CoDel,packets",
-        Figure::SentPackets => b"sent,packets",
-        Figure::SentBytes => b"sent,bytes",
+        Figure::SentPackets => b"sent packets,packets",
+        Figure::SentBytes => b"sent bytes,bytes",
         Figure::Busy => b"busy,ns",
         Figure::GreatestQueue => b"greatest queue,packets",
         Figure::Waited => b"waited,packet-ns",
         Figure::MedianDelay => b"median delay in the queue,ns",
-        Figure::HighDelay => b"99th percentile of delay in the queue,ns",
+        Figure::HighDelay => b"95th percentile of delay in the queue,ns",
+        Figure::HighestDelay => b"99th percentile of delay in the queue,ns",
         Figure::GreatestDelay => b"greatest delay in the queue,ns",
         Figure::Events => b"events,events",
         Figure::End => b"end,ns",

@@ -3,19 +3,19 @@ ghost use Rattle.std.specs.Prelude.{◌≡◌, ◌<◌, ◌≤◌, ◌^◌, ◌+
 ghost use Rattle.scenario_image.specs.Scenario.{IsScenario};
 ghost use Rattle.sim_time.specs.Moment.{IsMoment};
 ghost use Rattle.table_run.specs.Flow.{next_at as next_of_role};
-ghost use Rattle.table_run.specs.State.{State, opening};
+ghost use Rattle.table_run.specs.State.{State, part_at};
 ghost use Rattle.net_machine.specs.Nodes.{node_at, parts_of};
 ghost use Rattle.net_machine.specs.Wiring.{from_of, exit_of as exit_is};
 ghost use Rattle.figures.specs.Turns.{Turn};
-ghost use Rattle.figures.specs.Moments.{Moment, moments, turns_at};
+ghost use Rattle.figures.specs.Moments.{Moment, Base, moments, turns_at};
 ghost use Rattle.figures.specs.Senders.{AreOfTurns};
 ghost use Rattle.figures.specs.Links.{AreOfLink, waits_of, last_from};
 ghost use Rattle.figures.specs.Classes.{greatest_of, percentile};
-ghost use Rattle.figures.specs.Figures.{AreOfRun};
+ghost use Rattle.figures.specs.Figures.{AreOfRun, AreOfPart};
 ghost use Rattle.figures.specs.declared.sender.SenderFigures.{SenderFigures};
 ghost use Rattle.figures.specs.declared.links.NodeLinks.{NodeLinks};
 ghost use Rattle.figures.specs.declared.link.LinkFigures.{LinkFigures};
-ghost use Rattle.figures_text.specs.Summaries.{summary_of_turns, summary_of_exit, flow_summary as flow_is, link_summary as link_is, flow_summaries as flows_are, link_summaries as links_are, table_over};
+ghost use Rattle.figures_text.specs.Summaries.{summary_of_turns, summary_of_exit, flow_summary as flow_is, link_summary as link_is, flow_summaries as flows_are, link_summaries as links_are, last_of, table_over};
 
 use crate::summary::{FlowSummary, LinkSummary, RunSummary};
 use crate::table::figures_text;
@@ -39,15 +39,27 @@ fn next_at(nodes: &[Node], place: usize) -> u64
     }
 }
 
-/// What is said of a flow that starts at a moment, of whose sender this was counted.
-fn of_sender(start: Time, next: u64, counted: &SenderFigures) -> FlowSummary
+/// The next byte for which the receiver at a node waited where counting began.
+fn next_before(received: &[u64], place: usize) -> u64
+    ensures { result ≡ slice_index_or received.now place 0 }
+{
+    if place < received.len() {
+        received[place]
+    } else {
+        0
+    }
+}
+
+/// What is said of a flow that starts at a moment, whose receiver got so many bytes, and of whose sender this was
+/// counted.
+fn of_sender(start: Time, delivered: u64, counted: &SenderFigures) -> FlowSummary
     requires few { counted.now.trips.count < 2 ^ 57 }
-    ensures { (ts : List Turn) → AreOfTurns ts counted.now → result ≡ summary_of_turns start next ts }
+    ensures { (before ts : List Turn) → AreOfTurns before ts counted.now → result ≡ summary_of_turns start delivered before ts }
 {
     let trips = &counted.trips;
     FlowSummary {
         start,
-        delivered: next,
+        delivered,
         completed: counted.completed,
         sent: counted.sent,
         again_in_recovery: counted.again_in_recovery,
@@ -56,7 +68,8 @@ fn of_sender(start: Time, next: u64, counted: &SenderFigures) -> FlowSummary
         round_trips: trips.count,
         least: trips.least(),
         median: trips.percentile(50),
-        high: trips.percentile(99),
+        high: trips.percentile(95),
+        highest: trips.percentile(99),
         greatest: trips.greatest(),
     }
 }
@@ -65,11 +78,12 @@ fn of_sender(start: Time, next: u64, counted: &SenderFigures) -> FlowSummary
 fn flow_summary(figures: &Figures, nodes: &[Node], flow: &FlowPart) -> FlowSummary
     requires sender { flow.now.sender < length figures.now.senders.items }
     requires few { figures.now.events ≤ 1000000000000000 }
-    ensures { (ms : List Moment) (s : State) → parts_of nodes.now ≡ s.parts → ((other : SenderFigures) → AreOfTurns (turns_at flow.now.sender ms) (slice_index_or figures.now.senders.items flow.now.sender other)) → result ≡ flow_is ms s flow.now }
+    ensures { (b : Base) (ms : List Moment) (s : State) → parts_of nodes.now ≡ s.parts → slice_index_or figures.now.received.items flow.now.receiver 0 ≡ next_of_role (part_at b.state flow.now.receiver).role → ((other : SenderFigures) → AreOfTurns (turns_at flow.now.sender b.earlier) (turns_at flow.now.sender ms) (slice_index_or figures.now.senders.items flow.now.sender other)) → result ≡ flow_is b ms s flow.now }
 {
     let next = next_at(nodes, usize::from(flow.receiver));
+    let before = next_before(&figures.received, usize::from(flow.receiver));
     let counted = &figures.senders[usize::from(flow.sender)];
-    of_sender(flow.start, next, counted)
+    of_sender(flow.start, next.saturating_sub(before), counted)
 }
 
 /// What is said of the flows of a run.
@@ -80,9 +94,9 @@ fn flow_summaries(
     net: &Net,
 ) -> Result<Vec<FlowSummary>, AllocError>
     requires scenario { IsScenario scenario.now }
-    requires run { AreOfRun scenario.now figures.now net.now }
+    requires run { AreOfPart scenario.now figures.now net.now }
     requires few { figures.now.events ≤ 1000000000000000 }
-    ensures { IfOk result (λ all. all.items ≡ flows_are scenario.now (moments (opening scenario.now) net.now.position) net.now.state) }
+    ensures { IfOk result (λ all. (b : Base) (of : AreOfRun scenario.now b figures.now net.now) → all.items ≡ flows_are scenario.now b (moments b.state of.count) net.now.state) }
 {
     let flows = scenario.parts().flows.as_slice();
     let nodes = net.nodes();
@@ -96,10 +110,12 @@ fn flow_summaries(
 /// Delays of packets in a link's queue.
 #[derive(Clone, Copy)]
 struct Delays {
-    /// Their median; none where there is none, as the next two.
+    /// Their median; none where there is none, as the next three.
     median: Option<u64>,
-    /// Their 99th percentile.
+    /// Their 95th percentile.
     high: Option<u64>,
+    /// Their 99th percentile.
+    highest: Option<u64>,
     /// The greatest of them.
     greatest: Option<u64>,
 }
@@ -107,13 +123,15 @@ struct Delays {
 /// The delays in the queue of a link of which this was counted.
 fn delays_of(counted: &LinkFigures) -> Delays
     requires few { counted.now.turns ≤ 1000000000000000 }
-    ensures median { (ms : List Moment) (s : State) (node index : ℕ) → AreOfLink ms s node index counted.now → result.median ≡ percentile 50 (waits_of node index ms) }
-    ensures high { (ms : List Moment) (s : State) (node index : ℕ) → AreOfLink ms s node index counted.now → result.high ≡ percentile 99 (waits_of node index ms) }
-    ensures greatest { (ms : List Moment) (s : State) (node index : ℕ) → AreOfLink ms s node index counted.now → result.greatest ≡ greatest_of (waits_of node index ms) }
+    ensures median { (b : Base) (ms : List Moment) (s : State) (node index : ℕ) → AreOfLink b ms s node index counted.now → result.median ≡ percentile 50 (waits_of node index ms) }
+    ensures high { (b : Base) (ms : List Moment) (s : State) (node index : ℕ) → AreOfLink b ms s node index counted.now → result.high ≡ percentile 95 (waits_of node index ms) }
+    ensures highest { (b : Base) (ms : List Moment) (s : State) (node index : ℕ) → AreOfLink b ms s node index counted.now → result.highest ≡ percentile 99 (waits_of node index ms) }
+    ensures greatest { (b : Base) (ms : List Moment) (s : State) (node index : ℕ) → AreOfLink b ms s node index counted.now → result.greatest ≡ greatest_of (waits_of node index ms) }
 {
     Delays {
         median: counted.waits.percentile(50),
-        high: counted.waits.percentile(99),
+        high: counted.waits.percentile(95),
+        highest: counted.waits.percentile(99),
         greatest: counted.waits.greatest(),
     }
 }
@@ -123,7 +141,7 @@ fn busy_to_end(counted: &LinkFigures, last: Time, end: Time) -> u128
     requires moment { IsMoment last }
     requires order { counted.now.since ≤ last }
     requires end { IsMoment end }
-    ensures { (ms : List Moment) (s : State) (node index : ℕ) → AreOfLink ms s node index counted.now → last_from 0 ms ≡ last → result ≡ (summary_of_exit node index end ms s).busy }
+    ensures { (b : Base) (ms : List Moment) (s : State) (node index : ℕ) → AreOfLink b ms s node index counted.now → last_from b.since ms ≡ last → result ≡ (summary_of_exit node index end b ms s).busy }
 {
     let left = end.saturating_sub(last);
     let so_far = counted.busy_by(last);
@@ -139,7 +157,7 @@ fn waited_to_end(counted: &LinkFigures, last: Time, end: Time) -> u128
     requires moment { IsMoment last }
     requires order { counted.now.since ≤ last }
     requires end { IsMoment end }
-    ensures { (ms : List Moment) (s : State) (node index : ℕ) → AreOfLink ms s node index counted.now → last_from 0 ms ≡ last → result ≡ (summary_of_exit node index end ms s).waited }
+    ensures { (b : Base) (ms : List Moment) (s : State) (node index : ℕ) → AreOfLink b ms s node index counted.now → last_from b.since ms ≡ last → result ≡ (summary_of_exit node index end b ms s).waited }
 {
     let left = end.saturating_sub(last);
     counted.waited_by(last) + counted.waiting as u128 * u128::from(left)
@@ -151,11 +169,11 @@ fn of_exit(counted: &LinkFigures, last: Time, end: Time) -> LinkSummary
     requires moment { IsMoment last }
     requires order { counted.now.since ≤ last }
     requires end { IsMoment end }
-    ensures { (ms : List Moment) (s : State) (node index : ℕ) → AreOfLink ms s node index counted.now → last_from 0 ms ≡ last → result ≡ summary_of_exit node index end ms s }
+    ensures { (b : Base) (ms : List Moment) (s : State) (node index : ℕ) → AreOfLink b ms s node index counted.now → last_from b.since ms ≡ last → result ≡ summary_of_exit node index end b ms s }
 {
     let delays = delays_of(counted);
     LinkSummary {
-        offered: counted.offered,
+        offered: counted.offered.saturating_sub(counted.first),
         lost: counted.lost,
         full: counted.full,
         codel: counted.codel,
@@ -166,6 +184,7 @@ fn of_exit(counted: &LinkFigures, last: Time, end: Time) -> LinkSummary
         waited: waited_to_end(counted, last, end),
         median: delays.median,
         high: delays.high,
+        highest: delays.highest,
         greatest: delays.greatest,
     }
 }
@@ -194,7 +213,7 @@ fn link_summary(figures: &Figures, links: &[LinkPart], end: Time, number: usize)
     requires moment { IsMoment figures.now.last }
     requires order { (other : NodeLinks) (link : LinkFigures) → (slice_index_or (slice_index_or figures.now.links.items (from_of links.now number) other).figures.items (exit_is links.now number) link).since ≤ figures.now.last }
     requires end { IsMoment end }
-    ensures { (ms : List Moment) (s : State) → ((other : NodeLinks) (link : LinkFigures) → AreOfLink ms s (from_of links.now number) (exit_is links.now number) (slice_index_or (slice_index_or figures.now.links.items (from_of links.now number) other).figures.items (exit_is links.now number) link)) → last_from 0 ms ≡ figures.now.last → result ≡ summary_of_exit (from_of links.now number) (exit_is links.now number) end ms s }
+    ensures { (b : Base) (ms : List Moment) (s : State) → ((other : NodeLinks) (link : LinkFigures) → AreOfLink b ms s (from_of links.now number) (exit_is links.now number) (slice_index_or (slice_index_or figures.now.links.items (from_of links.now number) other).figures.items (exit_is links.now number) link)) → last_from b.since ms ≡ figures.now.last → result ≡ summary_of_exit (from_of links.now number) (exit_is links.now number) end b ms s }
 {
     let node = &figures.links[usize::from(links[number].from)];
     let counted = &node.figures[exit_of(links, number)];
@@ -209,9 +228,9 @@ fn link_summaries(
     net: &Net,
 ) -> Result<Vec<LinkSummary>, AllocError>
     requires scenario { IsScenario scenario.now }
-    requires run { AreOfRun scenario.now figures.now net.now }
+    requires run { AreOfPart scenario.now figures.now net.now }
     requires few { figures.now.events ≤ 1000000000000000 }
-    ensures { IfOk result (λ all. all.items ≡ links_are scenario.now (moments (opening scenario.now) net.now.position) net.now.state) }
+    ensures { IfOk result (λ all. (b : Base) (of : AreOfRun scenario.now b figures.now net.now) → all.items ≡ links_are scenario.now b (moments b.state of.count) net.now.state) }
 {
     let parts = scenario.parts();
     let links = parts.links.as_slice();
@@ -222,15 +241,26 @@ fn link_summaries(
     Ok(all)
 }
 
-/// The table of a run, of which these figures were counted, as the net is after the last event.
+/// When the last event of a run was, if there was one that was counted.
+fn last_event(figures: &Figures) -> Option<Time>
+    ensures { (since : ℕ) (ms : List Moment) → figures.now.events ≡ length ms → figures.now.last ≡ last_from since ms → result ≡ last_of ms }
+{
+    if figures.events == 0 {
+        None
+    } else {
+        Some(figures.last)
+    }
+}
+
+/// The table of a run, of which these figures were counted from some moment on, as the net is after the last event.
 pub fn run_text(
     alloc: Global,
     scenario: &Scenario,
     figures: &Figures,
     net: &Net,
 ) -> Result<Vec<u8>, AllocError>
-    requires { AreOfRun scenario.now figures.now net.now }
-    ensures { IfOk result (λ text. text.items ≡ table_over scenario.now (moments (opening scenario.now) net.now.position) net.now.state) }
+    requires { AreOfPart scenario.now figures.now net.now }
+    ensures { IfOk result (λ text. (b : Base) (of : AreOfRun scenario.now b figures.now net.now) → text.items ≡ table_over scenario.now b (moments b.state of.count) net.now.state) }
 {
     let _parts = scenario.parts();
     let _position = net.position();
@@ -238,7 +268,7 @@ pub fn run_text(
     let links = link_summaries(alloc, scenario, figures, net)?;
     let run = RunSummary {
         events: figures.events,
-        end: figures.last,
+        end: last_event(figures),
     };
     let mut text = Vec::new(alloc);
     figures_text(&flows, &links, run, &mut text)?;

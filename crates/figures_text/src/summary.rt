@@ -19,12 +19,14 @@ pub struct FlowSummary {
     pub timeouts: u64,
     /// How many round trips were timed (RFC 6298 section 3).
     pub round_trips: u64,
-    /// The least of them; none where none was timed, as the next three.
+    /// The least of them; none where none was timed, as the next four.
     pub least: Option<u64>,
     /// Their median.
     pub median: Option<u64>,
-    /// Their 99th percentile.
+    /// Their 95th percentile.
     pub high: Option<u64>,
+    /// Their 99th percentile.
+    pub highest: Option<u64>,
     /// The greatest of them.
     pub greatest: Option<u64>,
 }
@@ -50,10 +52,12 @@ pub struct LinkSummary {
     pub longest: u64,
     /// The packets that waited, each times for how long.
     pub waited: u128,
-    /// The median of the delays in its queue; none where no packet left it, as the next two.
+    /// The median of the delays in its queue; none where no packet left it, as the next three.
     pub median: Option<u64>,
-    /// Their 99th percentile.
+    /// Their 95th percentile.
     pub high: Option<u64>,
+    /// Their 99th percentile.
+    pub highest: Option<u64>,
     /// The greatest of them.
     pub greatest: Option<u64>,
 }
@@ -63,6 +67,6 @@ pub struct LinkSummary {
 pub struct RunSummary {
     /// How many events it had.
     pub events: u64,
-    /// When the last of them was; 0 where there was none.
-    pub end: u64,
+    /// When the last of them was; none where there was none.
+    pub end: Option<u64>,
 }

@@ -70,13 +70,20 @@ fn append_flows(flows: &[FlowSummary], text: &mut Vec<u8>) -> Result<(), AllocEr
     Ok(())
 }
 
+/// Appends the lines of a link, with its number. After an `Err` a part of them may stand there.
+fn append_link(number: u64, link: &LinkSummary, text: &mut Vec<u8>) -> Result<(), AllocError>
+    ensures { OnOk result (text.new.items ≡ text.old.items ++ link_lines (number, link.now)) }
+{
+    append_rows(Subject::Link(number), &link_rows(link), text)
+}
+
 /// Appends the lines of the links, by number. After an `Err` a part of them may stand there.
 fn append_links(links: &[LinkSummary], text: &mut Vec<u8>) -> Result<(), AllocError>
     ensures { OnOk result (text.new.items ≡ text.old.items
         ++ flat_map link_lines (enumerate_from 0 links.now)) }
 {
     for (number, link) in links.iter().enumerate() {
-        append_rows(Subject::Link(number as u64), &link_rows(link), text)?;
+        append_link(number as u64, link, text)?;
     }
     Ok(())
 }
@@ -105,7 +112,7 @@ fn or_none(figure: Figure, value: Option<u64>) -> Row
 }
 
 /// What the table says of a flow.
-fn flow_rows(flow: &FlowSummary) -> [Row; 12]
+fn flow_rows(flow: &FlowSummary) -> [Row; 13]
     ensures { result ≡ flow_rows flow.now }
 {
     [
@@ -120,12 +127,13 @@ fn flow_rows(flow: &FlowSummary) -> [Row; 12]
         or_none(Figure::LeastTrip, flow.least),
         or_none(Figure::MedianTrip, flow.median),
         or_none(Figure::HighTrip, flow.high),
+        or_none(Figure::HighestTrip, flow.highest),
         or_none(Figure::GreatestTrip, flow.greatest),
     ]
 }
 
 /// What the table says of a link.
-fn link_rows(link: &LinkSummary) -> [Row; 12]
+fn link_rows(link: &LinkSummary) -> [Row; 13]
     ensures { result ≡ link_rows link.now }
 {
     [
@@ -140,6 +148,7 @@ fn link_rows(link: &LinkSummary) -> [Row; 12]
         counted(Figure::Waited, link.waited),
         or_none(Figure::MedianDelay, link.median),
         or_none(Figure::HighDelay, link.high),
+        or_none(Figure::HighestDelay, link.highest),
         or_none(Figure::GreatestDelay, link.greatest),
     ]
 }
@@ -150,6 +159,6 @@ fn run_rows(run: RunSummary) -> [Row; 2]
 {
     [
         counted(Figure::Events, u128::from(run.events)),
-        counted(Figure::End, u128::from(run.end)),
+        or_none(Figure::End, run.end),
     ]
 }

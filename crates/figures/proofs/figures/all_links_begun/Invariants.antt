@@ -8,5 +8,5 @@ use Rattle.figures.proofs.figures.all_links_begun.Given as goal
 abbrev pub invariant-loop-node : goal.invariant-loop-node
 invariant-loop-node l = record {
   size : length l.all.items ≡ l.node-index;
-  figures : (place : ℕ) (other : NodeLinks) → place < l.node-index → AreLinksBegun (node_at l.nodes place).part.links (slice_index_or l.all.items place other).figures.items;
+  figures : (place : ℕ) (other : NodeLinks) → place < l.node-index → AreLinksBegun l.since (node_at l.nodes place).part.links (slice_index_or l.all.items place other).figures.items;
 }

@@ -8,5 +8,5 @@ use Rattle.figures.proofs.links.links_begun.Given as goal
 abbrev pub invariant-loop-link : goal.invariant-loop-link
 invariant-loop-link l = record {
   size : length l.all.items ≡ l.link-index;
-  figures : (i : ℕ) (other : LinkFigures) → i < l.link-index → IsLinkBegun (link_at l.links i).port (slice_index_or l.all.items i other);
+  figures : (i : ℕ) (other : LinkFigures) → i < l.link-index → IsLinkBegun l.since (link_at l.links i).port (slice_index_or l.all.items i other);
 }

@@ -1,16 +1,8 @@
+use Rattle.figures.specs.Figures.{whole}
 use Rattle.figures.proofs.run.run_figures.Goals as goal
 
-pub returns-then-not-branch-clause-figures : goal.returns-then-not-branch-clause-figures
-returns-then-not-branch-clause-figures c = c.step.ensures.figures c.args.scenario.now c.loop-turn.invariant.run
+pub run_watched-requires : goal.run_watched-requires
+run_watched-requires c = c.in-Ok-new.ensures.some c.args.scenario.now c.parts-parts.ensures.scenario c.in-Ok.ensures.state
 
-pub loop-turn-preserved : goal.loop-turn-preserved
-loop-turn-preserved c = record {
-  goes_on = c.step.ensures.goes_on;
-  run = c.step.ensures.figures c.args.scenario.now c.loop-turn.invariant.run;
-}
-
-pub loop-turn-init : goal.loop-turn-init
-loop-turn-init c = record {
-  goes_on = c.in-Ok-new.ensures.some c.args.scenario.now c.parts-parts.ensures.scenario c.in-Ok.ensures.state;
-  run = c.in-Ok-new.ensures.run c.args.scenario.now c.in-Ok.ensures.state;
-}
+pub returns-in-Ok-run_watched-clause-figures : goal.returns-in-Ok-run_watched-clause-figures
+returns-in-Ok-run_watched-clause-figures c = c.run_watched.ensures.watched.holds.1 c.args.scenario.now (whole c.args.scenario.now) (c.in-Ok-new.ensures.run c.args.scenario.now c.in-Ok.ensures.state)

@@ -1,9 +1,9 @@
 -- the flows so far are summed up
 use Rattle.std.proofs.Common.{◌≡◌, take}
-use Rattle.table_run.specs.State.{opening}
-use Rattle.figures.specs.Moments.{moments}
+use Rattle.figures.specs.Figures.{AreOfRun}
+use Rattle.figures.specs.Moments.{Base, moments}
 use Rattle.figures_text.specs.Summaries.{flow_summaries}
 use Rattle.figures_text.proofs.summaries.flow_summaries.Given as goal
 
 abbrev pub invariant-loop-number : goal.invariant-loop-number
-invariant-loop-number l = l.all.items ≡ take l.number (flow_summaries l.scenario (moments (opening l.scenario) l.net.position) l.net.state)
+invariant-loop-number l = (b : Base) (of : AreOfRun l.scenario b l.figures l.net) → l.all.items ≡ take l.number (flow_summaries l.scenario b (moments b.state of.count) l.net.state)

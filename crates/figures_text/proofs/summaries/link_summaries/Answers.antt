@@ -1,7 +1,6 @@
 use Rattle.std.proofs.Common.{◌≡◌, ◌<◌, ◌≤◌, ◌++◌, ◌∷◌, [], ℕ, List, length, get_or, take, sym, ap, subst, ◌∙◌, arith, rules}
 use Rattle.std.proofs.lemmas.List.{take_more, take_all}
 use Rattle.scenario_image.specs.declared.parts.LinkPart.{LinkPart}
-use Rattle.table_run.specs.State.{opening}
 use Rattle.net_machine.specs.Wiring.{from_of, exit_of}
 use Rattle.figures.specs.Moments.{moments}
 use Rattle.figures.specs.Links.{AreOfLink}
@@ -20,7 +19,7 @@ link_summary-requires-clause-node c =
     let same : c.as_slice-links.result.now ≡ p.links = search rules in
     let size = ap (λ (l : List LinkPart). length l) same in
     let under : i < length p.links = omega (arith, c.loop-number-test.true, size) in
-    subst (λ (l : List LinkPart). from_of l i < length f.links.items) (sym same) (link_counted p f c.args.net.now c.requires.scenario c.requires.run i under).within
+    subst (λ (l : List LinkPart). from_of l i < length f.links.items) (sym same) (link_counted p c.requires.run.base f c.args.net.now c.requires.scenario c.requires.run.of i under).within
 
 pub link_summary-requires-clause-index : goal.link_summary-requires-clause-index
 link_summary-requires-clause-index c other =
@@ -30,7 +29,7 @@ link_summary-requires-clause-index c other =
     let same : c.as_slice-links.result.now ≡ p.links = search rules in
     let size = ap (λ (l : List LinkPart). length l) same in
     let under : i < length p.links = omega (arith, c.loop-number-test.true, size) in
-    subst (λ (l : List LinkPart). exit_of l i < length (get_or f.links.items (from_of l i) other).figures.items) (sym same) ((link_counted p f c.args.net.now c.requires.scenario c.requires.run i under).index other)
+    subst (λ (l : List LinkPart). exit_of l i < length (get_or f.links.items (from_of l i) other).figures.items) (sym same) ((link_counted p c.requires.run.base f c.args.net.now c.requires.scenario c.requires.run.of i under).index other)
 
 pub link_summary-requires-clause-few : goal.link_summary-requires-clause-few
 link_summary-requires-clause-few c other link =
@@ -40,16 +39,16 @@ link_summary-requires-clause-few c other link =
     let same : c.as_slice-links.result.now ≡ p.links = search rules in
     let size = ap (λ (l : List LinkPart). length l) same in
     let under : i < length p.links = omega (arith, c.loop-number-test.true, size) in
-    let turns = ((link_counted p f c.args.net.now c.requires.scenario c.requires.run i under).link other link).turns in
-    let events = c.requires.run.figures.events in
+    let turns = ((link_counted p c.requires.run.base f c.args.net.now c.requires.scenario c.requires.run.of i under).link other link).turns in
+    let events = c.requires.run.of.figures.events in
     let few : (get_or (get_or f.links.items (from_of p.links i) other).figures.items (exit_of p.links i) link).turns ≤ 1000000000000000 = omega (arith, turns, events, c.requires.few) in
     subst (λ (l : List LinkPart). (get_or (get_or f.links.items (from_of l i) other).figures.items (exit_of l i) link).turns ≤ 1000000000000000) (sym same) few
 
 pub link_summary-requires-clause-moment : goal.link_summary-requires-clause-moment
 link_summary-requires-clause-moment c =
     let p = c.args.scenario.now in
-    let last = last_most p c.args.figures.now c.args.net.now c.requires.scenario c.requires.run in
-    let most = end_most p c.args.figures.now c.args.net.now c.requires.scenario c.requires.run in
+    let last = last_most p c.requires.run.base c.args.figures.now c.args.net.now c.requires.scenario c.requires.run.of in
+    let most = end_most p c.requires.run.base c.args.figures.now c.args.net.now c.requires.scenario c.requires.run.of in
     omega (arith, last, most)
 
 pub link_summary-requires-clause-order : goal.link_summary-requires-clause-order
@@ -60,43 +59,43 @@ link_summary-requires-clause-order c other link =
     let same : c.as_slice-links.result.now ≡ p.links = search rules in
     let size = ap (λ (l : List LinkPart). length l) same in
     let under : i < length p.links = omega (arith, c.loop-number-test.true, size) in
-    let its = (link_counted p f c.args.net.now c.requires.scenario c.requires.run i under).link other link in
+    let its = (link_counted p c.requires.run.base f c.args.net.now c.requires.scenario c.requires.run.of i under).link other link in
     subst (λ (l : List LinkPart). (get_or (get_or f.links.items (from_of l i) other).figures.items (exit_of l i) link).since ≤ f.last) (sym same)
-    (subst (λ n. (get_or (get_or f.links.items (from_of p.links i) other).figures.items (exit_of p.links i) link).since ≤ n) (sym c.requires.run.figures.last) its.since)
+    (subst (λ n. (get_or (get_or f.links.items (from_of p.links i) other).figures.items (exit_of p.links i) link).since ≤ n) (sym c.requires.run.of.figures.last) its.since)
 
 pub loop-number-preserved : goal.loop-number-preserved
-loop-number-preserved c =
+loop-number-preserved c = λ b of.
     let p = c.args.scenario.now in
     let f = c.args.figures.now in
     let r = c.args.net.now in
-    let ms = moments (opening p) r.position in
+    let ms = moments b.state of.count in
     let i = c.loop-number.number in
     let same : c.as_slice-links.result.now ≡ p.links = search rules in
     let end : c.parts-parts.result.now.end ≡ p.end = search rules in
     let size = ap (λ (l : List LinkPart). length l) same in
     let under : i < length p.links = omega (arith, c.loop-number-test.true, size) in
-    let all = link_summaries p ms r.state in
-    let many = links_many p r in
+    let all = link_summaries p b ms r.state in
+    let many = links_many p b ms r.state in
     let inside : i < length all = subst (λ n. i < n) (sym many) under in
     let it : LinkSummary = c.link_summary.result in
-    let counted = link_counted p f r c.requires.scenario c.requires.run i under in
-    let link = subst (λ (l : List LinkPart). (other : NodeLinks) (link : LinkFigures) → AreOfLink ms r.state (from_of l i) (exit_of l i) (get_or (get_or f.links.items (from_of l i) other).figures.items (exit_of l i) link)) (sym same) counted.link in
+    let counted = link_counted p b f r c.requires.scenario of i under in
+    let link = subst (λ (l : List LinkPart). (other : NodeLinks) (link : LinkFigures) → AreOfLink b ms r.state (from_of l i) (exit_of l i) (get_or (get_or f.links.items (from_of l i) other).figures.items (exit_of l i) link)) (sym same) counted.link in
     let said : it ≡ get_or all i it =
-    c.link_summary.ensures ms r.state link (sym c.requires.run.figures.last)
-    ∙ ap (λ (l : List LinkPart). summary_of_exit (from_of l i) (exit_of l i) c.parts-parts.result.now.end ms r.state) same
-    ∙ ap (λ n. summary_of_exit (from_of p.links i) (exit_of p.links i) n ms r.state) end
-    ∙ sym (link_said p r i it under) in
+    c.link_summary.ensures b ms r.state link (sym of.figures.last)
+    ∙ ap (λ (l : List LinkPart). summary_of_exit (from_of l i) (exit_of l i) c.parts-parts.result.now.end b ms r.state) same
+    ∙ ap (λ n. summary_of_exit (from_of p.links i) (exit_of p.links i) n b ms r.state) end
+    ∙ sym (link_said p b ms r.state i it under) in
     c.in_ok-push.ensures.items
-    ∙ ap (λ (xs : List LinkSummary). xs ++ it ∷ []) c.loop-number.invariant
+    ∙ ap (λ (xs : List LinkSummary). xs ++ it ∷ []) (c.loop-number.invariant b of)
     ∙ ap (λ (x : LinkSummary). take i all ++ x ∷ []) said
     ∙ sym (take_more all i it inside)
 
 pub returns : goal.returns
-returns c =
+returns c = λ b of.
     let p = c.args.scenario.now in
     let i = c.loop-number.number in
     let same : c.as_slice-links.result.now ≡ p.links = search rules in
     let size = ap (λ (l : List LinkPart). length l) same in
-    let many = links_many p c.args.net.now in
-    let all = link_summaries p (moments (opening p) c.args.net.now.position) c.args.net.now.state in
-    c.loop-number.invariant ∙ take_all i all (omega (arith, c.loop-number-test.false, size, many))
+    let many = links_many p b (moments b.state of.count) c.args.net.now.state in
+    let all = link_summaries p b (moments b.state of.count) c.args.net.now.state in
+    c.loop-number.invariant b of ∙ take_all i all (omega (arith, c.loop-number-test.false, size, many))

@@ -19,4 +19,5 @@ returns c =
       c.or_none-3.ensures,
       c.or_none-4.ensures,
       c.or_none-5.ensures,
+      c.or_none-6.ensures,
     )

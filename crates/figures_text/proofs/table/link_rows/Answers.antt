@@ -16,4 +16,5 @@ returns c =
       c.or_none.ensures,
       c.or_none-2.ensures,
       c.or_none-3.ensures,
+      c.or_none-4.ensures,
     )

@@ -15,7 +15,7 @@ sent_by-sent-requires-clause-old c =
     subst (λ (f : SenderFields). IsOfSegments c.args.self.now.kept f.mss) (sym c.as_fields-fields.ensures.value) (of_segments c.args.self.now.kept c.args.cause c.args.now c.args.new.now c.requires.acted)
 
 pub returns-clause-figures : goal.returns-clause-figures
-returns-clause-figures c = λ ts f kept planned is.
+returns-clause-figures c = λ earlier ts f kept planned is.
     let t : Turn = record { old = f; cause = c.args.cause; now = c.args.now } in
     let was = c.args.self.now.kept in
     let fields = c.as_fields-fields.result.now in
@@ -26,7 +26,7 @@ returns-clause-figures c = λ ts f kept planned is.
     ap (λ (k : Kept). sent_as k fields c.args.cause) before ∙ ap (λ (g : SenderFields). sent_as (kept_of f) g c.args.cause) after ∙ sym (planned_is f c.args.cause c.args.now kept.sound) in
     let again : c.sent_by-sent.result.again ≡ again_in t =
     c.sent_by-sent.ensures.again ∙ ap (λ n. count_by (λ x. nat_lt x n) (sent_as was fields c.args.cause)) (ap (λ (k : Kept). k.high) before) ∙ ap (count_by (λ x. nat_lt x f.high)) sent in
-    turn_more ts c.args.self.now _ t is
+    turn_more earlier ts c.args.self.now _ t is
     (ap (λ n. c.args.self.now.sent + n) (c.from.ensures ∙ c.sent_by-sent.ensures.segments ∙ ap length sent))
     (c.note_again.ensures.recovery ∙ ap (λ n. c.args.self.now.again_in_recovery + n) (ap (λ b. cond b c.sent_by-sent.result.again 0) recovering ∙ ap (λ n. cond (in_recovery t) n 0) again))
     (c.note_again.ensures.otherwise ∙ ap (λ n. c.args.self.now.again_otherwise + n) (ap (λ b. cond b 0 c.sent_by-sent.result.again) recovering ∙ ap (cond (in_recovery t) 0) again))
