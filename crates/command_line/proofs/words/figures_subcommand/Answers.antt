@@ -1,0 +1,16 @@
+use Rattle.std.proofs.Common.{◌++◌, ◌∷◌, []}
+use Rattle.clap.specs.Simple.{Shape, new_shape}
+use Rattle.command_line.specs.CommandLine.{explain_rule, file_rule, from_rule, progress_rule}
+use Rattle.command_line.proofs.Commands.{plain_below}
+use Rattle.command_line.proofs.words.figures_subcommand.Goals as goal
+
+pub returns : goal.returns
+returns c =
+    let first : Shape = new_shape c.args.name.now in
+    let with_from = c.with_arg-with_from.ensures first from_rule (plain_below c.plain_subcommand.result first c.plain_subcommand.ensures.shape c.plain_subcommand.ensures.no_globals) c.from_option.ensures.rule c.from_option.ensures.local in
+    let shape_with_from : Shape = record first { rules = first.rules ++ from_rule ∷ [] } in
+    let with_file = c.with_arg-with_file.ensures shape_with_from file_rule with_from c.file_word.ensures.rule c.file_word.ensures.local in
+    let shape_with_file : Shape = record shape_with_from { rules = shape_with_from.rules ++ file_rule ∷ [] } in
+    let with_progress = c.with_arg-with_progress.ensures shape_with_file progress_rule with_file c.progress_flag.ensures.rule c.progress_flag.ensures.local in
+    let shape_with_progress : Shape = record shape_with_file { rules = shape_with_file.rules ++ progress_rule ∷ [] } in
+    c.with_arg.ensures shape_with_progress explain_rule with_progress c.explain_flag.ensures.rule c.explain_flag.ensures.local

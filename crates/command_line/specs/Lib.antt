@@ -1,0 +1,5 @@
+pub mod Sharing
+pub mod Subcommand
+pub mod Wishes
+pub mod CommandLine
+pub mod Given
