@@ -124,7 +124,7 @@ fn moment_of(whole: &[u8], behind: &[u8]) -> Option<u64>
 }
 
 /// The moment that a word is, in nanoseconds.
-pub(crate) fn moment_in(word: &[u8]) -> Option<u64>
+pub fn moment_in(word: &[u8]) -> Option<u64>
     ensures { result ≡ moment_in word.now }
 {
     let (whole, behind) = split_digits(word);

@@ -13,10 +13,8 @@ use crate::reading::read_typed;
 use crate::refusal::Refusal;
 use crate::said::Said;
 use crate::typed_reply::{obey_typed, show_passed};
-use crate::window_move::{WindowMove, go, go_alone};
-use std::sync::Wait;
-use std::thread::Threads;
-use window_engine::Gate;
+use crate::window_move::{WindowMove, go};
+use window_engine::{Gate, Hands};
 
 /// The most bytes of a line.
 pub const MOST_LINE: usize = 65_536;
@@ -144,14 +142,15 @@ fn begin_typed(
 /// Answers a line that doesn't end the session: one that is too long is refused, and what any other
 /// says is followed. The moves `run` and `until` go by the debugger's workers.
 #[tactic(none)]
-pub fn answer_typed<R: Threads + Wait + Sync, G: Gate>(
-    rt: &R,
-    gate: &G,
+pub fn answer_typed<H: Hands>(
+    hands: &H,
+    gate: &Gate,
     dialogue: &mut Dialogue,
     limits: Limits,
     line: &[u8],
     said: &mut Said,
 )
+    requires ready { H.ready hands.now }
     ensures answers { prompt.is_quit line.now ≡ false → prompt.TypedAnswers limits dialogue.old.debugger.start line.now (prompt.at_prompt dialogue.old) (prompt.at_prompt dialogue.new) said.new }
     ensures start { dialogue.new.debugger.start ≡ dialogue.old.debugger.start }
 {
@@ -159,29 +158,7 @@ pub fn answer_typed<R: Threads + Wait + Sync, G: Gate>(
         None => {}
         Some(left) => {
             let from = dialogue.debugger.position();
-            let moved = go(rt, gate, &mut dialogue.debugger, left);
-            show_passed(&mut dialogue.debugger, from, moved, said);
-        }
-    }
-}
-
-/// The same by the calling thread alone, which waits for nobody.
-#[tactic(none)]
-pub fn answer_typed_alone<G: Gate>(
-    gate: &G,
-    dialogue: &mut Dialogue,
-    limits: Limits,
-    line: &[u8],
-    said: &mut Said,
-)
-    ensures answers { prompt.is_quit line.now ≡ false → prompt.TypedAnswers limits dialogue.old.debugger.start line.now (prompt.at_prompt dialogue.old) (prompt.at_prompt dialogue.new) said.new }
-    ensures start { dialogue.new.debugger.start ≡ dialogue.old.debugger.start }
-{
-    match begin_typed(dialogue, limits, line, said) {
-        None => {}
-        Some(left) => {
-            let from = dialogue.debugger.position();
-            let moved = go_alone(gate, &mut dialogue.debugger, left);
+            let moved = go(hands, gate, &mut dialogue.debugger, left);
             show_passed(&mut dialogue.debugger, from, moved, said);
         }
     }

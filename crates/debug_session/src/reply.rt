@@ -9,11 +9,9 @@ use crate::command::{Command, Limits};
 use crate::grammar::read_line;
 use crate::refusal::Refusal;
 use crate::said::Said;
-use crate::window_move::{WindowMove, go, go_alone};
+use crate::window_move::{WindowMove, go};
 use debugger::{Break, BreakFault, Debugger, MoveFault};
-use std::sync::Wait;
-use std::thread::Threads;
-use window_engine::Gate;
+use window_engine::{Gate, Hands};
 
 /// Tells the state that is shown. The answer is whether there was memory for it.
 #[tactic(none)]
@@ -122,42 +120,22 @@ fn begin_answer(
 /// Answers a line: what it asks for is done, or it is refused and changes nothing. The moves `run`
 /// and `until` go by the debugger's workers.
 #[tactic(none)]
-pub fn answer<R: Threads + Wait + Sync, G: Gate>(
-    rt: &R,
-    gate: &G,
+pub fn answer<H: Hands>(
+    hands: &H,
+    gate: &Gate,
     debugger: &mut Debugger,
     limits: Limits,
     line: &[u8],
     said: &mut Said,
 )
+    requires ready { H.ready hands.now }
     ensures answers { Answers limits debugger.old.start line.now (standing debugger.old) (standing debugger.new) said.new }
     ensures start { debugger.new.start ≡ debugger.old.start }
 {
     match begin_answer(debugger, limits, line, said) {
         None => {}
         Some(left) => {
-            let moved = go(rt, gate, debugger, left);
-            show_move(debugger, moved, said);
-        }
-    }
-}
-
-/// The same by the calling thread alone, which waits for nobody.
-#[tactic(none)]
-pub fn answer_alone<G: Gate>(
-    gate: &G,
-    debugger: &mut Debugger,
-    limits: Limits,
-    line: &[u8],
-    said: &mut Said,
-)
-    ensures answers { Answers limits debugger.old.start line.now (standing debugger.old) (standing debugger.new) said.new }
-    ensures start { debugger.new.start ≡ debugger.old.start }
-{
-    match begin_answer(debugger, limits, line, said) {
-        None => {}
-        Some(left) => {
-            let moved = go_alone(gate, debugger, left);
+            let moved = go(hands, gate, debugger, left);
             show_move(debugger, moved, said);
         }
     }

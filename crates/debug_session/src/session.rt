@@ -10,15 +10,13 @@ ghost use Rattle.debug_session.specs.Sessions as sessions;
 
 use crate::command::Limits;
 use crate::cut::cut;
-use crate::reply::{answer, answer_alone};
+use crate::reply::answer;
 use crate::said::Said;
 use debugger::Debugger;
 use scenario_image::Scenario;
 use std::alloc::Global;
-use std::sync::Wait;
-use std::thread::Threads;
 use window_core::Partition;
-use window_engine::{Gate, Sink, SinkFail, put_all};
+use window_engine::{Gate, Hands, Sink, SinkFail, put_all};
 
 /// Why a session has no further output.
 #[derive(Debug, Drop)]
@@ -32,15 +30,16 @@ pub enum SessionFault {
 /// Answers commands, one a line. The moves `run` and `until` have workers, which the gate is told
 /// of.
 #[tactic(none)]
-pub fn run_commands<R: Threads + Wait + Sync, G: Gate, S: Sink>(
-    rt: &R,
-    gate: &G,
+pub fn run_commands<H: Hands, S: Sink>(
+    hands: &H,
+    gate: &Gate,
     debugger: &mut Debugger,
     limits: Limits,
     commands: &[u8],
     said: &mut Said,
     out: &mut S,
 ) -> Result<(), SinkFail>
+    requires ready { H.ready hands.now }
     ensures ok { OnOk result (Takes (sessions.Output limits debugger.old.start (lines_of commands.now) (standing debugger.old)) (S.contents out.old) (S.contents out.new)) }
     ensures err { OnErr result (Takes (IsBeginningOf (sessions.OutputStart limits debugger.old.start (lines_of commands.now) (standing debugger.old))) (S.contents out.old) (S.contents out.new)) }
     ensures failures { S.failures out.new ≡ failures_after result (S.failures out.old) }
@@ -48,34 +47,7 @@ pub fn run_commands<R: Threads + Wait + Sync, G: Gate, S: Sink>(
     let mut rest = commands;
     while !rest.is_empty() {
         let (line, after) = cut(rest, b'\n');
-        answer(rt, gate, debugger, limits, line, said);
-        match put_all(out, said.as_slice()) {
-            Ok(()) => {}
-            Err(_) => return Err(SinkFail),
-        }
-        rest = after;
-    }
-    Ok(())
-}
-
-/// The same by the calling thread alone, which waits for nobody.
-#[tactic(none)]
-pub fn run_commands_alone<G: Gate, S: Sink>(
-    gate: &G,
-    debugger: &mut Debugger,
-    limits: Limits,
-    commands: &[u8],
-    said: &mut Said,
-    out: &mut S,
-) -> Result<(), SinkFail>
-    ensures ok { OnOk result (Takes (sessions.Output limits debugger.old.start (lines_of commands.now) (standing debugger.old)) (S.contents out.old) (S.contents out.new)) }
-    ensures err { OnErr result (Takes (IsBeginningOf (sessions.OutputStart limits debugger.old.start (lines_of commands.now) (standing debugger.old))) (S.contents out.old) (S.contents out.new)) }
-    ensures failures { S.failures out.new ≡ failures_after result (S.failures out.old) }
-{
-    let mut rest = commands;
-    while !rest.is_empty() {
-        let (line, after) = cut(rest, b'\n');
-        answer_alone(gate, debugger, limits, line, said);
+        answer(hands, gate, debugger, limits, line, said);
         match put_all(out, said.as_slice()) {
             Ok(()) => {}
             Err(_) => return Err(SinkFail),
@@ -86,41 +58,22 @@ pub fn run_commands_alone<G: Gate, S: Sink>(
 }
 
 /// Answers all commands of a session, one a line, by a debugger at the opening state.
-fn answer_all<R: Threads + Wait + Sync, G: Gate, S: Sink>(
-    rt: &R,
-    gate: &G,
+fn answer_all<H: Hands, S: Sink>(
+    hands: &H,
+    gate: &Gate,
     scenario: &Scenario,
     commands: &[u8],
     debugger: &mut Debugger,
     said: &mut Said,
     out: &mut S,
 ) -> Result<(), SessionFault>
-    requires { debugger.old ≡ opened (opening scenario.now) }
+    requires ready { H.ready hands.now }
+    requires opened { debugger.old ≡ opened (opening scenario.now) }
     ensures output { Takes (sessions.IsEnding scenario.now (lines_of commands.now) result) (S.contents out.old) (S.contents out.new) }
     ensures failures { S.failures out.new ≡ sessions.failures_of result (S.failures out.old) }
 {
     let limits = Limits::of(scenario);
-    match run_commands(rt, gate, debugger, limits, commands, said, out) {
-        Ok(()) => Ok(()),
-        Err(_) => Err(SessionFault::OutputFailed),
-    }
-}
-
-/// The same by the calling thread alone, which waits for nobody.
-fn answer_all_alone<G: Gate, S: Sink>(
-    gate: &G,
-    scenario: &Scenario,
-    commands: &[u8],
-    debugger: &mut Debugger,
-    said: &mut Said,
-    out: &mut S,
-) -> Result<(), SessionFault>
-    requires { debugger.old ≡ opened (opening scenario.now) }
-    ensures output { Takes (sessions.IsEnding scenario.now (lines_of commands.now) result) (S.contents out.old) (S.contents out.new) }
-    ensures failures { S.failures out.new ≡ sessions.failures_of result (S.failures out.old) }
-{
-    let limits = Limits::of(scenario);
-    match run_commands_alone(gate, debugger, limits, commands, said, out) {
+    match run_commands(hands, gate, debugger, limits, commands, said, out) {
         Ok(()) => Ok(()),
         Err(_) => Err(SessionFault::OutputFailed),
     }
@@ -128,9 +81,9 @@ fn answer_all_alone<G: Gate, S: Sink>(
 
 /// A whole session over a scenario: its commands are answered, one a line, from the opening state
 /// on. A command that is refused for want of memory or workers doesn't end it.
-pub fn run_session<R: Threads + Wait + Sync, G: Gate, S: Sink>(
-    rt: &R,
-    gate: &G,
+pub fn run_session<H: Hands, S: Sink>(
+    hands: &H,
+    gate: &Gate,
     alloc: Global,
     scenario: &Scenario,
     partition: Partition,
@@ -138,6 +91,7 @@ pub fn run_session<R: Threads + Wait + Sync, G: Gate, S: Sink>(
     commands: &[u8],
     out: &mut S,
 ) -> Result<(), SessionFault>
+    requires ready { H.ready hands.now }
     requires partition { length partition ≡ length scenario.now.nodes }
     requires workers { (0 < workers) × (workers ≤ 64) }
     ensures output { Takes (sessions.IsEnding scenario.now (lines_of commands.now) result) (S.contents out.old) (S.contents out.new) }
@@ -147,31 +101,15 @@ pub fn run_session<R: Threads + Wait + Sync, G: Gate, S: Sink>(
         return Err(SessionFault::NoMemory);
     };
     let mut said = Said::new(alloc);
-    let ended = answer_all(rt, gate, scenario, commands, &mut debugger, &mut said, out);
-    drop(debugger);
-    drop(said);
-    ended
-}
-
-/// What `run_session` does with one worker: the calling thread runs the windows of these groups, and
-/// waits for no other.
-pub fn run_session_alone<G: Gate, S: Sink>(
-    gate: &G,
-    alloc: Global,
-    scenario: &Scenario,
-    partition: Partition,
-    commands: &[u8],
-    out: &mut S,
-) -> Result<(), SessionFault>
-    requires partition { length partition ≡ length scenario.now.nodes }
-    ensures output { Takes (sessions.IsEnding scenario.now (lines_of commands.now) result) (S.contents out.old) (S.contents out.new) }
-    ensures failures { S.failures out.new ≡ sessions.failures_of result (S.failures out.old) }
-{
-    let Ok(mut debugger) = Debugger::new(alloc, scenario, partition, 1) else {
-        return Err(SessionFault::NoMemory);
-    };
-    let mut said = Said::new(alloc);
-    let ended = answer_all_alone(gate, scenario, commands, &mut debugger, &mut said, out);
+    let ended = answer_all(
+        hands,
+        gate,
+        scenario,
+        commands,
+        &mut debugger,
+        &mut said,
+        out,
+    );
     drop(debugger);
     drop(said);
     ended

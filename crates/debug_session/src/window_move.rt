@@ -5,9 +5,7 @@ ghost use Rattle.debug_session.specs.WindowMoves.{MoveGoesTo};
 
 use debugger::{Debugger, MoveFault};
 use sim_time::Time;
-use std::sync::Wait;
-use std::thread::Threads;
-use window_engine::Gate;
+use window_engine::{Gate, Hands};
 
 /// A move that goes by windows.
 #[derive(Clone, Copy)]
@@ -18,35 +16,20 @@ pub(crate) enum WindowMove {
     Until(Time),
 }
 
-/// Moves by the debugger's workers, for which it may wait.
-pub(crate) fn go<R: Threads + Wait + Sync, G: Gate>(
-    rt: &R,
-    gate: &G,
+/// Moves by the debugger's workers.
+pub(crate) fn go<H: Hands>(
+    hands: &H,
+    gate: &Gate,
     debugger: &mut Debugger,
     left: WindowMove,
 ) -> Result<u64, MoveFault>
+    requires ready { H.ready hands.now }
     ensures moved { IfOk result (HasMoved debugger.old debugger.new) }
     ensures goes { IfOk result (MoveGoesTo left debugger.old) }
     ensures err { OnErr result (debugger.new ≡ debugger.old) }
 {
     match left {
-        WindowMove::Run => debugger.run(rt, gate),
-        WindowMove::Until(time) => debugger.until(rt, gate, time),
-    }
-}
-
-/// Moves by the calling thread alone, and waits for nobody.
-pub(crate) fn go_alone<G: Gate>(
-    gate: &G,
-    debugger: &mut Debugger,
-    left: WindowMove,
-) -> Result<u64, MoveFault>
-    ensures moved { IfOk result (HasMoved debugger.old debugger.new) }
-    ensures goes { IfOk result (MoveGoesTo left debugger.old) }
-    ensures err { OnErr result (debugger.new ≡ debugger.old) }
-{
-    match left {
-        WindowMove::Run => debugger.run_alone(gate),
-        WindowMove::Until(time) => debugger.until_alone(gate, time),
+        WindowMove::Run => debugger.run(hands, gate),
+        WindowMove::Until(time) => debugger.until(hands, gate, time),
     }
 }

@@ -2,12 +2,12 @@
 use Rattle.std.proofs.Common.{◌≡◌, ◌≢◌, ◌∙◌, ℕ, Bool, true, false, List, [], codes, bytes_eq, MatchBool, Option, None, Some, Err, refl, sym, subst}
 use Rattle.sessions.specs.declared.fault.SessionFault.{SessionFault}
 use Rattle.sessions.specs.declared.fault.SessionFault.TheVariants.{ReadFailed, NoMemory}
-use Rattle.sessions.specs.declared.subcommand.Asked.{Asked}
-use Rattle.sessions.specs.declared.subcommand.Asked.TheVariants.{Session, Explanation}
-use Rattle.sessions.specs.declared.subcommand.Task.{Task}
-use Rattle.sessions.specs.declared.subcommand.Task.TheVariants.{Scenario, Debug}
+use Rattle.command_line.specs.declared.subcommand.Asked.{Asked}
+use Rattle.command_line.specs.declared.subcommand.Asked.TheVariants.{Session, Explanation}
+use Rattle.command_line.specs.declared.subcommand.Task.{Task}
+use Rattle.command_line.specs.declared.subcommand.Task.TheVariants.{Scenario, Debug}
 use Rattle.sessions.specs.Asked.{IsTaskOnFile, IsOverFile, IsExplanation, IsNamedOn, IsAskedOn}
-use Rattle.sessions.specs.CommandLine.{IsExplained}
+use Rattle.sessions.specs.Answered.{IsExplained}
 use Rattle.sessions.specs.Debug.{IsDebugSession, IsDebugSessionOn, IsTaskOn}
 use Rattle.sessions.specs.Ended.{Ended, IsReadFault, reads_after, writes_after}
 use Rattle.sessions.specs.Prompt.{IsPromptOn}

@@ -9,19 +9,20 @@ use Rattle.table_run.specs.State.{State, opening, run, step, one_more}
 use Rattle.node_core.specs.TraceLine.{TraceLine}
 use Rattle.window_engine.proofs.Bytes.{appends_nothing}
 use Rattle.sessions.specs.declared.fault.SessionFault.{SessionFault}
-use Rattle.sessions.specs.declared.fault.SessionFault.TheVariants.{TooLong, Refused, RefusedImage, Groups, ReadFailed, WriteFailed, NoMemory, CountFull, NoWorker}
-use Rattle.sessions.specs.declared.subcommand.Subcommand.{Subcommand}
-use Rattle.sessions.specs.declared.subcommand.Subcommand.TheVariants.{Asm, Dis, Run, Figures}
+use Rattle.sessions.specs.declared.fault.SessionFault.TheVariants.{TooLong, Refused, RefusedImage, Groups, NoMoment, ReadFailed, WriteFailed, NoMemory, CountFull, NoWorker}
+use Rattle.command_line.specs.declared.subcommand.Subcommand.{Subcommand}
+use Rattle.command_line.specs.declared.subcommand.Subcommand.TheVariants.{Asm, Dis, Run, Figures}
 use Rattle.sessions.specs.Input.{is_image, HasScenario, HasFault, Reads}
 use Rattle.sessions.specs.Output.{IsAllOrNothing, IsOutput, IsSharedOutput}
-use Rattle.sessions.specs.FiguresOutput.{IsTableOutput}
+use Rattle.sessions.specs.FiguresOutput.{moment_from, IsTableNamed, IsTableOutput}
 use Rattle.sessions.specs.Nodes.{HasGroups}
 use Rattle.sessions.specs.Trace.{IsTrace, IsTooLong}
 use Rattle.sessions.specs.Written.{Writes}
 use Rattle.sessions.specs.Ended.{Ended, IsHindered, IsRunOutput, IsReadFault}
 use Rattle.sessions.specs.Session.{IsWithin, IsOfScenario, IsEnding, IsDue, IsSession}
+use Rattle.table_run.proofs.Runs.{run_add}
 use Rattle.sessions.proofs.Lines.{due_steps}
-use Rattle.sessions.proofs.Options.{some_none, same_some}
+use Rattle.command_line.proofs.Options.{some_none, same_some}
 
 -- no event comes after the last one
 none_after : (s : State) (n : ℕ) → run s n ≡ None → (k : ℕ) → run s (k + n) ≡ None
@@ -112,27 +113,45 @@ one_shared groups parts (Err NoMemory) other out out' free made due = inr tt
 one_shared groups parts ended other out out' free made due = one_shared_run groups parts ended other out out' free made.0 made.1 due
 
 -- so does a run whose figures are counted
-one_table : (p : ScenarioParts) (ended other : Ended) (out out' : List ℕ) → ¬ IsHindered other → IsTableOutput p ended out → IsTableOutput p other out' → (ended ≡ other) ⊎ IsHindered ended
-one_table p (Ok u) (Ok v) out out' free made due = inl refl
-one_table p (Ok u) (Err CountFull) out out' free made due = absurd (ends_in_time (opening p) made.n made.lines made.last made.few made.is_run made.final due.0)
-one_table p (Ok u) (Err NoMemory) out out' free made due = absurd (free tt)
-one_table p (Ok u) (Err WriteFailed) out out' free made due = absurd (free tt)
-one_table p (Ok u) _ out out' free made due = absurd due
-one_table p (Err CountFull) (Ok v) out out' free made due = absurd (ends_in_time (opening p) due.n due.lines due.last due.few due.is_run due.final made.0)
-one_table p (Err CountFull) (Err CountFull) out out' free made due = inl refl
-one_table p (Err CountFull) (Err NoMemory) out out' free made due = absurd (free tt)
-one_table p (Err CountFull) (Err WriteFailed) out out' free made due = absurd (free tt)
-one_table p (Err CountFull) _ out out' free made due = absurd due
-one_table p (Err NoMemory) other out out' free made due = inr tt
-one_table p (Err WriteFailed) other out out' free made due = inr tt
-one_table p _ other out out' free made due = absurd made
+counted_in_time : (from : Option (List ℕ)) (p : ScenarioParts) (out : List ℕ) → IsTableNamed from p out → IsTooLong (opening p) → ⊥
+counted_in_time from p out named long =
+    let table = named.2 in
+    let base = table.base in
+    let whole = run_add (opening p) base.state table.last base.before table.n table.counted.base.lines table.lines table.counted.base.comes table.is_run in
+    ends_in_time (opening p) (base.before + table.n) (table.counted.base.lines ++ table.lines) table.last table.few whole table.final long
+
+none_named : (from : Option (List ℕ)) (p : ScenarioParts) (out : List ℕ) → moment_from from ≡ None → IsTableNamed from p out → ⊥
+none_named from p out none named = some_none named.0 (sym named.1 ∙ none)
+
+one_table : (from : Option (List ℕ)) (p : ScenarioParts) (ended other : Ended) (out out' : List ℕ) → ¬ IsHindered other → IsTableOutput from p ended out → IsTableOutput from p other out' → (ended ≡ other) ⊎ IsHindered ended
+one_table from p (Ok u) (Ok v) out out' free made due = inl refl
+one_table from p (Ok u) (Err NoMoment) out out' free made due = absurd (none_named from p out due.0 made)
+one_table from p (Ok u) (Err CountFull) out out' free made due = absurd (counted_in_time from p out made due.1)
+one_table from p (Ok u) (Err NoMemory) out out' free made due = absurd (free tt)
+one_table from p (Ok u) (Err WriteFailed) out out' free made due = absurd (free tt)
+one_table from p (Ok u) _ out out' free made due = absurd due
+one_table from p (Err NoMoment) (Ok v) out out' free made due = absurd (none_named from p out' made.0 due)
+one_table from p (Err NoMoment) (Err NoMoment) out out' free made due = inl refl
+one_table from p (Err NoMoment) (Err CountFull) out out' free made due = absurd (due.0 made.0)
+one_table from p (Err NoMoment) (Err NoMemory) out out' free made due = absurd (free tt)
+one_table from p (Err NoMoment) (Err WriteFailed) out out' free made due = absurd (free tt)
+one_table from p (Err NoMoment) _ out out' free made due = absurd due
+one_table from p (Err CountFull) (Ok v) out out' free made due = absurd (counted_in_time from p out' due made.1)
+one_table from p (Err CountFull) (Err NoMoment) out out' free made due = absurd (made.0 due.0)
+one_table from p (Err CountFull) (Err CountFull) out out' free made due = inl refl
+one_table from p (Err CountFull) (Err NoMemory) out out' free made due = absurd (free tt)
+one_table from p (Err CountFull) (Err WriteFailed) out out' free made due = absurd (free tt)
+one_table from p (Err CountFull) _ out out' free made due = absurd due
+one_table from p (Err NoMemory) other out out' free made due = inr tt
+one_table from p (Err WriteFailed) other out out' free made due = inr tt
+one_table from p _ other out out' free made due = absurd made
 
 one_output : (subcommand : Subcommand) (parts : ScenarioParts) (ended other : Ended) (out out' : List ℕ) → ¬ IsHindered other → IsOutput subcommand parts ended out → IsOutput subcommand parts other out'
     → (ended ≡ other) ⊎ IsHindered ended
 one_output Asm parts ended other out out' free made due = one_whole (image Two parts) ended other out out' free made due
 one_output Dis parts ended other out out' free made due = one_whole (canonical_text parts) ended other out out' free made due
 one_output (Run sharing) parts ended other out out' free made due = one_shared sharing.groups parts ended other out out' free made due
-one_output Figures parts ended other out out' free made due = one_table parts ended other out out' free made due
+one_output (Figures from) parts ended other out out' free made due = one_table from parts ended other out out' free made due
 
 -- the ends to which work on a scenario can come
 abbrev IsOutputEnd : Ended → Type 0
@@ -142,6 +161,7 @@ IsOutputEnd (Err NoMemory) = Unit {0}
 IsOutputEnd (Err WriteFailed) = Unit {0}
 IsOutputEnd (Err NoWorker) = Unit {0}
 IsOutputEnd (Err Groups) = Unit {0}
+IsOutputEnd (Err NoMoment) = Unit {0}
 IsOutputEnd _ = ⊥
 
 run_end : (s : State) (ended : Ended) (out : List ℕ) → IsRunOutput s ended out → IsOutputEnd ended
@@ -163,18 +183,19 @@ shared_end groups parts (Err Groups) out made = tt
 shared_end groups parts (Err NoMemory) out made = tt
 shared_end groups parts ended out made = run_end (opening parts) ended out made.1
 
-table_end : (p : ScenarioParts) (ended : Ended) (out : List ℕ) → IsTableOutput p ended out → IsOutputEnd ended
-table_end p (Ok u) out made = tt
-table_end p (Err CountFull) out made = tt
-table_end p (Err NoMemory) out made = tt
-table_end p (Err WriteFailed) out made = tt
-table_end p _ out made = absurd made
+table_end : (from : Option (List ℕ)) (p : ScenarioParts) (ended : Ended) (out : List ℕ) → IsTableOutput from p ended out → IsOutputEnd ended
+table_end from p (Ok u) out made = tt
+table_end from p (Err NoMoment) out made = tt
+table_end from p (Err CountFull) out made = tt
+table_end from p (Err NoMemory) out made = tt
+table_end from p (Err WriteFailed) out made = tt
+table_end from p _ out made = absurd made
 
 output_end : (subcommand : Subcommand) (parts : ScenarioParts) (ended : Ended) (out : List ℕ) → IsOutput subcommand parts ended out → IsOutputEnd ended
 output_end Asm parts ended out made = whole_end (image Two parts) ended out made
 output_end Dis parts ended out made = whole_end (canonical_text parts) ended out made
 output_end (Run sharing) parts ended out made = shared_end sharing.groups parts ended out made
-output_end Figures parts ended out made = table_end parts ended out made
+output_end (Figures from) parts ended out made = table_end from parts ended out made
 
 -- none of which is one of the reader
 pub output_not_read : (subcommand : Subcommand) (parts : ScenarioParts) (ended : Ended) (out : List ℕ) → IsOutput subcommand parts ended out → ended ≡ Err ReadFailed → ⊥
@@ -228,6 +249,7 @@ output_ending subcommand input parts (Err CountFull) out within means made end =
 output_ending subcommand input parts (Err WriteFailed) out within means made end = (within, (parts, means, made))
 output_ending subcommand input parts (Err NoWorker) out within means made end = (within, (parts, means, made))
 output_ending subcommand input parts (Err Groups) out within means made end = (within, (parts, means, made))
+output_ending subcommand input parts (Err NoMoment) out within means made end = (within, (parts, means, made))
 output_ending subcommand input parts (Err NoMemory) out within means made end = inr (within, (parts, means, made))
 output_ending subcommand input parts _ out within means made end = absurd end
 

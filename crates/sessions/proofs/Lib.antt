@@ -1,4 +1,3 @@
-pub mod Options
 pub mod Lines
 pub mod BestNames
 pub mod Ends
@@ -6,13 +5,7 @@ pub mod Reading
 pub mod DebugEnds
 pub mod DebugReading
 pub mod Refusals
-pub mod NoKinds
-pub mod OptionRows
-pub mod OptionWalk
-pub mod Naming
-pub mod Requests
 pub mod Readings
-pub mod Commands
 pub mod GroupTexts
 pub mod Worked
 pub mod Shared

@@ -1,5 +1,5 @@
 -- The lines that a net has made.
-use Rattle.std.proofs.Common.{◌≡◌, ◌≢◌, ℕ, ◌+◌, ◌≤◌, suc, List, [], ◌∷◌, ◌++◌, length, refl, sym, ◌∙◌, ap, subst, append_assoc, arith, length-append, Bool, true, false, if◌then◌else◌, Option, None, Some, inl, inr, Ok, Err}
+use Rattle.std.proofs.Common.{◌≡◌, ◌≢◌, ℕ, ◌+◌, ◌≤◌, suc, List, [], ◌∷◌, ◌++◌, length, refl, sym, ◌∙◌, ap, subst, append_assoc, arith, length-append, Bool, true, Option, None, Some, inl, inr, Ok, Err, Result, ◌⊎◌}
 use Rattle.std.proofs.lemmas.List.{append-nil}
 use Rattle.std.proofs.lemmas.Grind.{flat_map-append}
 use Rattle.std.specs.List.{flat_map, enumerate_from}
@@ -11,28 +11,21 @@ use Rattle.net_machine.specs.declared.net.StepFault.{StepFault}
 use Rattle.net_machine.specs.declared.net.StepFault.TheVariants.{NoMemory as step_NoMemory, CountFull as step_CountFull}
 use Rattle.table_run.specs.State.{State, due, run, step, step_at, one_more}
 use Rattle.net_machine.specs.Run.{Reached, Stepped}
-use Rattle.node_core.specs.TraceLine.{TraceLine, shown}
-use Rattle.node_core.specs.declared.line.Line.{Line}
+use Rattle.net_watch.specs.declared.run_end.RunEnd.{RunEnd}
+use Rattle.net_watch.specs.declared.run_end.RunEnd.TheVariants.{Done}
+use Rattle.net_watch.specs.Watched.{IsStepFault, IsRunEnd, goes_on}
+use Rattle.node_core.specs.TraceLine.{TraceLine}
 use Rattle.trace_text.specs.Line.{line_bytes}
 use Rattle.trace_text.specs.End.{end_bytes}
 use Rattle.window_engine.proofs.Bytes.{appends_nothing, appends_more}
 use Rattle.sessions.specs.Trace.{lines_bytes, IsTrace, IsTraceStart, IsTooLong, IsTraceOrStart}
+use Rattle.sessions.specs.declared.fault.SessionFault.{SessionFault}
 use Rattle.sessions.specs.declared.fault.SessionFault.TheVariants.{WriteFailed, NoMemory, CountFull, NoWorker}
 use Rattle.sessions.specs.Faults.{of_step}
-use Rattle.sessions.specs.Ended.{Ended, IsRunOutput}
+use Rattle.sessions.specs.Ended.{Ended, IsRunOutput, writes_after}
 use Rattle.sessions.specs.Written.{Writes, WritesBefore, IsBeginningOf}
-use Rattle.sessions.proofs.Options.{some_none}
-
--- a net that started in this state has made these bytes
-pub record IsAt (s : State) (net : Reached) (made : List ℕ) : Type 0 where
-  pub lines : List TraceLine
-  pub is_run : run s net.position ≡ Some (lines, net.state)
-  pub as_many : length lines ≡ net.position
-  pub made_are : made ≡ lines_bytes lines
-
-pub at_start : (net : Reached) → net.position ≡ 0 → IsAt net.state net []
-at_start net h =
-    record { lines = []; is_run = let P : ℕ → Type 0 = λ n. run net.state n ≡ Some ([], net.state) in subst P (sym h) refl; as_many = sym h; made_are = refl }
+use Rattle.sessions.specs.Traced.{IsAt, Made, HasEnded, IsPut}
+use Rattle.command_line.proofs.Options.{some_none}
 
 enumerate_from-append : (k : ℕ) (xs : List TraceLine) (x : TraceLine) → enumerate_from k (xs ++ x ∷ []) ≡ enumerate_from k xs ++ (k + length xs, x) ∷ []
 enumerate_from-append k [] x = let e : k ≡ k + 0 = omega arith in ap (λ n. (n, x) ∷ []) e
@@ -82,20 +75,12 @@ due_steps s more = go (due s) more
 full_of : (s : State) (net : Reached) (made : List ℕ) → IsAt s net made → net.position ≡ 1000000000000000 → due net.state ≢ None → IsTooLong s
 full_of s net made at full more = record { lines = at.lines; last = net.state; is_run = let P : ℕ → Type 0 = λ n. run s n ≡ Some (at.lines, net.state) in subst P full at.is_run; one_due = more }
 
--- what a net has made was written, or waits
-abbrev pub Made : State → Reached → List ℕ → Option (List ℕ) → Option (List ℕ) → Type 0
-Made s net page old new = WritesBefore page (IsAt s net) old new
-
-pub made_start : (net : Reached) (page : List ℕ) (known : Option (List ℕ)) → net.position ≡ 0 → page ≡ [] → Made net.state net page known known
-made_start net page known h empty =
-    let P : List ℕ → Type 0 = λ l. Made net.state net l known known in
-    subst P (sym empty) ([], appends_nothing known, at_start net h)
-
-pub made_line : (s : State) (old new : Reached) (page page' : List ℕ) (x : TraceLine) (a b : Option (List ℕ)) → Made s old page a b → Stepped old (Some x) new
-    → page' ≡ page ++ line_bytes new.position x → Made s new page' a b
-made_line s old new page page' x a b made h e =
+-- a line more, with its number as the code has it
+pub made_line : (s : State) (old new : Reached) (page page' : List ℕ) (x : TraceLine) (n : ℕ) (a b : Option (List ℕ)) → Made s old page a b → Stepped old (Some x) new → n ≡ new.position
+    → page' ≡ page ++ line_bytes n x → Made s new page' a b
+made_line s old new page page' x n a b made h count e =
     let P : List ℕ → Type 0 = IsAt s new in
-    let same : (made.0 ++ page) ++ line_bytes new.position x ≡ made.0 ++ page' = append_assoc made.0 page (line_bytes new.position x) ∙ ap (λ l. made.0 ++ l) (sym e) in
+    let same : (made.0 ++ page) ++ line_bytes new.position x ≡ made.0 ++ page' = append_assoc made.0 page (line_bytes new.position x) ∙ ap (λ l. made.0 ++ l) (sym (e ∙ ap (λ k. page ++ line_bytes k x) count)) in
     (made.0, made.1, subst P same (at_next s old new (made.0 ++ page) x made.2 h))
 
 -- a part of the page was written
@@ -111,20 +96,18 @@ made_so_far s net page page' a b made e =
     let P : List ℕ → Type 0 = λ l. WritesBefore l (IsTraceStart s) a b in
     subst P (sym e) (made.0, made.1, start_of s net (made.0 ++ page) made.2)
 
--- no event is due, and the last line was added
-pub made_all : (s : State) (net : Reached) (page page' : List ℕ) (a b : Option (List ℕ)) → Made s net page a b → net.position ≤ 1000000000000000 → step net.state ≡ None → page' ≡ page ++ end_bytes net.position
+-- no event is due, and the last line was added, with its number as the code has it
+pub made_all : (s : State) (net : Reached) (page page' : List ℕ) (n : ℕ) (a b : Option (List ℕ)) → Made s net page a b → net.position ≤ 1000000000000000 → due net.state ≡ None → n ≡ net.position → page' ≡ page ++ end_bytes n
     → WritesBefore page' (IsTrace s) a b
-made_all s net page page' a b made few h e =
+made_all s net page page' n a b made few none count e =
     let P : List ℕ → Type 0 = IsTrace s in
-    let same : (made.0 ++ page) ++ end_bytes net.position ≡ made.0 ++ page' = append_assoc made.0 page (end_bytes net.position) ∙ ap (λ l. made.0 ++ l) (sym e) in
-    (made.0, made.1, subst P same (trace_of s net (made.0 ++ page) made.2 few h))
+    let same : (made.0 ++ page) ++ end_bytes net.position ≡ made.0 ++ page' = append_assoc made.0 page (end_bytes net.position) ∙ ap (λ l. made.0 ++ l) (sym (e ∙ ap (λ k. page ++ end_bytes k) count)) in
+    (made.0, made.1, subst P same (trace_of s net (made.0 ++ page) made.2 few (ap (option_map (step_at net.state)) none)))
 
--- a step was refused, and the lines so far wait
-pub made_refused : (s : State) (net : Reached) (page : List ℕ) (fault : StepFault) (a b : Option (List ℕ)) → Made s net page a b
-    → (fault ≡ step_CountFull → (due net.state ≢ None) × (net.position ≡ 1000000000000000)) → WritesBefore page (IsRunOutput s (Err (of_step fault))) a b
-made_refused s net page step_NoMemory a b made full = (made.0, made.1, start_of s net (made.0 ++ page) made.2)
-made_refused s net page step_CountFull a b made full =
-    (made.0, made.1, (full_of s net (made.0 ++ page) made.2 (full refl).1 (full refl).0, start_of s net (made.0 ++ page) made.2))
+-- no event was run, and the lines so far wait
+pub made_refused : (s : State) (net : Reached) (page : List ℕ) (fault : StepFault) (a b : Option (List ℕ)) → Made s net page a b → IsStepFault net fault → WritesBefore page (IsRunOutput s (Err (of_step fault))) a b
+made_refused s net page step_NoMemory a b made stops = (made.0, made.1, start_of s net (made.0 ++ page) made.2)
+made_refused s net page step_CountFull a b made stops = (made.0, made.1, (full_of s net (made.0 ++ page) made.2 stops.1 stops.0, start_of s net (made.0 ++ page) made.2))
 
 -- bytes of this kind were to be written, and the writer failed
 pub begun : (P Q : List ℕ → Type 0) (page : List ℕ) (a b c : Option (List ℕ)) → ((l : List ℕ) → P l → Q l) → WritesBefore page P a b → Writes (IsBeginningOf (λ all. all ≡ page)) b c
@@ -161,22 +144,48 @@ pub page_failed : (r : Ended) (s : State) (page : List ℕ) (a b c : Option (Lis
     → Writes (IsBeginningOf (IsTraceOrStart s)) a c
 page_failed r s page a b c other made part = begun (IsRunOutput s r) (IsTraceOrStart s) page a b c (λ l. trace_or_start r s l other) made part
 
--- a line where a step was made, as the code has it
-abbrev pub line_if : Bool → Line → Option TraceLine
-line_if fired line = if fired then Some (shown line) else None
+ok_not_failed : ◌≡◌ {A = Ended} (Ok tt) (Err WriteFailed) → ⊥
+ok_not_failed e = cc
 
--- a line more, with its number as the code has it
-pub made_line_at : (s : State) (old new : Reached) (page page' : List ℕ) (fired : Bool) (line : Line) (n : ℕ) (a b : Option (List ℕ)) → Made s old page a b → fired ≡ true
-    → Stepped old (line_if fired line) new → n ≡ new.position → page' ≡ page ++ line_bytes n (shown line) → Made s new page' a b
-made_line_at s old new page page' fired line n a b made is h count e =
-    let stepped : Stepped old (Some (shown line)) new = subst (λ f. Stepped old (line_if f line) new) is h in
-    made_line s old new page page' (shown line) a b made stepped (e ∙ ap (λ k. page ++ line_bytes k (shown line)) count)
+pub memory_not_failed : ◌≡◌ {A = Ended} (Err NoMemory) (Err WriteFailed) → ⊥
+memory_not_failed e = cc
 
--- the end, with the number as the code has it
-pub made_end : (s : State) (old new : Reached) (page page' : List ℕ) (fired : Bool) (line : Line) (n : ℕ) (a b : Option (List ℕ)) → Made s old page a b → new.position ≤ 1000000000000000 → fired ≡ false
-    → Stepped old (line_if fired line) new → n ≡ new.position → page' ≡ page ++ end_bytes n → WritesBefore page' (IsTrace s) a b
-made_end s old new page page' fired line n a b made few is h count e =
-    let last : Stepped old None new = subst (λ f. Stepped old (line_if f line) new) is h in
-    let stays : new.position ≡ old.position = ap (λ (r : Reached). r.position) last.1 in
-    let few_old : old.position ≤ 1000000000000000 = omega (arith, few, stays) in
-    made_all s old page page' a b made few_old last.0 (e ∙ ap (λ k. page ++ end_bytes k) (count ∙ stays))
+step_not_failed : (fault : StepFault) → ◌≡◌ {A = Ended} (Err (of_step fault)) (Err WriteFailed) → ⊥
+step_not_failed step_NoMemory e = cc
+step_not_failed step_CountFull e = cc
+
+no_write_failed : (fault : StepFault) (n : ℕ) → writes_after {T = Unit {0}} (Err (of_step fault)) n ≡ n
+no_write_failed step_NoMemory n = refl
+no_write_failed step_CountFull n = refl
+
+-- by what a run's end says, and what was put by then
+module _ (s : State) (from net : Reached) (page : List ℕ) (a b : Option (List ℕ)) (f g : ℕ) (refused : Bool) (end : Result RunEnd StepFault) (stops : IsRunEnd (⊥ ⊎ ⊥) from net end) (put : IsPut s net page a b f g refused (goes_on end)) where
+  all_put : goes_on end ≡ true → Made s net page a b × (g ≡ f)
+  all_put on = subst (IsPut s net page a b f g refused) on put
+
+  -- the last line was added, with its number as the code has it
+  pub done : (page' : List ℕ) (n : ℕ) → end ≡ Ok Done → net.position ≤ 1000000000000000 → n ≡ net.position → page' ≡ page ++ end_bytes n → HasEnded s page' a b f g (Ok tt)
+  done page' n is few count e =
+      let so = all_put (ap goes_on is) in
+      record {
+        made = λ _. made_all s net page page' n a b so.0 few (subst (IsRunEnd (⊥ ⊎ ⊥) from net) is stops) count e;
+        failed_then = λ failed. absurd (ok_not_failed failed);
+        failures_are = so.1;
+      }
+
+  -- or it was not
+  pub done_short : (page' : List ℕ) → end ≡ Ok Done → page' ≡ page → HasEnded s page' a b f g (Err NoMemory)
+  done_short page' is e =
+      let so = all_put (ap goes_on is) in
+      record { made = λ _. made_so_far s net page page' a b so.0 e; failed_then = λ failed. absurd (memory_not_failed failed); failures_are = so.1 }
+
+  -- no event was run
+  pub no_step : (fault : StepFault) (told : SessionFault) → end ≡ Err fault → told ≡ of_step fault → HasEnded s page a b f g (Err told)
+  no_step fault told is same =
+      let so = all_put (ap goes_on is) in
+      subst (λ (e : SessionFault). HasEnded s page a b f g (Err e)) (sym same)
+      (record {
+        made = λ _. made_refused s net page fault a b so.0 (subst (IsRunEnd (⊥ ⊎ ⊥) from net) is stops);
+        failed_then = λ failed. absurd (step_not_failed fault failed);
+        failures_are = so.1 ∙ sym (no_write_failed fault f);
+      })

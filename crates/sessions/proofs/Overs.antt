@@ -2,9 +2,9 @@
 use Rattle.std.proofs.Common.{◌≡◌, ◌≢◌, ◌∙◌, ℕ, Bool, true, false, List, codes, bytes_eq, MatchBool, if◌then◌else◌, Option, None, Some, Result, Ok, Err, IfErr, IfOk, refl, ap, subst}
 use Rattle.sessions.specs.declared.fault.SessionFault.{SessionFault}
 use Rattle.sessions.specs.declared.fault.SessionFault.TheVariants.{TooLong, ReadFailed, CannotRead, NoMemory}
-use Rattle.sessions.specs.declared.subcommand.Subcommand.{Subcommand}
-use Rattle.sessions.specs.declared.subcommand.Task.{Task}
-use Rattle.sessions.specs.declared.subcommand.Task.TheVariants.{Scenario, Debug}
+use Rattle.command_line.specs.declared.subcommand.Subcommand.{Subcommand}
+use Rattle.command_line.specs.declared.subcommand.Task.{Task}
+use Rattle.command_line.specs.declared.subcommand.Task.TheVariants.{Scenario, Debug}
 use Rattle.sessions.specs.Asked.{IsTaskOnFile, IsOverFile, IsNamedOn}
 use Rattle.sessions.specs.Debug.{IsTaskOn}
 use Rattle.sessions.specs.Ended.{Ended, IsToldOf, reads_after}

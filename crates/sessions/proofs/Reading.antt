@@ -6,7 +6,7 @@ use Rattle.sessions.specs.declared.fault.SessionFault.{SessionFault}
 use Rattle.sessions.specs.declared.fault.SessionFault.TheVariants.{TooLong, ReadFailed, WriteFailed}
 use Rattle.sessions.specs.Ended.{Ended, IsReadFault, reads_after, writes_after}
 use Rattle.sessions.specs.Streams.{Streams, IsInputOf}
-use Rattle.sessions.specs.declared.subcommand.Subcommand.{Subcommand}
+use Rattle.command_line.specs.declared.subcommand.Subcommand.{Subcommand}
 use Rattle.sessions.specs.Session.{IsSession, IsSessionOn}
 use Rattle.sessions.proofs.Ends.{unread_input}
 

@@ -17,7 +17,7 @@ use Rattle.sessions.specs.declared.fault.SessionFault.{SessionFault}
 use Rattle.sessions.specs.declared.fault.SessionFault.TheVariants.{Refused, RefusedImage, NoMemory}
 use Rattle.sessions.specs.Faults.{of_image, of_text}
 use Rattle.sessions.specs.Input.{is_image, IsImageOf, IsImageFault, IsTextFault, HasScenario, HasFault, Reads}
-use Rattle.sessions.proofs.Options.{same_some}
+use Rattle.command_line.proofs.Options.{same_some}
 
 ok_err : {T E : Type 0} (value : T) (error : E) → ◌≡◌ {A = Result T E} (Ok value) (Err error) → ⊥
 ok_err value error is = false≢true (ap is_ok (sym is))

@@ -8,14 +8,15 @@ use Rattle.clap.specs.declared.error.kind.ErrorKind.{ErrorKind}
 use Rattle.clap.specs.declared.error.kind.ErrorKind.TheVariants.{OutOfMemory}
 use Rattle.sessions.specs.declared.outcome.Outcome.{Outcome}
 use Rattle.sessions.specs.declared.fault.SessionFault.TheVariants.{CommandLine, NoMemory}
-use Rattle.sessions.specs.CommandLine.{word_faults, AskFor, IsRequest, AreMistaken, IsRefusal}
-use Rattle.sessions.specs.declared.subcommand.Asked.{Asked}
+use Rattle.command_line.specs.CommandLine.{word_faults, AskFor, IsRequest, AreMistaken}
+use Rattle.sessions.specs.Answered.{IsRefusal}
+use Rattle.command_line.specs.declared.subcommand.Asked.{Asked}
 use Rattle.sessions.specs.Asked.{IsAskedOn}
 use Rattle.sessions.specs.Ended.{Ended}
 use Rattle.sessions.specs.Outcome.{outcome_of}
 use Rattle.sessions.specs.Session.{Tells}
 use Rattle.sessions.specs.Streams.{Streams}
-use Rattle.sessions.proofs.Naming.{words_ask_for_one}
+use Rattle.command_line.proofs.Naming.{words_ask_for_one}
 use Rattle.sessions.proofs.DebugReading.{asked_never_begun}
 
 is_out_of_memory : ErrorKind → Bool

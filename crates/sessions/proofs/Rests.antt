@@ -14,14 +14,14 @@ use Rattle.sessions.specs.declared.fault.SessionFault.{SessionFault}
 use Rattle.sessions.specs.declared.fault.SessionFault.TheVariants.{WriteFailed, NoMemory}
 use Rattle.sessions.specs.declared.prompt.Prompt.{Prompt}
 use Rattle.sessions.specs.declared.rest.Rest.{Rest}
-use Rattle.sessions.specs.declared.subcommand.Subcommand.{Subcommand}
-use Rattle.sessions.specs.declared.workers.WindowRun.{WindowRun}
+use Rattle.sessions.specs.declared.rest.Rest.TheVariants.{Nothing, Shared}
+use Rattle.command_line.specs.declared.subcommand.Subcommand.{Subcommand}
 use Rattle.sessions.specs.Debug.{IsDebugSession}
 use Rattle.sessions.specs.Ended.{Ended, writes_after}
 use Rattle.sessions.specs.Faults.{of_commands}
 use Rattle.sessions.specs.Input.{HasScenario, IsTextFault, Reads}
 use Rattle.sessions.specs.Nodes.{HasGroups}
-use Rattle.sessions.specs.Rest.{AreAnswered, Begins, BeginsRun, IsDone, IsPromptDone, IsReadSession, HasWritten, WasTyped, no_run_left, rest_of}
+use Rattle.sessions.specs.Rest.{AreAnswered, Begins, BeginsRun, IsDone, IsPromptDone, IsReadSession, HasWritten, WasTyped, nothing_left}
 use Rattle.sessions.specs.Session.{IsSession, IsWithin}
 use Rattle.sessions.specs.Streams.{Streams}
 use Rattle.sessions.specs.Written.{Writes}
@@ -33,31 +33,32 @@ pub begins_as : (P Q : Ended → Streams → Type 0) (begun : Result Rest Sessio
 begins_as P Q (Err fault) now says begins = says (Err fault) now begins
 begins_as P Q (Ok rest) now says begins = (begins.0, λ ended after left. says ended after (begins.1 ended after left))
 
-pub run_begins_as : (P Q : Ended → Option (List ℕ) → Type 0) (begun : Result (Option WindowRun) SessionFault) (now : Option (List ℕ)) → ((ended : Ended) (after : Option (List ℕ)) → P ended after → Q ended after) → BeginsRun P begun now
+pub run_begins_as : (P Q : Ended → Option (List ℕ) → Type 0) (begun : Result Rest SessionFault) (now : Option (List ℕ)) → ((ended : Ended) (after : Option (List ℕ)) → P ended after → Q ended after) → BeginsRun P begun now
     → BeginsRun Q begun now
 run_begins_as P Q (Err fault) now says begins = says (Err fault) now begins
-run_begins_as P Q (Ok None) now says begins = says (Ok tt) now begins
-run_begins_as P Q (Ok (Some run)) now says begins = (begins.0, λ ended after wrote. says ended after (begins.1 ended after wrote))
+run_begins_as P Q (Ok Nothing) now says begins = says (Ok tt) now begins
+run_begins_as P Q (Ok (Shared run)) now says begins = (begins.0, λ ended after wrote. says ended after (begins.1 ended after wrote))
+run_begins_as P Q (Ok _) now says begins = absurd begins
 
--- what ended so has no run left
-pub ended_run : (P : Ended → Option (List ℕ) → Type 0) (ended : Ended) (begun : Result (Option WindowRun) SessionFault) (now : Option (List ℕ)) → begun ≡ no_run_left ended → P ended now → BeginsRun P begun now
-ended_run P ended begun now is ends = subst (λ (b : Result (Option WindowRun) SessionFault). BeginsRun P b now) (sym is) (go ended ends)
+-- what ended so has nothing left
+pub ended_run : (P : Ended → Option (List ℕ) → Type 0) (ended : Ended) (begun : Result Rest SessionFault) (now : Option (List ℕ)) → begun ≡ nothing_left ended → P ended now → BeginsRun P begun now
+ended_run P ended begun now is ends = subst (λ (b : Result Rest SessionFault). BeginsRun P b now) (sym is) (go ended ends)
   where
-    go : (e : Ended) → P e now → BeginsRun P (no_run_left e) now
+    go : (e : Ended) → P e now → BeginsRun P (nothing_left e) now
     go (Ok done) ends = ends
     go (Err fault) ends = ends
 
 -- and its count of failures
-pub ended_writes : (ended : Ended) (begun : Result (Option WindowRun) SessionFault) (n m : ℕ) → begun ≡ no_run_left ended → m ≡ writes_after ended n → m ≡ writes_after begun n
-ended_writes ended begun n m is counts = counts ∙ go ended ∙ ap (λ (b : Result (Option WindowRun) SessionFault). writes_after b n) (sym is)
+pub ended_writes : (ended : Ended) (begun : Result Rest SessionFault) (n m : ℕ) → begun ≡ nothing_left ended → m ≡ writes_after ended n → m ≡ writes_after begun n
+ended_writes ended begun n m is counts = counts ∙ go ended ∙ ap (λ (b : Result Rest SessionFault). writes_after b n) (sym is)
   where
-    go : (e : Ended) → writes_after e n ≡ writes_after (no_run_left e) n
+    go : (e : Ended) → writes_after e n ≡ writes_after (nothing_left e) n
     go (Ok done) = refl
     go (Err WriteFailed) = refl
     go (Err _) = refl
 
 -- of what there was to count, whatever it is the end of
-same_writes : (fault : SessionFault) (n : ℕ) → writes_after {T = Option WindowRun} (Err fault) n ≡ writes_after {T = Unit {0}} (Err fault) n
+same_writes : (fault : SessionFault) (n : ℕ) → writes_after {T = Rest} (Err fault) n ≡ writes_after {T = Unit {0}} (Err fault) n
 same_writes WriteFailed n = refl
 same_writes _ n = refl
 
@@ -67,25 +68,24 @@ done_at IsOn now ended one other is same done =
     subst (λ (e : Ended). IsDone IsOn now e other) (sym is) (subst (λ (s : Streams). IsDone IsOn now (Ok tt) s) (sym same) done)
 
 -- a subcommand was begun over an input that was read
-pub subcommand_begins : (subcommand : Subcommand) (input : List ℕ) (begun : Result (Option WindowRun) SessionFault) (rest : Result Rest SessionFault) (before now : Streams) → rest ≡ rest_of begun
-    → BeginsRun (IsReadSession subcommand input before.written) begun now.written → now.read_failures ≡ before.read_failures → now.write_failures ≡ writes_after begun before.write_failures
-    → Begins (IsDone (IsSession subcommand input) before) rest now
-subcommand_begins subcommand input begun rest before now is begins reads writes =
-    subst (λ (r : Result Rest SessionFault). Begins (IsDone (IsSession subcommand input) before) r now) (sym is) (go begun begins writes)
+pub subcommand_begins : (subcommand : Subcommand) (input : List ℕ) (begun : Result Rest SessionFault) (before now : Streams) → BeginsRun (IsReadSession subcommand input before.written) begun now.written → now.read_failures ≡ before.read_failures → now.write_failures ≡ writes_after begun before.write_failures
+    → Begins (IsDone (IsSession subcommand input) before) begun now
+subcommand_begins subcommand input begun before now begins reads writes = go begun begins writes
   where
-    go : (b : Result (Option WindowRun) SessionFault) → BeginsRun (IsReadSession subcommand input before.written) b now.written → now.write_failures ≡ writes_after b before.write_failures
-        → Begins (IsDone (IsSession subcommand input) before) (rest_of b) now
+    go : (b : Result Rest SessionFault) → BeginsRun (IsReadSession subcommand input before.written) b now.written → now.write_failures ≡ writes_after b before.write_failures
+        → Begins (IsDone (IsSession subcommand input) before) b now
     go (Err fault) begins writes = record { session = begins.0; no_read = begins.1; reads = reads; writes = writes ∙ same_writes fault before.write_failures }
-    go (Ok None) begins writes = (
+    go (Ok Nothing) begins writes = (
       tt,
       λ ended after left. done_at (IsSession subcommand input) before ended now after left.0 left.1 (record { session = begins.0; no_read = begins.1; reads = reads; writes = writes }),
     )
-    go (Ok (Some run)) begins writes = (
+    go (Ok (Shared run)) begins writes = (
       begins.0,
       λ ended after left.
           let session = begins.1 ended after.written left.output in
           record { session = session.0; no_read = session.1; reads = left.reads ∙ reads; writes = left.writes ∙ ap (writes_after ended) writes },
     )
+    go (Ok _) begins writes = absurd begins
 
 -- the commands behind a text were answered, and so the session was
 pub commands_end : (groups input text commands : List ℕ) (parts : ScenarioParts) (read : Read) (now after : Streams) → lines_of text ≡ text_lines input → lines_of commands ≡ command_lines input → IsWithin input → read ≡ Ok parts
@@ -136,12 +136,10 @@ typed_end groups input p prompt ended now after within means has stands none lim
     }
 
 -- what ended so has nothing left
-pub nothing_begins : (P : Ended → Streams → Type 0) (ended : Ended) (begun : Result (Option WindowRun) SessionFault) (rest : Result Rest SessionFault) (now : Streams) → begun ≡ no_run_left ended → rest ≡ rest_of begun → P ended now
-    → Begins P rest now
-nothing_begins P ended begun rest now is is_rest ends =
-    subst (λ (r : Result Rest SessionFault). Begins P r now) (sym (is_rest ∙ ap rest_of is)) (go ended ends)
+pub nothing_begins : (P : Ended → Streams → Type 0) (ended : Ended) (rest : Result Rest SessionFault) (now : Streams) → rest ≡ nothing_left ended → P ended now → Begins P rest now
+nothing_begins P ended rest now is ends = subst (λ (r : Result Rest SessionFault). Begins P r now) (sym is) (go ended ends)
   where
-    go : (e : Ended) → P e now → Begins P (rest_of (no_run_left e)) now
+    go : (e : Ended) → P e now → Begins P (nothing_left e) now
     go (Ok done) ends = (tt, λ ended after left. subst (λ (e : Ended). P e after) (sym left.0) (subst (P (Ok tt)) (sym left.1) ends))
     go (Err fault) ends = ends
 

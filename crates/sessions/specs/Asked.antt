@@ -1,10 +1,10 @@
 -- What comes of what the words ask for: a session over standard input or over a file, or an explanation.
 use Rattle.std.specs.Prelude.{◌≡◌, ℕ, List, MatchBool, codes, bytes_eq, Option, None, Some}
-use Rattle.sessions.specs.declared.subcommand.Asked.{Asked}
-use Rattle.sessions.specs.declared.subcommand.Asked.TheVariants.{Session, Explanation}
-use Rattle.sessions.specs.declared.subcommand.Task.{Task}
-use Rattle.sessions.specs.declared.subcommand.Task.TheVariants.{Scenario, Debug}
-use Rattle.sessions.specs.CommandLine.{IsExplained}
+use Rattle.command_line.specs.declared.subcommand.Asked.{Asked}
+use Rattle.command_line.specs.declared.subcommand.Asked.TheVariants.{Session, Explanation}
+use Rattle.command_line.specs.declared.subcommand.Task.{Task}
+use Rattle.command_line.specs.declared.subcommand.Task.TheVariants.{Scenario, Debug}
+use Rattle.sessions.specs.Answered.{IsExplained}
 use Rattle.sessions.specs.Debug.{IsTaskOn}
 use Rattle.sessions.specs.Ended.{Ended, IsToldOf, writes_after}
 use Rattle.sessions.specs.Prompt.{IsPromptOn}

@@ -5,8 +5,8 @@ use Rattle.debug_session.specs.Input.{command_lines}
 use Rattle.debug_session.specs.Sessions.{Ended as CommandsEnded, HasFault, HasScenario, IsEnding}
 use Rattle.debug_session.specs.declared.session.SessionFault.TheVariants.{OutputFailed}
 use Rattle.sessions.specs.declared.fault.SessionFault.TheVariants.{TooLong, Refused, Groups, ReadFailed, WriteFailed, NoMemory}
-use Rattle.sessions.specs.declared.subcommand.Task.{Task}
-use Rattle.sessions.specs.declared.subcommand.Task.TheVariants.{Scenario, Debug}
+use Rattle.command_line.specs.declared.subcommand.Task.{Task}
+use Rattle.command_line.specs.declared.subcommand.Task.TheVariants.{Scenario, Debug}
 use Rattle.sessions.specs.Ended.{Ended, IsHindered, reads_after, writes_after}
 use Rattle.sessions.specs.Nodes.{HasGroups}
 use Rattle.sessions.specs.Session.{IsWithin, IsSessionOn}

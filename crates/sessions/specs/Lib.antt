@@ -6,10 +6,8 @@ pub mod Faults
 pub mod FileName
 pub mod Trace
 pub mod Ended
+pub mod Traced
 pub mod Outcome
-pub mod Sharing
-pub mod Subcommand
-pub mod Wishes
 pub mod Worked
 pub mod Groups
 pub mod Nodes
@@ -21,8 +19,10 @@ pub mod Debug
 pub mod Prompt
 pub mod Nearest
 pub mod Turns
-pub mod CommandLine
 pub mod Asked
 pub mod Named
 pub mod Rest
-pub mod Given
+pub mod Answered
+pub use Rattle.command_line.specs.CommandLine
+pub use Rattle.command_line.specs.Subcommand
+pub use Rattle.command_line.specs.Sharing

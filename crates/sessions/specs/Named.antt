@@ -1,7 +1,7 @@
 -- Which input is named: the reader's, or a file's.
 use Rattle.std.specs.Prelude.{ℕ, List, codes, bytes_eq, if◌then◌else◌, Option, None, Some, Result}
 use Rattle.sessions.specs.declared.fault.SessionFault.{SessionFault}
-use Rattle.sessions.specs.declared.subcommand.Task.{Task}
+use Rattle.command_line.specs.declared.subcommand.Task.{Task}
 use Rattle.sessions.specs.Asked.{IsOverFile}
 use Rattle.sessions.specs.Debug.{IsTaskOn}
 use Rattle.sessions.specs.Ended.{Ended, IsReadFault, reads_after}

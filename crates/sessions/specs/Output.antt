@@ -6,8 +6,8 @@ use Rattle.scenario_image.specs.declared.version.Version.TheVariants.{Two}
 use Rattle.scenario_asm.specs.CanonicalText.{canonical_text}
 use Rattle.table_run.specs.State.{opening}
 use Rattle.sessions.specs.declared.fault.SessionFault.TheVariants.{WriteFailed, NoMemory, Groups}
-use Rattle.sessions.specs.declared.subcommand.Subcommand.{Subcommand}
-use Rattle.sessions.specs.declared.subcommand.Subcommand.TheVariants.{Asm, Dis, Run, Figures}
+use Rattle.command_line.specs.declared.subcommand.Subcommand.{Subcommand}
+use Rattle.command_line.specs.declared.subcommand.Subcommand.TheVariants.{Asm, Dis, Run, Figures}
 use Rattle.sessions.specs.Written.{IsBeginningOf}
 use Rattle.sessions.specs.Ended.{Ended, IsRunOutput}
 use Rattle.sessions.specs.FiguresOutput.{IsTableOutput}
@@ -26,9 +26,9 @@ IsSharedOutput groups parts (Err Groups) out = ¬ HasGroups groups parts × (out
 IsSharedOutput groups parts (Err NoMemory) out = (out ≡ []) ⊎ (HasGroups groups parts × IsRunOutput (opening parts) (Err NoMemory) out)
 IsSharedOutput groups parts ended out = HasGroups groups parts × IsRunOutput (opening parts) ended out
 
--- what a subcommand that ended so has written of a scenario: the image of version 2, the canonical text, the trace of its run, or the table of its run's figures
+-- what a subcommand that ended so has written of a scenario: the image of version 2, the canonical text, the trace of its run, or the table of its run's figures from a moment on
 abbrev pub IsOutput : Subcommand → ScenarioParts → Ended → List ℕ → Type 0
 IsOutput Asm parts ended out = IsAllOrNothing (image Two parts) ended out
 IsOutput Dis parts ended out = IsAllOrNothing (canonical_text parts) ended out
 IsOutput (Run sharing) parts ended out = IsSharedOutput sharing.groups parts ended out
-IsOutput Figures parts ended out = IsTableOutput parts ended out
+IsOutput (Figures from) parts ended out = IsTableOutput from parts ended out

@@ -11,9 +11,9 @@ use Rattle.sessions.specs.declared.fault.SessionFault.TheVariants.{ReadFailed, W
 use Rattle.sessions.specs.declared.prompt.Prompt.{Prompt}
 use Rattle.sessions.specs.declared.rest.Rest.{Rest}
 use Rattle.sessions.specs.declared.rest.Rest.TheVariants.{Nothing, Shared, Listed, Typed}
-use Rattle.sessions.specs.declared.subcommand.Subcommand.{Subcommand}
-use Rattle.sessions.specs.declared.subcommand.Task.{Task}
-use Rattle.sessions.specs.declared.subcommand.Task.TheVariants.{Scenario, Debug}
+use Rattle.command_line.specs.declared.subcommand.Subcommand.{Subcommand}
+use Rattle.command_line.specs.declared.subcommand.Task.{Task}
+use Rattle.command_line.specs.declared.subcommand.Task.TheVariants.{Scenario, Debug}
 use Rattle.sessions.specs.declared.workers.WindowRun.{WindowRun}
 use Rattle.sessions.specs.Debug.{IsDebugSession}
 use Rattle.sessions.specs.Ended.{Ended, IsRunOutput, reads_after, writes_after}
@@ -34,17 +34,18 @@ pub record IsLeft (run : WindowRun) : Type 0 where
   pub start : IsAtStart run
   pub several : 1 < run.workers
 
--- what was begun has ended so, or a run is left, and whatever end that has is an end of the whole
-abbrev pub BeginsRun : (Ended → Option (List ℕ) → Type 0) → Result (Option WindowRun) SessionFault → Option (List ℕ) → Type 0
+-- what was begun has ended so, or a run is left and nothing else, and whatever end that has is an end of the whole
+abbrev pub BeginsRun : (Ended → Option (List ℕ) → Type 0) → Result Rest SessionFault → Option (List ℕ) → Type 0
 BeginsRun IsEnd (Err fault) now = IsEnd (Err fault) now
-BeginsRun IsEnd (Ok None) now = IsEnd (Ok tt) now
-BeginsRun IsEnd (Ok (Some run)) now =
+BeginsRun IsEnd (Ok Nothing) now = IsEnd (Ok tt) now
+BeginsRun IsEnd (Ok (Shared run)) now =
     IsLeft run × ((ended : Ended) (after : Option (List ℕ)) → Writes (IsRunOutput run.engine.net.state ended) now after → IsEnd ended after)
+BeginsRun IsEnd (Ok _) now = ⊥
 
--- what ended so has no run left
-abbrev pub no_run_left : Ended → Result (Option WindowRun) SessionFault
-no_run_left (Ok done) = Ok None
-no_run_left (Err fault) = Err fault
+-- what ended so has nothing left
+abbrev pub nothing_left : Ended → Result Rest SessionFault
+nothing_left (Ok done) = Ok Nothing
+nothing_left (Err fault) = Err fault
 
 -- what the commands behind a text have put out where they ended so
 abbrev pub AreAnswered : ScenarioParts → List (List ℕ) → Ended → List ℕ → Type 0
@@ -94,12 +95,6 @@ IsReady (Typed prompt) = 65536 < length prompt.room.items
 abbrev pub Begins : (Ended → Streams → Type 0) → Result Rest SessionFault → Streams → Type 0
 Begins IsEnd (Err fault) now = IsEnd (Err fault) now
 Begins IsEnd (Ok rest) now = IsReady rest × ((ended : Ended) (after : Streams) → RestEnds rest ended now after → IsEnd ended after)
-
--- what is left where a run may be
-abbrev pub rest_of : Result (Option WindowRun) SessionFault → Result Rest SessionFault
-rest_of (Ok None) = Ok Nothing
-rest_of (Ok (Some run)) = Ok (Shared run)
-rest_of (Err fault) = Err fault
 
 -- these streams, with a writer as it is then
 abbrev pub written_by : {W : Type 0} → (W → ℕ) → (W → Option (List ℕ)) → Streams → W → Streams

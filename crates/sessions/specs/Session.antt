@@ -1,7 +1,7 @@
 -- What a session of a subcommand comes to, by the bytes of its input.
 use Rattle.std.specs.Prelude.{◌≡◌, ◌⊎◌, ◌<◌, ◌≤◌, ℕ, List, [], length, Option, Err}
 use Rattle.sessions.specs.declared.outcome.Outcome.{Outcome}
-use Rattle.sessions.specs.declared.subcommand.Subcommand.{Subcommand}
+use Rattle.command_line.specs.declared.subcommand.Subcommand.{Subcommand}
 use Rattle.sessions.specs.Outcome.{outcome_of}
 use Rattle.scenario_image.specs.declared.parts.ScenarioParts.{ScenarioParts}
 use Rattle.sessions.specs.declared.fault.SessionFault.TheVariants.{TooLong, Refused, RefusedImage, ReadFailed, NoMemory}

@@ -17,49 +17,53 @@ use crate::fault::SessionFault;
 use crate::figures_table::put_figures;
 use crate::input::{named_file, read_named};
 use crate::means::Means;
-use crate::notes::Notes;
 use crate::prompt::begin_prompt;
-use crate::rest::{Rest, no_run_left, rest_of};
+use crate::rest::{Rest, nothing_left};
 use crate::run::begin_run;
 use crate::scenario_input::told_scenario;
-use crate::sharing::Sharing;
 use crate::source::Source;
-use crate::subcommand::{Asked, OptionalWord, Subcommand, Task, Wishes};
 use crate::why::tell_why;
-use crate::workers::WindowRun;
+use command_line::notes::Notes;
+use command_line::sharing::Sharing;
+use command_line::subcommand::{Asked, OptionalWord, Subcommand, Task, Wishes};
 use scenario_image::Scenario;
 use std::alloc::Global;
 use window_engine::{Gate, Sink};
 
 /// Writes what a subcommand makes of a scenario. A run by several workers is left.
-fn begin_output<W: Sink, G: Gate, N: Notes>(
-    means: &Means<G>,
+fn begin_output<W: Sink, N: Notes>(
+    means: &Means,
     subcommand: Subcommand,
     scenario: &Scenario,
     writer: &mut W,
     notes: &mut N,
-) -> Result<Option<WindowRun>, SessionFault>
+) -> Result<Rest, SessionFault>
     ensures output { BeginsRun (λ ended after. Writes (IsOutput subcommand.entry scenario.now ended) (W.contents writer.old) after) result (W.contents writer.new) }
     ensures failures { W.failures writer.new ≡ writes_after result (W.failures writer.old) }
 {
     match subcommand {
-        Subcommand::Asm => no_run_left(put_image(means.alloc, scenario, writer)),
-        Subcommand::Dis => no_run_left(put_text(means.alloc, scenario, writer)),
+        Subcommand::Asm => nothing_left(put_image(means.alloc, scenario, writer)),
+        Subcommand::Dis => nothing_left(put_text(means.alloc, scenario, writer)),
         Subcommand::Run(sharing) => begin_run(means, sharing, scenario, writer, notes),
-        Subcommand::Figures => {
-            no_run_left(put_figures(means.alloc, means.wishes, scenario, writer, notes))
-        }
+        Subcommand::Figures(from) => nothing_left(put_figures(
+            means.alloc,
+            means.wishes,
+            &from,
+            scenario,
+            writer,
+            notes,
+        )),
     }
 }
 
 /// Writes what a subcommand makes of an input, where the input has a scenario.
-fn begin_bytes<W: Sink, G: Gate, N: Notes>(
-    means: &Means<G>,
+fn begin_bytes<W: Sink, N: Notes>(
+    means: &Means,
     subcommand: Subcommand,
     input: &[u8],
     writer: &mut W,
     notes: &mut N,
-) -> Result<Option<WindowRun>, SessionFault>
+) -> Result<Rest, SessionFault>
     requires { IsWithin input.now }
     ensures session { BeginsRun (IsReadSession subcommand.entry input.now (W.contents writer.old)) result (W.contents writer.new) }
     ensures failures { W.failures writer.new ≡ writes_after result (W.failures writer.old) }
@@ -69,8 +73,8 @@ fn begin_bytes<W: Sink, G: Gate, N: Notes>(
 }
 
 /// Begins the session of a subcommand over an input that was read.
-fn begin_subcommand<W: Sink, G: Gate, N: Notes>(
-    means: &Means<G>,
+fn begin_subcommand<W: Sink, N: Notes>(
+    means: &Means,
     subcommand: Subcommand,
     input: &[u8],
     writer: &mut W,
@@ -79,13 +83,13 @@ fn begin_subcommand<W: Sink, G: Gate, N: Notes>(
     requires { IsWithin input.now }
     ensures { (now : Streams) → let at = written_by W.failures W.contents now in Begins (IsDone (IsSession subcommand.entry input.now) (at writer.old)) result (at writer.new) }
 {
-    rest_of(begin_bytes(means, subcommand, input, writer, notes))
+    begin_bytes(means, subcommand, input, writer, notes)
 }
 
 /// Begins a debugging session over an input that was read: of a file commands are typed, and in any
 /// other they stand behind a text.
-fn begin_debug<W: Sink, G: Gate, N: Notes>(
-    means: &Means<G>,
+fn begin_debug<W: Sink, N: Notes>(
+    means: &Means,
     sharing: &Sharing,
     file: &OptionalWord,
     input: Vec<u8>,
@@ -102,8 +106,8 @@ fn begin_debug<W: Sink, G: Gate, N: Notes>(
 }
 
 /// Begins a task over an input that was read.
-fn begin_task<W: Sink, G: Gate, N: Notes>(
-    means: &Means<G>,
+fn begin_task<W: Sink, N: Notes>(
+    means: &Means,
     task: Task,
     file: &OptionalWord,
     input: Vec<u8>,
@@ -122,8 +126,8 @@ fn begin_task<W: Sink, G: Gate, N: Notes>(
 }
 
 /// Begins a task over a file, or over the reader where none is named.
-fn begin_named<R: Source, W: Sink, G: Gate, N: Notes>(
-    means: &Means<G>,
+fn begin_named<R: Source, W: Sink, N: Notes>(
+    means: &Means,
     task: Task,
     file: &OptionalWord,
     reader: &mut R,
@@ -156,9 +160,9 @@ fn wishes_with<N: Notes>(wishes: Wishes, notes: &N) -> Wishes {
 }
 
 /// Begins what the words ask for: does all of it that waits for nobody.
-pub(crate) fn begin<R: Source, W: Sink, G: Gate, N: Notes>(
+pub(crate) fn begin<R: Source, W: Sink, N: Notes>(
     alloc: Global,
-    gate: &G,
+    gate: &Gate,
     asked: Asked,
     reader: &mut R,
     writer: &mut W,
@@ -176,6 +180,6 @@ pub(crate) fn begin<R: Source, W: Sink, G: Gate, N: Notes>(
             };
             begin_named(&means, task, &named_file(&word), reader, writer, notes)
         }
-        Asked::Explanation(code) => rest_of(no_run_left(explain(alloc, &code, writer))),
+        Asked::Explanation(code) => nothing_left(explain(alloc, &code, writer)),
     }
 }

@@ -9,23 +9,23 @@ ghost use Rattle.sessions.specs.Streams.{Streams, streams_of};
 ghost use Rattle.sessions.specs.Written.{Writes};
 
 use crate::fault::SessionFault;
-use crate::means::{Crew, Means};
-use crate::notes::Notes;
+use crate::means::Means;
 use crate::outcome::Outcome;
-use crate::rest::{Rest, no_run_left, rest_of};
+use crate::rest::{Rest, nothing_left};
 use crate::run::{groups_to_debug, is_alone};
 use crate::scenario_input::told_text;
 use crate::session::run_task;
-use crate::sharing::Sharing;
 use crate::source::Source;
-use crate::subcommand::Task;
+use command_line::notes::Notes;
+use command_line::sharing::Sharing;
+use command_line::subcommand::Task;
 use debug_session::split;
 use scenario_image::Scenario;
 use std::alloc::Global;
 use std::sync::Wait;
 use std::thread::Threads;
 use window_core::Partition;
-use window_engine::{Gate, Sink};
+use window_engine::{Alone, Gate, Hands, Sink};
 
 /// Commands behind a scenario's text, and what they are answered over.
 #[derive(Drop)]
@@ -42,8 +42,8 @@ pub(crate) struct Commands {
 
 /// Begins a debugging session over an input, where its text has a scenario whose nodes are in the
 /// groups: its commands are answered where the calling thread alone runs the groups, and else left.
-pub(crate) fn begin_commands<W: Sink, G: Gate, N: Notes>(
-    means: &Means<G>,
+pub(crate) fn begin_commands<W: Sink, N: Notes>(
+    means: &Means,
     sharing: &Sharing,
     input: Vec<u8>,
     writer: &mut W,
@@ -63,50 +63,21 @@ pub(crate) fn begin_commands<W: Sink, G: Gate, N: Notes>(
         workers,
     };
     if is_alone(workers, &commands.partition) {
-        return rest_of(no_run_left(answer_alone(means, commands, writer)));
+        let ended = answer_commands(&Alone, means.gate, means.alloc, commands, writer);
+        return nothing_left(ended);
     }
     Ok(Rest::Listed(commands))
 }
 
-/// Writes the answers to commands. The calling thread alone moves to a breakpoint and to a moment.
-fn answer_alone<W: Sink, G: Gate>(
-    means: &Means<G>,
-    commands: Commands,
-    writer: &mut W,
-) -> Result<(), SessionFault>
-    requires ready { AreReady commands }
-    ensures output { Writes (AreAnswered commands.scenario (command_lines commands.input.items) result) (W.contents writer.old) (W.contents writer.new) }
-    ensures failures { W.failures writer.new ≡ writes_after result (W.failures writer.old) }
-{
-    let Commands {
-        input,
-        scenario,
-        partition,
-        workers: _,
-    } = commands;
-    let (_text, lines) = split(input.as_slice());
-    let answered = debug_session::run_session_alone(
-        means.gate,
-        means.alloc,
-        &scenario,
-        partition,
-        lines,
-        writer,
-    );
-    drop(scenario);
-    match answered {
-        Ok(()) => Ok(()),
-        Err(fault) => Err(SessionFault::from(fault)),
-    }
-}
-
 /// Writes the answers to commands. Moves to a breakpoint and to a moment go by workers.
-pub(crate) fn answer_commands<W: Sink, G: Gate, H: Threads + Wait + Sync>(
-    crew: &Crew<H, G>,
+pub(crate) fn answer_commands<W: Sink, H: Hands>(
+    hands: &H,
+    gate: &Gate,
     alloc: Global,
     commands: Commands,
     writer: &mut W,
 ) -> Result<(), SessionFault>
+    requires hands { H.ready hands.now }
     requires ready { AreReady commands }
     ensures output { Writes (AreAnswered commands.scenario (command_lines commands.input.items) result) (W.contents writer.old) (W.contents writer.new) }
     ensures failures { W.failures writer.new ≡ writes_after result (W.failures writer.old) }
@@ -119,7 +90,7 @@ pub(crate) fn answer_commands<W: Sink, G: Gate, H: Threads + Wait + Sync>(
     } = commands;
     let (_text, lines) = split(input.as_slice());
     let answered = debug_session::run_session(
-        crew.rt, crew.gate, alloc, &scenario, partition, workers, lines, writer,
+        hands, gate, alloc, &scenario, partition, workers, lines, writer,
     );
     drop(scenario);
     match answered {
@@ -130,11 +101,11 @@ pub(crate) fn answer_commands<W: Sink, G: Gate, H: Threads + Wait + Sync>(
 
 /// A debugging session: writes the answers to the commands on the reader. Moves to a breakpoint and
 /// to a moment go by workers.
-pub fn run_debug<R: Source, W: Sink, G: Gate, H: Threads + Wait + Sync>(
+pub fn run_debug<R: Source, W: Sink, H: Threads + Wait + Sync>(
     rt: &H,
     alloc: Global,
     sharing: &Sharing,
-    gate: &G,
+    gate: &Gate,
     reader: &mut R,
     writer: &mut W,
 ) -> Outcome

@@ -1,12 +1,12 @@
 //! What a code means.
 ghost use Rattle.std.specs.Prelude.{◌≡◌};
-ghost use Rattle.sessions.specs.CommandLine.{IsAnswer, IsExplained};
+ghost use Rattle.sessions.specs.Answered.{IsAnswer, IsExplained};
 ghost use Rattle.sessions.specs.Ended.{writes_after};
 ghost use Rattle.sessions.specs.Written.{Writes};
 
 use crate::fault::SessionFault;
 use crate::output::put_all;
-use crate::subcommand::OptionalWord;
+use command_line::subcommand::OptionalWord;
 use explanations::{list_codes, text_of};
 use std::alloc::Global;
 use window_engine::Sink;

@@ -33,6 +33,8 @@ pub enum SessionFault {
     WordsNotUtf8,
     /// The groups that the command line names are none, or not as many as the nodes.
     Groups,
+    /// What the command line names as the moment from which on is counted is none.
+    NoMoment,
     /// The input could not be read.
     ReadFailed,
     /// The file of this name, as it is shown, could not be opened or read.
@@ -58,7 +60,8 @@ impl SessionFault {
             SessionFault::CommandLine(_)
             | SessionFault::NoSuchCode
             | SessionFault::WordsNotUtf8
-            | SessionFault::Groups => 2,
+            | SessionFault::Groups
+            | SessionFault::NoMoment => 2,
             SessionFault::ReadFailed | SessionFault::CannotRead(_) | SessionFault::WriteFailed => 3,
             SessionFault::NoMemory | SessionFault::CountFull | SessionFault::NoWorker => 4,
         }
@@ -84,6 +87,9 @@ impl fmt::Display for SessionFault {
             ),
             SessionFault::WordsNotUtf8 => f.write_str("error: a word is not valid UTF-8\n"),
             SessionFault::Groups => f.write_str("refused groups\n"),
+            SessionFault::NoMoment => {
+                f.write_str("error: --from takes a moment, as 1.5s, 20ms or 10000ns\n")
+            }
             SessionFault::ReadFailed => f.write_str("read failed\n"),
             SessionFault::CannotRead(file) => write!(f, "cannot read {file}\n"),
             SessionFault::WriteFailed => f.write_str("write failed\n"),

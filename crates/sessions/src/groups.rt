@@ -6,7 +6,7 @@ ghost use Rattle.sessions.specs.Groups.{MeansGroups, Lists, Names};
 ghost use Rattle.sessions.specs.Nodes.{HasGroups, LacksGroups};
 
 use crate::fault::SessionFault;
-use crate::sharing::Sharing;
+use command_line::sharing::Sharing;
 use debug_session::number_below;
 use scenario_image::Scenario;
 use std::alloc::{AllocError, Global};

@@ -10,7 +10,7 @@ ghost use Rattle.sessions.specs.Streams.{IsInputOf};
 use crate::fault::SessionFault;
 use crate::file_name::shown_name;
 use crate::source::Source;
-use crate::subcommand::OptionalWord;
+use command_line::subcommand::OptionalWord;
 use std::alloc::{AllocError, Global};
 
 /// The most bytes of an input.

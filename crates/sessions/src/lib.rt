@@ -3,7 +3,6 @@
 #![tactic(auto)]
 
 mod begin;
-pub mod command_line;
 pub mod conversion;
 pub mod debug;
 mod explain;
@@ -14,7 +13,6 @@ pub mod groups;
 mod input;
 mod means;
 mod nearest;
-pub mod notes;
 pub mod outcome;
 mod output;
 mod progress;
@@ -24,9 +22,7 @@ mod rest;
 mod run;
 pub mod scenario_input;
 pub mod session;
-pub mod sharing;
 pub mod source;
-pub mod subcommand;
 pub mod trace;
 pub mod typed;
 mod why;

@@ -2,8 +2,8 @@
 ghost use Rattle.std.specs.Prelude.{◌≡◌, [], IfOk, MatchOption};
 ghost use Rattle.sessions.specs.Nearest.{IsNearest, nearer, spelling, with_edits};
 
-use crate::notes::Notes;
-use crate::why::push_shown;
+use command_line::notes::Notes;
+use command_line::reasons::shown_bytes;
 use debug_session::Name;
 use std::alloc::{AllocError, Global};
 use strsim::generic_levenshtein;
@@ -130,11 +130,7 @@ pub(crate) fn tell_nearest<N: Notes>(alloc: Global, line: &[u8], notes: &mut N) 
     if word.len() > MOST_WORD || name_begun(word).is_some() {
         return;
     }
-    let mut shown = String::new(alloc);
-    if let (Ok(Some(found)), Ok(())) = (
-        nearest(alloc, &NAMES, word),
-        push_shown(&mut shown, word),
-    ) {
+    if let (Ok(Some(found)), Ok(shown)) = (nearest(alloc, &NAMES, word), shown_bytes(alloc, word)) {
         notes.no_command(shown.as_str(), spelling(found.name));
     }
 }

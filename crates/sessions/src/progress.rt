@@ -1,8 +1,12 @@
 //! How far a run is, by whole hundredths of its time.
 ghost use Rattle.std.specs.Prelude.{◌≡◌, ◌≤◌};
 
-use crate::notes::{HowFar, Notes};
+use command_line::notes::{HowFar, Notes};
+use net_machine::{Due, Net};
+use net_watch::Watch;
+use node_core::Line;
 use sim_time::Time;
+use std::snapshot::Snapshot;
 
 /// All of a run's time.
 pub(crate) const WHOLE: u64 = 100;
@@ -85,5 +89,36 @@ impl Progress {
             }
             notes.progress_ends();
         }
+    }
+}
+
+/// Who tells how far a run is, as its events are run.
+#[derive(Drop)]
+pub(crate) struct Telling<'a, N> {
+    /// How far it is.
+    pub progress: &'a mut Progress,
+    /// Who is told.
+    pub notes: &'a mut N,
+}
+
+impl<N: Notes> Watch for Telling<'_, N> {
+    ghost use Rattle.std.specs.Prelude.{◌≡◌, true, refl};
+
+    type Note = ();
+
+    ghost has = { λ _ _ _ _ goes_on. goes_on ≡ true };
+
+    ghost begins = { λ _ _. refl };
+
+    #[inline(always)]
+    fn ahead(&self, _at: &Net, _next: Option<Due>) -> Option<()> {
+        Some(())
+    }
+
+    #[inline(always)]
+    fn see(&mut self, _note: (), _before: &Snapshot<Net>, after: &Net, line: &Line) -> bool {
+        self.progress
+            .pass(line.key.time, after.position(), self.notes);
+        true
     }
 }

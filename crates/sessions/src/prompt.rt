@@ -16,24 +16,22 @@ ghost use Rattle.window_engine.specs.Failures.{failures_after};
 
 use crate::fault::SessionFault;
 use crate::means::{Crew, Means};
-use crate::notes::Notes;
 use crate::output::put_all;
 use crate::refused_line::tell_refused;
 use crate::rest::Rest;
 use crate::run::{groups_to_debug, is_alone};
 use crate::scenario_input::told_scenario;
-use crate::sharing::Sharing;
 use crate::source::Source;
-use debug_session::{
-    Dialogue, Limits, MOST_LINE, Said, answer_typed, answer_typed_alone, is_quit, is_refusal,
-};
+use command_line::notes::Notes;
+use command_line::sharing::Sharing;
+use debug_session::{Dialogue, Limits, MOST_LINE, Said, answer_typed, is_quit, is_refusal};
 use debugger::Debugger;
 use scenario_image::Scenario;
 use std::alloc::{AllocError, Global};
 use std::sync::Wait;
 use std::thread::Threads;
 use window_core::Partition;
-use window_engine::{Gate, Sink, SinkFail};
+use window_engine::{Alone, Several, Sink, SinkFail};
 
 /// What came of asking for a line.
 #[derive(Clone, Copy)]
@@ -67,8 +65,8 @@ fn put_answer<W: Sink, N: Notes>(
 }
 
 /// Answers a line: by the calling thread, where that alone moves, and else by workers.
-fn answer_line<G: Gate, H: Threads + Wait + Sync>(
-    crew: &Crew<H, G>,
+fn answer_line<H: Threads + Wait + Sync>(
+    crew: &Crew<H>,
     dialogue: &mut Dialogue,
     limits: Limits,
     line: &[u8],
@@ -78,15 +76,16 @@ fn answer_line<G: Gate, H: Threads + Wait + Sync>(
     ensures start { dialogue.new.debugger.start ≡ dialogue.old.debugger.start }
 {
     if crew.is_alone {
-        answer_typed_alone(crew.gate, dialogue, limits, line, said);
+        answer_typed(&Alone, crew.gate, dialogue, limits, line, said);
     } else {
-        answer_typed(crew.rt, crew.gate, dialogue, limits, line, said);
+        let hands = Several { rt: crew.rt };
+        answer_typed(&hands, crew.gate, dialogue, limits, line, said);
     }
 }
 
 /// Asks for a line, and answers it.
-fn take_turn<R: Source, W: Sink, G: Gate, H: Threads + Wait + Sync, N: Notes>(
-    crew: &Crew<H, G>,
+fn take_turn<R: Source, W: Sink, H: Threads + Wait + Sync, N: Notes>(
+    crew: &Crew<H>,
     limits: Limits,
     dialogue: &mut Dialogue,
     room: &mut [u8],
@@ -117,8 +116,8 @@ fn take_turn<R: Source, W: Sink, G: Gate, H: Threads + Wait + Sync, N: Notes>(
 
 /// Answers the lines that are typed, each before the next one is asked for.
 #[tactic(none)]
-fn answer_lines<R: Source, W: Sink, G: Gate, H: Threads + Wait + Sync, N: Notes>(
-    crew: &Crew<H, G>,
+fn answer_lines<R: Source, W: Sink, H: Threads + Wait + Sync, N: Notes>(
+    crew: &Crew<H>,
     limits: Limits,
     dialogue: &mut Dialogue,
     room: &mut [u8],
@@ -192,8 +191,8 @@ fn open_prompt(
 
 /// Begins a debugging session at a prompt over an input, where this has a scenario whose nodes are
 /// in the groups: the lines that are typed are left.
-pub(crate) fn begin_prompt<G, N: Notes>(
-    means: &Means<G>,
+pub(crate) fn begin_prompt<N: Notes>(
+    means: &Means,
     sharing: &Sharing,
     input: &[u8],
     notes: &mut N,
@@ -209,8 +208,8 @@ pub(crate) fn begin_prompt<G, N: Notes>(
 }
 
 /// Answers the lines that are typed at a prompt.
-pub(crate) fn answer_prompt<R: Source, W: Sink, G: Gate, H: Threads + Wait + Sync, N: Notes>(
-    crew: &Crew<H, G>,
+pub(crate) fn answer_prompt<R: Source, W: Sink, H: Threads + Wait + Sync, N: Notes>(
+    crew: &Crew<H>,
     prompt: Prompt,
     reader: &mut R,
     writer: &mut W,

@@ -1,8 +1,8 @@
 //! What is told of a line that is typed and refused.
 
 use crate::nearest::{command_begun, tell_nearest};
-use crate::notes::{Notes, Numbers};
-use crate::why::meaning_of;
+use command_line::notes::{Notes, Numbers};
+use command_line::reasons::meaning_of;
 use debug_session::{Limits, Name};
 use std::alloc::Global;
 use std::str;
@@ -41,6 +41,10 @@ pub(crate) fn tell_refused<N: Notes>(
         tell_nearest(alloc, line, notes);
     }
     if code == "B3" && has_numbers(line) {
-        notes.numbers(&Numbers::of(limits));
+        notes.numbers(&Numbers {
+            nodes: limits.nodes,
+            links: limits.links,
+            flows: limits.flows,
+        });
     }
 }

@@ -20,25 +20,12 @@ pub(crate) enum Rest {
     Typed(Prompt),
 }
 
-/// What ended so, with no run left.
-pub(crate) fn no_run_left(
-    ended: Result<(), SessionFault>,
-) -> Result<Option<WindowRun>, SessionFault>
-    ensures { result ≡ left.no_run_left ended }
+/// What is left of what ended so: nothing.
+pub(crate) fn nothing_left(ended: Result<(), SessionFault>) -> Result<Rest, SessionFault>
+    ensures { result ≡ left.nothing_left ended }
 {
     match ended {
-        Ok(()) => Ok(None),
-        Err(fault) => Err(fault),
-    }
-}
-
-/// What is left where a run may be.
-pub(crate) fn rest_of(begun: Result<Option<WindowRun>, SessionFault>) -> Result<Rest, SessionFault>
-    ensures { result ≡ left.rest_of begun }
-{
-    match begun {
-        Ok(None) => Ok(Rest::Nothing),
-        Ok(Some(run)) => Ok(Rest::Shared(run)),
+        Ok(()) => Ok(Rest::Nothing),
         Err(fault) => Err(fault),
     }
 }

@@ -9,15 +9,15 @@ ghost use Rattle.sessions.specs.Written.{Writes};
 use crate::fault::SessionFault;
 use crate::groups::groups_for;
 use crate::means::Means;
-use crate::notes::Notes;
-use crate::rest::no_run_left;
-use crate::sharing::Sharing;
+use crate::rest::{Rest, nothing_left};
 use crate::trace::run_scenario;
-use crate::why::why_groups;
-use crate::workers::{WindowRun, open_run};
+use crate::workers::open_run;
+use command_line::notes::Notes;
+use command_line::reasons::groups_reason;
+use command_line::sharing::Sharing;
 use scenario_image::Scenario;
 use window_core::Partition;
-use window_engine::{Gate, Sink};
+use window_engine::Sink;
 
 /// So many groups that the program finds are worth their threads in the debugger.
 const FEWEST_TO_DEBUG: usize = 3;
@@ -41,8 +41,8 @@ pub(crate) fn is_alone(workers: usize, partition: &Partition) -> bool
 
 /// The groups in which the nodes of a scenario are. Tells why they are refused, where that is wished
 /// and there is memory to say it.
-pub(crate) fn told_groups<G, N: Notes>(
-    means: &Means<G>,
+pub(crate) fn told_groups<N: Notes>(
+    means: &Means,
     sharing: &Sharing,
     scenario: &Scenario,
     notes: &mut N,
@@ -54,7 +54,7 @@ pub(crate) fn told_groups<G, N: Notes>(
     let found = groups_for(means.alloc, sharing, scenario);
     if means.wishes.explain && matches!(found, Err(SessionFault::Groups)) {
         let nodes = scenario.parts().nodes.len();
-        if let Ok(shown) = why_groups(means.alloc, sharing.groups(), nodes) {
+        if let Ok(shown) = groups_reason(means.alloc, sharing.groups(), nodes) {
             notes.refused(shown);
         }
     }
@@ -64,8 +64,8 @@ pub(crate) fn told_groups<G, N: Notes>(
 /// The same for moves of the debugger. It makes no text that threads could share, and starts them for each window: two groups
 /// that the program finds gain next to nothing there, and cost much where threads come late, so that the nodes stay
 /// together.
-pub(crate) fn groups_to_debug<G, N: Notes>(
-    means: &Means<G>,
+pub(crate) fn groups_to_debug<N: Notes>(
+    means: &Means,
     sharing: &Sharing,
     scenario: &Scenario,
     notes: &mut N,
@@ -83,21 +83,21 @@ pub(crate) fn groups_to_debug<G, N: Notes>(
 
 /// Runs a scenario to its end, and writes its trace: one event at a time where there is one worker, or
 /// all nodes are in one group. A run by several workers, which goes by windows, is left.
-pub(crate) fn begin_run<W: Sink, G: Gate, N: Notes>(
-    means: &Means<G>,
+pub(crate) fn begin_run<W: Sink, N: Notes>(
+    means: &Means,
     sharing: Sharing,
     scenario: &Scenario,
     writer: &mut W,
     notes: &mut N,
-) -> Result<Option<WindowRun>, SessionFault>
+) -> Result<Rest, SessionFault>
     ensures output { BeginsRun (λ ended after. Writes (IsSharedOutput sharing.entry.groups scenario.now ended) (W.contents writer.old) after) result (W.contents writer.new) }
     ensures failures { W.failures writer.new ≡ writes_after result (W.failures writer.old) }
 {
     let partition = told_groups(means, &sharing, scenario, notes)?;
     let workers = sharing.workers();
     if is_alone(workers, &partition) {
-        return no_run_left(run_scenario(means.alloc, means.wishes, scenario, writer, notes));
+        return nothing_left(run_scenario(means.alloc, means.wishes, scenario, writer, notes));
     }
     let run = open_run(means, workers, scenario, partition)?;
-    Ok(Some(run))
+    Ok(Rest::Shared(run))
 }

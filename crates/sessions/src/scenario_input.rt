@@ -4,8 +4,8 @@ ghost use Rattle.scenario_asm.specs.Meaning.{MeansScenario};
 
 use crate::fault::SessionFault;
 use crate::means::Means;
-use crate::notes::Notes;
 use crate::why::tell_why;
+use command_line::notes::Notes;
 use scenario_asm::assemble;
 use scenario_image::{Scenario, load};
 use std::alloc::Global;
@@ -41,8 +41,8 @@ pub fn read_scenario(alloc: Global, input: &[u8]) -> Result<Scenario, SessionFau
 
 /// The scenario of an input. Tells why it is refused, where that is wished and there is memory to say
 /// it.
-pub(crate) fn told_scenario<G, N: Notes>(
-    means: &Means<G>,
+pub(crate) fn told_scenario<N: Notes>(
+    means: &Means,
     input: &[u8],
     notes: &mut N,
 ) -> Result<Scenario, SessionFault>
@@ -57,8 +57,8 @@ pub(crate) fn told_scenario<G, N: Notes>(
 
 /// The scenario that a text means. Tells why it is refused, where that is wished and there is memory
 /// to say it.
-pub(crate) fn told_text<G, N: Notes>(
-    means: &Means<G>,
+pub(crate) fn told_text<N: Notes>(
+    means: &Means,
     text: &[u8],
     notes: &mut N,
 ) -> Result<Scenario, SessionFault>

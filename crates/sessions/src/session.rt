@@ -2,9 +2,10 @@
 ghost use Rattle.std.specs.Prelude.{◌≡◌, ◌≢◌, [], map, Err};
 ghost use Rattle.clap.specs.Values.{kind_of};
 ghost use Rattle.clap.specs.declared.error.kind.ErrorKind.TheVariants.{OutOfMemory};
-ghost use Rattle.sessions.specs.declared.subcommand.Asked.{Asked};
+ghost use Rattle.command_line.specs.declared.subcommand.Asked.{Asked};
 ghost use Rattle.sessions.specs.Asked.{IsAskedOn};
-ghost use Rattle.sessions.specs.CommandLine.{word_faults, AskFor, AreMistaken, AskForText, IsRefusal, IsRequest, IsAnswer};
+ghost use Rattle.command_line.specs.CommandLine.{word_faults, AskFor, AreMistaken, AskForText, IsRequest};
+ghost use Rattle.sessions.specs.Answered.{IsRefusal, IsAnswer};
 ghost use Rattle.sessions.specs.Debug.{IsTaskOn};
 ghost use Rattle.sessions.specs.Ended.{writes_after};
 ghost use Rattle.sessions.specs.Session.{IsSessionOn, Tells};
@@ -12,28 +13,28 @@ ghost use Rattle.sessions.specs.Streams.{streams_of};
 ghost use Rattle.sessions.specs.Written.{Writes};
 
 use crate::begin::begin;
-use crate::command_line::read_words;
 use crate::debug::answer_commands;
 use crate::fault::SessionFault;
 use crate::means::Crew;
-use crate::notes::{NoNotes, Notes};
 use crate::outcome::Outcome;
 use crate::output::put_all;
 use crate::prompt::answer_prompt;
 use crate::rest::Rest;
 use crate::source::Source;
-use crate::subcommand::{Asked, OptionalWord, Subcommand, Task, Wishes};
 use crate::workers::{end_run, run_by_workers};
 use clap::error::ErrorKind;
+use command_line::notes::{NoNotes, Notes};
+use command_line::subcommand::{Asked, OptionalWord, Subcommand, Task, Wishes};
+use command_line::words::read_words;
 use std::alloc::Global;
 use std::convert::AsStr;
 use std::sync::Wait;
 use std::thread::Threads;
-use window_engine::{Gate, OpenGate, Sink};
+use window_engine::{Gate, Several, Sink};
 
 /// Does what the words ask for: first all that waits for nobody, and then what is left.
-fn answer_asked<R: Source, W: Sink, G: Gate, H: Threads + Wait + Sync, N: Notes>(
-    crew: &Crew<H, G>,
+fn answer_asked<R: Source, W: Sink, H: Threads + Wait + Sync, N: Notes>(
+    crew: &Crew<H>,
     alloc: Global,
     asked: Asked,
     reader: &mut R,
@@ -57,17 +58,23 @@ fn answer_asked<R: Source, W: Sink, G: Gate, H: Threads + Wait + Sync, N: Notes>
             );
             end_run(alloc, ran, run, writer, notes)
         }
-        Rest::Listed(commands) => answer_commands(crew, alloc, commands, writer),
+        Rest::Listed(commands) => answer_commands(
+            &Several { rt: crew.rt },
+            crew.gate,
+            alloc,
+            commands,
+            writer,
+        ),
         Rest::Typed(prompt) => answer_prompt(crew, prompt, reader, writer, notes),
     }
 }
 
 /// The session of a subcommand: writes what it makes of the input on the reader.
-pub fn run_session<R: Source, W: Sink, G: Gate, H: Threads + Wait + Sync>(
+pub fn run_session<R: Source, W: Sink, H: Threads + Wait + Sync>(
     rt: &H,
     alloc: Global,
     subcommand: Subcommand,
-    gate: &G,
+    gate: &Gate,
     reader: &mut R,
     writer: &mut W,
 ) -> Outcome
@@ -77,11 +84,11 @@ pub fn run_session<R: Source, W: Sink, G: Gate, H: Threads + Wait + Sync>(
 }
 
 /// The session of a task.
-pub fn run_task<R: Source, W: Sink, G: Gate, H: Threads + Wait + Sync>(
+pub fn run_task<R: Source, W: Sink, H: Threads + Wait + Sync>(
     rt: &H,
     alloc: Global,
     task: Task,
-    gate: &G,
+    gate: &Gate,
     reader: &mut R,
     writer: &mut W,
 ) -> Outcome
@@ -127,14 +134,14 @@ fn answer_words<W: Sink>(
 
 /// A whole session. The words are the command line's, the program's name first; the gate is told
 /// of the workers, and the notes of how far a run is where that is wished.
-pub fn run_noted<
-    H: AllocGlobal + Threads + Wait + Sync,
-    R: Source,
-    W: Sink,
-    S: AsStr,
-    G: Gate,
-    N: Notes,
->(rt: &H, reader: &mut R, writer: &mut W, words: &[S], gate: &G, notes: &mut N) -> Outcome
+pub fn run_noted<H: AllocGlobal + Threads + Wait + Sync, R: Source, W: Sink, S: AsStr, N: Notes>(
+    rt: &H,
+    reader: &mut R,
+    writer: &mut W,
+    words: &[S],
+    gate: &Gate,
+    notes: &mut N,
+) -> Outcome
     ensures asked { let seen = streams_of R.failures R.typed W.failures W.contents in (asked : Asked) → AskFor (map S.text words.now) asked → Tells result (λ ended. IsAskedOn asked (R.remaining reader.old) (R.bytes_of reader.old) ended (seen reader.old writer.old) (seen reader.new writer.new)) }
     ensures mistake { AreMistaken (map S.text words.now) → Tells result (IsRefusal (map S.text words.now)) × (writer.new ≡ writer.old) }
     ensures request { AskForText (map S.text words.now) → Tells result (λ ended. Writes (IsAnswer ended) (W.contents writer.old) (W.contents writer.new) × (W.failures writer.new ≡ writes_after ended (W.failures writer.old))) }
@@ -156,12 +163,12 @@ pub fn run_noted<
 
 /// A whole session. The words are the command line's, the program's name first; the gate is told
 /// of the workers, and nobody of how far a run is.
-pub fn run_with<H: AllocGlobal + Threads + Wait + Sync, R: Source, W: Sink, S: AsStr, G: Gate>(
+pub fn run_with<H: AllocGlobal + Threads + Wait + Sync, R: Source, W: Sink, S: AsStr>(
     rt: &H,
     reader: &mut R,
     writer: &mut W,
     words: &[S],
-    gate: &G,
+    gate: &Gate,
 ) -> Outcome
     ensures asked { let seen = streams_of R.failures R.typed W.failures W.contents in (asked : Asked) → AskFor (map S.text words.now) asked → Tells result (λ ended. IsAskedOn asked (R.remaining reader.old) (R.bytes_of reader.old) ended (seen reader.old writer.old) (seen reader.new writer.new)) }
     ensures mistake { AreMistaken (map S.text words.now) → Tells result (IsRefusal (map S.text words.now)) × (writer.new ≡ writer.old) }
@@ -183,5 +190,5 @@ pub fn run_all<H: AllocGlobal + Threads + Wait + Sync, R: Source, W: Sink, S: As
     ensures request { AskForText (map S.text words.now) → Tells result (λ ended. Writes (IsAnswer ended) (W.contents writer.old) (W.contents writer.new) × (W.failures writer.new ≡ writes_after ended (W.failures writer.old))) }
     ensures unread { word_faults (map S.text words.now) ≢ [] → reader.new ≡ reader.old }
 {
-    run_with(rt, reader, writer, words, &OpenGate)
+    run_with(rt, reader, writer, words, &Gate::open())
 }

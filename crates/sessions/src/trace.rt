@@ -1,20 +1,25 @@
 //! A scenario's run, written as its trace.
-ghost use Rattle.std.specs.Prelude.{◌≡◌, ◌≢◌, true, false, Err, [], IfErr, IsErrOf};
-ghost use Rattle.table_run.specs.State.{opening};
+ghost use Rattle.std.specs.Prelude.{◌≡◌, ◌≢◌, ◌⊎◌, ℕ, List, Option, true, false, Err, []};
+ghost use Rattle.table_run.specs.State.{State, opening};
+ghost use Rattle.net_machine.specs.Run.{Reached};
+ghost use Rattle.net_watch.specs.Watched.{IsRunEnd, goes_on};
 ghost use Rattle.sessions.specs.Written.{Writes, WritesBefore, IsBeginningOf};
 ghost use Rattle.sessions.specs.Trace.{IsTraceOrStart};
 ghost use Rattle.sessions.specs.Ended.{IsRunOutput, writes_after};
+ghost use Rattle.sessions.specs.Traced.{HasEnded, IsPut, loss_of};
 
 use crate::fault::SessionFault;
-use crate::notes::Notes;
 use crate::output::{PAGE, put_full_page, put_page};
-use crate::progress::Progress;
-use crate::subcommand::Wishes;
-use net_machine::Net;
+use crate::progress::{Progress, Telling};
+use command_line::notes::Notes;
+use command_line::subcommand::Wishes;
+use net_machine::{Due, Net, StepFault};
+use net_watch::{RunEnd, Watch, run_by_two};
 use node_core::{Acts, After, Event, Line};
 use scenario_image::Scenario;
 use sim_time::Key;
 use std::alloc::Global;
+use std::snapshot::Snapshot;
 use trace_text::Page;
 use window_engine::Sink;
 
@@ -84,6 +89,80 @@ fn writer_failed(ended: &Result<(), SessionFault>) -> bool
     matches!(ended, Err(SessionFault::WriteFailed))
 }
 
+/// Who writes a run's trace: its lines go to a page, and from there to a writer.
+#[derive(Drop)]
+struct Tracing<'a, W> {
+    /// Where lines wait.
+    page: &'a mut Page,
+    /// Where they go.
+    writer: &'a mut W,
+    /// Of a line that was not put, whether it was memory that was refused; else the writer failed.
+    refused: bool,
+}
+
+impl<W: Sink> Watch for Tracing<'_, W> {
+    ghost use Rattle.std.specs.Prelude.{◌≡◌, [], refl};
+    ghost use Rattle.sessions.specs.Traced.{IsPut, none_put};
+
+    type Note = ();
+
+    ghost has = { λ began from w at goes_on. (w.page.ghost_name ≡ began.page.ghost_name) × (w.writer.ghost_name ≡ began.writer.ghost_name) × (from.position ≡ 0 → began.page.now ≡ [] → IsPut from.state at w.page.now (W.contents began.writer.now) (W.contents w.writer.now) (W.failures began.writer.now) (W.failures w.writer.now) w.refused goes_on) };
+
+    ghost begins = { λ w at. (refl, refl, λ opening empty. none_put at w.page.now (W.contents w.writer.now) (W.failures w.writer.now) w.refused opening empty) };
+
+    #[inline(always)]
+    fn ahead(&self, _at: &Net, _next: Option<Due>) -> Option<()> {
+        Some(())
+    }
+
+    #[inline(always)]
+    fn see(&mut self, _note: (), _before: &Snapshot<Net>, after: &Net, line: &Line) -> bool {
+        match self.page.put_line(after.position(), line) {
+            Ok(()) => {}
+            Err(_) => {
+                self.refused = true;
+                return false;
+            }
+        }
+        match put_full_page(self.page, self.writer) {
+            Ok(()) => true,
+            Err(_) => {
+                self.refused = false;
+                false
+            }
+        }
+    }
+}
+
+impl<W: Sink> Tracing<'_, W> {
+    /// Puts the last line where a run is done, and answers how it ended.
+    fn finish(&mut self, net: &Net, end: Result<RunEnd, StepFault>) -> Result<(), SessionFault>
+        ensures same_page { self.new.page.ghost_name ≡ self.old.page.ghost_name }
+        ensures same_writer { self.new.writer.ghost_name ≡ self.old.writer.ghost_name }
+        ensures ended { (s : State) (from : Reached) (known : Option (List ℕ)) (failed : ℕ) → IsRunEnd (⊥ ⊎ ⊥) from net.now end → IsPut s net.now self.old.page.now known (W.contents self.old.writer.now) failed (W.failures self.old.writer.now) self.old.refused (goes_on end) → HasEnded s self.new.page.now known (W.contents self.new.writer.now) failed (W.failures self.new.writer.now) result }
+    {
+        match end {
+            Ok(RunEnd::Done) => match self.page.put_end(net.position()) {
+                Ok(()) => Ok(()),
+                Err(_) => Err(SessionFault::NoMemory),
+            },
+            Ok(RunEnd::Stopped | RunEnd::Held) => Err(self.loss()),
+            Err(fault) => Err(fault.into()),
+        }
+    }
+
+    /// Why a line was not put.
+    fn loss(&self) -> SessionFault
+        ensures { result ≡ loss_of self.now.refused }
+    {
+        if self.refused {
+            SessionFault::NoMemory
+        } else {
+            SessionFault::WriteFailed
+        }
+    }
+}
+
 /// Runs a net to its end. What it made of the trace was written, or waits in the page.
 fn put_lines<W: Sink, N: Notes>(
     net: &mut Net,
@@ -99,11 +178,12 @@ fn put_lines<W: Sink, N: Notes>(
     ensures failed { result ≡ Err SessionFault.WriteFailed → Writes (IsBeginningOf (IsTraceOrStart net.old.state)) (W.contents writer.old) (W.contents writer.new) }
     ensures failures { W.failures writer.new ≡ writes_after result (W.failures writer.old) }
 {
-    while net.step_into(line)? {
-        page.put_line(net.position(), line)?;
-        put_full_page(page, writer)?;
-        progress.pass(line.key.time, net.position(), notes);
-    }
-    page.put_end(net.position())?;
-    Ok(())
+    let mut tracing = Tracing {
+        page,
+        writer,
+        refused: false,
+    };
+    let mut telling = Telling { progress, notes };
+    let end = run_by_two(net, &mut tracing, &mut telling, line);
+    tracing.finish(net, end)
 }

@@ -1,153 +1,30 @@
-//! Why an input is refused, as a person is shown it.
+//! Who is shown why an input is refused, and when.
 
 use crate::fault::SessionFault;
 use crate::means::Means;
-use crate::notes::Notes;
-use explanations::{Names, image_parts, tell_witness, text_of};
-use scenario_asm::{Part, Place, fault_place, parts_of_text};
+use command_line::notes::Notes;
+use command_line::reasons::{code_reason, image_reason, text_reason};
 use std::alloc::{AllocError, Global};
 
-/// How many bytes of a line are shown at most, and how many of them before what is wrong.
-const SHOWN: usize = 200;
-
-const BEFORE: usize = 80;
-
-/// Adds bytes as they can be shown: each that is not printable as a question mark.
-pub(crate) fn push_shown(shown: &mut String, bytes: &[u8]) -> Result<(), AllocError> {
-    for byte in bytes {
-        let is_shown = *byte >= b' ' && *byte <= b'~';
-        shown.push(char::from(if is_shown { *byte } else { b'?' }))?;
-    }
-    Ok(())
-}
-
-/// Adds a character so many times.
-fn push_times(shown: &mut String, count: usize, it: char) -> Result<(), AllocError> {
-    for _ in 0..count {
-        shown.push(it)?;
-    }
-    Ok(())
-}
-
-/// Where what is wrong with a line begins in it, and how many bytes it has.
-fn faulty_part(place: &Place) -> (usize, usize) {
-    match place.part {
-        Part::Line => (0, place.bytes.len()),
-        Part::Byte(at) => (at, 1),
-        Part::Word { start, end, .. } => (start, end.saturating_sub(start)),
-    }
-}
-
-/// Adds the line that is refused, or the bytes of it around what is wrong, and a second line with
-/// carets under that.
-fn push_place(shown: &mut String, place: &Place) -> Result<(), AllocError> {
-    let (start, count) = faulty_part(place);
-    let first = start.saturating_sub(BEFORE).min(place.bytes.len());
-    let last = place.bytes.len().min(first.saturating_add(SHOWN));
-    push_shown(shown, &place.bytes[first..last])?;
-    shown.push('\n')?;
-    let before = start.saturating_sub(first);
-    push_times(shown, before, ' ')?;
-    let left = (last - first).saturating_sub(before);
-    push_times(shown, count.min(left).max(1), '^')?;
-    shown.push('\n')
-}
-
-/// The first line of what a code means.
-pub(crate) fn meaning_of(code: &str) -> Option<&'static str> {
-    text_of(code)?.lines().next()
-}
-
-/// Adds the first line of what a code means.
-fn push_meaning(shown: &mut String, code: &str) -> Result<(), AllocError> {
-    if let Some(line) = meaning_of(code) {
-        shown.push_str(line)?;
-        shown.push('\n')?;
-    }
-    Ok(())
-}
-
-/// Adds what shows first that a text in which no line is faulty has the fault of this code, by names.
-fn push_text_witness(
-    alloc: Global,
-    shown: &mut String,
-    text: &[u8],
-    code: &str,
-) -> Result<(), AllocError> {
-    if let Some(named) = parts_of_text(alloc, text)? {
-        let names = Names {
-            nodes: named.nodes.as_slice(),
-            links: named.links.as_slice(),
-            flows: named.flows.as_slice(),
-        };
-        if let Some(told) = tell_witness(alloc, code, &named.parts, &names)? {
-            shown.push_str(told.as_str())?;
-        }
-    }
-    Ok(())
-}
-
-/// Adds what shows first that an image has the fault of this code, by numbers.
-fn push_image_witness(
-    alloc: Global,
-    shown: &mut String,
-    image: &[u8],
-    code: &str,
-) -> Result<(), AllocError> {
-    if let Some(parts) = image_parts(alloc, image)? {
-        if let Some(told) = tell_witness(alloc, code, &parts, &Names::NONE)? {
-            shown.push_str(told.as_str())?;
-        }
-    }
-    Ok(())
-}
-
-/// What is shown of a refused input behind its note: of a text's line the line, with carets under
-/// what is wrong; of a fault of no line what shows it first, with a statement that would mend it; and
-/// what the code means. Nothing where the input is not refused.
+/// What is shown of a refused input behind its note; nothing where the input is not refused.
 fn why(alloc: Global, input: &[u8], fault: &SessionFault) -> Result<Option<String>, AllocError> {
-    let mut shown = String::new(alloc);
-    match fault {
-        SessionFault::TooLong => push_meaning(&mut shown, "I1")?,
-        SessionFault::Refused { fault, .. } => {
-            match fault_place(alloc, input)? {
-                Some(place) => push_place(&mut shown, &place)?,
-                None => push_text_witness(alloc, &mut shown, input, fault.code())?,
-            }
-            push_meaning(&mut shown, fault.code())?;
-        }
+    let shown = match fault {
+        SessionFault::TooLong => code_reason(alloc, "I1")?,
+        SessionFault::Refused { fault, .. } => text_reason(alloc, input, fault.code())?,
         SessionFault::RefusedImage(fault) => {
             let code = fault.to_string(alloc)?;
-            push_image_witness(alloc, &mut shown, input, code.as_str())?;
-            push_meaning(&mut shown, code.as_str())?;
+            image_reason(alloc, input, code.as_str())?
         }
         _ => return Ok(None),
-    }
+    };
     Ok(Some(shown))
 }
 
 /// Tells why an input is refused, where that is wished and there is memory to say it.
-pub(crate) fn tell_why<G, N: Notes>(
-    means: &Means<G>,
-    input: &[u8],
-    fault: &SessionFault,
-    notes: &mut N,
-) {
+pub(crate) fn tell_why<N: Notes>(means: &Means, input: &[u8], fault: &SessionFault, notes: &mut N) {
     if means.wishes.explain {
         if let Ok(Some(shown)) = why(means.alloc, input, fault) {
             notes.refused(shown);
         }
     }
-}
-
-/// What is shown behind the note where these are no groups of so many nodes.
-pub(crate) fn why_groups(alloc: Global, groups: &str, nodes: usize) -> Result<String, AllocError> {
-    let mut shown = String::new(alloc);
-    shown.push_str("groups that are given: ")?;
-    shown.push_str(groups.split(',').count().to_string(alloc)?.as_str())?;
-    shown.push_str("; nodes: ")?;
-    shown.push_str(nodes.to_string(alloc)?.as_str())?;
-    shown.push('\n')?;
-    push_meaning(&mut shown, "groups")?;
-    Ok(shown)
 }

@@ -12,16 +12,16 @@ ghost use Rattle.sessions.specs.Written.{Writes};
 
 use crate::fault::SessionFault;
 use crate::means::{Crew, Means};
-use crate::notes::Notes;
 use crate::output::put_all;
 use crate::progress::{Progress, WHOLE, hundredths};
+use command_line::notes::Notes;
 use scenario_image::Scenario;
 use std::alloc::{AllocError, Global};
 use std::sync::Wait;
 use std::thread::Threads;
 use trace_text::end_text;
 use window_core::Partition;
-use window_engine::{Engine, EngineFault, Gate, Sink, Stop};
+use window_engine::{Engine, EngineFault, Several, Sink, Stop};
 
 /// A run by windows.
 #[derive(Drop)]
@@ -35,8 +35,8 @@ pub(crate) struct WindowRun {
 }
 
 /// A scenario's run by windows, from its beginning.
-pub(crate) fn open_run<G: Gate>(
-    means: &Means<G>,
+pub(crate) fn open_run(
+    means: &Means,
     workers: usize,
     scenario: &Scenario,
     partition: Partition,
@@ -58,8 +58,8 @@ pub(crate) fn open_run<G: Gate>(
 
 /// Runs an engine to a moment by several workers, for which it may wait, from one hundredth of it to
 /// the next where it is told how far it is.
-pub(crate) fn run_by_workers<W: Sink, G: Gate, H: Threads + Wait + Sync, N: Notes>(
-    crew: &Crew<H, G>,
+pub(crate) fn run_by_workers<W: Sink, H: Threads + Wait + Sync, N: Notes>(
+    crew: &Crew<H>,
     workers: usize,
     progress: &Progress,
     engine: &mut Engine,
@@ -74,15 +74,16 @@ pub(crate) fn run_by_workers<W: Sink, G: Gate, H: Threads + Wait + Sync, N: Note
     ensures failed { engine.new.failed ≡ is_err result }
     ensures failures { W.failures writer.new ≡ sink_failures result (W.failures writer.old) }
 {
+    let hands = Several { rt: crew.rt };
     for percent in progress.first()..WHOLE {
         let moment = hundredths(progress.end, percent);
-        let stop = engine.run(crew.rt, workers, crew.gate, moment, writer)?;
+        let stop = engine.run(&hands, workers, crew.gate, moment, writer)?;
         let events = engine.position();
         if stop == Stop::Until {
             progress.say(percent, events, notes);
         }
     }
-    engine.run(crew.rt, workers, crew.gate, progress.end, writer)
+    engine.run(&hands, workers, crew.gate, progress.end, writer)
 }
 
 /// Writes the last line of a run of so many events.

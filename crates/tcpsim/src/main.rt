@@ -14,7 +14,7 @@ use sessions::session::run_noted;
 use std::env;
 use std::io::ErrorKind;
 use std::process::ExitCode;
-use window_engine::{OpenGate, OverWrite};
+use window_engine::{Gate, OverWrite};
 
 /// The process's own words.
 fn process_words(rt: &HostRuntime) -> Result<Vec<String>, SessionFault> {
@@ -38,7 +38,7 @@ fn main(rt: HostRuntime) -> ExitCode {
                 &mut input,
                 &mut output,
                 words.as_slice(),
-                &OpenGate,
+                &Gate::open(),
                 &mut notes,
             )
         }

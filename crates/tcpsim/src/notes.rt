@@ -1,7 +1,7 @@
 //! What is told on standard error, beside the note.
 
-use sessions::notes::{HowFar, Notes, Numbers};
-use sessions::subcommand::Task;
+use command_line::notes::{HowFar, Notes, Numbers};
+use command_line::subcommand::Task;
 use std::io::{IsTerminal, Write};
 
 /// What is said where standard input is a terminal, and commands are asked for without a file.

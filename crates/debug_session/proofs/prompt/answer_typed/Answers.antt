@@ -32,3 +32,6 @@ returns-in-Some-clause-start g c =
     let told = c.show_passed in
     let gone = gone_on (MoveGoesTo c.in-Some.left here.debugger) here.debugger moved.new.debugger told.new.debugger c.position-from.result moved.result told.new.said c.position-from.ensures.count moved.ensures.moved moved.ensures.goes moved.ensures.err told.ensures.told told.ensures.refused in
     gone.start ∙ c.in-Some.ensures.start
+
+pub go-moved-requires : goal.go-moved-requires
+go-moved-requires g c = record { ready = c.requires.ready }

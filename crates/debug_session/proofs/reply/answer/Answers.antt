@@ -28,3 +28,6 @@ returns-in-Some-clause-start g c =
     let told = c.show_move in
     let gone = moved_told (MoveGoesTo c.in-Some.left here) here moved.new.debugger told.new.debugger moved.result told.new.said moved.ensures.moved moved.ensures.goes moved.ensures.err told.ensures.told told.ensures.refused in
     gone.start ∙ c.in-Some.ensures.start
+
+pub go-moved-requires : goal.go-moved-requires
+go-moved-requires g c = record { ready = c.requires.ready }

@@ -60,3 +60,6 @@ returns-clause-ok g c =
 
 pub returns-clause-failures : goal.returns-clause-failures
 returns-clause-failures g c = c.loop-rest.invariant.failures
+
+pub answer-requires : goal.answer-requires
+answer-requires g c = record { ready = c.requires.ready }

@@ -1,5 +1,5 @@
 use Rattle.std.proofs.Common.{List, ℕ, Option, refl, sym, subst}
-use Rattle.sessions.specs.declared.subcommand.Asked.{Asked}
+use Rattle.command_line.specs.declared.subcommand.Asked.{Asked}
 use Rattle.sessions.specs.Asked.{IsAskedOn}
 use Rattle.sessions.specs.Named.{IsOver, named_file}
 use Rattle.sessions.specs.Rest.{Begins}
@@ -29,4 +29,4 @@ returns-in-Explanation g c =
     let told =
     subst (λ (asked : Asked). IsAskedOn asked known bytes_of c.explain.result (seen c.args.writer.now) (seen c.explain.new.writer)) (sym c.in-Explanation.is)
     (record { output = c.explain.ensures.output; writes = c.explain.ensures.failures; unread = refl }) in
-    nothing_begins (λ ended after. IsAskedOn c.args.asked known bytes_of ended (seen c.args.writer.now) after) c.explain.result c.no_run_left.result c.rest_of.result (seen c.explain.new.writer) c.no_run_left.ensures c.rest_of.ensures told
+    nothing_begins (λ ended after. IsAskedOn c.args.asked known bytes_of ended (seen c.args.writer.now) after) c.explain.result c.nothing_left.result (seen c.explain.new.writer) c.nothing_left.ensures told

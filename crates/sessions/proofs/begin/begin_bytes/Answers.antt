@@ -1,6 +1,6 @@
-use Rattle.std.proofs.Common.{◌≡◌, Option, Result, Err, sym, subst, rules}
+use Rattle.std.proofs.Common.{◌≡◌, Result, Err, sym, subst, rules}
 use Rattle.sessions.specs.declared.fault.SessionFault.{SessionFault}
-use Rattle.sessions.specs.declared.workers.WindowRun.{WindowRun}
+use Rattle.sessions.specs.declared.rest.Rest.{Rest}
 use Rattle.sessions.specs.Output.{IsOutput}
 use Rattle.sessions.specs.Rest.{BeginsRun, IsReadSession}
 use Rattle.sessions.specs.Written.{Writes}
@@ -15,7 +15,7 @@ returns-in_err-scenario-clause-session g c =
     let read = c.told_scenario.result in
     let known = g.W.Sink.contents c.args.writer.now in
     let is : c.from_residual.result ≡ Err fault = search rules in
-    subst (λ (b : Result (Option WindowRun) SessionFault). BeginsRun (IsReadSession c.args.subcommand input known) b known) (sym is)
+    subst (λ (b : Result Rest SessionFault). BeginsRun (IsReadSession c.args.subcommand input known) b known) (sym is)
     (refused c.args.subcommand input fault read known c.requires c.in_err-scenario.was c.told_scenario.ensures, refused_not_read input fault read c.in_err-scenario.was c.told_scenario.ensures)
 
 pub returns-clause-session : goal.returns-clause-session

@@ -6,5 +6,5 @@ use Rattle.sessions.proofs.begin.begin_subcommand.Goals as goal
 pub returns : goal.returns
 returns g c now =
     let at = written_by g.W.Sink.failures g.W.Sink.contents now in
-    subcommand_begins c.args.subcommand c.args.input.now c.begin_bytes.result c.rest_of.result (at c.args.writer.now) (at c.begin_bytes.new.writer) c.rest_of.ensures c.begin_bytes.ensures.session refl
+    subcommand_begins c.args.subcommand c.args.input.now c.begin_bytes.result (at c.args.writer.now) (at c.begin_bytes.new.writer) c.begin_bytes.ensures.session refl
     c.begin_bytes.ensures.failures

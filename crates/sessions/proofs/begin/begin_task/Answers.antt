@@ -1,5 +1,5 @@
 use Rattle.std.proofs.Common.{◌≡◌, List, ℕ, sym, subst, rules}
-use Rattle.sessions.specs.declared.subcommand.Task.{Task}
+use Rattle.command_line.specs.declared.subcommand.Task.{Task}
 use Rattle.sessions.specs.Rest.{Begins, IsDone, IsTaskWith, written_by}
 use Rattle.sessions.specs.Session.{IsSession}
 use Rattle.sessions.proofs.begin.begin_task.Goals as goal

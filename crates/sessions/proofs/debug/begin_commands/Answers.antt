@@ -45,22 +45,22 @@ returns-in_err-partition g c now =
       writes = free.0 before.write_failures;
     })
 
-pub answer_alone-requires-clause-ready : goal.answer_alone-requires-clause-ready
-answer_alone-requires-clause-ready g c κs within = record { nodes = c.in_ok-partition.ensures.nodes; some = c.workers-workers.ensures.few.0; few = c.workers-workers.ensures.few.1 }
+pub answer_commands-ended-requires-clause-ready : goal.answer_commands-ended-requires-clause-ready
+answer_commands-ended-requires-clause-ready g c = record { nodes = c.in_ok-partition.ensures.nodes; some = c.workers-workers.ensures.few.0; few = c.workers-workers.ensures.few.1 }
 
 pub returns-then-is_alone : goal.returns-then-is_alone
 returns-then-is_alone g c now =
     let at = written_by g.W.Sink.failures g.W.Sink.contents now in
     let before = at c.args.writer.now in
-    let after = at c.answer_alone.new.writer in
+    let after = at c.answer_commands-ended.new.writer in
     let groups = c.args.sharing.now.groups in
     let input = c.args.input.items in
     let p = c.in_ok-scenario.scenario in
     let same : c.as_slice.result.now ≡ input = search rules in
     let done =
     commands_end groups input c.split.result.0.now c.split.result.1.now p c.told_text.result before after (c.split.ensures.text ∙ ap text_lines same) (c.split.ensures.commands ∙ ap command_lines same) c.requires c.in_ok-scenario.was
-    c.told_text.ensures c.in_ok-scenario.ensures.scenario c.in_ok-partition.ensures.named c.answer_alone.result (record { output = c.answer_alone.ensures.output; reads = refl; writes = c.answer_alone.ensures.failures }) in
-    nothing_begins (IsDone (IsDebugSession groups input) before) c.answer_alone.result c.no_run_left.result c.rest_of.result after c.no_run_left.ensures c.rest_of.ensures done
+    c.told_text.ensures c.in_ok-scenario.ensures.scenario c.in_ok-partition.ensures.named c.answer_commands-ended.result (record { output = c.answer_commands-ended.ensures.output; reads = refl; writes = c.answer_commands-ended.ensures.failures }) in
+    nothing_begins (IsDone (IsDebugSession groups input) before) c.answer_commands-ended.result c.nothing_left.result after c.nothing_left.ensures done
 
 pub returns : goal.returns
 returns g c now =

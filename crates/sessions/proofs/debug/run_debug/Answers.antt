@@ -1,7 +1,7 @@
 use Rattle.std.proofs.Common.{◌∙◌, List, ℕ, ap, subst}
 use Rattle.sessions.specs.Debug.{IsDebugSessionOn}
 use Rattle.sessions.specs.Session.{Tells}
-use Rattle.sessions.specs.Sharing.{SharingValue}
+use Rattle.command_line.specs.Sharing.{SharingValue}
 use Rattle.sessions.specs.Streams.{streams_of}
 use Rattle.sessions.proofs.debug.run_debug.Goals as goal
 

@@ -11,4 +11,4 @@ returns-in_err-text-clause-output g c =
     let fault = c.in_err-text.field-0.0 in
     let known = g.W.Sink.contents c.args.writer.now in
     let is : c.from_residual.result ≡ Err fault = search rules in
-    subst (λ (e : Ended). Writes (IsTableOutput p e) known known) (sym is) (table_refused p fault known c.in_err-text.ensures.faults)
+    subst (λ (e : Ended). Writes (IsTableOutput c.args.from.now p e) known known) (sym is) (table_refused c.args.from.now p fault known c.in_err-text.ensures.faults)

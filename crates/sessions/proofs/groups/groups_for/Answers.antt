@@ -4,7 +4,7 @@ use Rattle.std.proofs.lemmas.Slice.Eq.{bytes_eq-Decides}
 use Rattle.scenario_image.specs.declared.parts.ScenarioParts.{ScenarioParts}
 use Rattle.sessions.specs.Groups.{MeansGroups}
 use Rattle.sessions.proofs.GroupTexts.{given}
-use Rattle.sessions.proofs.Options.{some_none}
+use Rattle.command_line.proofs.Options.{some_none}
 use Rattle.sessions.proofs.Shared.{one_group_each}
 use Rattle.sessions.proofs.groups.groups_for.Goals as goal
 

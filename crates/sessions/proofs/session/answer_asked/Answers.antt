@@ -58,7 +58,7 @@ returns-in-Shared g c =
     (record { output = c.end_run.ensures.output run.engine.net.state now.written has; reads = refl; writes = c.end_run.ensures.failures now.write_failures ran.ensures.failures })
 
 pub answer_commands-requires-clause-ready : goal.answer_commands-requires-clause-ready
-answer_commands-requires-clause-ready g c κs within =
+answer_commands-requires-clause-ready g c =
     let seen = streams_of g.R.Source.failures g.R.Source.typed g.W.Sink.failures g.W.Sink.contents in
     let before = seen c.args.reader.now c.args.writer.now in
     let now = seen c.begin.new.reader c.begin.new.writer in

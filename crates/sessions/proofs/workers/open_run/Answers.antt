@@ -4,7 +4,7 @@ use Rattle.window_engine.specs.Engines.{EngineValue}
 use Rattle.sessions.proofs.workers.open_run.Goals as goal
 
 pub returns-clause-start : goal.returns-clause-start
-returns-clause-start g c =
+returns-clause-start c =
     let is = c.in_ok-engine.ensures in
     record {
       first = ap (λ (e : EngineValue). e.net.position) is;

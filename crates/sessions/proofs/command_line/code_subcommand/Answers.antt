@@ -1,9 +1,0 @@
-use Rattle.clap.specs.Simple.{Shape, new_shape}
-use Rattle.sessions.specs.CommandLine.{code_rule}
-use Rattle.sessions.proofs.Commands.{plain_below}
-use Rattle.sessions.proofs.command_line.code_subcommand.Goals as goal
-
-pub returns : goal.returns
-returns c =
-    let first : Shape = new_shape c.args.name.now in
-    c.with_arg.ensures first code_rule (plain_below c.plain_subcommand.result first c.plain_subcommand.ensures.shape c.plain_subcommand.ensures.no_globals) c.code_word.ensures.rule c.code_word.ensures.local
