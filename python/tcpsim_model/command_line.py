@@ -1,7 +1,8 @@
 """tcpsim's model: reads a scenario, writes standard output, a note on standard error, a status.
 
 Usage: tcpsim-model run|debug [--workers N] [--groups G] [FILE]
-       tcpsim-model asm|dis|figures [FILE]
+       tcpsim-model figures [--from T] [FILE]
+       tcpsim-model asm|dis [FILE]
        tcpsim-model debug [--workers N] [--groups G] [--steps N] FILE
 
 The scenario is the file's, or where none is named standard input's. Where `debug` has a file, standard input has lines
@@ -9,6 +10,7 @@ typed at a prompt.
 
   --workers N  from 1 to 64; it changes nothing
   --groups G   one, each, auto, or a number for each node, with commas between them; it changes nothing
+  --from T     counts from this moment on, as 1.5s, 20ms or 10000ns
   --steps N    at a prompt: the grammar after the first N steps in which it was made; 0 is that of the other form
   --help       show this
 """
@@ -19,7 +21,7 @@ import signal
 import sys
 from collections import namedtuple
 
-from tcpsim_model import prompt
+from tcpsim_model import grammar, later, prompt
 from tcpsim_model.debugger import session, split
 from tcpsim_model.figures import figures
 from tcpsim_model.image import load, save
@@ -39,11 +41,12 @@ class CannotRead(Exception):
     """A file that cannot be read."""
 
 
-Asked = namedtuple('Asked', 'command groups steps file')
+Asked = namedtuple('Asked', 'command groups steps file moment')
 
 
 def options_of(words):
-    """What the words ask for: the subcommand, the groups, the steps of the prompt's grammar, and the file."""
+    """What the words ask for: the subcommand, the groups, the steps of the prompt's grammar, the file, and the moment from which
+    on is counted."""
     if not words or words[0] not in ('run', 'asm', 'dis', 'figures', 'debug'):
         raise WrongWords
     command, rest, given, file = words[0], list(words[1:]), {}, None
@@ -53,20 +56,20 @@ def options_of(words):
             file = word
             continue
         name, _, value = word.partition('=')
-        options = {'run': ('--workers', '--groups'), 'debug': ('--workers', '--groups', '--steps')}
+        options = {'run': ('--workers', '--groups'), 'debug': ('--workers', '--groups', '--steps'), 'figures': ('--from',)}
         if name not in options.get(command, ()) or name in given:
             raise WrongWords
         if not value:
-            if not rest:
+            if not rest or rest[0].startswith('-') and rest[0] != '-':
                 raise WrongWords
             value = rest.pop(0)
         given[name] = value
     workers, steps = given.get('--workers', '1'), given.get('--steps', str(prompt.BUILT))
     if not NUMBER.fullmatch(workers.encode()) or not 1 <= int(workers) <= 64:
         raise WrongWords
-    if not NUMBER.fullmatch(steps.encode()) or int(steps) > prompt.STEPS:
+    if not NUMBER.fullmatch(steps.encode()) or int(steps) > later.STEPS:
         raise WrongWords
-    return Asked(command, given.get('--groups', 'one'), int(steps), None if file == '-' else file)
+    return Asked(command, given.get('--groups', 'one'), int(steps), None if file == '-' else file, given.get('--from', '0'))
 
 
 def check_groups(groups, nodes):
@@ -75,6 +78,14 @@ def check_groups(groups, nodes):
         return True
     numbers = groups.split(',')
     return len(numbers) == nodes and all(GROUP.fullmatch(n) and int(n) <= 63 for n in numbers)
+
+
+def moment_of(asked):
+    """The moment from which on is counted; it is judged behind the input, as groups are."""
+    try:
+        return grammar.time_in(asked.moment.encode())
+    except Refused:
+        raise WrongWords('error: --from takes a moment, as 1.5s, 20ms or 10000ns') from None
 
 
 def read(data):
@@ -101,7 +112,7 @@ def output(asked, data):
     elif asked.command == 'dis':
         yield disassemble(scenario)
     elif asked.command == 'figures':
-        yield figures(scenario).encode()
+        yield figures(scenario, moment_of(asked)).encode()
     else:
         for piece in trace(scenario) if asked.command == 'run' else session(data):
             yield piece.encode()
@@ -131,7 +142,8 @@ def main(words, keys, write, tell=lambda note: None, contents=contents):
             for piece in output(asked, keys.read() if asked.file is None else contents(asked.file)):
                 write(piece)
         else:
-            for piece, note in prompt.typed(scenario_of(asked, contents(asked.file)), lines_typed(keys), asked.steps):
+            kind = prompt.Prompt if asked.steps <= prompt.STEPS else later.Prompt
+            for piece, note in prompt.typed_into(kind(scenario_of(asked, contents(asked.file)), asked.steps), lines_typed(keys)):
                 write(piece.encode())
                 tell(note.encode())
     except WrongWords as wrong:

@@ -43,10 +43,11 @@ def percentile(values, percent):
 # What is counted.
 
 class FlowCount:
-    __slots__ = ('completed', 'sent', 'in_recovery', 'otherwise', 'timeouts', 'trips')
+    __slots__ = ('received', 'completed', 'sent', 'in_recovery', 'otherwise', 'timeouts', 'trips')
 
-    def __init__(self):
-        self.completed = None       # when una came to all bytes
+    def __init__(self, received=0, completed=None):
+        self.received = received    # the next byte for which the receiver waited where counting began
+        self.completed = completed  # when una came to all bytes
         self.sent = 0               # segments, new or again
         self.in_recovery = self.otherwise = 0       # of them sent again
         self.timeouts = 0
@@ -54,14 +55,21 @@ class FlowCount:
 
 
 class LinkCount:
-    __slots__ = ('dropped', 'sent', 'bytes', 'busy', 'length', 'since', 'longest', 'waited', 'entered', 'delays')
+    __slots__ = ('first', 'dropped', 'sent', 'bytes', 'busy', 'until', 'length', 'since', 'longest', 'waited', 'entered', 'delays')
 
     def __init__(self):
-        self.dropped = Counter()        # of each reason
-        self.sent = self.bytes = self.busy = 0
-        self.length = self.since = 0    # of the queue, and from when on
-        self.longest = self.waited = 0
         self.entered = {}               # when a packet was offered that waits, by its identity
+        self.until = 0                  # when the last packet was sent whole, or the scenario's end
+        self.begin(0, 0, 0)
+
+    def begin(self, moment, offered, length):
+        """Counts from a moment on, before which so many packets were offered, and of which so many wait."""
+        self.first = offered
+        self.dropped = Counter()        # of each reason
+        self.sent = self.bytes = 0
+        self.busy = max(0, self.until - moment)
+        self.length, self.since = length, moment        # of the queue, and from when on
+        self.longest, self.waited = length, 0
         self.delays = array('q')        # of those sent: from the offering to the sending
 
     def state(self, now, length):
@@ -78,8 +86,16 @@ class Counted(Network):
         super().__init__(scenario)
         self.of_flows = [FlowCount() for _ in scenario.flows]
         self.of_links = [LinkCount() for _ in scenario.links]
-        self.last = 0               # the last event's moment
+        self.events, self.last = 0, None        # how many, and the last one's moment
         self.plan = self.used = ()  # what the event's sender sends, and the port to which its packets went
+
+    def begin(self, moment):
+        """Counts from a moment on, which no event so far has reached. When a flow was completed is known still."""
+        self.of_flows = [FlowCount(self.ends[flow.receiver].next, count.completed)
+                         for flow, count in zip(self.flows, self.of_flows)]
+        for port, count in zip(self.ports, self.of_links):
+            count.begin(moment, port.offered, len(port.queue.entries))
+        self.events, self.last = 0, None
 
     def at_sender(self, node, now, numbers):
         self.plan = numbers
@@ -104,7 +120,8 @@ class Counted(Network):
         count = self.of_links[port.number]
         count.sent += 1
         count.bytes += packet.bytes
-        count.busy += min(-(-packet.bytes * BITS_NS // port.rate), self.end - now)
+        count.until = min(now - -packet.bytes * BITS_NS // port.rate, self.end)
+        count.busy += count.until - now
         count.delays.append(now - count.entered.pop(id(packet)))
         super().send(port, packet, now, acts)
 
@@ -116,7 +133,7 @@ class Counted(Network):
         sender = self.ends[event[1]] if self.kinds[event[1]] == SENDER else None
         before = sender and (sender.high, sender.timing)
         line = super().step()
-        self.last = line.time
+        self.events, self.last = self.events + 1, line.time
         for port in self.used:
             self.of_links[port.number].state(line.time, len(port.queue.entries))
         if sender and line.flow is not None:
@@ -138,9 +155,12 @@ class Counted(Network):
             count.completed = line.time
 
 
-def run(scenario):
-    """The net after its last event, all counted to the scenario's end."""
+def run(scenario, since=0):
+    """The net after its last event, all counted from a moment to the scenario's end: the events at the moment or past it."""
     net = Counted(scenario)
+    while (event := net.due()) is not None and event[0] < since:
+        net.step()
+    net.begin(min(since, net.end))
     while net.step() is not None:
         pass
     for port in net.ports:
@@ -150,16 +170,19 @@ def run(scenario):
 
 # What is written.
 
-def of_values(values, *names):
-    """The median, the 99th percentile and the greatest of values, by these names."""
-    return zip(names, ('ns',) * 3, (percentile(values, 50), percentile(values, 99), max(values, default=None)))
+def of_values(values, one, all_):
+    """The median, the 95th and the 99th percentile and the greatest of values; one is named so, and all of them."""
+    yield f'median {one}', 'ns', percentile(values, 50)
+    for percent in (95, 99):
+        yield f'{percent}th percentile of {all_}', 'ns', percentile(values, percent)
+    yield f'greatest {one}', 'ns', max(values, default=None)
 
 
 def flow_rows(net, number):
     """A flow's figures: (figure, unit, value), value None where there is none."""
     flow, count = net.flows[number], net.of_flows[number]
     return [('start', 'ns', flow.start),
-            ('delivered', 'bytes', net.ends[flow.receiver].next),
+            ('delivered', 'bytes', net.ends[flow.receiver].next - count.received),
             ('completed', 'ns', count.completed),
             ('sent', 'segments', count.sent),
             ('sent again by fast retransmit', 'segments', count.in_recovery),
@@ -167,22 +190,21 @@ def flow_rows(net, number):
             ('timeouts', 'times', count.timeouts),
             ('round trips', 'times', len(count.trips)),
             ('least round trip', 'ns', min(count.trips, default=None)),
-            *of_values(count.trips, 'median round trip', '99th percentile of round trips', 'greatest round trip')]
+            *of_values(count.trips, 'round trip', 'round trips')]
 
 
 def link_rows(net, number):
     """A link's figures, as those of a flow."""
     count = net.of_links[number]
-    return [('offered', 'packets', net.ports[number].offered),
+    return [('offered', 'packets', net.ports[number].offered - count.first),
             *((name, 'packets', count.dropped[reason]) for reason, name in REASONS.items()),
             *((f'dropped as {reason}', 'packets', n) for reason, n in sorted(count.dropped.items()) if reason not in REASONS),
-            ('sent', 'packets', count.sent),
-            ('sent', 'bytes', count.bytes),
+            ('sent packets', 'packets', count.sent),
+            ('sent bytes', 'bytes', count.bytes),
             ('busy', 'ns', count.busy),
             ('greatest queue', 'packets', count.longest),
             ('waited', 'packet-ns', count.waited),
-            *of_values(count.delays, 'median delay in the queue', '99th percentile of delay in the queue',
-                       'greatest delay in the queue')]
+            *of_values(count.delays, 'delay in the queue', 'delay in the queue')]
 
 
 def rows(net):
@@ -191,11 +213,11 @@ def rows(net):
         yield from (('flow', number, *row) for row in flow_rows(net, number))
     for number in range(len(net.ports)):
         yield from (('link', number, *row) for row in link_rows(net, number))
-    yield 'run', '', 'events', 'events', net.position
+    yield 'run', '', 'events', 'events', net.events
     yield 'run', '', 'end', 'ns', net.last
 
 
-def figures(scenario):
-    """The CSV of a scenario's figures."""
-    lines = [','.join(map(str, (*words, '-' if value is None else value))) for *words, value in rows(run(scenario))]
+def figures(scenario, since=0):
+    """The CSV of a scenario's figures, from a moment on."""
+    lines = [','.join(map(str, (*words, '-' if value is None else value))) for *words, value in rows(run(scenario, since))]
     return '\n'.join([HEADING, *lines, ''])

@@ -163,8 +163,8 @@ def value_of(words, scenario):
     return number_to(len(scenario.links) - 1 if words[0] == b'link' else MOST_BYTE, words[1])
 
 
-def usage(name):
-    used, what, _, _ = HELP[name]
+def usage(name, of=HELP):
+    used, what, _, _ = of[name]
     return f'{used:12} {what}\n'
 
 

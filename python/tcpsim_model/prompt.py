@@ -82,21 +82,24 @@ class Marked(Debugger):
 
 
 class Prompt:
+    NAMES, HELP, LAST_OF_HELP, TOPICS = NAMES, HELP, LAST_OF_HELP, TOPICS
+    DEBUGGER = Marked
+
     def __init__(self, scenario, steps=STEPS):
-        self.debugger, self.steps = Marked(scenario), steps
+        self.debugger, self.steps = self.DEBUGGER(scenario), steps
         self.last = None        # the last move: its name and its numbers
 
     def name_of(self, word):
         """The first name that the word begins."""
-        for name, step in NAMES.items():
+        for name, step in self.NAMES.items():
             if step <= self.steps and name.startswith(word):
                 return name
         raise Refused('B1')
 
     def topic_of(self, word):
         """The first name that the word begins, else the first topic."""
-        for topic in TOPICS:
-            if topic.startswith(word) and not any(step <= self.steps and name.startswith(word) for name, step in NAMES.items()):
+        for topic in self.TOPICS:
+            if topic.startswith(word) and not any(step <= self.steps and name.startswith(word) for name, step in self.NAMES.items()):
                 return topic
         return self.name_of(word)
 
@@ -129,7 +132,7 @@ class Prompt:
 
     def nearest(self, word):
         """The line that tells the nearest name to a word that begins none."""
-        names = [name for name, step in NAMES.items() if step <= self.steps]
+        names = [name for name, step in self.NAMES.items() if step <= self.steps]
         if len(word) > MOST_WORD or any(name.startswith(word) for name in names):
             return ''
         nearest = min(names, key=lambda name: edits(word, name))
@@ -271,19 +274,23 @@ class Prompt:
 
     def on_help(self, words):
         if not words:
-            return ''.join(usage(name) for name in HELP if NAMES[name] <= self.steps) + LAST_OF_HELP
+            return ''.join(usage(name, self.HELP) for name in self.HELP if self.NAMES[name] <= self.steps) + self.LAST_OF_HELP
         topic = self.topic_of(words[0])
         at_most(words, 1)
-        if topic in TOPICS:
-            return TOPICS[topic]
-        _, _, more, example = HELP[topic]
-        return f'{usage(topic)}{more}{example}\n'
+        if topic in self.TOPICS:
+            return self.TOPICS[topic]
+        _, _, more, example = self.HELP[topic]
+        return f'{usage(topic, self.HELP)}{more}{example}\n'
 
 
 def typed(scenario, lines, steps=STEPS):
-    """A session of the lines: what is written to standard output and to standard error, in turn. Not one line more
-    is asked for than is read."""
-    session = Prompt(scenario, steps)
+    """A session of the lines over a scenario."""
+    return typed_into(Prompt(scenario, steps), lines)
+
+
+def typed_into(session, lines):
+    """What a session of the lines writes to standard output and to standard error, in turn. Not one line more is asked for
+    than is read."""
     yield '', PROMPT
     for line in lines:
         if session.quits(line):

@@ -83,6 +83,8 @@ class Scenario:
     routes: list            # (router, destination, link), rising by router and destination
     # Of a link what makes its queue, given the link, in the place of the queue that the text has (queues.Own).
     queues: dict = field(default_factory=dict)
+    # Of a text what its names are: of each, as bytes, its sort and its number. An image has none.
+    names: dict = field(default_factory=dict, compare=False)
 
     def outgoing(self):
         """For each node its outgoing links in rising number: its ports."""

@@ -157,7 +157,7 @@ class Book:
         """The scenario, where no line is faulty and the text as a whole is right."""
         refuse_if(len(self.ends) != 1, 'E10')
         routes = sorted((*at, link) for at, link in self.routes.items())
-        scenario = Scenario(self.ends[0], self.nodes, self.links, self.flows, routes)
+        scenario = Scenario(self.ends[0], self.nodes, self.links, self.flows, routes, names=self.names)
         late = any(flow.start >= scenario.end for flow in self.flows)
         refuse_if(late or len(self.nodes) < 2 or not self.links or not self.flows, 'L3')
         fault = fault_of_whole(scenario)

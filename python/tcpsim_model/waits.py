@@ -2,11 +2,18 @@
 from tcpsim_model.simulate import DELACK, RTO, START
 
 
-def why(net, flow):
+class Numbers:
+    """What answers call a node, a link or a flow: by its number."""
+
+    def called(self, sort, number):
+        return f'{sort} {number}'
+
+
+def why(net, flow, names=Numbers()):
     """What `why` answers of a flow of the net."""
-    lines = [f'flow {flow} {standing(net, flow)}']
+    lines = [f'{names.called("flow", flow)} {standing(net, flow)}']
     lines += [f'{head}: {", ".join(found)}' for head, found in (
-        ('waits', waiting(net, flow)), ('under way', under_way(net, flow)), ('alarms', alarms(net, flow))) if found]
+        ('waits', waiting(net, flow, names)), ('under way', under_way(net, flow, names)), ('alarms', alarms(net, flow))) if found]
     return ''.join(line + '\n' for line in lines)
 
 
@@ -50,15 +57,15 @@ def alarms(net, flow):
     return [f'{("start", "rto", "delack")[number]} at {time} ns' for time, number in own_alarms(net, flow)]
 
 
-def waiting(net, flow):
+def waiting(net, flow, names):
     """The packets of a flow that wait, queue by queue, each with its place there from 1."""
-    return [f'{sort_of(packet)} at place {place} of link {port.number}' for port in net.ports
+    return [f'{sort_of(packet)} at place {place} of {names.called("link", port.number)}' for port in net.ports
             for place, (packet, _) in enumerate(port.queue.entries, 1) if packet[0] == flow]
 
 
-def under_way(net, flow):
+def under_way(net, flow, names):
     """The packets of a flow on their way over a link, in the order in which they arrive."""
-    return [f'{sort_of(packet)} to node {node} at {time} ns' for time, node, source, _, packet in sorted(net.pending, key=lambda it: it[:4])
+    return [f'{sort_of(packet)} to {names.called("node", node)} at {time} ns' for time, node, source, _, packet in sorted(net.pending, key=lambda it: it[:4])
             if source != 0 and packet[0] == flow]
 
 
