@@ -195,9 +195,9 @@ def test_figures_are_those_of_tcpsim_flows(name, engine):
     names = {'delivered': 'delivered_bytes', 'goodput': 'goodput', 'bottleneck': 'bottleneck', 'timeouts': 'timeouts',
              'sent again by fast retransmit': 'fast_retransmits', 'sent again by timeout': 'timeout_retransmits',
              'least timed round trip': 'rtt_min_ns', 'median timed round trip': 'rtt_median_ns',
-             '99th percentile of timed round trips': 'rtt_p99_ns', 'completed': 'completed_ns', 'utilization': 'utilization',
+             '95th percentile of timed round trips': 'rtt_p95_ns', '99th percentile of timed round trips': 'rtt_p99_ns', 'completed': 'completed_ns', 'utilization': 'utilization',
              'greatest queue': 'queue_max', 'mean queue': 'queue_mean', 'median delay in the queue': 'delay_median_ns',
-             '99th percentile of delay in the queue': 'delay_p99_ns', 'dropped': 'packets_dropped', 'loss': 'loss'}
+             '95th percentile of delay in the queue': 'delay_p95_ns', '99th percentile of delay in the queue': 'delay_p99_ns', 'dropped': 'packets_dropped', 'loss': 'loss'}
     compared = 0
     for (what, of, figure), value in wanted.items():
         if what in ('flow', 'link') and figure in names:
@@ -400,7 +400,7 @@ def test_refusals_have_the_words_of_the_prompt(engine, call, error, words):
 
 def test_a_session_ends_with_its_block(engine):
     with tcpsim.debug(example('one_segment'), engine=engine) as at:
-        process = at._ask._process
+        process = at._ask._prompt.process
         assert process.poll() is None
     assert process.poll() is not None
     with pytest.raises(tcpsim.Error, match='the session has ended'):
@@ -413,7 +413,7 @@ import tcpsim
 net = tcpsim.dumbbell(flows=4, rate='1G', end='100000s')
 if sys.argv[1] == 'debug':
     at = tcpsim.debug(net, engine=sys.argv[2])
-    print(at._ask._process.pid, flush=True)
+    print(at._ask._prompt.process.pid, flush=True)
 elif sys.argv[1] == 'trace':
     lines = tcpsim.run(net, engine=sys.argv[2]).trace.lines()
     next(lines)

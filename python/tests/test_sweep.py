@@ -1,6 +1,8 @@
-"""Tests of tcpsim-sweep: its rows against a run worked out by hand and against tcpsim-flows's figures of each run.
+"""Tests of tcpsim-sweep: its rows against a run worked out by hand and against tcpsim-flows's figures of each run. Programs that
+fail, full disks and pipes are in test_ends.py.
 """
 import csv
+import hashlib
 import html
 import importlib.util
 import io
@@ -12,20 +14,26 @@ import stat
 import subprocess
 import sys
 import tempfile
+import threading
 import time
+from multiprocessing import Pipe, get_context
 
 import pytest
 
-from clone import BIN, PROGRAM, TOP
+import clone
+from clone import BIN, PROGRAM, TOP, paths, read, read_text
 from tcpsim.cli import net as command
-from tcpsim import sweep
+from tcpsim.sweeps import pattern as sweep
+from tcpsim.sweeps import pool
+from tcpsim.sweeps.columns import FROM
+from tcpsim.sweeps.rows import AskedOfRun, Grid, format_of
 
 SWEEP = os.path.join(BIN, 'tcpsim-sweep')
 DIR = tempfile.TemporaryDirectory()
 
 # One flow of eight segments; the way of each packet is in test_trace.py. Link a takes 1.04 ms for each of seven packets
 # in 12 ms, and two of nine segments find its queue of two full. Of 0, 1.04, 2.08, 0.04, 1.08, 1.08 and 0 ms of waiting
-# the median is 1.04 and the greatest 2.08. Seven segments came in order.
+# the median is 1.04, whose class ends with 2^20 - 1 ns, and the greatest 2.08. Seven segments came in order.
 BY_HAND = '''sim 12000000
 node s sender
 node r receiver
@@ -33,9 +41,10 @@ link a s r 8000000 1000000 droptail 7   # the data's
 link b r s 8000000 1000000 droptail 10
 flow f s r 1000 8 0 64000 0
 '''
-ROW = {'a.queue': 'droptail:2', 'status': 'done', 'link': 'a', 'goodput_bit_s': f'{7000 * 8 / .012:.6f}',
-       'utilization': f'{7 * 1.04 / 12:.6f}', 'wait_median_ns': '1040000', 'wait_p99_ns': '2080000',
-       'loss_percent': f'{200 / 9:.6f}', 'timeouts': '0', 'jain': '1.000000'}
+ROW = {'a.queue': 'droptail:2', 'a.queue_packets': '2', 'status': 'done', 'link': 'a', 'goodput_bit_s': f'{7000 * 8 / .012:.6f}',
+       'utilization': f'{7 * 1.04 / 12:.6f}', 'wait_median_ns': str(2**20 - 1), 'wait_p99_ns': '2080000',
+       'loss_percent': f'{200 / 9:.6f}', 'timeouts': '0', 'jain': '1.000000', 'from_ns': '0',
+       'scenario_sha256': hashlib.sha256(BY_HAND.replace('droptail 7 ', 'droptail 2').encode()).hexdigest()[:16]}
 
 
 def path(name, text=None):
@@ -55,15 +64,10 @@ def rows_of(text):
     return list(csv.DictReader(io.StringIO(text)))
 
 
-def run(text):
-    return subprocess.run([PROGRAM, 'run'], input=text.encode(), capture_output=True, check=True).stdout
-
-
 def flows_figures(text, *options):
     """What tcpsim-flows tells of a run, {(what, name, figure): value}, by its own command line."""
-    scenario, trace = path('one.txt', text), path('one.trace', run(text).decode())
-    done = subprocess.run([sys.executable, os.path.join(BIN, 'tcpsim-flows'), scenario, trace, '--csv', *options],
-                          capture_output=True, encoding='utf-8', check=True)
+    scenario, trace = path('one.txt', text), path('one.trace', clone.outcome(['run'], text.encode())[2].decode())
+    done = clone.tool('flows', scenario, trace, '--csv', *options, text=True)
     return {(row['what'], row['name'], row['figure']): row['value'] for row in rows_of(done.stdout)}
 
 
@@ -80,25 +84,24 @@ def test_by_hand():
     assert done.returncode == 0
     assert len(done.stderr.splitlines()) == 1
     assert done.stderr.startswith('1 of 1 runs'), done.stderr
+    done = tool(path('hand.txt', BY_HAND), '--set', 'a.queue=droptail:2', '--csv', '--exact')
+    assert rows_of(done.stdout) == [{**ROW, 'wait_median_ns': '1040000'}]
 
 
-def test_equal_flows():
-    """Each row of a grid has the figures that tcpsim-flows has of the same trace."""
-    _equal_flows((), ())
+def grid_of(text, sets):
+    pattern = sweep.Pattern(text)
+    return Grid(pattern, sweep.settings_of(sets, pattern), AskedOfRun('', 'pq', 0, ()))
 
 
-def test_equal_flows_from_a_moment_on():
-    _equal_flows(('--skip', '1.5s'), ('--from', '1.5s'))
-
-
-def _equal_flows(mine, theirs):
+@pytest.mark.parametrize('mine, theirs', [((), ()), (('--skip', '1.5s'), ('--from', '1.5s'))])
+def test_equal_flows(mine, theirs):
+    """Each row of a grid that is read from traces has the figures that tcpsim-flows has, also from a moment on."""
     sets = ['--set', 'pq.queue=droptail:5,40,BDP,codel:5ms:100ms', '--set', 'pq+qp.delay=10ms,50ms']
-    done = tool(path('four.txt', FOUR), *sets, '--csv', '-j', '2', *mine)
+    done = tool(path('four.txt', FOUR), *sets, '--csv', '--exact', '-j', '2', *mine)
     rows = rows_of(done.stdout)
     assert [(row['pq.queue'], row['pq+qp.delay'], row['status'], row['link']) for row in rows] == [(queue, delay, 'done', 'pq') for queue in ('droptail:5', 'droptail:40', 'droptail:BDP',
                                                                  'codel:5ms:100ms') for delay in ('10ms', '50ms')]
-    pattern = sweep.Pattern(FOUR)
-    grid = sweep.Grid(pattern, sweep.settings_of(sets[1::2], pattern), 'pq', 0)
+    grid = grid_of(FOUR, sets[1::2])
     for number, row in enumerate(rows):
         _equal(row, flows_figures(grid.text(number), *theirs))
 
@@ -123,8 +126,7 @@ def test_same_rows_on_any_number_of_workers():
     words = path('four.txt', FOUR), '--set', 'pq.queue=droptail:5,0,40', '--set', '*.segments=10,20'
     outputs = [tool(*words, '-j', jobs, '-o', path('rows.csv')) for jobs in '123']
     assert len({done.stdout for done in outputs}) == 1
-    with open(path('rows.csv'), encoding='utf-8') as file:
-        assert file.read() == tool(*words, '--csv').stdout
+    assert read_text(path('rows.csv')) == tool(*words, '--csv').stdout
 
 
 def test_refused():
@@ -134,7 +136,8 @@ def test_refused():
     assert [row['status'] for row in rows] == ['done', 'refused E5 line 1', 'refused E5 line 4',
                                                        'refused E5 line 1']
     assert {key: rows[0][key] for key in ROW} == ROW
-    assert set(rows[1].values()) == {'droptail:2', '0', 'refused E5 line 1', ''}
+    digest = rows[1].pop('scenario_sha256')
+    assert (len(digest), set(rows[1].values())) == (16, {'droptail:2', '2', '0', 'refused E5 line 1', ''})
     assert done.returncode == 0
     assert '4 of 4 runs, 3 without figures' in done.stderr
     table = tool(path('hand.txt', BY_HAND), '--set', 'a.queue=droptail:2,0').stdout
@@ -153,21 +156,17 @@ def test_busiest_link_and_links_by_name():
     assert rows_of(done.stdout)[0]['link'] == 'p0p1'
 
 
-def test_image():
-    image = subprocess.run([PROGRAM, 'asm'], input=BY_HAND.encode(), capture_output=True, check=True).stdout
-    with open(path('hand.tcb'), 'wb') as file:
-        file.write(image)
-    done = tool(path('hand.tcb'), '--set', 'l0.queue=droptail:2', '--csv')
-    assert list(rows_of(done.stdout)[0].values())[3:] == list(ROW.values())[3:]
-    with open(path('hand.tcb'), 'wb') as file:
-        file.write(image[:-1])
-    done = tool(path('hand.tcb'), '--set', 'l0.queue=droptail:2')
+def test_image(put):
+    image = clone.outcome(['asm'], BY_HAND.encode())[2]
+    done = tool(put('hand.tcb', image), '--set', 'l0.queue=droptail:2', '--csv')
+    assert list(rows_of(done.stdout)[0].values())[4:-1] == list(ROW.values())[4:-1]
+    done = tool(put('hand.tcb', image[:-1]), '--set', 'l0.queue=droptail:2')
     assert (done.returncode, done.stdout, len(done.stderr.splitlines())) == (2, '', 1)
     assert 'refused L1' in done.stderr
 
 
-class TestEngine:
-    """Rows with no trace, by the program where it has `figures`, else by the model."""
+class TestTables:
+    """Rows with no trace, by the program where it is there, else by the model."""
 
     def rows(self, *words):
         done = tool(*words, '--csv', '--program', PROGRAM, program=False)
@@ -177,39 +176,27 @@ class TestEngine:
     def test_rows_are_those_of_traces(self):
         """But for waits, which are the greatest values of their classes."""
         words = (path('four.txt', FOUR), '--set', 'pq.queue=droptail:5,40,codel:5ms:100ms', '--set', 'end=1s,4s')
-        for got, wanted in zip(self.rows(*words, '--engine'), self.rows(*words), strict=True):
+        for got, wanted in zip(self.rows(*words), self.rows(*words, '--exact'), strict=True):
             for name in ('wait_median_ns', 'wait_p99_ns'):
                 one, other = int(got.pop(name)), int(wanted.pop(name))
                 assert other <= one <= other * 33 / 32, (name, one, other)
             assert got == wanted
 
-    def test_by_hand(self):
-        """The 4th of seven waits is 1,040,000, whose class ends with 2^20 - 1."""
-        got, = self.rows(path('hand.txt', BY_HAND), '--set', 'a.queue=droptail:2', '--engine')
-        assert got == {**ROW, 'wait_median_ns': str(2**20 - 1)}
-
     def test_loss_where_acknowledgements_are_dropped_too(self):
         """Acknowledgements alone at b are no segments; where both are dropped at one link it is not told."""
         text = BY_HAND.replace('12000000', '2000000000') + 'lose b 2\n'
-        got, = self.rows(path('hand.txt', text), '--set', 'a.queue=droptail:2', '--engine')
-        wanted, = self.rows(path('hand.txt', text), '--set', 'a.queue=droptail:2')
+        got, = self.rows(path('hand.txt', text), '--set', 'a.queue=droptail:2')
+        wanted, = self.rows(path('hand.txt', text), '--set', 'a.queue=droptail:2', '--exact')
         assert got['loss_percent'] == wanted['loss_percent']
-        with open(os.path.join(TOP, 'examples', 'acks_share_the_bottleneck.txt'), encoding='ascii') as file:
-            shared = path('shared.txt', file.read())
-        got = self.rows(shared, '--set', 'pq.queue=droptail:2,1000', '--link', 'pq', '--engine')
+        got = self.rows(paths('acks_share_the_bottleneck')[0], '--set', 'pq.queue=droptail:2,1000', '--link', 'pq')
         assert [row['status'] for row in got] == ['done', 'done']
         assert got[0]['loss_percent'] == ''
 
-    def test_refusals_and_jobs(self):
+    def test_refusals(self):
         got = self.rows(path('hand.txt', BY_HAND), '--set', 'a.rate=1k,10', '--engine')
         assert [row['status'] for row in got] == ['done', 'refused E5 line 4']
-        done = tool(path('hand.txt', BY_HAND), '--engine', '--skip', '1ms', '--set', 'a.queue=droptail:2')
-        assert (done.returncode, done.stderr.count('\n')) == (2, 1)
-        assert '--skip' in done.stderr
-        folder = path('engine.d')
-        tool(path('hand.txt', BY_HAND), '--engine', '--set', 'a.queue=droptail:2,3', '--print', folder)
-        with open(os.path.join(folder, 'jobs'), encoding='utf-8') as jobs:
-            assert [' --engine ' in line for line in jobs] == [True, True]
+        done = tool(path('hand.txt', BY_HAND), '--engine', '--show', 'f.loss')
+        assert (done.returncode, done.stderr) == (2, 'tcpsim-sweep: --engine reads no trace, and f.loss wants one: leave --engine out\n')
 
 
 # ---- the texts of a grid
@@ -263,8 +250,7 @@ def test_losses():
 
 def test_by_hand_way():
     """The texts are those that sed makes in docs/SWEEPS.md."""
-    with open(os.path.join(TOP, 'examples', 'four_flows_share_a_long_queue.txt'), encoding='ascii') as file:
-        base = file.read()
+    base = clone.example('four_flows_share_a_long_queue')[0]
     made = text(base, 'end=60s', 'pq+qp.rate=2M', 'pq+qp.delay=20ms', 'pq.queue=codel:5ms:100ms')
     lines = []
     for line in base.split('\n'):
@@ -278,20 +264,26 @@ def test_by_hand_way():
 # ---- docs/SWEEPS.md: a command with its output behind it gives this output, and the picture that is shown
 
 
-def test_outputs_and_picture():
-    with open(os.path.join(TOP, 'docs', 'SWEEPS.md'), encoding='utf-8') as file:
-        blocks = re.findall('^```\n(.*?)^```', file.read(), re.S | re.M)
+def test_outputs_and_pictures():
+    """What a program has to have `figures --from` for is tried where it has that."""
+    blocks = re.findall('^```\n(.*?)^```', read_text('docs', 'SWEEPS.md'), re.S | re.M)
     shown = [(command, output) for command, output in zip(blocks, blocks[1:])
-             if command.startswith('bin/tcpsim-sweep ') and 'goodput Mbit/s' in output]
-    assert len(shown) == 2
+             if command.startswith('bin/tcpsim-sweep ') and ' Mbit/s' in output]
+    assert len(shown) >= 2
+    net, = (block for block in blocks if block.startswith('bin/tcpsim-net '))
+    subprocess.run(['sh', '-c', net.replace('/tmp/', DIR.name + '/')], cwd=TOP, check=True)
+    pictures = []
     for line, output in shown:
         words = shlex.split(line.replace('\\\n', '').replace('/tmp/', DIR.name + '/'))[1:]
+        if '--skip' in words and format_of(PROGRAM) < FROM:
+            continue
         if '--plot' in words and not has_matplotlib():
             del words[words.index('--plot'):]
         done = tool(*words, cwd=TOP)
         assert (done.returncode, done.stdout) == (0, output)
-    if has_matplotlib():
-        assert description(path('sweep.svg')) == description(os.path.join(TOP, 'docs', 'pictures', 'sweep.svg'))
+        pictures += words[words.index('--plot') + 1:][:1] if '--plot' in words else []
+    for picture in pictures:
+        assert description(picture) == description(os.path.join(TOP, 'docs', 'pictures', os.path.basename(picture)))
 
 
 def plot_sweep():
@@ -306,8 +298,7 @@ def has_matplotlib():
 
 def description(svg):
     """What a picture shows, a line for the data of each artist."""
-    with open(svg, encoding='utf-8') as file:
-        lines = html.unescape(re.search('<dc:description>(.*?)</dc:description>', file.read(), re.S)[1]).splitlines()
+    lines = html.unescape(re.search('<dc:description>(.*?)</dc:description>', read_text(svg), re.S)[1]).splitlines()
     if len(lines) < 10:
         raise ValueError(f'{svg} says little: {lines}')
     return lines
@@ -323,18 +314,16 @@ def test_print_run_gather():
     assert (done.returncode, done.stderr) == (0, '')
     names = sorted(os.listdir(folder))
     assert names == ['1_droptail-5_1s.txt', '2_droptail-5_2s.txt', '3_droptail-0_1s.txt', '4_droptail-0_2s.txt',
-                             'grid.csv', 'jobs']
+                             'grid.csv', 'jobs', 'sweep.json']
     waiting = rows_of(tool('--gather', folder, '--csv', program=False).stdout)
     assert [row['status'] for row in waiting] == ['not run'] * 4
-    with open(os.path.join(folder, 'jobs'), encoding='utf-8') as file:
-        jobs = file.read().splitlines()
+    jobs = read_text(folder, 'jobs').splitlines()
     assert len(jobs) == 4
     for job in jobs:
         subprocess.run(['sh', '-c', job], check=True, capture_output=True)
     gathered = tool('--gather', folder, '--csv', '-o', path('gathered.csv'), program=False)
     assert (gathered.stdout, gathered.stderr) == (tool(*words, '--csv').stdout, '')
-    with open(path('gathered.csv'), encoding='utf-8') as file:
-        assert file.read() == gathered.stdout
+    assert read_text(path('gathered.csv')) == gathered.stdout
 
 
 class TestWrongWords:
@@ -352,7 +341,7 @@ class TestWrongWords:
         'hand --skip 5': (2, '--skip'), 'hand -j 0': (2, '-j'), 'hand -j x': (2, 'x'), 'hand --foo': (2, '--foo'),
         'hand --plot s.doc': (2, '.svg'), 'missing': (1, 'missing'), '.': (1, 'irectory'), 'empty': (2, 'no scenario'),
         'picture': (2, 'no scenario'), 'hand -o /nowhere/s.csv': (1, '/nowhere/s.csv'), 'hand --print /dev/null/x': (1, 'x'),
-        'hand --print x -o y': (2, '--print'), '--gather .': (1, 'grid.csv'), '--gather . --plot s.svg': (2, '--gather'),
+        'hand --print x -o y': (2, '--print'), '--gather .': (1, 'sweep.json'), '--gather . --set a.queue=droptail:5': (2, '--gather'),
         'hand --gather .': (2, 'SCENARIO'),
     }
 
@@ -373,34 +362,10 @@ class TestWrongWords:
             done = tool(path('hand.txt'), *words, program=False)
             assert (done.returncode, done.stdout, len(done.stderr.splitlines())) == (1, '', 1)
 
-    def test_program_that_fails(self):
-        """One that ends in the midst, one that writes what is no trace, and one that writes nothing."""
-        for script, said in (('echo "1 0 0 0 0 start 0 una=0 nxt=4000 cwnd=4000 ssthresh=64000 phase=ss"; echo no memory >&2; '
-                              'exit 4', 'no memory'), ('echo hello world', 'no line of this scenario'), ('exit 0', 'nothing'),
-                             ('kill -9 $$', 'signal 9')):
-            program = path('fails', f'#!/bin/sh\ncat > /dev/null\n{script}\n')
-            os.chmod(program, stat.S_IRWXU)
-            done = tool(path('hand.txt', BY_HAND), '--csv', '--program', program, program=False)
-            assert said in rows_of(done.stdout)[0]['status']
-            assert done.returncode == 1
-            assert '1 of 1 runs have no figures: ' in done.stderr
-
-    def test_full_disk(self):
-        for jobs in '12':
-            done = tool(path('hand.txt', BY_HAND), '--set', 'a.queue=droptail:1,2,3', '-j', jobs, '-o', '/dev/full')
-            assert (done.returncode, done.stdout) == (1, '')
-            assert 'Traceback' not in done.stderr
-            assert done.stderr.splitlines()[-1] == 'tcpsim-sweep: /dev/full: No space left on device'
-
-    def test_pipe(self):
-        script = '"$0" "$1" "$2" --set a.queue=droptail:1,2 --program "$3" 2> /dev/null | true'
-        done = subprocess.run(['sh', '-c', script, sys.executable, SWEEP, path('hand.txt', BY_HAND), PROGRAM],
-                              capture_output=True, check=False)
-        assert done.stderr == b''
-
     def test_interruption(self):
-        """Ctrl-C ends all at once, and what stood in the file stays; a pipe has the rows that were there."""
-        program = path('sleeps', f'#!/bin/sh\nif grep -q "droptail 2 " > /dev/null\nthen exec "{PROGRAM}" run < "$0.txt"\n'
+        """Ctrl-C ends all at once, and what stood in the file stays, with the rows that were there in a part beside it; a pipe
+        has them too."""
+        program = path('sleeps', f'#!/bin/sh\nif grep -q "droptail 2 " > /dev/null\nthen exec "{PROGRAM}" "$1" < "$0.txt"\n'
                        'else exec sleep 60\nfi\n')
         path('sleeps.txt', BY_HAND.replace('droptail 7', 'droptail 2'))
         os.chmod(program, stat.S_IRWXU)
@@ -415,8 +380,8 @@ class TestWrongWords:
             os.killpg(process.pid, signal.SIGINT)
             output, note = process.communicate(timeout=20)
             assert (process.returncode, output, note) == (130, b'', b'')
-            with open(rows, encoding='utf-8') as file:
-                assert file.read() == 'as it was'
+            assert read_text(rows) == 'as it was'
+            assert rows_of(read_text(rows + '.part')) == [ROW]
         self.piped(program)
 
     def piped(self, program):
@@ -441,19 +406,17 @@ class TestPictures:
         pytest.importorskip('matplotlib', reason='no matplotlib: apt-get install python3-matplotlib')
 
     def test_panels(self):
-        pattern = sweep.Pattern(FOUR)
-        settings = sweep.settings_of(['pq.queue=droptail:5,BDP,codel:5ms:100ms,codel:1ms:100ms', 'end=1s,2s'], pattern)
-        grid = sweep.Grid(pattern, settings, 'pq', 0)
+        grid = grid_of(FOUR, ['pq.queue=droptail:5,BDP,codel:5ms:100ms,codel:1ms:100ms', 'end=1s,2s'])
         rows = [{'status': 'done', 'link': 'pq', 'wait_median_ns': str(number * 10**6), 'wait_p99_ns': str(number * 2 * 10**6),
                  'utilization': f'{number / 10}'} for number in range(1, 9)]
         rows[2] = {'status': 'refused E5 line 1'}
-        panels = plot_sweep().panels_of(grid, rows)
+        panels = {others: {kind: [(point.label, point.x.mean, point.tail, point.y.mean) for point in points]
+                           for kind, points in lines.items()} for others, lines in plot_sweep().panels_of(grid, rows).items()}
         assert panels == {
             ('end = 1s',): {'droptail': [('5', 1, 2, 10)], 'codel': [('1ms', 7, 14, 70), ('5ms', 5, 10, 50)]},
             ('end = 2s',): {'droptail': [('5', 2, 4, 20), ('BDP', 4, 8, 40)],
                             'codel': [('1ms', 8, 16, 80), ('5ms', 6, 12, 60)]}}
-        drawn = plot_sweep()
-        axes = drawn.draw(grid, rows).axes
+        axes = plot_sweep().draw(grid, rows).axes
         assert [each.get_title() for each in axes] == ['end = 1s', 'end = 2s']
         lines = [list(zip(*line.get_data())) for line in axes[1].lines]
         assert lines[0] == [(2, 20), (4, 40)]          # the medians
@@ -461,27 +424,21 @@ class TestPictures:
 
     def test_points_of_a_line_rise(self):
         """2 Mbit/s times 55 ms, the mean of 40 and 70, are 13,750 bytes: nine packets of 1,500."""
-        pattern = sweep.Pattern(FOUR)
-        settings = sweep.settings_of(['pq.queue=droptail:80,BDP,5,codel:5ms:100ms,1ms:100ms', 'end=1s,2s,3s,4s'], pattern)
-        grid = sweep.Grid(pattern, settings, 'pq', 0)
+        grid = grid_of(FOUR, ['pq.queue=droptail:80,BDP,5,codel:5ms:100ms,1ms:100ms', 'end=1s,2s,3s,4s'])
         rows = [{'status': 'done', 'link': 'pq', 'wait_median_ns': str(10**7 + number), 'wait_p99_ns': '20000000',
                  'utilization': '.5'} for number in range(len(grid.points))]
         for lines in plot_sweep().panels_of(grid, rows).values():
-            assert [point[0] for point in lines['droptail']] == ['5', 'BDP', '80']
-            assert [point[0] for point in lines['codel']] == ['1ms', '5ms']
-        drawn = plot_sweep()
-        axes = drawn.draw(grid, rows).axes         # three above, one below
+            assert [point.label for point in lines['droptail']] == ['5', 'BDP', '80']
+            assert [point.label for point in lines['codel']] == ['1ms', '5ms']
+        axes = plot_sweep().draw(grid, rows).axes         # three above, one below
         assert [any(label.get_visible() for label in each.get_xticklabels()) for each in axes] == [False, True, True, True]
 
     def test_labels_do_not_collide(self):
         """Six points in nearly one place."""
-        pattern = sweep.Pattern(FOUR)
-        settings = sweep.settings_of(['pq.queue=droptail:5,6,7,codel:5ms:100ms,6ms:100ms,7ms:100ms'], pattern)
-        grid = sweep.Grid(pattern, settings, 'pq', 0)
+        grid = grid_of(FOUR, ['pq.queue=droptail:5,6,7,codel:5ms:100ms,6ms:100ms,7ms:100ms'])
         rows = [{'status': 'done', 'link': 'pq', 'wait_median_ns': str(10**7 + number * 10**6), 'wait_p99_ns': str(10**9),
                  'utilization': f'{.5 + number / 20}'} for number in range(6)]
-        drawn = plot_sweep()
-        figure = drawn.draw(grid, rows)
+        figure = plot_sweep().draw(grid, rows)
         boxes = [text.get_window_extent(figure.canvas.get_renderer()) for text in figure.axes[0].texts]
         assert len(boxes) == 6
         assert not [(a, b) for n, a in enumerate(boxes) for b in boxes[:n] if a.overlaps(b)]
@@ -490,8 +447,7 @@ class TestPictures:
         for name, begins in (('s.svg', b'<?xml'), ('s.png', b'\x89PNG'), ('s.pdf', b'%PDF')):
             done = tool(path('hand.txt', BY_HAND), '--set', 'a.queue=droptail:1,2,0', '--plot', path(name))
             assert done.returncode == 0, done.stderr
-            with open(path(name), 'rb') as file:
-                assert file.read().startswith(begins)
+            assert read(path(name)).startswith(begins)
         done = tool(path('hand.txt', BY_HAND), '--plot', '/nowhere/s.svg')
         assert done.returncode == 1
         assert 'figures of link a' in done.stdout
@@ -500,3 +456,29 @@ class TestPictures:
                     'b.delay=' + ','.join(f'{n}ms' for n in range(1, 20)))
         assert (done.returncode, len(done.stderr.splitlines())) == (2, 1)
         assert '19 panels' in done.stderr
+
+
+def ends_at_the_second_signal(ready):
+    """A process that sees a signal only once another has come, as one does that was about to wait."""
+    seen = []
+    signal.signal(signal.SIGTERM, lambda *_: os._exit(3) if seen else seen.append(1))
+    ready.send(1)
+    while True:
+        signal.pause()
+
+
+def test_a_worker_that_misses_a_signal_is_ended():
+    fork, (here, there) = get_context('fork'), Pipe()
+    workers = [fork.Process(target=ends_at_the_second_signal, args=(there,), daemon=True) for _ in range(2)]
+    for worker in workers:
+        worker.start()
+        assert here.recv() == 1
+    ending = threading.Thread(target=pool.end_workers, args=(set(workers),), daemon=True)
+    ending.start()
+    ending.join(20)
+    gone = not ending.is_alive()
+    for worker in workers:
+        if not gone:
+            worker.kill()
+        worker.join()
+    assert gone and [worker.exitcode for worker in workers] == [3, 3]

@@ -2,11 +2,7 @@
 from __future__ import annotations
 
 import contextlib
-import ctypes
-import os
-import signal
 import subprocess
-import threading
 from collections.abc import Callable, Iterator, Mapping
 from dataclasses import dataclass
 
@@ -14,11 +10,10 @@ from tcpsim.api.errors import Error, as_raised, refusal
 from tcpsim.command_line import MODEL, Wrong
 from tcpsim.engine import written_table
 from tcpsim.program import NoProgram, check_time, find_program, found, is_model, is_program
+from tcpsim.prompt import ends_with_parent
 from tcpsim.scenario.text import Scenario
 from tcpsim.whole_trace import BLOCK, ProgramFailed, blocks, running
 
-SET_PARENT_DEATH_SIGNAL = 1     # prctl(2)
-LIBRARY = ctypes.CDLL(None)
 
 
 @dataclass(frozen=True)
@@ -106,21 +101,6 @@ def by_model(sentence: str) -> str:
     for words in ('say --model', 'name it with --program, or give a trace'):
         sentence = sentence.replace(words, 'say engine="model"')
     return sentence
-
-
-def ends_with_parent() -> Callable[[], None] | None:
-    """What a process does before it becomes the program: it asks to be killed when this process ends, however that ends.
-    None in a thread, with which it would end, and where
-    the system has no such request."""
-    parent, prctl = os.getpid(), getattr(LIBRARY, 'prctl', None)
-    if prctl is None or threading.current_thread() is not threading.main_thread():
-        return None
-
-    def ask():
-        prctl(SET_PARENT_DEATH_SIGNAL, signal.SIGKILL)
-        if os.getppid() != parent:
-            os.kill(os.getpid(), signal.SIGKILL)
-    return ask
 
 
 def reads_of(pieces: Iterator[str]) -> Callable[[int], bytes]:

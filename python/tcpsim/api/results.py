@@ -1,6 +1,6 @@
 """The figures of a run as objects: `Results` has those of each flow, each link and the run.
 
-They are what the program counts while it runs (docs/FORMATS.md has each), so that medians and 99th percentiles are at most 1/32
+They are what the program counts while it runs (docs/FORMATS.md has each), so that medians and percentiles are at most 1/32
 above the exact ones, and round trips are those that the sender timed (RFC 6298 section 3).
 """
 from __future__ import annotations
@@ -19,7 +19,7 @@ if TYPE_CHECKING:
     from pandas import DataFrame
 
 DROPPED = 'dropped '            # how the names of figures begin that count drops
-WHICH = 'least', 'median', '99th percentile of', 'greatest'
+WHICH = 'least', 'median', '95th percentile of', '99th percentile of', 'greatest'
 WORDS = {'dropped as lost': 'lost', 'dropped as full': 'full', 'dropped by CoDel': 'codel'}
 
 
@@ -39,6 +39,7 @@ class FlowResult:
     rtt_samples: int                    # round trips that the sender timed
     rtt_min_ns: int | None
     rtt_median_ns: int | None
+    rtt_p95_ns: int | None
     rtt_p99_ns: int | None
     rtt_max_ns: int | None
     completed_ns: int | None            # when all its bytes were acknowledged; None where the run ended before
@@ -62,6 +63,7 @@ class LinkResult:
     queue_mean: float | None            # packets that wait
     queue_max: int                      # packets
     delay_median_ns: int | None         # delay in the queue, of the packets sent
+    delay_p95_ns: int | None
     delay_p99_ns: int | None
     delay_max_ns: int | None
 
@@ -246,6 +248,6 @@ def link_result(run: EngineRun, number: int, used: list[float | None]) -> LinkRe
     drops = {WORDS.get(figure, figure.rpartition(' ')[2]): count for (figure, _), count in values.items()
              if figure.startswith(DROPPED)}
     delays = [values[f'{which} delay in the queue', 'ns'] for which in WHICH[1:]]
-    return LinkResult(run.scenario.links[number].name, used[number], values['offered', 'packets'], values['sent', 'packets'],
-                      values['sent', 'bytes'], drops, run.over_span(number, WAITED), values['greatest queue', 'packets'],
+    return LinkResult(run.scenario.links[number].name, used[number], values['offered', 'packets'], values['sent packets', 'packets'],
+                      values['sent bytes', 'bytes'], drops, run.over_span(number, WAITED), values['greatest queue', 'packets'],
                       *delays)

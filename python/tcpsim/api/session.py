@@ -3,24 +3,19 @@ from __future__ import annotations
 
 import contextlib
 import os
-import selectors
-import subprocess
-import tempfile
-from collections.abc import Callable, Mapping
+from collections.abc import Callable, Iterator, Mapping
 from dataclasses import replace
 
 from tcpsim.api.answers import Move, NetNow, Why, move_of, state_of, why_of
-from tcpsim.api.engines import check_own, check_queues, ends_with_parent, engine_of
+from tcpsim.api.engines import check_own, check_queues, engine_of
 from tcpsim.api.errors import Error, Refused, as_raised, refusal
 from tcpsim.api.events import Event, Names, events_of
 from tcpsim.api.scenarios import ScenarioText, scenario_of
 from tcpsim.command_line import Wrong
+from tcpsim.prompt import Prompt, PromptEnded
 from tcpsim.scenario import units
 from tcpsim.scenario.units import spelled_time
-from tcpsim.whole_trace import PATIENCE, ProgramFailed
-
-PROMPT = b'(tcpsim) '
-BLOCK = 1 << 16
+from tcpsim.whole_trace import ProgramFailed
 
 
 def debug(scenario: ScenarioText | str | os.PathLike, engine: str | None = None,
@@ -42,74 +37,41 @@ def is_before(time: str | int, now: int) -> bool:
 
 
 class ProcessPrompt:
-    """The prompt of a process, of the program or the model."""
+    """The prompt of a process, of the program or the model, whose refusals are raised."""
 
     def __init__(self, path: str, text: str):
-        with tempfile.TemporaryFile() as scenario:
-            scenario.write(text.encode())
-            scenario.flush()
-            self._process = subprocess.Popen(
-                [path, 'debug', f'/proc/self/fd/{scenario.fileno()}'], stdin=subprocess.PIPE, stdout=subprocess.PIPE,
-                stderr=subprocess.PIPE, bufsize=0, pass_fds=(scenario.fileno(),), preexec_fn=ends_with_parent())
-            self._out, self._err = self._process.stdout, self._process.stderr
-            os.set_blocking(self._out.fileno(), False)
-            os.set_blocking(self._err.fileno(), False)
-            self._selector = selectors.DefaultSelector()
-            self._selector.register(self._out, selectors.EVENT_READ)
-            self._selector.register(self._err, selectors.EVENT_READ)
-            try:
-                self._read()
-            except BaseException:
-                self.end()
-                raise
+        self._prompt: Prompt | None = Prompt([path, 'debug'], text.encode())
+        with self._ended():
+            self._prompt.ready()
 
     def __call__(self, line: str) -> str:
         """The answer to a line; Refused where it is refused."""
-        if self._process is None:
+        if self._prompt is None:
             raise Error('the session has ended')
+        with self._ended():
+            answer = self._prompt.ask(line)
+        if answer.note and (wrong := refusal(answer.note.strip())):
+            raise wrong
+        return answer.text
+
+    @contextlib.contextmanager
+    def _ended(self) -> Iterator[None]:
+        """Ends the session where the process ends, or an interruption comes, after which nobody knows what the prompt is
+        answering."""
         try:
-            self._process.stdin.write(line.encode() + b'\n')
-            return self._read()
-        except Error:
-            raise
-        except BaseException:           # an interruption, after which nobody knows what the prompt is answering
+            yield
+        except PromptEnded as ended:
+            self.end()
+            raise refusal(ended.last.note) or as_raised(ProgramFailed(ended.status, ended.last.note.encode())) from None
+        except BaseException:
             self.end()
             raise
 
-    def _read(self) -> str:
-        """What is written up to the next prompt."""
-        out, err = bytearray(), bytearray()
-        while not err.endswith(PROMPT):
-            for key, _ in self._selector.select():
-                block = key.fileobj.read(BLOCK)
-                if block == b'' and key.fileobj is self._err:
-                    self._ended(bytes(err))
-                if block:
-                    (out if key.fileobj is self._out else err).extend(block)
-        while block := self._out.read(BLOCK):       # the answer was written before the prompt
-            out += block
-        note = bytes(err[:-len(PROMPT)]).decode('utf-8', 'replace').strip()
-        if note and (wrong := refusal(note)):
-            raise wrong
-        return out.decode()
-
-    def _ended(self, note):
-        status, text = self._process.wait(PATIENCE), note.decode('utf-8', 'replace')
-        self.end()
-        raise refusal(text) or as_raised(ProgramFailed(status, note))
-
     def end(self) -> None:
         """Ends the process."""
-        if self._process is None:
-            return
-        process, self._process = self._process, None
-        with contextlib.suppress(OSError):
-            process.stdin.close()
-        process.kill()
-        process.wait()
-        self._selector.close()
-        self._out.close()
-        self._err.close()
+        if self._prompt is not None:
+            prompt, self._prompt = self._prompt, None
+            prompt.end()
 
 
 class DebugSession:

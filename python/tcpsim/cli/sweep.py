@@ -1,58 +1,33 @@
 """tcpsim-sweep: runs one scenario over a grid of values, side by side, a row of figures for each run.
 
-Usage: bin/tcpsim-sweep SCENARIO --set NAME.FIELD=VALUE,.. [--set ..] [-j N] [-o s.csv] [--plot s.svg] [--engine]
-       bin/tcpsim-sweep SCENARIO --set .. --print DIR     the scenarios and a list of jobs, nothing is run
-       bin/tcpsim-sweep --gather DIR [-o s.csv]           the rows of these jobs, once they are done
+Usage: bin/tcpsim-sweep SCENARIO --set NAME.FIELD=VALUE,.. [--over NAME.FIELD=A..B/STEP] [--show NAME.FIGURE,..] [--skip T]
+       bin/tcpsim-sweep SCENARIO --set .. -o s.csv [--plot s.svg]     ended early: go on by --resume s.csv
+       bin/tcpsim-sweep SCENARIO --set .. --on ENGINE                 slurm, dask:HOST:PORT, parallel, parallel:HOST,..
+       bin/tcpsim-sweep SCENARIO --set .. --print DIR                 the scenarios and a list of jobs, nothing is run
+       bin/tcpsim-sweep --gather DIR [-o s.csv]                       the rows of these jobs, once they are done
 """
 from __future__ import annotations
 
 import argparse
 import contextlib
-import csv
 import os
 from collections.abc import Callable
 
-from tcpsim import output
-from tcpsim.command_line import OutputClosed, Refused, Words, Wrong, as_type
-from tcpsim.output import Output, aligned
-from tcpsim.program import find_program
+from tcpsim import FORMATS, output
+from tcpsim.command_line import MODEL, OutputClosed, Refused, Words, Wrong, as_type, note, tool
+from tcpsim.program import find_program, found, is_program
 from tcpsim.scenario import units
-from tcpsim.sweep import FIGURES, MOST_PANELS, MS, WHERE, Grid, Pattern, along, run_all, settings_of
-from tcpsim.sweep_jobs import gathered, print_jobs
+from tcpsim.sweeps import jobs
+from tcpsim.sweeps.columns import columns_of
+from tcpsim.sweeps.files import csv_text, is_answered, journal_of, rows_there
+from tcpsim.sweeps.means import Averaged, averaged, pair_of, pairs, titles
+from tcpsim.sweeps.pattern import WHERE, Pattern, settings_of
+from tcpsim.sweeps.pool import Runner, here, run_all
+from tcpsim.sweeps.rows import AskedOfRun, Grid, format_of, version_of
+from tcpsim.sweeps.shown import along, mean_table, table
 from tcpsim.whole_trace import IMAGE_BEGINS, ProgramFailed, inputs_of, scenario_bytes, scenario_text
 
-COLUMNS = (('goodput_bit_s', 'goodput Mbit/s', 1e6, '{:.3f}'), ('utilization', 'used %', .01, '{:.1f}'),
-           ('wait_median_ns', 'wait ms: median', MS, '{:.1f}'), ('wait_p99_ns', '99th', MS, '{:.1f}'),
-           ('loss_percent', 'loss %', 1, '{:.2f}'), ('timeouts', 'timeouts', 1, '{:.0f}'), ('jain', 'Jain', 1, '{:.3f}'))
-
-
-def table(rows: list, keys: list[str]) -> list[str]:
-    """The lines of a table of all rows. What is the same in all stands above it."""
-    links = {row['link'] for row in rows if row.get('link')}
-    fixed = [f'{key}={rows[0][key]}' for key in keys if len(rows) > 1 and len({row[key] for row in rows}) == 1]
-    keys = [key for key in keys if f'{key}={rows[0][key]}' not in fixed]
-    titles = [*keys, *([] if len(links) < 2 else ['link']), *(title for _, title, _, _ in COLUMNS)]
-    lines = []
-    for row in rows:
-        words = [row[key] for key in keys] + ([] if len(links) < 2 else [row.get('link', '')])
-        words += [form.format(float(row[name]) / scale) if row.get(name) not in (None, '') else '-'
-                  for name, _, scale, form in COLUMNS]
-        lines.append(words)
-    refused = [' '.join(f'{key}={row[key]}' for key in keys) + f': {row["status"]}' for row in rows
-               if row['status'] != 'done']
-    if not keys:
-        titles, lines = ['run', *titles], [['1', *words] for words in lines]
-    head = fixed + ([f'figures of link {links.pop()}'] if len(links) == 1 else [])
-    return [', '.join(head)] * bool(head) + aligned([titles, *lines]) + refused
-
-
-def drawing() -> Callable:
-    """What draws a sweep, or one sentence."""
-    try:
-        from tcpsim.plot.sweep import draw
-    except ImportError:
-        raise Refused('--plot wants matplotlib: apt-get install python3-matplotlib, or another python3 that has it') from None
-    return draw
+MOST_PANELS = 12
 
 
 # ---- the command line
@@ -61,22 +36,32 @@ def command_line() -> Words:
     """The words of the command."""
     words = Words(description='Runs one scenario over a grid of values, a row for each run.',
                         epilog='FIELD is of a link queue, rate, delay, lose; of a flow mss, segments, start, rwnd, delack, variant, iw. '
-                        'a+b.FIELD sets both, *.FIELD all links or all flows; end=TIME sets the end.')
+                        'a+b.FIELD sets both, *.FIELD all links or all flows; end=TIME sets the end. A VALUE can be a range, A..B/STEP.')
     words.add_argument('scenario', metavar='SCENARIO', nargs='?', help='a text or an image')
     words.add_argument('--set', action='append', default=[], metavar='NAME.FIELD=VALUE,..', dest='sets',
                        help='as pq.queue=droptail:10,50,codel:5ms:100ms or pq.delay=20ms,100ms')
+    words.add_argument('--over', action='append', default=[], metavar='NAME.FIELD=VALUE,..',
+                       help='replicates, over which figures are averaged, as f2.start=100ms..1.08s/20ms')
+    words.add_argument('--show', metavar='NAME.FIGURE,..',
+                       help='the figures that are told, as f3.goodput,down.used,up.wait95,run.jain; a+b.FIGURE is a sum')
+    words.add_argument('--pair', metavar='A,B', help='differences between two values of a --set, over the same replicates')
     words.add_argument('--link', metavar='LINK', help='whose figures are told: else the first that is set, else the busiest')
     words.add_argument('--skip', metavar='TIME', type=as_type(units.moment), default=0,
                        help='figures from this moment on')
-    words.add_argument('--engine', action='store_true', help='figures of `tcpsim figures`, of whole runs and with no trace; '
-                       'waits are at most 1/32 above the exact ones')
+    words.add_argument('--exact', action='store_true', help='all figures from traces: waits exact to the nanosecond, and slowly')
+    words.add_argument('--engine', action='store_true', help='refuse figures for which a trace would be read')
     words.add_argument('-j', '--jobs', metavar='N', type=as_type(units.count), default=None,
                        help='runs side by side, else one for each processor')
-    words.add_argument('-o', '--output', metavar='FILE', help='the rows as CSV')
+    words.add_argument('-o', '--output', metavar='FILE', help='a row for each run as CSV')
+    words.add_argument('--resume', metavar='FILE', help='as -o, but runs that have their row in FILE are not run again')
     words.add_argument('--csv', action='store_true', help='CSV on standard output too, in the place of the table')
-    words.add_argument('--plot', metavar='FILE', help='a picture: wait against utilization (.svg, .png, .pdf)')
-    words.add_argument('--print', metavar='DIR', dest='folder', help='write scenarios and a list of jobs, run nothing')
+    words.add_argument('--plot', metavar='FILE', help='a picture (.svg, .png, .pdf): wait against utilization, or the second that is '
+                       'shown against the first')
+    words.add_argument('--on', metavar='ENGINE', help='who runs it: slurm, dask:HOST:PORT, parallel or parallel:HOST,..')
+    words.add_argument('--folder', metavar='DIR', help='for --on slurm and parallel, one that all machines see; else a new one here')
+    words.add_argument('--print', metavar='DIR', dest='print', help='write scenarios and a list of jobs, run nothing')
     words.add_argument('--gather', metavar='DIR', help='the rows of the jobs of --print')
+    words.add_argument('--expect', help=argparse.SUPPRESS)      # the version that the program has to be of: jobs say it
     words.add_program('the program that is run')
     return words
 
@@ -92,54 +77,82 @@ def text_of(path: str, program: str | None) -> str:
     return source.decode('latin-1')
 
 
-def grid_of(given: argparse.Namespace) -> Grid:
-    """The grid that the command line asks for, or Wrong."""
-    text = text_of(given.scenario, given.program)
+def grid_of(given: argparse.Namespace, text: str, program: str, number: int | None = None) -> Grid:
+    """The grid that the words ask for, by a program of this path, or Wrong. `number` is that of its format of figures; of None
+    the program is asked, where that matters."""
     pattern = Pattern(text)
     if not pattern.named('link') or not pattern.named('flow'):
         raise Wrong(f'{given.scenario} is no scenario: it has no link or no flow')
-    settings = settings_of(given.sets, pattern)
-    link = given.link or next((each.names[0] for each in settings if each.field in WHERE['link']), None)
+    settings = settings_of(given.sets, pattern, given.over)
+    columns = tuple(columns_of(given.show, pattern)) if given.show else ()
+    link = given.link or next((each.names[0] for each in settings if each.field in WHERE['link'] and not columns), None)
     if link and pattern.sorts.get(link) != 'link':
         raise Wrong(f'--link {link!r}: the scenario has no such link, only {", ".join(pattern.named("link")[:12])}')
-    return Grid(pattern, settings, link, given.skip, given.engine)
+    if number is None:
+        matters = (given.skip or any(column.figure.since > 1 for column in columns)) and not given.exact
+        number = format_of(program) if matters else 1
+    asked = AskedOfRun(program, link, given.skip, columns, given.exact, number)
+    asked.check()
+    if given.engine and asked.wants_trace():
+        raise Wrong(f'--engine reads no trace, and {asked.wants_trace()[0]} wants one{" from this moment on" if given.skip else ""}: leave '
+                    '--engine out')
+    grid = Grid(pattern, settings, asked)
+    if given.pair:
+        pair_of(given.pair, grid)
+    return grid
 
 
 def check_words(given: argparse.Namespace) -> None:
     """Refuses words that do not go together."""
     if bool(given.scenario) == bool(given.gather):
         raise Wrong('name one SCENARIO' if not given.scenario else '--gather takes no SCENARIO')
-    if given.gather and (given.sets or given.folder or given.plot or given.engine):
-        raise Wrong('--gather goes with -o and --csv alone')
-    if given.engine and given.skip:
-        raise Wrong('--engine has figures of whole runs, so it goes without --skip')
-    if given.folder and (given.plot or given.output or given.csv):
-        raise Wrong('--print runs nothing, so it goes without -o, --csv and --plot')
+    if given.gather and (given.sets or given.over or given.print or given.on or given.resume or given.show):
+        raise Wrong('--gather knows its sweep: it goes with -o, --csv, --plot and --pair alone')
+    if given.engine and given.exact:
+        raise Wrong('--engine reads no traces and --exact reads all: name one of them')
+    if given.print and (given.plot or given.output or given.csv or given.resume or given.on):
+        raise Wrong('--print runs nothing, so it goes without -o, --resume, --csv, --plot and --on')
+    if given.output and given.resume:
+        raise Wrong('--resume FILE writes FILE, so it goes without -o')
+    if given.link and given.show:
+        raise Wrong(f'--show names the links of its figures, so it goes without --link: write --show {given.link}.used,{given.link}.wait50')
+    if given.folder and (given.on or '').partition(':')[0] not in ('slurm', 'parallel'):
+        raise Wrong('--folder is of --on slurm and --on parallel, as --on slurm --folder jobs.d')
     if given.jobs is not None and not 1 <= given.jobs <= 1_024:
         raise Wrong(f'-j {given.jobs} is out of range: from 1 to 1,024')
     if given.plot and not given.plot.endswith(('.svg', '.png', '.pdf')):
         raise Wrong(f'--plot {given.plot}: the name ends with .svg, .png or .pdf')
 
 
-def write_rows(rows: list, columns: list[str], file: Output) -> None:
-    """Writes rows as CSV."""
-    out = csv.DictWriter(file, columns, restval='', extrasaction='ignore', lineterminator='\n')
-    out.writeheader()
-    out.writerows(rows)
+def engine_of(given: argparse.Namespace) -> Runner:
+    """Who runs the points."""
+    name, _, rest = (given.on or '').partition(':')
+    count = given.jobs or os.cpu_count() or 1
+    if not given.on:
+        return here(count)
+    if name == 'slurm' and not rest:
+        return jobs.by_slurm(given.jobs, given.folder, given.program)
+    if name == 'parallel':
+        return jobs.by_parallel(count, rest or None, given.folder, given.program)
+    if name == 'dask':
+        from tcpsim.sweeps.on_dask import by_dask
+        return by_dask(rest)
+    raise Wrong(f'--on {given.on!r} is no engine: write slurm, dask:HOST:PORT, parallel or parallel:HOST,HOST')
 
 
-def show(rows: list, keys: list[str], columns: list[str], given: argparse.Namespace) -> None:
-    """The rows on standard output."""
+# ---- what is written
+
+def show(grid: Grid, rows: list, given: argparse.Namespace) -> None:
+    """What comes to standard output: the rows, or where there are replicates their means, and differences."""
+    means = averaged(grid, rows) if grid.over else []
+    both: list[Averaged] = pairs(grid, rows, pair_of(given.pair, grid)) if given.pair else []
     with output.opened() as file:
-        if given.csv:
-            write_rows(rows, columns, file)
+        if not means and not both:
+            file.write(csv_text(rows, grid.columns()) if given.csv else '\n'.join(table(grid, rows)) + '\n')
+        elif given.csv:
+            file.write(csv_text([each.row() for each in [*(means or averaged(grid, rows)), *both]], titles(grid)))
         else:
-            file.write('\n'.join(table(rows, keys)) + '\n')
-
-
-def is_answered(row: dict[str, str]) -> bool:
-    """Whether a run has figures, or was refused by the program."""
-    return row['status'] == 'done' or row['status'].startswith('refused ')
+            file.write('\n'.join(mean_table(grid, means, both) if means else [*table(grid, rows), *mean_table(grid, [], both)]) + '\n')
 
 
 def check_all(rows: list) -> None:
@@ -149,21 +162,63 @@ def check_all(rows: list) -> None:
         raise Refused(f'{len(failed)} of {len(rows)} runs have no figures: {failed[0]}')
 
 
+def written_rows(grid: Grid, engine: Runner, given: argparse.Namespace, inputs: list, progress: bool = True) -> list[dict]:
+    """Every row, in the file too that is named; what ends it early leaves the rows that were there in its part."""
+    path = given.resume or given.output
+    if not path:
+        return run_all(grid, engine, progress=progress)
+    there = rows_there(path, grid) if given.resume else {}
+    if there:
+        note(f'{len(there)} of {len(grid.points)} runs have their row in {output.printable(path)}')
+    journal, done = journal_of(path, grid.columns(), there.values()), False
+    try:
+        with output.written(path, inputs) as file:
+            rows = run_all(grid, engine, file, journal, there, progress)
+        done = True
+    finally:
+        if journal:
+            journal.close(done)
+    return rows
+
+
 def sweep(given: argparse.Namespace) -> None:
     """Runs the grid, or writes its jobs."""
-    grid = grid_of(given)
-    if given.folder:
-        jobs = print_jobs(grid, given)
+    engine_of(given)            # refuses what is none
+    text = text_of(given.scenario, given.program)
+    if given.print:
+        path = given.program if given.program not in (None, MODEL) else found()
+        grid = grid_of(given, text, path, None if is_program(path) else FORMATS['figures'])
+        given.folder = given.print
+        printed = jobs.print_jobs(grid, given)
         with output.opened() as file:
-            file.write(f'{len(grid.points)} scenarios and {output.printable(jobs)}\n')
+            file.write(f'{len(grid.points)} scenarios and {output.printable(printed)}\n')
         return
-    program, inputs = find_program(given.program, lambda: map(grid.text, range(len(grid.points)))), inputs_of(given)
+    plain = grid_of(argparse.Namespace(**{**vars(given), 'show': None, 'skip': 0, 'engine': False}), text, '', 1)
+    program = find_program(given.program, lambda: map(plain.text, range(len(plain.points))))
+    grid = grid_of(given, text, program)
+    if given.expect is not None or given.on:
+        grid.asked = grid.asked._replace(version=given.expect if given.expect is not None else version_of(program))
+    if given.on:
+        given.program = MODEL if given.program == MODEL else program
+    say_traces(grid)
+    finish(grid, engine_of(given), given, list(inputs_of(given)))
+
+
+def say_traces(grid: Grid) -> None:
+    """Says on standard error for which columns a trace of each run is read."""
+    wanted = grid.asked.wants_trace()
+    if wanted and not grid.asked.exact:
+        why = 'no table has them' if grid.asked.format > 1 or not grid.asked.skip else 'this program has no `figures --from`'
+        note(f'{tool()}: each run\'s trace is read, for {", ".join(wanted[:8])}: {why}')
+
+
+def finish(grid: Grid, engine: Runner, given: argparse.Namespace, inputs: list, progress: bool = True) -> None:
+    """Runs the points, and writes what is asked for."""
     draw = drawing_of(grid, given, inputs) if given.plot else None
-    with output.written(given.output, inputs) if given.output else contextlib.nullcontext() as file:
-        rows = run_all(grid, program, given.jobs or os.cpu_count() or 1, file)
+    rows = written_rows(grid, engine, given, inputs, progress)
     closed = None
     try:
-        show(rows, [each.key for each in grid.settings], grid.columns(), given)
+        show(grid, rows, given)
     except OutputClosed as wrong:
         closed = wrong
     if draw:
@@ -174,30 +229,38 @@ def sweep(given: argparse.Namespace) -> None:
     check_all(rows)
 
 
+def check_panels(grid: Grid) -> None:
+    """Refuses a picture with too many panels."""
+    panels = len(grid.points) // grid.replicates // len(grid.chosen[along(grid.chosen)].values) if grid.chosen else 1
+    if panels > MOST_PANELS:
+        raise Wrong(f'--plot would have {panels} panels, and {MOST_PANELS} is the most: leave values out, or average over them by --over')
+
+
 def drawing_of(grid: Grid, given: argparse.Namespace, inputs: list[str]) -> Callable:
     """What draws a sweep, where the picture can be drawn."""
-    at = along(grid.settings)
-    panels = len(grid.points) // len(grid.settings[at].values) if grid.settings else 1
-    if panels > MOST_PANELS:
-        raise Wrong(f'--plot would have {panels} panels, and {MOST_PANELS} is the most')
+    check_panels(grid)
     for each in inputs:
         if output.is_same(given.plot, each):
             raise Wrong(f'--plot {given.plot} would write over what is read, {each}')
-    if given.output and os.path.realpath(given.plot) == os.path.realpath(given.output):
-        raise Wrong(f'--plot {given.plot} and -o {given.output} are one file')
-    return drawing()
+    written = given.output or given.resume
+    if written and os.path.realpath(given.plot) == os.path.realpath(written):
+        raise Wrong(f'--plot {given.plot} and {"-o" if given.output else "--resume"} {written} are one file')
+    try:
+        from tcpsim.plot.sweep import draw
+    except ImportError:
+        raise Refused('--plot wants matplotlib: apt-get install python3-matplotlib, or another python3 that has it') from None
+    return draw
 
 
 def gather(given: argparse.Namespace) -> None:
     """Writes the rows of jobs that are done."""
-    rows, keys = gathered(given.gather)
-    columns = [*keys, 'status', 'link', *FIGURES]
-    if given.output:
-        inputs = [entry.path for entry in os.scandir(given.gather) if entry.name.endswith('.csv')]
-        with output.written(given.output, inputs) as file:
-            write_rows(rows, columns, file)
-    show(rows, keys, columns, given)
-    check_all(rows)
+    kept = jobs.kept_words(given.gather)
+    if given.pair:
+        kept.pair = given.pair
+    given.pair, text = kept.pair, kept.scenario
+    grid = grid_of(kept, text, '', kept.format)
+    inputs = [entry.path for entry in os.scandir(given.gather) if entry.name.endswith(('.csv', '.json'))]
+    finish(grid, jobs.gathered(given.gather), given, inputs, progress=False)
 
 
 def main() -> None:

@@ -1,0 +1,148 @@
+"""`sweep`: one scenario over a grid of values, with means over replicates, as tcpsim-sweep has them."""
+from __future__ import annotations
+
+import argparse
+import os
+from collections.abc import Mapping, Sequence
+from typing import TYPE_CHECKING, Union
+
+from tcpsim import output
+from tcpsim.api.engines import Engine, by_model, engine_of
+from tcpsim.api.errors import as_api, wanted
+from tcpsim.api.results import html_table
+from tcpsim.api.scenarios import ScenarioText, as_word, scenario_of
+from tcpsim.api.shown import PlottedRun
+from tcpsim.api.simulation import moment
+from tcpsim.cli import sweep as command
+from tcpsim.program import NoProgram, check_time
+from tcpsim.sweeps.files import csv_text
+from tcpsim.sweeps.means import PARTS, Averaged, averaged, pair_of, pairs, titles
+from tcpsim.sweeps.pool import run_all
+from tcpsim.sweeps.rows import Grid
+from tcpsim.sweeps.shown import mean_table, table
+
+if TYPE_CHECKING:
+    from pandas import DataFrame
+
+Values = Union[str, int, Sequence[Union[str, int]]]      # of a setting: a word with commas, a number, or a list of them
+
+
+def sweep(scenario: ScenarioText | str | os.PathLike, settings: Mapping[str, Values] | None = None, *,
+          over: Mapping[str, Values] | None = None, show: str | Sequence[str] | None = None, skip: str | int = 0,
+          pair: Sequence[str] | str | None = None, link: str | None = None, exact: bool = False, engine: str | None = None,
+          on: str | None = None, jobs: int | None = None) -> Sweep:
+    """Runs a scenario once for each choice of values, several runs side by side, and gives their figures.
+
+    `settings` has the values of each NAME.FIELD, as {"pq.queue": ["droptail:50", "codel:5ms:100ms"]}; a value can be a range,
+    "100ms..1s/100ms". `over` has those of replicates, over which figures are averaged. `show` names the figures, as
+    ["f3.goodput", "up.wait95"]; where it is left out there are those of docs/SWEEPS.md. `skip` leaves out what was before that
+    moment, `pair` asks for the differences between two values of a setting, `link` names the link whose figures are told, and
+    `exact` takes all figures from traces. `engine` is 'program', 'model' or a program's path; `on` has others run it, as
+    "dask:HOST:PORT", "slurm" or "parallel"; `jobs` runs go side by side.
+
+    Wrong where a word is; a run that is refused, or that ends early, is a row whose status says so.
+    """
+    net = scenario_of(scenario)
+    given = argparse.Namespace(
+        scenario=net.name, sets=words_of(settings), over=words_of(over), show=as_word(show) if show else None,
+        skip=moment('skip', skip) or 0, pair=as_word(pair) if pair else None, link=link, exact=exact, engine=False, jobs=jobs, on=on,
+        folder=None, program=None)
+    with as_api():
+        runs = engine_of(engine, None)
+        grid = command.grid_of(given, net.text, runs.path)
+        check_model(engine, runs, grid)
+        given.program = runs.path
+        if on:
+            grid.asked = grid.asked._replace(version=command.version_of(runs.path))
+        rows = run_all(grid, command.engine_of(given), progress=False)
+        return Sweep(grid, rows, given.pair)
+
+
+def check_model(engine: str | None, runs: Engine, grid: Grid) -> None:
+    """NoProgram where the model would take longer than a minute unasked."""
+    if engine is None and runs.name == 'model':
+        try:
+            check_time(map(grid.text, range(len(grid.points))))
+        except NoProgram as wrong:
+            raise NoProgram(by_model(str(wrong))) from None
+
+
+def words_of(settings: Mapping[str, Values] | None) -> list[str]:
+    """The words of --set or --over."""
+    return [f'{name}={as_word(values)}' for name, values in (settings or {}).items()]
+
+
+class Sweep:
+    """The runs of a sweep, their means over the replicates, and the differences of a pair. `rows` has a mapping for each run,
+    `means` for each choice of values, and `pairs` for each difference: numbers are numbers, and what there is not is None."""
+
+    def __init__(self, grid: Grid, rows: list[dict], pair: str | None):
+        self._grid, self._rows = grid, rows
+        self._means = averaged(grid, rows)
+        self._pairs = pairs(grid, rows, pair_of(pair, grid)) if pair else []
+
+    @property
+    def rows(self) -> list[dict[str, object]]:
+        """A row for each run, in the grid's order, with the columns of docs/SWEEPS.md."""
+        words = {'status', 'link', 'scenario_sha256', *(each.key for each in self._grid.settings)}
+        return [{name: value if name in words else number(value) for name in self._grid.columns() for value in [row.get(name, '')]}
+                for row in self._rows]
+
+    @property
+    def means(self) -> list[dict[str, object]]:
+        """A row for each choice of values: of each figure FIGURE_mean, FIGURE_half_width and FIGURE_runs."""
+        return [self._as_numbers(each) for each in self._means]
+
+    @property
+    def pairs(self) -> list[dict[str, object]]:
+        """The same of the differences: the second value's figures less the first's."""
+        return [self._as_numbers(each) for each in self._pairs]
+
+    def _as_numbers(self, each: Averaged) -> dict[str, object]:
+        words = {setting.key for setting in self._grid.chosen}
+        values = {name: value if name in words else number(value) for name, value in each.values.items()}
+        row = {**each.row(), **values}
+        return {name: row.get(name) for name in titles(self._grid)}
+
+    def to_pandas(self) -> DataFrame:
+        """A pandas DataFrame with a row for each run."""
+        return wanted('pandas').DataFrame(self.rows)
+
+    def means_to_pandas(self) -> DataFrame:
+        """A pandas DataFrame with a row for each choice of values, and each difference."""
+        return wanted('pandas').DataFrame([*self.means, *self.pairs])
+
+    def save(self, path: str | os.PathLike) -> None:
+        """Writes the rows as CSV, as `tcpsim-sweep -o` does."""
+        with output.written(os.fspath(path)) as file:
+            file.write(csv_text(self._rows, self._grid.columns()))
+
+    def plot(self) -> PlottedRun:
+        """A picture of wait against utilization, or of the second figure that is shown against the first, which a notebook shows.
+        Wants matplotlib."""
+        wanted('matplotlib')
+        from tcpsim.plot.sweep import draw
+        with as_api():
+            command.check_panels(self._grid)
+            return PlottedRun(draw(self._grid, self._rows))
+
+    def _lines(self) -> list[str]:
+        if self._grid.over:
+            return mean_table(self._grid, self._means, self._pairs)
+        return [*table(self._grid, self._rows), *(mean_table(self._grid, [], self._pairs) if self._pairs else [])]
+
+    def __repr__(self) -> str:
+        return '\n'.join(self._lines())
+
+    def _repr_html_(self) -> str:
+        shown = self._means if self._grid.over else []
+        if not shown:
+            return html_table([self._grid.columns()[:-2], *([row.get(name, '') for name in self._grid.columns()[:-2]] for row in self._rows)])
+        names = [name for name in titles(self._grid) if not name.endswith(f'_{PARTS[2]}')]
+        return html_table([names, *(['' if (value := row.get(name)) is None else f'{value:.6g}' if isinstance(value, float) else str(value)
+                                     for name in names] for row in [*self.means, *self.pairs])])
+
+
+def number(word: str) -> int | float | None:
+    """A cell of CSV as a number."""
+    return None if word in ('', None) else float(word) if '.' in str(word) else int(word)

@@ -1,0 +1,248 @@
+"""The figures of a sweep by name: f3.goodput, down.used, up.wait95, run.jain.
+
+Each is of the table that `tcpsim figures` writes, where that has it, else of a trace. A name with `+` is a sum, as
+f0+f1.goodput, and `*` is every flow or link that has the figure. Nothing but Python's standard library.
+"""
+from __future__ import annotations
+
+from collections.abc import Callable, Iterator
+from typing import NamedTuple, Optional
+
+from tcpsim.command_line import Wrong
+from tcpsim.engine import BUSY, WAITED, EngineRun
+from tcpsim.figures import Figures, jain, part
+from tcpsim.scenario.text import Scenario
+from tcpsim.scenario.units import BITS_NS
+from tcpsim.sweeps.pattern import Pattern
+from tcpsim.trace import DATA
+
+Count = Optional[float]
+FROM = 3                # the number of the figures' format from which on they are counted from a moment on
+# How a table for people shows a unit: its title, what it is divided by, and the digits of a value and of a mean.
+SHOWN = {'bit_s': ('Mbit/s', 1e6, 3, 3), 'percent': ('%', 1, 2, 2), 'ns': ('ms', 1e6, 1, 1), 'bytes': ('kB', 1e3, 1, 1),
+         'packets': ('', 1, 0, 1), 'segments': ('', 1, 0, 1), 'times': ('', 1, 0, 1), 'events': ('', 1, 0, 0),
+         'mean_packets': ('', 1, 1, 1), 'index': ('', 1, 3, 3)}
+WORDLESS = 'times', 'events', 'index', 'packets', 'segments', 'mean_packets'       # units that a column's title leaves out
+
+
+class Quantity(NamedTuple):
+    """A figure of a flow, a link or the run. It is read from the program's table, of whose format it wants this number, or
+    from a trace; None where one of them lacks it. A figure that `adds` can be summed over flows or links."""
+
+    unit: str
+    table: Callable[[EngineRun, int], Count] | None
+    trace: Callable[[Figures, int], Count] | None
+    adds: bool = False
+    since: int = 1
+
+
+def percent(of: Count) -> Count:
+    """A part in a hundred."""
+    return None if of is None else 100 * of
+
+
+def of_flow(*names: tuple[str, str]) -> Callable[[EngineRun, int], Count]:
+    """A figure of a flow of the table, by its name and unit, whichever it has."""
+    return lambda run, number: first_of(run.flows[number], names)
+
+
+def of_link(*names: tuple[str, str]) -> Callable[[EngineRun, int], Count]:
+    """The same of a link."""
+    return lambda run, number: first_of(run.links[number], names)
+
+
+def first_of(values: dict, names: tuple) -> Count:
+    """The value of the first of these names that there is; None where there is none."""
+    return next((values[name] for name in names if name in values), None)
+
+
+def trips(percentile: int) -> Callable[[Figures, int], Count]:
+    """A percentile of the round trips of a trace."""
+    return lambda run, number: run.trips[number].percentile(percentile)
+
+
+def waits(percentile: int) -> Callable[[Figures, int], Count]:
+    """A percentile of the waits of a trace."""
+    return lambda run, number: run.waits[number].percentile(percentile)
+
+
+def dropped_for(reason: str) -> Callable[[Figures, int], Count]:
+    """The packets that a link of a trace dropped for a reason."""
+    return lambda run, number: sum(count for flow in run.flows for (why, _, at), count in flow.drops.items()
+                                   if (why, at) == (reason, number))
+
+
+def data_lost(run: Figures, number: int) -> int:
+    """The segments of a flow of a trace that were dropped."""
+    return sum(count for (_, sort, _), count in run.flows[number].drops.items() if sort == DATA)
+
+
+def share_of(run: Figures, number: int) -> float:
+    """The part of its bottleneck's bytes that a flow of a trace had."""
+    links = [run.links[link] for link in run.scenario.ways[number][0]]
+    busiest = max(links, key=lambda link: link.sending(run.end))
+    return busiest.bytes_of(number) / (sum(n * stream.size for stream, n in busiest.count.items()) or 1)
+
+
+def took(start: int, completed: int | None) -> int | None:
+    """From a flow's start to its completion."""
+    return None if completed is None else completed - start
+
+
+FLOW = {
+    'goodput': Quantity('bit_s', lambda run, n: run.goodput(n), lambda run, n: run.flows[n].goodput(run.begin, run.end), True),
+    'delivered': Quantity('bytes', of_flow(('delivered', 'bytes')), lambda run, n: run.flows[n].delivered(), True),
+    'sent': Quantity('segments', of_flow(('sent', 'segments')), lambda run, n: run.flows[n].sent(), True),
+    'fast_retransmits': Quantity('segments', of_flow(('sent again by fast retransmit', 'segments')),
+                               lambda run, n: run.flows[n].by_fast_retransmit, True),
+    'timeout_retransmits': Quantity('segments', of_flow(('sent again by timeout', 'segments')),
+                                  lambda run, n: run.flows[n].by_timeout, True),
+    'timeouts': Quantity('times', of_flow(('timeouts', 'times')), lambda run, n: run.flows[n].timeouts, True),
+    'took': Quantity('ns', lambda run, n: took(run.flows[n]['start', 'ns'], run.flows[n]['completed', 'ns']),
+                   lambda run, n: took(run.flows[n].flow.start, run.flows[n].completed)),
+    'completed': Quantity('ns', of_flow(('completed', 'ns')), lambda run, n: run.flows[n].completed),
+    'rtt_min': Quantity('ns', of_flow(('least round trip', 'ns')), None),
+    'rtt50': Quantity('ns', of_flow(('median round trip', 'ns')), None),
+    'rtt95': Quantity('ns', of_flow(('95th percentile of round trips', 'ns')), None, since=2),
+    'rtt99': Quantity('ns', of_flow(('99th percentile of round trips', 'ns')), None),
+    'rtt_max': Quantity('ns', of_flow(('greatest round trip', 'ns')), None),
+    'trip_min': Quantity('ns', None, lambda run, n: run.trips[n].least()),
+    'trip50': Quantity('ns', None, trips(50)), 'trip95': Quantity('ns', None, trips(95)), 'trip99': Quantity('ns', None, trips(99)),
+    'loss': Quantity('percent', None, lambda run, n: percent(part(data_lost(run, n), run.flows[n].sent()))),
+    'share': Quantity('percent', None, lambda run, n: percent(share_of(run, n))),
+}
+LINK = {
+    'used': Quantity('percent', lambda run, n: percent(run.over_span(n, BUSY)),
+                   lambda run, n: percent(run.links[n].sending(run.end) / (run.end - run.begin))),
+    'wait50': Quantity('ns', of_link(('median delay in the queue', 'ns')), waits(50)),
+    'wait95': Quantity('ns', of_link(('95th percentile of delay in the queue', 'ns')), waits(95), since=2),
+    'wait99': Quantity('ns', of_link(('99th percentile of delay in the queue', 'ns')), waits(99)),
+    'wait_max': Quantity('ns', of_link(('greatest delay in the queue', 'ns')),
+                       lambda run, n: run.links[n].longest_wait if run.links[n].sent() else None),
+    'queue_mean': Quantity('mean_packets', lambda run, n: run.over_span(n, WAITED),
+                         lambda run, n: run.links[n].mean_queue(run.begin, run.end)),
+    'queue_max': Quantity('packets', of_link(('greatest queue', 'packets')), lambda run, n: run.links[n].greatest_queue()),
+    'sent': Quantity('packets', of_link(('sent packets', 'packets'), ('sent', 'packets')), lambda run, n: run.links[n].sent(), True),
+    'bytes': Quantity('bytes', of_link(('sent bytes', 'bytes'), ('sent', 'bytes')),
+                    lambda run, n: sum(count * stream.size for stream, count in run.links[n].count.items()), True),
+    'dropped': Quantity('packets', lambda run, n: run.dropped(n), lambda run, n: run.links[n].drops, True),
+    'lost': Quantity('packets', of_link(('dropped as lost', 'packets')), dropped_for('lost'), True),
+    'full': Quantity('packets', of_link(('dropped as full', 'packets')), dropped_for('full'), True),
+    'codel': Quantity('packets', of_link(('dropped by CoDel', 'packets')), dropped_for('codel'), True),
+    'loss': Quantity('percent', lambda run, n: percent(part(run.dropped(n), run.dropped(n) + FIGURE_SENT(run, n))),
+                   lambda run, n: percent(part(run.links[n].drops, run.links[n].drops + run.links[n].sent()))),
+}
+FIGURE_SENT = LINK['sent'].table
+
+
+def shares(run: EngineRun | Figures) -> list[float]:
+    """The flows' goodputs, of those that were under way."""
+    every = [run.flows[n].goodput(run.begin, run.end) if isinstance(run, Figures) else run.goodput(n) for n in range(len(run.flows))]
+    return [each for each in every if each is not None]
+
+
+def table_loss(run: EngineRun, _number: int) -> Count:
+    """Segments dropped of a hundred sent, of all flows; None where a link dropped packets to which acknowledgements come."""
+    dropped = run.data_dropped()
+    return None if dropped is None else percent(part(dropped, sum(flow['sent', 'segments'] for flow in run.flows)))
+
+
+RUN = {
+    'goodput': Quantity('bit_s', lambda run, _: sum(flow['delivered', 'bytes'] for flow in run.flows) * BITS_NS / (run.end - run.begin),
+                      lambda run, _: sum(flow.delivered() for flow in run.flows) * BITS_NS / (run.end - run.begin)),
+    'jain': Quantity('index', lambda run, _: jain(shares(run)), lambda run, _: jain(shares(run))),
+    'timeouts': Quantity('times', lambda run, _: sum(flow['timeouts', 'times'] for flow in run.flows),
+                       lambda run, _: sum(flow.timeouts for flow in run.flows)),
+    'loss': Quantity('percent', None, lambda run, _: percent(part(sum(data_lost(run, n) for n in range(len(run.flows))),
+                                                                sum(flow.sent() for flow in run.flows)))),
+    'events': Quantity('events', lambda run, _: run.events, None),
+    'span': Quantity('ns', lambda run, _: run.end - run.begin, lambda run, _: run.end - run.begin),
+}
+SORTS = {'flow': FLOW, 'link': LINK, 'run': RUN}
+
+
+class ShownFigure(NamedTuple):
+    """A figure that is shown: its name as it was asked for, of what it is, and of which flows or links."""
+
+    name: str
+    sort: str
+    names: tuple[str, ...]
+
+    @property
+    def figure(self) -> Quantity:
+        """What it is."""
+        return SORTS[self.sort][self.name.rpartition('.')[2]]
+
+    @property
+    def title(self) -> str:
+        """Its column in CSV, with its unit."""
+        return self.name if self.figure.unit in WORDLESS else f'{self.name}_{self.figure.unit}'
+
+    @property
+    def heading(self) -> str:
+        """Its column in a table for people."""
+        return ' '.join(filter(None, (self.name, SHOWN[self.figure.unit][0])))
+
+    def by_table(self, number: int, skip: int) -> bool:
+        """Whether a table of this number has it, from a moment on."""
+        return self.figure.table is not None and number >= max(self.figure.since, FROM if skip else 1)
+
+    def value(self, run: EngineRun | Figures, scenario: Scenario) -> Count:
+        """Its value in a run."""
+        read = self.figure.trace if isinstance(run, Figures) else self.figure.table
+        if self.sort == 'run':
+            return read(run, 0)
+        there = [each.name for each in (scenario.flows if self.sort == 'flow' else scenario.links)]
+        values = [read(run, there.index(name)) for name in self.names]
+        return None if None in values else sum(values)
+
+
+def columns_of(words: str, pattern: Pattern) -> list[ShownFigure]:
+    """The columns of a word of --show, with commas, or Wrong."""
+    found = []
+    for word in words.split(','):
+        found += [column for column in named(word, pattern) if column not in found]
+    return found
+
+
+def named(word: str, pattern: Pattern) -> Iterator[ShownFigure]:
+    """The columns of NAME.FIGURE."""
+    of, dot, figure = word.rpartition('.')
+    if not dot or not of or not figure:
+        raise Wrong(f'--show {word!r}: write FLOW.FIGURE, LINK.FIGURE or run.FIGURE, as {example(pattern)}')
+    if of == '*':
+        there = [(sort, name) for sort in ('flow', 'link') if figure in SORTS[sort] for name in pattern.named(sort)]
+        if not there:
+            raise Wrong(f'--show {word!r}: there is no figure {figure!r}; {offered("flow")}; {offered("link")}')
+        yield from (ShownFigure(f'{name}.{figure}', sort, (name,)) for sort, name in there)
+        return
+    names = tuple(of.split('+'))
+    sorts = {pattern.sorts.get(name) or ('run' if name == 'run' else None) for name in names}
+    for name in names:
+        if not {pattern.sorts.get(name), 'run' if name == 'run' else None} & set(SORTS):
+            raise Wrong(f'--show {word!r}: the scenario has no flow or link {name!r}; there are the flows {some(pattern.named("flow"))} '
+                        f'and the links {some(pattern.named("link"))}: write {example(pattern)}')
+    if len(sorts) > 1 or len(set(names)) < len(names):
+        raise Wrong(f'--show {word!r}: a sum is of flows or of links, each once, as {example(pattern, 2)}')
+    sort, = sorts
+    if figure not in SORTS[sort]:
+        raise Wrong(f'--show {word!r}: there is no figure {figure!r}; {offered(sort)}')
+    if len(names) > 1 and not SORTS[sort][figure].adds:
+        raise Wrong(f'--show {word!r}: {figure} does not add up; sums are of '
+                    f'{", ".join(key for key, its in SORTS[sort].items() if its.adds)}, as {example(pattern, 2)}')
+    yield ShownFigure(word, sort, names)
+
+
+def offered(sort: str) -> str:
+    """Which figures there are."""
+    return f'of {"the run" if sort == "run" else f"a {sort}"} there are {", ".join(SORTS[sort])}'
+
+
+def some(names: list[str]) -> str:
+    """The first names."""
+    return ', '.join(names[:12]) + ', ..' * (len(names) > 12)
+
+
+def example(pattern: Pattern, count: int = 1) -> str:
+    """A column of the scenario's own."""
+    return f'{"+".join(pattern.named("flow")[:count])}.goodput'

@@ -1,0 +1,145 @@
+"""Runs a sweep's points on this machine, several side by side, and says how far it is. A signal ends all of them."""
+from __future__ import annotations
+
+import contextlib
+import os
+import signal
+import sys
+import threading
+import time as clock
+from collections.abc import Callable, Iterator, Sequence
+from concurrent.futures import ProcessPoolExecutor, as_completed
+from concurrent.futures.process import BrokenProcessPool
+from multiprocessing import active_children, get_context
+from multiprocessing.connection import wait
+from multiprocessing.process import BaseProcess
+from types import FrameType
+
+from tcpsim import output
+from tcpsim.command_line import ENDS, Refused, note
+from tcpsim.sweeps.files import Journal, csv_line
+from tcpsim.sweeps.rows import Grid, row_of
+from tcpsim.whole_trace import PROGRAMS
+
+# What runs points: of a grid and the numbers of points it yields the number and the figures of each as it ends.
+Runner = Callable[[Grid, Sequence[int]], Iterator[tuple[int, dict]]]
+
+
+def begin_worker(ends: tuple[int, int]) -> None:
+    """A signal ends a worker at once, with its program; and so does the end of its parent. `ends` are those of a pipe
+    into which nobody writes: once the parent is gone, it is at its end."""
+    os.close(ends[1])
+    for number in ENDS:
+        signal.signal(number, end_worker)
+    signal.pthread_sigmask(signal.SIG_UNBLOCK, ENDS)
+    threading.Thread(target=end_with_parent, args=(ends[0],), daemon=True).start()
+
+
+def end_with_parent(pipe: int) -> None:
+    """Ends a worker once its parent has gone."""
+    os.read(pipe, 1)
+    os.kill(os.getpid(), signal.SIGTERM)
+
+
+def end_worker(number: int, _frame: FrameType | None) -> None:
+    """A handler: ends the programs that a worker runs, and the worker. One that has just begun is in no list but the system's."""
+    for each in ENDS:
+        signal.signal(each, signal.SIG_IGN)
+    try:
+        for program in PROGRAMS:
+            program.kill()
+        with contextlib.suppress(OSError):      # read as bytes: an encoding would be imported in the midst of anything
+            for child in os.read(os.open(f'/proc/self/task/{os.getpid()}/children', os.O_RDONLY), 1 << 16).split():
+                os.kill(int(child), signal.SIGKILL)
+    finally:
+        os._exit(128 + number)
+
+
+def end_workers(workers: set[BaseProcess]) -> None:
+    """Ends workers. A signal that comes just before a call which waits is seen only once that call is interrupted: so each
+    worker gets signals until it is gone."""
+    left = {worker.sentinel: worker for worker in workers}
+    while left:
+        for worker in left.values():
+            worker.terminate()
+        for gone in wait(list(left), 0.1):
+            del left[gone]
+
+
+def here(jobs: int) -> Runner:
+    """Runs points on this machine, so many side by side."""
+    return lambda grid, numbers: rows_of(grid, numbers, jobs)
+
+
+def rows_of(grid: Grid, numbers: Sequence[int], jobs: int) -> Iterator[tuple[int, dict]]:
+    """(number, figures) of each run as it ends; `jobs` runs go side by side."""
+    if jobs == 1 or len(numbers) < 2:
+        for number in numbers:
+            yield number, row_of(grid.text(number), grid.asked)
+        return
+    ends, others = os.pipe(), set(active_children())
+    pool = ProcessPoolExecutor(min(jobs, len(numbers)), get_context('fork'), begin_worker, (ends,))
+    try:
+        runs = {}
+        for number in numbers:
+            with output.held_back(ENDS if not runs else ()):        # the first makes the workers
+                runs[pool.submit(row_of, grid.text(number), grid.asked)] = number
+        for done in as_completed(runs):
+            yield runs[done], done.result()
+    except BaseException as wrong:
+        end_workers(set(active_children()) - others)
+        if isinstance(wrong, BrokenProcessPool):
+            raise Refused('a run\'s process was ended from outside') from wrong
+        raise
+    finally:
+        pool.shutdown(cancel_futures=True)
+        for end in ends:
+            os.close(end)
+
+
+class Progress:
+    """A line on standard error: how many runs are done, and how long it took. On a terminal it is
+    written over."""
+
+    def __init__(self, count: int):
+        self.count, self.done, self.refused, self.began = count, 0, 0, clock.monotonic()
+        self.terminal = sys.stderr is not None and sys.stderr.isatty()
+
+    def note(self, labels: dict[str, str], row: dict[str, str]) -> None:
+        """Says on standard error that a run is done."""
+        self.done += 1
+        self.refused += row['status'] != 'done'
+        failed = f', {self.refused} without figures' if self.refused else ''
+        line = f'{self.done} of {self.count} runs{failed}, {clock.monotonic() - self.began:.0f} s'
+        if self.terminal:
+            note(f'\r{line}\x1b[K', '\n' if self.done == self.count else '')
+        else:
+            said = [' '.join(f'{key}={value}' for key, value in labels.items()), row['status'].replace('done', '')]
+            note(': '.join([line, *filter(None, said)]))
+
+
+def run_all(grid: Grid, engine: Runner, file: output.Output | None = None, journal: Journal | None = None,
+            there: dict[int, dict] | None = None, progress: bool = True) -> list[dict]:
+    """Every run's row, in the grid's order; those that are `there` are not run again. Into `file` each row goes as soon as
+    those before it are there, into `journal` as soon as it is there."""
+    rows = dict(there or {})
+    numbers = [number for number in range(len(grid.points)) if number not in rows]
+    said, written = Progress(len(numbers)), 0
+
+    def write_ready():
+        nonlocal written
+        while file and written in rows:
+            file.write(csv_line(rows[written], grid.columns()))
+            file.flush()
+            written += 1
+    if file:
+        file.write(csv_line(dict(zip(grid.columns(), grid.columns())), grid.columns()))
+        write_ready()
+    for number, figures in engine(grid, numbers):
+        rows[number] = grid.row(number, figures)
+        if journal:
+            journal.add(rows[number])
+        if progress:
+            said.note(grid.labels(number), figures)
+        write_ready()
+    return [rows[number] for number in range(len(grid.points))]

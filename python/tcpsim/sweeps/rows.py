@@ -1,0 +1,238 @@
+"""The runs of a sweep: its grid, what is asked of each run, and the row of its figures.
+
+The figures are of the table that `tcpsim figures` writes, which makes no trace; a trace is read where a column is in no
+table, and kept nowhere. Nothing but Python's standard library.
+"""
+from __future__ import annotations
+
+import functools
+import hashlib
+import itertools
+import re
+import subprocess
+from collections.abc import Iterable, Sequence
+from typing import NamedTuple
+
+from tcpsim.command_line import Refused, Wrong
+from tcpsim.engine import BUSY, LAST_ROW, EngineRun, written_table
+from tcpsim.figures import Figures
+from tcpsim.scenario.text import Scenario, Unreadable
+from tcpsim.scenario.units import BITS_NS, spelled_time
+from tcpsim.sweeps.columns import FROM, LINK, RUN, ShownFigure, table_loss
+from tcpsim.sweeps.pattern import Pattern, Setting
+from tcpsim.whole_trace import BLOCK, ProgramFailed, Rest, Running, blocks, running
+
+# The figures of a row where none are named. The first four are of one link, or of the whole run.
+FIGURES = ('goodput_bit_s', 'utilization', 'wait_median_ns', 'wait_p99_ns', 'loss_percent', 'timeouts', 'jain')
+OF_THE_LINK = FIGURES[1:4]
+LAST = ['from_ns', 'scenario_sha256']           # what each row ends with: from when its figures are, and of which text
+DIGITS = 16                                     # of the text's SHA-256, in hexadecimal
+S = 10**9
+
+
+class AskedOfRun(NamedTuple):
+    """What is asked of each run: by which program, of which version where that is compared; of which link, else of the
+    busiest; from which moment on; which columns, else FIGURES; and what of it stands in a table and what in a trace."""
+
+    program: str
+    link: str | None
+    skip: int
+    columns: tuple[ShownFigure, ...]
+    exact: bool = False
+    format: int = 1             # the number of the program's figures
+    version: str | None = None
+
+    def by_table(self, column: ShownFigure) -> bool:
+        """Whether a column is of the table."""
+        return not self.exact and column.by_table(self.format, self.skip)
+
+    def wants_table(self) -> bool:
+        """Whether a table is made."""
+        return any(map(self.by_table, self.columns)) if self.columns else not self.exact and self.format >= (FROM if self.skip else 1)
+
+    def wants_trace(self) -> list[str]:
+        """The columns that need a trace."""
+        if not self.columns:
+            return [] if self.wants_table() else list(FIGURES)
+        return [column.name for column in self.columns if not self.by_table(column)]
+
+    def check(self) -> None:
+        """Wrong where a column stands neither in this program's table nor in a trace."""
+        for column in self.columns:
+            if not self.by_table(column) and column.figure.trace is None:
+                why = '--exact reads traces' if self.exact else f'from {spelled_time(self.skip)} on' if self.skip else 'so far'
+                raise Wrong(f'--show {column.name}: {why}, and no trace has it; it is of the tables of a program that prints '
+                            f'`figures {FROM}` with --version, and this one prints `figures {self.format}`' if not self.exact else
+                            f'--show {column.name}: {why}, and no trace has it: leave --exact out')
+
+
+@functools.lru_cache(maxsize=None)
+def version_of(program: str) -> str:
+    """What a program says of its version; it is asked once."""
+    try:
+        done = subprocess.run([program, '--version'], stdin=subprocess.DEVNULL, capture_output=True, timeout=60, check=False)
+    except (OSError, subprocess.TimeoutExpired):
+        return ''
+    return done.stdout.decode('utf-8', 'replace').strip().partition('\n')[0]
+
+
+def format_of(program: str) -> int:
+    """The number of the format of a program's figures; 1 where it says none."""
+    found = re.search(r'\bfigures (\d{1,6})\b', version_of(program))
+    return int(found[1]) if found else 1
+
+
+# ---- one run
+
+class RunFrom(EngineRun):
+    """The figures of a run from a moment on. The span begins there."""
+
+    def __init__(self, scenario: Scenario, table: str, skip: int):
+        if skip and table.endswith(f'{LAST_ROW}-\n') and ',completed,ns,-' not in table:
+            raise Unreadable(f'every flow is complete before {skip / S:g} s: nothing of it is at or after {skip / S:g} s')
+        super().__init__(scenario, table)
+        if skip:
+            if skip >= max(self.end, self.begin + 1):
+                raise Unreadable(f'the run ends at {self.end / S:g} s: nothing of it is at or after {skip / S:g} s')
+            self.begin = skip
+
+    def goodput(self, number: int) -> float | None:
+        """Bits a second that came to the receiver in order, of the time in the span in which the flow was under way."""
+        start, completed = max(self.begin, self.scenario.flows[number].start), self.flows[number]['completed', 'ns']
+        until = self.end if completed is None else min(self.end, completed)
+        return self.flows[number]['delivered', 'bytes'] * BITS_NS / (until - start) if start < until else None
+
+
+def row_of(text: str, asked: AskedOfRun) -> dict[str, object]:
+    """The row of one run: its figures, or in `status` why there are none."""
+    try:
+        if asked.version is not None and version_of(asked.program) != asked.version:
+            return {'status': f'{asked.program} is another here: {version_of(asked.program) or "it says no version"!r} and not '
+                              f'{asked.version!r}'}
+        row = {'status': 'done'}
+        if asked.wants_table():
+            words = [asked.program, 'figures', *(['--from', spelled_time(asked.skip)] if asked.skip else [])]
+            with running(words, text.encode('latin-1')) as process:
+                table = written_table(process)
+                row.update(values_of(RunFrom(Scenario(text), table, asked.skip), asked))
+        if asked.wants_trace():
+            with running([asked.program, 'run'], text.encode('latin-1')) as process:
+                row.update(values_of(trace_figures(text, process, asked.skip), asked))
+        return row
+    except ProgramFailed as wrong:
+        return {'status': wrong.note or str(wrong)}
+    except Refused as wrong:
+        return {'status': str(wrong)}
+    except MemoryError:
+        return {'status': 'no memory for its figures'}
+    except OSError as wrong:
+        return {'status': f'cannot be run: {wrong.strerror}'}
+
+
+def trace_figures(text: str, process: Running, skip: int) -> Figures:
+    """The figures of the trace that a program writes, read as it is made."""
+    first = process.read(BLOCK)
+    if not first:
+        process.check()
+        raise Unreadable('the program wrote nothing')
+    scenario = Scenario(text)
+    lines = blocks(Rest(first, process.read).read, 'the program\'s trace', scenario, ended=process.check)
+    return Figures(scenario, itertools.chain.from_iterable(lines), skip or None)
+
+
+def values_of(run: Figures | EngineRun, asked: AskedOfRun) -> dict[str, object]:
+    """The figures that this run has of what is asked."""
+    traced = isinstance(run, Figures)
+    if asked.columns:
+        return {column.title: column.value(run, run.scenario) for column in asked.columns if asked.by_table(column) != traced}
+    at = link_of(run, asked.link)
+
+    def figure(of, number=0):
+        return (of.trace if traced else of.table)(run, number)
+    used = used_of(run, at)
+    values = (figure(RUN['goodput']), used, figure(LINK['wait50'], at), figure(LINK['wait99'], at),
+              figure(RUN['loss']) if traced else table_loss(run, 0), figure(RUN['timeouts']), figure(RUN['jain']))
+    return {'link': run.scenario.links[at].name, **dict(zip(FIGURES, values))}
+
+
+def used_of(run: Figures | EngineRun, link: int) -> float | None:
+    """The part of the span in which a link was sending."""
+    if isinstance(run, Figures):
+        return run.links[link].sending(run.end) / (run.end - run.begin)
+    return run.over_span(link, BUSY)
+
+
+def link_of(run: Figures | EngineRun, name: str | None) -> int:
+    """The link of this name, else the one of the flows' data that is busiest, the first where equal."""
+    if name is not None:
+        return [link.name for link in run.scenario.links].index(name)
+    ways = sorted({number for there, _ in run.scenario.ways for number in there})
+    used = {number: used_of(run, number) for number in ways}
+    return max(ways, key=lambda number: -1 if used[number] is None else used[number])
+
+
+# ---- all runs
+
+class Grid:
+    """The points of a sweep, for each its values and its text, made when it is asked for; and what is asked of their runs.
+    The last settings are those of --over: of each choice of the others there are `replicates` points, one after another."""
+
+    def __init__(self, pattern: Pattern, settings: Sequence[Setting], asked: AskedOfRun):
+        self.pattern, self.settings, self.asked = pattern, list(settings), asked
+        self.points = list(itertools.product(*(each.values for each in settings)))
+        self.chosen = [each for each in settings if each.option != '--over']
+        self.over = [each for each in settings if each.option == '--over']
+        self.replicates = 1
+        for each in self.over:
+            self.replicates *= len(each.values)
+
+    def text(self, number: int) -> str:
+        """The scenario of a point."""
+        return self.pattern.point(self.settings, self.points[number])
+
+    def labels(self, number: int) -> dict[str, str]:
+        """The values of a point in words, by the keys of the settings."""
+        return {each.key: each.label(value) for each, value in zip(self.settings, self.points[number])}
+
+    def name(self, number: int) -> str:
+        """A file's name for the point."""
+        words = '_'.join(self.labels(number).values()).replace(':', '-')
+        return f'{number + 1:0{len(str(len(self.points)))}}' + f'_{words}'[:80] * bool(words)
+
+    def figures(self) -> list[str]:
+        """The titles of a row's figures."""
+        return [column.title for column in self.asked.columns] or list(FIGURES)
+
+    def link(self) -> list[str]:
+        """The title of the link that a row's figures are of, where that is not in their names."""
+        return [] if self.asked.columns else ['link']
+
+    def columns(self) -> list[str]:
+        """The titles of a row as CSV."""
+        return [*self.value_titles(self.settings), 'status', *self.link(), *self.figures(), *LAST]
+
+    def value_titles(self, settings: Iterable[Setting]) -> list[str]:
+        """The titles of the settings' values: the word, and behind it its numbers."""
+        return [title for each in settings for title in (each.key, *each.titles())]
+
+    def begin_of(self, number: int) -> dict[str, object]:
+        """What a row begins and ends with, whatever came out: the values, in words and in numbers, and of which run it is."""
+        text, row = self.text(number), {}
+        for each, value in zip(self.settings, self.points[number]):
+            row[each.key] = each.label(value)
+            row.update(each.numbers(value, text))
+        return {**row, 'from_ns': self.asked.skip, 'scenario_sha256': digest(text)}
+
+    def row(self, number: int, figures: dict[str, object]) -> dict[str, str]:
+        """A run's row, each value as CSV has it."""
+        return {name: as_csv(value) for name, value in {**self.begin_of(number), **figures}.items()}
+
+
+def digest(text: str) -> str:
+    """The first digits of a text's SHA-256."""
+    return hashlib.sha256(text.encode('latin-1')).hexdigest()[:DIGITS]
+
+
+def as_csv(value: object) -> str:
+    """A value as a cell of CSV."""
+    return '' if value is None else f'{value:.6f}' if isinstance(value, float) else str(value)
