@@ -1,0 +1,94 @@
+"""tcpsim-debug: the debugger's prompt with a line that is edited, completed and remembered, and with Ctrl-C.
+
+Usage: bin/tcpsim-debug [--workers N] [--groups G] [--explain] [--model | --program FILE] SCENARIO
+
+Where standard input or output is no terminal it is `tcpsim debug SCENARIO`.
+"""
+from __future__ import annotations
+
+import argparse
+import os
+import signal
+import sys
+
+from tcpsim.command_line import Refused, Words, Wrong, become, note, nothing
+from tcpsim.console.completion import Completion
+from tcpsim.console.screen import show, tell
+from tcpsim.console.session import Interrupted, Lost, Session, how_ended
+from tcpsim.program import find_program, is_model
+from tcpsim.prompt import PROMPT, PromptEnded
+from tcpsim.whole_trace import scenario_bytes
+
+HINT = 'help lists the commands. Tab completes, Ctrl-C ends a command and keeps the session, Ctrl-D ends it.'
+
+
+def command_line() -> Words:
+    """The words of the command."""
+    words = Words(description='The debugger at a prompt, with lines that are edited, completed and remembered: what can be '
+                  'typed is what tcpsim debug takes.')
+    words.add_argument('scenario', metavar='SCENARIO', help='a text or an image')
+    words.add_argument('--workers', metavar='N', help='as of tcpsim debug: how many run its groups side by side')
+    words.add_argument('--groups', metavar='G', help='as of tcpsim debug: which nodes are in which group')
+    words.add_argument('--explain', action='store_true', help='as of tcpsim debug, which the model has not; on a terminal it is given')
+    words.add_program('the program that is run')
+    return words
+
+
+def options_of(given: argparse.Namespace, path: str, terminal: bool) -> list[str]:
+    """The options that the program is given."""
+    if given.explain and is_model(path):
+        raise Wrong('--explain wants the program: build it with `make run`')
+    explained = ['--explain'] * (given.explain or terminal and not is_model(path))
+    return explained + [word for name in ('workers', 'groups') if getattr(given, name) for word in (f'--{name}', getattr(given, name))]
+
+
+def hold(words: list[str], source: bytes) -> int:
+    """Answers line after line, up to the end of input; answers the status, which is the program's where that ends."""
+    try:
+        from tcpsim.console.keyboard import Keyboard
+    except ImportError as wrong:
+        raise Refused(f'this python has no readline, by which lines are edited: {words[0]} debug goes without') from wrong
+    session = Session(words, source)
+    try:
+        signal.signal(signal.SIGINT, nothing)
+        completion = Completion(session.ask)
+        keyboard = Keyboard(PROMPT.decode(), lambda before: completion.words(before, session.breakpoints))
+        note(HINT)
+        while (line := keyboard.line()) is not None:
+            try:
+                answer = session.ask(line)
+            except Lost as lost:
+                tell(f'{os.linesep * isinstance(lost, Interrupted)}tcpsim-debug: {lost}')
+            else:
+                show(answer.text)
+                tell(answer.note)
+        return 0
+    finally:
+        session.end()
+
+
+def last_words(ended: PromptEnded) -> int:
+    """Shows what the program said last; answers its status, or refuses where a signal ended it."""
+    if ended.status < 0:
+        raise Refused(how_ended(ended.status))
+    show(ended.last.text)
+    tell(ended.last.note)
+    return ended.status
+
+
+def main() -> None:
+    """Holds a session, and ends with the status of the program."""
+    given = command_line().parse_args()
+    if given.scenario == '-':
+        raise Wrong('standard input has the commands: name the file of the scenario')
+    terminal = all(map(os.isatty, (0, 1)))
+    path = find_program(given.program)
+    words = ['debug', *options_of(given, path, terminal)]
+    if not terminal:
+        become(path, [*words, given.scenario])
+    source = scenario_bytes(given.scenario)
+    try:
+        status = hold([path, *words], source)
+    except PromptEnded as ended:
+        status = last_words(ended)
+    sys.exit(status)

@@ -1,0 +1,82 @@
+"""Reads lines from a terminal by Python's readline: edited, remembered in a file, and completed."""
+from __future__ import annotations
+
+import contextlib
+import os
+import readline
+import shutil
+import sys
+from collections.abc import Callable
+
+from tcpsim.command_line import Ended
+from tcpsim.console.session import interruptible
+
+MOST_REMEMBERED = 1_000         # lines
+COMPLETE = 'bind ^I rl_complete' if 'libedit' in (readline.__doc__ or '') else 'tab: complete'
+SETTINGS = COMPLETE, 'set show-all-if-ambiguous on'
+
+
+def history_file() -> str:
+    """Where typed lines are remembered."""
+    state = os.environ.get('XDG_STATE_HOME') or os.path.join(os.path.expanduser('~'), '.local', 'state')
+    return os.path.join(state, 'tcpsim', 'debug_history')
+
+
+class Keyboard:
+    """Lines behind a prompt. `words` answers what can stand behind the beginning of a line, with what each means."""
+
+    def __init__(self, prompt: str, words: Callable[[str], list[tuple[str, str]]]):
+        self._prompt, self._words, self._fitting = prompt, words, []
+        sys.stdin.reconfigure(errors='surrogateescape')     # what is no text goes to the program as it is typed
+        readline.set_completer_delims(' ')
+        readline.set_completer(self._complete)
+        readline.set_completion_display_matches_hook(self._display)
+        for setting in SETTINGS:
+            readline.parse_and_bind(setting)
+        readline.set_history_length(MOST_REMEMBERED)
+        with contextlib.suppress(OSError):
+            readline.read_history_file(history_file())
+
+    def line(self) -> str | None:
+        """The next line, None at the end of input. Ctrl-C clears what is typed, and means no line."""
+        while True:
+            count = readline.get_current_history_length()
+            try:
+                with interruptible():
+                    line = input(self._prompt)
+            except EOFError:
+                print()
+                return None
+            except Ended:
+                raise
+            except KeyboardInterrupt:
+                print()
+                continue
+            if readline.get_current_history_length() > count:
+                remember()
+            return line
+
+    def _complete(self, text, state):
+        """The state-th word that completes the text, with the space behind it; None behind the last."""
+        if state == 0:
+            self._fitting = [it for it in self._words(readline.get_line_buffer()[:readline.get_begidx()]) if it[0].startswith(text)]
+        return f'{self._fitting[state][0]} ' if state < len(self._fitting) else None
+
+    def _display(self, _text, _words, _longest):
+        """Shows what fits, a line each, and then the line that is typed again."""
+        readline.redisplay()        # what is completed by now stands in the line, and not behind what follows
+        width = max(len(word) for word, _ in self._fitting)
+        most = shutil.get_terminal_size().columns - 1
+        for word, what in self._fitting:
+            sys.stdout.write(f'\n{f"{word.ljust(width)}  {what}"[:most].rstrip()}')
+        sys.stdout.write(f'\n{self._prompt}{readline.get_line_buffer()}')
+        sys.stdout.flush()
+
+
+def remember() -> None:
+    """Writes the last line into the file; where that cannot be, it is forgotten with the session."""
+    path = history_file()
+    with contextlib.suppress(OSError):
+        os.makedirs(os.path.dirname(path), mode=0o700, exist_ok=True)
+        os.close(os.open(path, os.O_WRONLY | os.O_CREAT | os.O_CLOEXEC, 0o600))
+        readline.append_history_file(1, path)

@@ -1,0 +1,539 @@
+#!/usr/bin/env python3
+"""Tests of tcpsim-debug: lines that are typed at a terminal of their own (pexpect), and what is completed. Each session runs
+the built program, or else the model. Usage: python/tests/test_debug.py, or pytest."""
+import os
+import pathlib
+import re
+import signal
+import subprocess
+import sys
+import time
+
+import pytest
+
+pexpect = pytest.importorskip('pexpect', reason='no pexpect: apt-get install python3-pexpect')
+
+from clone import BIN, EXAMPLES, MODEL, PROGRAM, TOP, of_model, read, read_text, tool  # noqa: E402
+from tcpsim.console.completion import Completion  # noqa: E402
+from tcpsim.prompt import Prompt  # noqa: E402
+from tcpsim_model.later import STEPS  # noqa: E402
+
+TWO = os.path.join(EXAMPLES, 'two_timeouts_in_a_row.txt')
+FAIR = os.path.join(EXAMPLES, 'two_flows_share_fairly.txt')
+PROMPT = '(tcpsim) '
+PATIENCE = 120          # seconds for one answer, on a machine that is busy
+LONG = """sim 1000000000000000
+node s sender
+node r receiver
+link a s r 1000000000 1000000 droptail 100
+link b r s 1000000000 1000000 droptail 100
+lose a 5
+flow f s r 1000 1000000000 0 64000 0
+"""
+
+
+def children(pid):
+    """The processes that a process has started and that have not ended, zombies but for."""
+    found = pathlib.Path(f'/proc/{pid}/task/{pid}/children').read_text().split()
+    return [int(it) for it in found]
+
+
+def work_of(pid):
+    """How long a process has worked, in ticks of its system."""
+    return sum(map(int, pathlib.Path(f'/proc/{pid}/stat').read_text().rpartition(')')[2].split()[11:13]))
+
+
+def is_running(pid):
+    try:
+        return pathlib.Path(f'/proc/{pid}/stat').read_text().rpartition(')')[2].split()[0] != 'Z'
+    except OSError:
+        return False
+
+
+def soon(condition):
+    """Whether a condition holds within a while."""
+    until = time.monotonic() + PATIENCE
+    while not condition():
+        if time.monotonic() > until:
+            return False
+        time.sleep(.05)
+    return True
+
+
+class Terminal:
+    """A session at a terminal of its own."""
+
+    def __init__(self, home, *words, rows=100, **environment):
+        inputrc = home / 'inputrc'
+        inputrc.write_text('set enable-bracketed-paste off\nset bell-style none\n')
+        env = {'PATH': os.environ['PATH'], 'HOME': str(home), 'TERM': 'xterm', 'LANG': 'C.UTF-8', 'NO_COLOR': '1',
+               'INPUTRC': str(inputrc), **environment}
+        self.child = pexpect.spawn(sys.executable, [os.path.join(BIN, 'tcpsim-debug'), *map(str, words)], dimensions=(rows, 300),
+                                   env={name: value for name, value in env.items() if value}, encoding='utf-8', codec_errors='replace', timeout=PATIENCE)
+        self.child.delaybeforesend = None
+
+    def begin(self):
+        """Waits for the first prompt; answers what was said before it."""
+        self.child.expect_exact(PROMPT)
+        return self.child.before
+
+    def type(self, keys):
+        self.child.send(keys)
+
+    def shown(self):
+        """What is shown up to the next prompt, but for the line that was typed."""
+        self.child.expect_exact(PROMPT)
+        return self.child.before.partition('\r\n')[2].replace('\r\n', '\n')
+
+    def ask(self, line):
+        self.type(line + '\r')
+        return self.shown()
+
+    def begin_long(self, line):
+        """Types a line, up to when the program is at work on it."""
+        program = self.process()
+        before = work_of(program)
+        self.type(line + '\r')
+        self.child.expect_exact('\r\n')
+        assert soon(lambda: work_of(program) > before + 5)
+
+    def interrupt(self, line):
+        """What is shown where Ctrl-C comes while the program is at work on a line."""
+        self.begin_long(line)
+        self.type('\x03')
+        return self.shown()
+
+    def clear(self):
+        """Ctrl-C at the prompt, up to the next one. Python sees it while it waits for a key alone: it comes again where a key
+        that was typed just before was read meanwhile, and prompts of it may stand before the next answers."""
+        self.type('\x03')
+        while self.child.expect_exact([PROMPT, pexpect.TIMEOUT], timeout=1):
+            self.type('\x03')
+
+    def complete(self, line):
+        """What a line is after Tab, which completes it."""
+        self.type(f'{line}\t\x15\x19\r')        # cut and yanked, so that it is written anew
+        self.child.expect_exact('\r\n')
+        lines = self.child.before
+        self.shown()
+        return lines
+
+    def process(self):
+        """The program that runs for the session."""
+        only, = children(self.child.pid)
+        return only
+
+    def end(self, keys='\x04'):
+        """The status, once the session has ended by these keys; nobody is left."""
+        left = children(self.child.pid)
+        self.type(keys)
+        self.child.expect_exact(pexpect.EOF)
+        self.child.close()
+        assert soon(lambda: not any(map(is_running, left)))
+        return self.child.exitstatus
+
+
+@pytest.fixture
+def terminal(tmp_path):
+    """Begins sessions; those that a test leaves are ended."""
+    begun = []
+
+    def begin(*words, **more):
+        words = words if '--program' in words else ('--program', PROGRAM, *words)
+        begun.append(Terminal(tmp_path, *words, **more))
+        return begun[-1]
+    yield begin
+    for each in begun:
+        if each.child.isalive():
+            each.child.kill(signal.SIGKILL)
+            each.child.wait()
+        each.child.close()
+
+
+def at_once(path, *lines):
+    """What each of the lines is answered by the program's own prompt, answers and notes in turn."""
+    prompt = Prompt([PROGRAM, 'debug'], read(path))
+    try:
+        return [answer.text + answer.note for answer in map(prompt.ask, lines)]
+    finally:
+        prompt.end()
+
+
+@pytest.fixture(scope='module')
+def long(tmp_path_factory):
+    path = tmp_path_factory.mktemp('long') / 'long.txt'
+    path.write_text(LONG)
+    return str(path)
+
+
+# ---- lines and their answers
+
+LINES = ('step 3', '', 'back', 'break drop flow 0', 'break stall', 'breaks', 'run', 'run', 'why 0', 'state flow 0', 'lines 2', 'reverse', '',
+         'delete 1', 'delete 7', 'stpe', 'why 9', 'step 1 2', 'help', 'help break', 'until 2s', 'clear', 'run')
+
+
+def test_answers_are_the_program_s(terminal):
+    session = terminal(TWO)
+    session.begin()
+    assert [session.ask(line) for line in LINES] == at_once(TWO, *LINES)
+    assert session.end('quit\r') == 0
+
+
+def test_bytes_that_are_no_text(terminal):
+    session = terminal(TWO, PYTHONIOENCODING='utf-8:strict')     # as Python has it but in a locale C
+    session.begin()
+    os.write(session.child.child_fd, b'st\xffp \xe2\x82\r')
+    assert 'refused B1\n' in session.shown()
+    assert session.ask('step') == at_once(TWO, 'step')[0]
+
+
+def test_all_that_the_program_started_ends(terminal, put, long):
+    """As where it is a script that starts it."""
+    script = f'#!/bin/sh\nfor last; do :; done\n{PROGRAM} debug "$last"\nexit 5\n'
+    session = terminal('--program', put('script', script, 0o700), long)
+    session.begin()
+    started, = children(session.process())
+    before = work_of(started)
+    session.type('run\r')
+    assert soon(lambda: work_of(started) > before + 5)
+    session.type('\x03')
+    assert 'ended; the session is at 0' in session.shown()
+    assert soon(lambda: not is_running(started))
+
+
+def test_it_ends_with_its_input(terminal):
+    session = terminal(TWO)
+    session.begin()
+    assert session.end() == 0
+
+
+def test_groups_go_to_the_program(terminal):
+    session = terminal('--workers', '2', '--groups', 'each', TWO)
+    session.begin()
+    assert session.ask('run') == at_once(TWO, 'run')[0]
+    session = terminal('--groups', '0', TWO)
+    session.child.expect_exact('refused groups')
+    session.child.expect_exact(pexpect.EOF)
+    session.child.close()
+    assert session.child.exitstatus == 2
+
+
+def test_an_image(terminal, tmp_path):
+    image = tmp_path / 'two.tcb'
+    image.write_bytes(of_model(['asm', TWO])[2])
+    session = terminal(image)
+    session.begin()
+    assert session.ask('step 2') == at_once(TWO, 'step 2')[0]
+
+
+# ---- Ctrl-C
+
+def test_ctrl_c_ends_a_move_and_keeps_the_session(terminal, long):
+    session = terminal(long)
+    session.begin()
+    for line in ('step 7', 'break drop', 'break kind rto flow 0', 'break stall'):
+        session.ask(line)
+    moved = session.ask('run')
+    position = int(re.search(r'^at (\d+) of the run', moved, re.M)[1])
+    session.ask('delete 1')
+    kept = {line: session.ask(line) for line in ('breaks', 'lines 3', 'state')}
+    assert kept['breaks'] == 'break 1: flow 0 kind rto\nbreak 2: stall\n' and position > 7
+    for line in ('until 1000000s', 'step 1000000000000'):
+        session.ask('clear')
+        session.ask('break kind rto flow 0')
+        session.ask('break stall')
+        before = session.process()
+        assert f'ended; the session is at {position} of the run, with its 2 breakpoints\n' in session.interrupt(line)
+        assert soon(lambda: not is_running(before))
+        assert {line: session.ask(line) for line in kept} == kept
+    # The last move again is that before what was ended, which the new process has not seen.
+    session.ask('clear')
+    assert session.ask('step 2').endswith(f'at {position + 2} of the run, ' + moved_time(session))
+    session.interrupt('until 1000000s')
+    assert f'\nat {position + 4} of the run' in session.ask('')
+    assert f'\nat {position + 6} of the run' in session.ask('')
+    assert session.end() == 0
+
+
+def moved_time(session):
+    """The end of a move's line, as the last line of the trace has it."""
+    return f'time {session.ask("lines 1").split()[1]} ns\n'
+
+
+def test_ctrl_c_comes_again_and_again(terminal, long):
+    session = terminal(long)
+    session.begin()
+    session.ask('step 50')
+    session.ask('break stall')
+    state = session.ask('state')
+    for wait in (1, .3, .1, .03, 0, 0):
+        session.type('until 1000000s\r')
+        session.child.expect_exact('\r\n')
+        session.child.expect(pexpect.TIMEOUT, timeout=wait)
+        session.clear()
+    session.type('\x03\x03')
+    # Prompts of further interruptions may stand before the answers.
+    assert soon(lambda: session.ask('state') == state) and soon(lambda: session.ask('breaks') == 'break 1: stall\n')
+    # An answer may still be on its way, during which Ctrl-D would end nothing; a line waits for the prompt.
+    assert session.end('quit\r') == 0
+
+
+def test_ctrl_c_at_the_prompt_clears_the_line(terminal):
+    session = terminal(TWO)
+    session.begin()
+    before = session.process()
+    session.type('step 5')
+    session.clear()
+    assert soon(lambda: session.ask('state').startswith('at 0\n'))
+    assert session.process() == before
+
+
+# ---- a program that dies
+
+def test_a_program_that_is_killed_is_started_again(terminal):
+    session = terminal(TWO)
+    session.begin()
+    for line in ('step 9', 'break drop'):
+        session.ask(line)
+    state = session.ask('state')
+    os.kill(session.process(), signal.SIGKILL)
+    assert session.ask('run') == ('tcpsim-debug: the program was ended by signal 9 (Killed) and was started again; '
+                                  'the session is at 9 of the run, with its breakpoint\n')
+    assert (session.ask('state'), session.ask('breaks')) == (state, 'break 1: drop\n')
+    assert session.end() == 0
+
+
+@pytest.mark.parametrize('does, status, said', [
+    ('kill -9 $$', 1, 'tcpsim-debug: the program was ended by signal 9 (Killed)'),
+    ('printf "(tcpsim) " >&2; read line; kill -9 $$', 1, 'tcpsim-debug: the program was ended by signal 9 (Killed) and was started again'),
+    ('echo no memory >&2; exit 3', 3, 'no memory'),
+    ('printf "(tcpsim) " >&2; read line; echo read failed >&2; exit 3', 3, 'read failed')])
+def test_a_program_that_ends(terminal, put, does, status, said):
+    session = terminal('--program', put('dies', f'#!/bin/sh\n{does}\n', 0o700), TWO)
+    session.child.expect_exact(pexpect.EOF)
+    session.child.close()
+    assert (session.child.exitstatus, said in session.child.before, 'Traceback' in session.child.before) == (status, True, False)
+
+
+@pytest.mark.parametrize('number, status', [(signal.SIGTERM, 143), (signal.SIGHUP, 129), (signal.SIGKILL, None)])
+def test_nobody_is_left_where_it_is_ended(terminal, long, number, status):
+    for busy in (False, True):
+        session = terminal(long)
+        session.begin()
+        program = session.process()
+        if busy:
+            session.begin_long('run')
+        session.child.kill(number)
+        session.child.expect_exact(pexpect.EOF)
+        session.child.close()
+        assert session.child.exitstatus == status
+        assert soon(lambda: not is_running(program))
+
+
+# ---- what is refused
+
+def test_a_refused_scenario(terminal, put):
+    session = terminal(put('wrong.txt', 'sim 01\n'))
+    session.child.expect_exact(pexpect.EOF)
+    session.child.close()
+    assert session.child.exitstatus == 1
+    told = session.child.before.splitlines()
+    assert told[0] == 'refused E4 line 1'
+    assert len(told) > 1 or PROGRAM == MODEL        # the program explains itself on a terminal
+
+
+def test_words_that_are_refused(put):
+    for words, status, said in ((['-'], 2, b'standard input has the commands'), ([], 2, b'SCENARIO'), ([TWO, TWO], 2, b''), (['--speed', TWO], 2, b''),
+                                (['--explain', '--model', TWO], 2, b'--explain wants the program'),
+                                (['--program', 'not-there', TWO], 1, b'not-there is no program')):
+        done = tool('debug', *words)
+        assert (done.returncode, done.stdout, said in done.stderr, done.stderr.count(b'\n')) == (status, b'', True, 1), done
+
+
+def test_a_file_that_is_not_there(terminal):
+    session = terminal('/not/there')
+    session.child.expect_exact('tcpsim-debug: /not/there: No such file or directory')
+    session.child.expect_exact(pexpect.EOF)
+    session.child.close()
+    assert session.child.exitstatus == 1
+
+
+# ---- without a terminal
+
+def test_without_a_terminal_it_is_the_program():
+    lines = '\n'.join((*LINES, 'quit', 'step')).encode()
+    done = tool('debug', '--program', PROGRAM, TWO, input=lines)
+    theirs = subprocess.run([PROGRAM, 'debug', TWO], input=lines, capture_output=True, check=False)
+    assert (done.returncode, done.stdout, done.stderr) == (0, theirs.stdout, theirs.stderr)
+    assert b'\033' not in done.stdout + done.stderr
+
+
+def test_output_that_is_no_terminal(tmp_path):
+    """Keys of a terminal, and an output that is a file: plain answers."""
+    keys, theirs = os.openpty()
+    try:
+        os.write(keys, b'step 2\nquit\n')
+        with open(tmp_path / 'out', 'wb') as out:
+            done = tool('debug', '--program', PROGRAM, TWO, stdin=theirs, stdout=out)
+    finally:
+        os.close(keys)
+        os.close(theirs)
+    assert (done.returncode, (tmp_path / 'out').read_text()) == (0, at_once(TWO, 'step 2')[0])
+
+
+# ---- completion
+
+@pytest.fixture(scope='module')
+def completion():
+    prompt = Prompt([PROGRAM, 'debug'], read(FAIR))
+    yield Completion(prompt.ask)
+    prompt.end()
+
+
+COMMANDS = ['step', 'back', 'run', 'reverse', 'until', 'state', 'break', 'breaks', 'delete', 'clear', 'lines', 'why', 'help', 'quit']
+SORTS = ['node', 'flow', 'kind', 'drop', 'link', 'byte']
+
+
+@pytest.mark.parametrize('before, words', [
+    ('', COMMANDS), ('  ', COMMANDS), ('state ', ['node', 'link', 'flow']), ('sta ', ['node', 'link', 'flow']),
+    ('state node ', list('012345')), ('state flow ', list('01')), ('state node 1 ', []), ('break ', [*SORTS, 'stall']),
+    ('br drop ', [it for it in SORTS if it != 'drop']), ('break flow 1 kind rto ', ['node', 'drop', 'link', 'byte']),
+    ('break kind ', ['start', 'rto', 'delack', 'free', 'data', 'ack']), ('break drop kind ', ['start', 'rto', 'delack', 'free', 'data', 'ack']),
+    ('break flow ', list('01')), ('break stall ', list('01')), ('break stall 1 ', []), ('break byte ', []), ('why ', list('01')),
+    ('delete ', list('12')), ('help ', ['numbers', 'trace', 'kinds', 'stall', *COMMANDS]), ('step ', []), ('run ', []), ('until ', []), ('x ', [])])
+def test_words_that_fit(completion, before, words):
+    assert [word for word, _ in completion.words(before, ('drop', 'stall 1'))] == words
+
+
+def test_words_have_their_meaning(completion):
+    assert dict(completion.words(''))['why'] == 'tell what flow F waits for'
+    assert dict(completion.words('break '))['drop'] == 'a packet is dropped'
+    assert dict(completion.words('break kind '))['rto'] == 'the retransmission timer of flow F ends'
+    assert completion.words('delete ', ('drop', 'stall 1')) == [('1', 'drop'), ('2', 'stall 1')]
+
+
+def test_every_word_that_fits_is_taken(completion):
+    """No word that is completed as the last is refused."""
+    prompt = Prompt([PROGRAM, 'debug'], read(FAIR))
+    try:
+        for before in ('state node ', 'state flow ', 'break kind ', 'break flow ', 'break stall ', 'why ', 'help '):
+            for word, _ in completion.words(before):
+                assert not prompt.ask(before + word).note, before + word
+    finally:
+        prompt.end()
+
+
+@pytest.fixture(scope='module')
+def later(tmp_path_factory):
+    """The model with the steps of its grammar that the program has not yet, as a program."""
+    path = tmp_path_factory.mktemp('later') / 'later'
+    path.write_text(f'#!/bin/sh\nfor last; do :; done\nexec {sys.executable} {MODEL} debug --steps {STEPS} "$last"\n')
+    path.chmod(0o700)
+    return str(path)
+
+
+def test_names_fit_where_the_program_has_them(later):
+    prompt = Prompt([later, 'debug'], read(FAIR))
+    try:
+        words = Completion(prompt.ask).words
+        assert words('why ') == [('fa', '0 from sa to ra'), ('fb', '1 from sb to rb')]
+        assert [word for word, _ in words('state node ')] == ['p', 'q', 'sa', 'ra', 'sb', 'rb']
+        assert [word for word, _ in words('break drop link ')][:1] == ['pq']
+        assert {'cwnd', 'queue', 'change', 'drop', 'stall'} <= {word for word, _ in words('break ')}
+        assert [word for word, _ in words('display ')] == ['flow', 'link']
+    finally:
+        prompt.end()
+
+
+def test_displays_are_kept_where_the_program_has_them(terminal, later, long):
+    session = terminal('--program', later, long)
+    session.begin()
+    for line in ('step 9', 'break cwnd<3000', 'display cwnd f', 'display link a'):
+        session.ask(line)
+    kept = {line: session.ask(line) for line in ('breaks', 'display', 'where')}
+    assert kept['breaks'] == 'break 1: cwnd<3000\n' and kept['display'].count('\n') == 2
+    assert 'ended; the session is at 9 of the run' in session.interrupt('goto 1000s')
+    assert {line: session.ask(line) for line in kept} == kept       # where the session is, is no move
+    assert '\nat 18 of the run' in session.ask('')
+
+
+def test_tab(terminal):
+    session = terminal(TWO)
+    session.begin()
+    assert session.complete('rev').endswith('reverse ')
+    assert session.complete('sta').endswith('state ')
+    assert session.complete('break ki').endswith('break kind ')
+    assert session.complete('break kind del').endswith('break kind delack ')
+    session.type('bre\t')
+    session.child.expect_exact('breaks  list the breakpoints\r\n' + PROMPT + 'break')
+    session.type(' k\tr\tdrop\r')
+    assert session.shown() == 'break 2: kind rto drop\n'
+
+
+def test_the_page(terminal):
+    """What docs/DEBUGGING.md shows of Tab is what it shows, line by line, and the list goes on."""
+    block = re.search(r'^```\n\$ bin/tcpsim-debug (\S+)\n(.*?)^```$', read_text('docs', 'DEBUGGING.md'), re.M | re.S)
+    hint, asked, *listed = block[2].splitlines()
+    assert len(listed) > 3 and listed.pop() == '...' and asked.endswith('<Tab>')
+    session = terminal(os.path.join(TOP, block[1]))
+    assert session.begin().splitlines()[-1] == hint
+    session.type(asked.removeprefix(PROMPT).replace('<Tab>', '\t\t'))
+    session.child.expect_exact(''.join(f'\r\n{line}' for line in listed))
+
+
+# ---- what is remembered
+
+def test_history(terminal, tmp_path):
+    for _ in range(2):
+        session = terminal(TWO)
+        session.begin()
+        assert session.ask('step 2') == at_once(TWO, 'step 2')[0]
+        assert session.ask('step 3') == at_once(TWO, 'step 2', 'step 3')[1]
+        assert session.end() == 0
+    session = terminal(TWO)
+    session.begin()
+    session.type('\x1b[A\x1b[A')        # Up, twice
+    assert session.ask('') == at_once(TWO, 'step 2')[0]
+    file = tmp_path / '.local' / 'state' / 'tcpsim' / 'debug_history'
+    assert file.read_text().splitlines() == ['step 2', 'step 3'] * 2 + ['step 2']
+    assert file.stat().st_mode & 0o777 == 0o600
+
+
+def test_history_stands_where_it_is_wanted_and_may_have_no_place(terminal, tmp_path):
+    session = terminal(TWO, XDG_STATE_HOME=str(tmp_path / 'state'))
+    session.begin()
+    session.ask('step')
+    assert (tmp_path / 'state' / 'tcpsim' / 'debug_history').read_text() == 'step\n'
+    session = terminal(TWO, XDG_STATE_HOME=os.devnull)
+    session.begin()
+    assert session.ask('step') == at_once(TWO, 'step')[0]
+
+
+# ---- colours and the pager
+
+def test_colours(terminal):
+    session = terminal(TWO, NO_COLOR='')
+    session.begin()
+    moved = session.ask('step 6')
+    assert '\033[31mdrop=lost:0:4000\033[0m' in moved and '\033[36mstart\033[0m' in moved
+    assert re.sub(r'\033\[\d+m', '', moved) == at_once(TWO, 'step 6')[0]
+    assert '\033[31mrefused B1' in session.ask('stpe')
+    session = terminal(TWO, NO_COLOR='', TERM='dumb')
+    session.begin()
+    assert '\033' not in session.ask('step 6')
+
+
+def test_the_pager(terminal, put):
+    pager = put('pager', '#!/bin/sh\necho paged; cat; echo "so far"\n', 0o700)
+    session = terminal(TWO, rows=10, PAGER=pager)
+    session.begin()
+    long, short = at_once(TWO, 'help', 'breaks')
+    assert session.ask('help') == f'paged\n{long}so far\n'
+    assert session.ask('breaks') == short
+    session = terminal(TWO, rows=10, PAGER='/not/there')
+    session.begin()
+    assert session.ask('help') == long
+
+
+if __name__ == '__main__':
+    sys.exit(pytest.main([__file__, '-q', *sys.argv[1:]]))
