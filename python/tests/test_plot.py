@@ -134,7 +134,10 @@ class TestWhatIsShown(Drawn):
         window, sequence = panels['flow f: congestion window'], panels['flow f: sequence numbers']
         # in sight: a recovery with cwnd 5500, then 2500; the axis goes by 5500 and 1.12 times that
         assert np.allclose(window.get_ylim(), (-.55, 6.16))
-        assert window.get_xlim() == (8500, 12000)
+        # the window of time, and beside it a little for the marks at its ends
+        left, right = window.get_xlim()
+        assert 8450 < left < 8500 and 12000 < right < 12050
+        assert {tick for tick in window.get_xticks()} <= set(range(8500, 12001, 500))
         # the segments from 3000, not yet acknowledged at the beginning, to 7000
         low, high = sequence.get_ylim()
         assert 2.5 < low < 3 and 7 < high < 7.5, (low, high)
@@ -218,7 +221,9 @@ class TestWhatIsShown(Drawn):
         figure = self.figure(*other, '--partial', '--flow', 'f', '--panels', 'utilization')
         assert 'link a:' in figure.subfigs[0]._suptitle.get_text()
         figure = self.figure(*other, '--partial', '--flow', 'g', '--panels', 'utilization')
-        assert figure.subfigs[0]._suptitle.get_text().startswith('links c:')     # idle, as is d
+        lines = figure.subfigs[0]._suptitle.get_text().split('\n')          # idle, both
+        assert [line.partition(':')[0] for line in lines] == ['link c', 't→u', 'link d', 'u→t']
+        assert lines[1::2] == ['t→u: data of g', 'u→t: acks of g']
 
 
 class TestWindows(Drawn):
@@ -289,12 +294,15 @@ class TestWindows(Drawn):
         texts = [text.get_text() for text in figure.get_axes()[-1].get_legend().get_texts()]
         assert texts == ['one', 'two']
 
-    def test_the_key_says_what_is_above_the_panel(self):
+    def test_the_key_names_what_is_in_sight(self):
         def key(*run):
             return [text.get_text() for text in self.figure(*run).get_axes()[0].get_legend().get_texts()]
         assert 'ssthresh' in key(*self.hand)
         high = self.write('high', BY_HAND.replace('64000', str(2**30)), TRACE.replace('ssthresh=2500', 'ssthresh=64000'))
-        assert 'ssthresh, above' in key(*high)
+        assert not [name for name in key(*high) if name.startswith('ssthresh')]
+        # the recovery from 8.28 to 11.36 ms is seen in 12 ms, and not in a second
+        assert 'recovery' in key(*self.hand)
+        assert 'recovery' not in key(*self.hand, '--beside', *self.stall, '--whole')
 
     def test_a_small_flow_has_an_axis_of_its_own(self):
         from tcpsim.plot.flow_panels import sharing
@@ -350,13 +358,14 @@ def test_units():
 
 def test_idle_spans():
     moments = [0, 10 * MS, 1000 * MS, 1010 * MS]
-    assert clock.idle_spans(moments, 0, 1010 * MS, S // 5) == [(12 * MS, 998 * MS)]
+    # a tenth of the 20 ms that stay is left before it and behind it
+    assert clock.idle_spans(moments, 0, 1010 * MS, S // 5) == [(12 * MS, 998 * MS, 990 * MS)]
     assert clock.idle_spans(moments, 0, 1010 * MS, S) == []
     assert clock.idle_spans([0, 300 * MS, 600 * MS, 900 * MS, 1100 * MS], 0, 2 * S, 2 * S) == []
 
 
 def test_places_rise_and_come_back():
-    axis = clock.Clock((0, 1010 * MS), [(12 * MS, 998 * MS)])
+    axis = clock.Clock((0, 1010 * MS), [clock.Cut(12 * MS, 998 * MS, 990 * MS)])
     moments = np.array([0, 5 * MS, 12 * MS, 500 * MS, 998 * MS, 1010 * MS])
     places = axis.x(moments)
     assert (np.diff(places) > 0).all()
@@ -420,6 +429,6 @@ class TestLinks(Drawn):
         assert sum(y == 0 for _, y in marks(delay)['.']) == 2
 
     def test_progress(self):
-        progress = self.panels(*self.stall, '--panels', 'progress', '--whole')['bytes acknowledged of each flow']
+        progress = self.panels(*self.stall, '--panels', 'progress', '--whole')['bytes acknowledged of flow f']
         assert progress.get_legend().get_texts()[0].get_text() == 'f, done in 1 s'
-        assert curves(progress)[style.BLUE][:2] == [(0, 0), (1.00308, 1000)]
+        assert curves(progress)[style.BLUE][:2] == [(0, 0), (1.00308, 1)]       # kB

@@ -5,17 +5,15 @@ and by jumps, what the drawn elements say of themselves is compared with the dum
 that position. The dumps come from the built program, and where it is not built from the model in
 python/tcpsim_model. `python3 python/tests/test_replay.py` writes docs/pictures/replay_*.png.
 """
-import base64
 import csv
 import functools
+import importlib.util
 import io
-import json
 import math
 import os
 import random
 import re
 import shutil
-import subprocess
 import sys
 import tempfile
 import time
@@ -24,14 +22,17 @@ import pytest
 
 if __name__ == '__main__':      # pytest.ini names dev/ to pytest alone
     sys.path.insert(1, os.path.join(os.path.dirname(os.path.abspath(__file__)), '..', '..', 'dev'))
-from clone import BIN, CHROMIUM, EXAMPLES, PROGRAM, TOP, Folder, paths, tool
+import browsers
+import test_trace
+from clone import CHROMIUM, NAMES, PROGRAM, TOP, Folder, example, outcome, paths, ran, read, read_text, tool
 from tcpsim.replay import page, recording
 from tcpsim.scenario import units
 from tcpsim.scenario.text import Scenario, Unreadable
 from tcpsim.curves import read_run
 
 PICTURES = os.path.join(TOP, 'docs', 'pictures')
-IN_BROWSER = pytest.mark.skipif(not CHROMIUM, reason='no Chromium: apt-get install chromium')
+IN_BROWSER = pytest.mark.skipif(not CHROMIUM or not importlib.util.find_spec('websockets'),
+                                reason='no Chromium or no websockets: apt-get install chromium python3-websockets')
 # A queue that overflows, a timeout, CoDel, three routers; of each the events that its pictures show.
 COMPARED = {'slow_start_into_a_full_queue': 20, 'two_timeouts_in_a_row': 27, 'four_flows_share_codel': 2467,
             'parking_lot_of_three_routers': 1657}
@@ -40,7 +41,7 @@ PICTURED = {**COMPARED, 'bufferbloat': 5000}
 POSITIONS = 50
 READ = '''(() => {
   const all = (css, what) => [...document.querySelectorAll(css)].filter(e => e.getAttribute('display') !== 'none').map(what);
-  return JSON.stringify({
+  return {
     event: document.documentElement.dataset.event, hash: location.hash,
     present: all('#lines li.present', e => e.textContent),
     packets: all('.packet', e => ({...e.dataset, transform: e.getAttribute('transform'), squares: e.querySelectorAll('rect').length,
@@ -51,7 +52,7 @@ READ = '''(() => {
       words: [...e.querySelectorAll('.box[data-packet] text')].map(b => b.textContent)})),
     nodes: all('g.node', e => ({...e.dataset})),
     drops: all('.drop', e => ({...e.dataset, text: e.querySelector('.reason')?.textContent})),
-    notice: document.getElementById('notice').textContent});
+    notice: document.getElementById('notice').textContent};
 })()'''
 # What lies over what: [what, left, top, right, bottom, the panel's edges] of every label and shape that is seen.
 SEEN = '''(() => {
@@ -70,107 +71,47 @@ SEEN = '''(() => {
   };
   const words = e => ({what: e.id || e.nodeName, wide: [e.scrollWidth, e.clientWidth],
     tall: [e.scrollHeight, e.clientHeight]});
-  return JSON.stringify({
+  return {
     labels: ['.rate', '.count', '.reason', '.node text'].flatMap(css => of('#net', css)),
     shapes: ['.node rect', '.box', '.packet', '.drop > rect', '.drop > .disc'].flatMap(css => of('#net', css)),
     charts: ['#windows', '#lengths'].map(panel => of(panel, 'text')),
     ticks: ['#flows', '#links'].map(panel => of(panel, 'label')),
     head: of('header', '> *'),
     cut: [...document.querySelectorAll('#under, #key, #notice, h1, header, #lines, #lines li' +
-      (document.querySelector('#lines li.present')?.textContent.includes(' drop=') ? '' : ', #words'))].filter(seen).map(words)});
+      (document.querySelector('#lines li.present')?.textContent.includes(' drop=') ? '' : ', #words'))].filter(seen).map(words)};
 })()'''
+STALLS = 'page.record.stalls.map(s => [page.facts.flows[s.flow].name, s.from, s.to])'
 # The events after which to look: see `test_no_label_lies_over_another`.
 MOMENTS = '''(() => {
   const r = page.record, drops = d3.nest().key(d => d.event).entries(r.drops);
   const most = d3.max(drops, d => d.values.length), {timeouts} = r;
   const queues = r.facts.links.map((_, l) => r.queueCurve(l)), longest = d3.max(queues, q => d3.max(q.values));
   const queue = queues.find(q => d3.max(q.values) === longest);
-  return JSON.stringify([most ? +drops.find(d => d.values.length === most).key : Math.ceil(r.count / 4),
-    r.eventsBefore(queue.times[queue.values.indexOf(longest)] + 1), timeouts.length ? timeouts[timeouts.length - 1] : r.last]);
+  return [most ? +drops.find(d => d.values.length === most).key : Math.ceil(r.count / 4),
+    r.eventsBefore(queue.times[queue.values.indexOf(longest)] + 1), timeouts.length ? timeouts[timeouts.length - 1] : r.last];
 })()'''
 
 
 # ---- a browser
 
-class Browser:
-    """A headless Chromium that gets its commands over a pipe; `environment` is added to its own."""
+class Browser(browsers.Chromium):
+    """A headless Chromium that shows replay pages."""
 
     def __init__(self, folder, environment=None):
-        to_read, self._to = os.pipe()
-        self._from, from_write = os.pipe()
-        def ends():         # the browser reads its commands at 3 and answers at 4
-            high = os.dup(to_read), os.dup(from_write)
-            os.dup2(high[0], 3)
-            os.dup2(high[1], 4)
-        self.process = subprocess.Popen(
-            [CHROMIUM, '--headless=new', '--no-sandbox', '--disable-gpu', '--remote-debugging-pipe', '--hide-scrollbars',
-             '--no-first-run', '--disable-dev-shm-usage', f'--user-data-dir={folder}', 'about:blank'],
-            preexec_fn=ends, close_fds=False, stdin=subprocess.DEVNULL, stdout=subprocess.DEVNULL,
-            stderr=subprocess.DEVNULL, env={**os.environ, **(environment or {})})
-        os.close(to_read)
-        os.close(from_write)
-        self._count, self._rest, self._session = 0, b'', None
-        page = self.call('Target.createTarget', url='about:blank')['targetId']
-        self._session = self.call('Target.attachToTarget', targetId=page, flatten=True)['sessionId']
-        self.call('Page.enable')
-        self.call('Emulation.setDeviceMetricsOverride', width=1280, height=720, deviceScaleFactor=1, mobile=False)
-
-    def call(self, method, **given):
-        self._count += 1
-        message = {'id': self._count, 'method': method, 'params': given}
-        if self._session:
-            message['sessionId'] = self._session
-        os.write(self._to, json.dumps(message).encode() + b'\0')
-        while True:
-            while b'\0' not in self._rest:
-                more = os.read(self._from, 1 << 20)
-                if not more:
-                    raise RuntimeError('the browser has gone')
-                self._rest += more
-            one, _, self._rest = self._rest.partition(b'\0')
-            answer = json.loads(one)
-            if answer.get('id') == self._count:
-                if 'error' in answer:
-                    raise RuntimeError(answer['error'])
-                return answer['result']
-
-    def value(self, script):
-        answer = self.call('Runtime.evaluate', expression=script, awaitPromise=True, returnByValue=True)
-        if 'exceptionDetails' in answer:
-            raise RuntimeError(json.dumps(answer['exceptionDetails'])[:600])
-        return answer['result'].get('value')
+        super().__init__(folder, environment=environment)
+        self.size(1280, 720)
 
     def open(self, path, address=''):
         """Opens a page; answers its milliseconds until all is drawn."""
-        self.call('Page.navigate', url='about:blank')
-        self.call('Page.navigate', url=f'file://{path}{address}')
-        for _ in range(600):
-            ready = self.value('[document.documentElement?.dataset.ready, document.documentElement?.dataset.failed].join("|")')
-            if ready and ready != '|':
-                if ready.startswith('|'):
-                    raise RuntimeError(ready[1:])
-                return int(ready[:-1])
-            time.sleep(.05)
-        raise RuntimeError('the page does not get ready')
-
-    def press(self, key):
-        text = {'text': key} if len(key) == 1 else {}
-        self.call('Input.dispatchKeyEvent', type='keyDown', key=key, **text)
-        self.call('Input.dispatchKeyEvent', type='keyUp', key=key)
-
-    def click(self, script):
-        """Clicks at the middle of the element that the script names."""
-        x, y = json.loads(self.value(f'(() => {{ const b = ({script}).getBoundingClientRect(); '
-                                     'return JSON.stringify([b.x + b.width / 2, b.y + b.height / 2]); })()'))
-        for what in ('mousePressed', 'mouseReleased'):
-            self.call('Input.dispatchMouseEvent', type=what, x=x, y=y, button='left', clickCount=1)
+        super().open(f'file://{path}{address}')
+        return int(self.wait('(d => d.failed || d.ready)(document.documentElement.dataset)'))
 
     def go(self, event):
         self.value(f'new Promise(done => {{ addEventListener("hashchange", () => done(0), {{once: true}}); '
                    f'if (location.hash === "#event={event}") done(0); else location.hash = "#event={event}"; }})')
 
     def shown(self):
-        return json.loads(self.value(READ))
+        return self.json(READ)
 
     def families(self, css):
         """The fonts by which the words of an element are drawn."""
@@ -180,39 +121,18 @@ class Browser:
         node = self.call('DOM.querySelector', nodeId=root, selector=css)['nodeId']
         return {font['familyName'] for font in self.call('CSS.getPlatformFontsForNode', nodeId=node)['fonts']}
 
-    def picture(self, path):
-        found = self.call('Page.captureScreenshot', format='png')
-        with open(path, 'wb') as file:
-            file.write(base64.b64decode(found['data']))
-
-    def close(self):
-        try:
-            self.call('Browser.close')
-        except (RuntimeError, OSError):
-            pass
-        try:
-            self.process.wait(timeout=10)
-        except subprocess.TimeoutExpired:
-            self.process.kill()
-            self.process.wait()
-        os.close(self._to)
-        os.close(self._from)
-
 
 # ---- what the debugger says
 
 
 def dumps(name, positions):
     """The dump at each position, as the lines' words, from one session of the debugger."""
-    with open(paths(name)[0], encoding='ascii') as file:
-        session = file.read() + '---\n'
-    at = 0
+    session, at = example(name)[0] + '---\n', 0
     for position in positions:
         session += f'step {position - at}\n' if position >= at else f'back {at - position}\n'
         at = position
-    done = subprocess.run([PROGRAM, 'debug'], input=session.encode(), capture_output=True, check=True)
     found = []
-    for line in done.stdout.decode('ascii').splitlines():
+    for line in outcome(['debug'], session.encode())[2].decode('ascii').splitlines():
         if line.startswith('at '):
             found.append([])
         found[-1].append(line.split(' '))
@@ -225,28 +145,12 @@ def signs(words):
 
 # ---- the data, without a browser
 
-BY_HAND = """sim 3100000
-node s sender
-node r receiver
-link a s r 8000000 1000000 droptail 2
-link b r s 8000000 1000000 droptail 10
-flow f s r 1000 8 0 64000 0
-"""
-# Data packets take 1.04 ms on link a, acknowledgements 0.04 ms on link b; both delays are 1 ms.
-TRACE = """1 0 0 0 0 start 0 una=0 nxt=4000 cwnd=4000 ssthresh=64000 phase=ss tx=0:0:0 drop=full:0:3000
-2 1040000 0 0 3 free 0 una=0 nxt=4000 cwnd=4000 ssthresh=64000 phase=ss tx=0:0:1000
-3 2040000 1 1 1 data 0 0 next=1000 tx=1:0:1000
-4 2080000 0 0 3 free 0 una=0 nxt=4000 cwnd=4000 ssthresh=64000 phase=ss tx=0:0:2000
-5 2080000 1 0 3 free 1 next=1000
-6 3080000 0 2 1 ack 0 1000 una=1000 nxt=6000 cwnd=5000 ssthresh=64000 phase=ss
-7 3080000 1 1 2 data 0 1000 next=2000 tx=1:0:2000
-end 7
-"""
+# The run of test_trace.py, up to its seventh line.
+BY_HAND = test_trace.BY_HAND.replace('sim 12000000', 'sim 3100000')
+TRACE = ''.join(test_trace.TRACE.splitlines(True)[:7]) + 'end 7\n'
 
 
 class Files(Folder):
-    """Tests that write into a folder of their own."""
-
     def path(self, name, text=None):
         return os.path.join(self.folder, name) if text is None else self.put(name, text)
 
@@ -259,8 +163,7 @@ def part_of(text, trace, begin=0, end=None):
 
 
 def scenario_of(name):
-    with open(paths(name)[0], encoding='ascii') as file:
-        return Scenario(file.read())
+    return Scenario(example(name)[0])
 
 
 def test_state_before_a_moment_by_hand():
@@ -284,8 +187,7 @@ def test_to_leaves_its_moment_out():
 def test_states_are_the_debuggers():
     for name in COMPARED:
         scenario = scenario_of(name)
-        with open(paths(name)[1], encoding='ascii') as file:
-            lines = file.read().splitlines()
+        lines = example(name)[1]
         moments = sorted({int(line.split()[1]) for line in lines[:-1]})
         chosen = random.Random(name).sample(moments, min(20, len(moments)))
         parts = [recording.Part(scenario, lines, moment) for moment in chosen]
@@ -314,9 +216,8 @@ def compare(part, dump):
 
 
 def test_every_example_is_taken_whole():
-    for name in sorted(file[:-6] for file in os.listdir(EXAMPLES) if file.endswith('.trace')):
-        with open(paths(name)[1], encoding='ascii') as file:
-            lines = file.read().splitlines()
+    for name in NAMES:
+        lines = example(name)[1]
         part = recording.Part(scenario_of(name), lines)
         assert part.whole, name
         assert lines[:-1] == part.lines, name
@@ -364,8 +265,7 @@ class TestRefusals(Files):
         self.refused('PNG\u00e9\n', 'line 1 ')
 
     def test_other_scenario(self):
-        with open(paths('four_flows_share_codel')[1], encoding='ascii') as file:
-            self.refused(file.read(), 'line 1 ')
+        self.refused(read_text(paths('four_flows_share_codel')[1]), 'line 1 ')
 
     def test_no_scenario(self):
         self.refused(TRACE, 'line 2', scenario='sim 5\nnode\n')
@@ -389,18 +289,15 @@ class TestRefusals(Files):
         assert done.returncode == 2
         assert 'Traceback' not in done.stderr
 
-    def test_too_many_events_name_what_fits(self):
-        most, recording.MOST_EVENTS = recording.MOST_EVENTS, 4
-        try:
-            with pytest.raises(Unreadable) as refused:
-                part_of(BY_HAND, TRACE)
-            words = str(refused.value).replace(',', '').split()
-            spans = [units.moment(words[n + 1]) for n, word in enumerate(words) if word in ('--from', '--to')]
-            assert spans == [0, 2080000, 2080000]
-            assert len(part_of(BY_HAND, TRACE, spans[0], spans[1]).lines) == 3
-            assert len(part_of(BY_HAND, TRACE, spans[2]).lines) == 4
-        finally:
-            recording.MOST_EVENTS = most
+    def test_too_many_events_name_what_fits(self, monkeypatch):
+        monkeypatch.setattr(recording, 'MOST_EVENTS', 4)
+        with pytest.raises(Unreadable) as refused:
+            part_of(BY_HAND, TRACE)
+        words = str(refused.value).replace(',', '').split()
+        spans = [units.moment(words[n + 1]) for n, word in enumerate(words) if word in ('--from', '--to')]
+        assert spans == [0, 2080000, 2080000]
+        assert len(part_of(BY_HAND, TRACE, spans[0], spans[1]).lines) == 3
+        assert len(part_of(BY_HAND, TRACE, spans[2]).lines) == 4
 
 
 class TestPages(Files):
@@ -409,8 +306,7 @@ class TestPages(Files):
             out = self.path('a.html')
             done = self.run_script(*paths(name), '-o', out)
             assert done.returncode == 0, done.stderr
-            with open(out, encoding='utf-8') as file:
-                text = file.read()
+            text = read_text(out)
             assert '@@' not in text.partition('id="facts"')[2]
             assert not re.search(r'(src|href)=["\']?(https?:)?//', text)
             packed = text.partition('id="trace">')[2].partition('</script>')[0]
@@ -423,8 +319,7 @@ class TestPages(Files):
             done = self.run_script(paths('two_timeouts_in_a_row')[0], *words, '--program', PROGRAM, '-o',
                                    self.path(f'{len(words)}.html'))
             assert done.returncode == 0, done.stderr
-        with open(self.path('0.html'), 'rb') as one, open(self.path('1.html'), 'rb') as other:
-            assert one.read() == other.read()
+        assert read(self.path('0.html')) == read(self.path('1.html'))
         self.refused_by_program(PROGRAM)
 
     def refused_by_program(self, named):
@@ -437,32 +332,26 @@ class TestPages(Files):
         os.mkdir(given)
         self.path('given/by_hand.txt', '# One line,\n# <and> another.\n' + BY_HAND)
         self.path('given/by_hand.trace', TRACE)
-        script = os.path.join(TOP, 'dev', 'pages.py')
-        done = subprocess.run([sys.executable, script, '--examples', given, '-o', out], capture_output=True, text=True,
-                              check=False)
+        words = sys.executable, os.path.join(TOP, 'dev', 'pages.py'), '--examples', given, '-o'
+        done = ran(*words, out, text=True)
         assert done.returncode == 0, done.stderr
         assert sorted(os.listdir(out)) == ['by_hand.html', 'index.html']
-        with open(os.path.join(out, 'index.html'), encoding='utf-8') as file:
-            text = file.read()
+        text = read_text(out, 'index.html')
         assert 'href="by_hand.html"' in text
         assert 'One line, &lt;and&gt; another.' in text
         self.path('given/by_hand.trace', TRACE.replace('una=1000', 'una=2000'))
-        done = subprocess.run([sys.executable, script, '--examples', given, '-o', self.path('none')],
-                              capture_output=True, text=True, check=False)
+        done = ran(*words, self.path('none'), text=True)
         assert (done.returncode, done.stderr.count('\n')) == (1, 1), done.stderr
         assert 'line 6' in done.stderr
 
     def test_d3_is_brought_along(self):
         """Each page has the clone's d3 whole, and its license lies beside it."""
-        with open(page.LIBRARY, encoding='utf-8') as file:
-            library = file.read()
+        library = read_text(page.LIBRARY)
         assert 'version:"3.' in library[:200]
-        with open(os.path.join(os.path.dirname(page.LIBRARY), 'LICENSE'), encoding='utf-8') as file:
-            assert 'Michael Bostock' in file.read()
+        assert 'Michael Bostock' in read_text(os.path.dirname(page.LIBRARY), 'LICENSE')
         out = self.path('a.html')
         assert self.run_script(*paths('one_segment'), '-o', out).returncode == 0
-        with open(out, encoding='utf-8') as file:
-            assert library in file.read()
+        assert library in read_text(out)
 
 
 # ---- the page in a browser
@@ -553,8 +442,7 @@ PAGES = tempfile.TemporaryDirectory(prefix='replay')
 def page_of(name, *words):
     """The page of an example, made once; its path."""
     out = os.path.join(PAGES.name, f'{name}{"".join(words)}.html')
-    subprocess.run([sys.executable, os.path.join(BIN, 'tcpsim-replay'), *paths(name), '-o', out, *words],
-                   check=True, capture_output=True)
+    assert tool('replay', *paths(name), '-o', out, *words).returncode == 0
     return out
 
 
@@ -564,7 +452,7 @@ class WithBrowser:
     @classmethod
     def setup_class(cls):
         cls.folder = tempfile.mkdtemp(prefix='replay')
-        cls.browser = Browser(os.path.join(cls.folder, 'profile'), cls.environment())
+        cls.browser = Browser(cls.folder, cls.environment())
 
     @classmethod
     def environment(cls):
@@ -648,8 +536,7 @@ class TestInBrowser(WithBrowser):
 
     def walk(self, name):
         scenario = scenario_of(name)
-        with open(paths(name)[1], encoding='ascii') as file:
-            lines = file.read().splitlines()[:-1]
+        lines = example(name)[1][:-1]
         positions = positions_of(name, len(lines))
         assert len(positions) == POSITIONS
         self.browser.open(self.made(name), f'#event={positions[0]}')
@@ -668,10 +555,9 @@ class TestInBrowser(WithBrowser):
 
     def test_every_example_at_three_moments(self):
         """The other examples: one early, one in the middle, one late event."""
-        for name in sorted(file[:-6] for file in os.listdir(EXAMPLES) if file.endswith('.trace')):
+        for name in NAMES:
             scenario = scenario_of(name)
-            with open(paths(name)[1], encoding='ascii') as file:
-                lines = file.read().splitlines()[:-1]
+            lines = example(name)[1][:-1]
             chosen = [len(lines) // 10 + 1, len(lines) // 2, len(lines)]
             self.browser.open(self.made(name))
             for position, dump in zip(chosen, dumps(name, chosen)):
@@ -681,7 +567,7 @@ class TestInBrowser(WithBrowser):
     def test_columns(self):
         """By hand: senders first, then the routers p, q, u in a row; rb is behind q, ra and rc behind u."""
         self.browser.open(self.made('parking_lot_of_three_routers'))
-        columns = json.loads(self.browser.value('JSON.stringify(page.net.places.map(place => place.column))'))
+        columns = self.browser.json('page.net.places.map(place => place.column)')
         assert columns == [1, 2, 3, 0, 4, 0, 3, 0, 4]
 
     def test_ticks_draw_curves(self):
@@ -698,20 +584,18 @@ class TestInBrowser(WithBrowser):
         run = read_run(*paths(name))
         self.browser.open(self.made(name))
         for number, flow in enumerate(run.flows):
-            curve = json.loads(self.browser.value(
-                f'JSON.stringify(page.record.curve(page.record.ofFlow({number}, CWND)))'))
+            curve = self.browser.json(f'page.record.curve(page.record.ofFlow({number}, CWND))')
             changes = [(time, now) for time, now, before in zip(flow.times, flow.cwnd, [4000, *flow.cwnd])
                        if now != before]
             assert list(zip(curve['times'], curve['values']))[1:] == changes
-        longest = json.loads(self.browser.value('JSON.stringify(page.record.longest)'))
-        assert [max(link.queue, default=0) for link in run.links] == json.loads(self.browser.value('JSON.stringify(page.facts.links.map((_, l) => '
-                                                       'd3.max(page.record.queueCurve(l).values)))'))
+        longest = self.browser.json('page.record.longest')
+        assert [max(link.queue, default=0) for link in run.links] == self.browser.json(
+            'page.facts.links.map((_, l) => d3.max(page.record.queueCurve(l).values))')
         assert all(a >= max(link.queue, default=0) for a, link in zip(longest, run.links))
 
     def test_from_a_moment_on(self):
         name, scenario = 'four_flows_share_codel', scenario_of('four_flows_share_codel')
-        with open(paths(name)[1], encoding='ascii') as file:
-            lines = file.read().splitlines()[:-1]
+        lines = example(name)[1][:-1]
         self.browser.open(self.made(name, '--from', '2s', '--to', '3s'))
         first = sum(int(line.split()[1]) < 2 * 10**9 for line in lines)
         last = sum(int(line.split()[1]) < 3 * 10**9 for line in lines)
@@ -753,8 +637,7 @@ class TestInBrowser(WithBrowser):
         found, last = [], None
         while True:
             self.browser.press(key)
-            event, time_ns = json.loads(self.browser.value(
-                'JSON.stringify([page.record.at, page.record.timeOf(page.record.at)])'))
+            event, time_ns = self.browser.json('[page.record.at, page.record.timeOf(page.record.at)]')
             if event == last:
                 return found
             found.append(time_ns)
@@ -763,33 +646,28 @@ class TestInBrowser(WithBrowser):
     def test_stalls_are_those_of_stalls_py(self):
         """`s` visits the moments from which tcpsim-stalls says that a flow stood still, in every example, but for first
         round trips that are no more than 200 ms longer than the empty way."""
-        for name in sorted(file[:-6] for file in os.listdir(EXAMPLES) if file.endswith('.trace')):
+        for name in NAMES:
             rows = [row for row in self.rows_of_stalls(name) if not is_first_round_trip(scenario_of(name), *row)]
             self.browser.open(self.made(name))
-            told = json.loads(self.browser.value('JSON.stringify(page.record.stalls.map(s => '
-                                                 '[page.facts.flows[s.flow].name, s.from, s.to]))'))
-            assert sorted(told) == sorted(rows)
+            assert sorted(self.browser.json(STALLS)) == sorted(rows)
             # Where there is no stall `s` stays before the first event, at 0.
             assert self.visited('s') == (sorted(row[1] for row in rows) or [0])
             assert 'no stall after this event' in self.browser.shown()['notice']
 
     def rows_of_stalls(self, name, *words):
-        done = subprocess.run([sys.executable, os.path.join(BIN, 'tcpsim-stalls'), *paths(name), '--csv', *words],
-                              capture_output=True, text=True, check=True)
+        done = tool('stalls', *paths(name), '--csv', *words, text=True)
         return [[row['flow'], int(row['from']), int(row['to'])] for row in csv.DictReader(io.StringIO(done.stdout))]
 
     def test_stalls_of_a_part(self):
         """Those that begin within the part, with the moments that they have in the whole run."""
         name, begin, end = 'four_flows_share_codel', 2 * 10**9, 7 * 10**9
         self.browser.open(self.made(name, '--from', '2s', '--to', '7s'))
-        told = json.loads(self.browser.value('JSON.stringify(page.record.stalls.map(s => '
-                                             '[page.facts.flows[s.flow].name, s.from, s.to]))'))
         last = self.browser.value('page.record.times[page.record.count]')
         rows = [[flow, since, min(to, last)] for flow, since, to in self.rows_of_stalls(name)
                 if begin <= since < end and min(to, last) - since > 2 * 10**8
                 and not is_first_round_trip(scenario_of(name), flow, since, to)]
         assert len(rows) > 10
-        assert sorted(told) == sorted(rows)
+        assert sorted(self.browser.json(STALLS)) == sorted(rows)
 
     def test_clicks_say_words_and_commands(self):
         self.browser.open(self.made('two_timeouts_in_a_row'), '#event=27')
@@ -815,8 +693,8 @@ class TestInBrowser(WithBrowser):
         self.browser.open(self.made('two_flows_share_fairly'))
         for chart in ('windows', 'lengths'):
             self.browser.click(f'document.querySelector("#{chart} .catch")')
-            times = json.loads(self.browser.value('JSON.stringify([page.time, page.record.timeOf(page.record.at), '
-                                                  'page.record.timeOf(page.record.at + 1), ...page.windows.x.domain()])'))
+            times = self.browser.json('[page.time, page.record.timeOf(page.record.at), page.record.timeOf(page.record.at + 1), '
+                                      '...page.windows.x.domain()]')
             middle = (times[3] + times[4]) / 2
             assert times[0] == pytest.approx(middle, rel=0, abs=(times[4] - times[3]) / 400)
             assert times[1] < times[0]
@@ -875,24 +753,24 @@ class OneFont:
         """Every example's page at 1,280 by 720: where most was dropped at once, where most packets wait, at
         the last timeout or at the end, and with the words of the first stall. (The words of a line with drops
         may want scrolling.)"""
-        for name in sorted(file[:-6] for file in os.listdir(EXAMPLES) if file.endswith('.trace')):
+        for name in NAMES:
             self.browser.open(self.made(name))
             assert [self.browser.families(css) for css in ('h1', '#windows .title', '#where')] == \
                 [{self.sans}, {self.sans}, {self.mono}]
-            for moment in json.loads(self.browser.value(MOMENTS)):
+            for moment in self.browser.json(MOMENTS):
                 self.browser.go(moment)
-                assert collisions(json.loads(self.browser.value(SEEN))) == []
+                assert collisions(self.browser.json(SEEN)) == []
             self.browser.press('Home')
             self.browser.press('s')
             assert self.browser.shown()['notice'] != ''
-            assert collisions(json.loads(self.browser.value(SEEN))) == []
+            assert collisions(self.browser.json(SEEN)) == []
 
     def test_axis_of_time_has_its_labels(self):
         """However wide they are: at least three, and the curves reach from the axis to the last moment."""
         for name in COMPARED:
             self.browser.open(self.made(name))
-            labels = json.loads(self.browser.value('JSON.stringify(["#windows", "#lengths"].map(css => '
-                                                   '[...document.querySelectorAll(css + " .axis:nth-of-type(2) text")].length))'))
+            labels = self.browser.json('["#windows", "#lengths"].map(css => '
+                                       '[...document.querySelectorAll(css + " .axis:nth-of-type(2) text")].length)')
             assert all(count >= 3 for count in labels), (name, labels)
 
 
@@ -909,19 +787,16 @@ class TestLiberationAlone(OneFont, WithBrowser):
 
 
 def draw_pictures():
-    """A picture of each compared example, and of its page at 1,280 by 720."""
+    """A picture of each compared example, and of its page at 1,000 by 640, in 1.4 times as many pixels: letters can be read."""
     folder = tempfile.mkdtemp(prefix='replay')
     browser = Browser(os.path.join(folder, 'profile'))
+    browser.call('Emulation.setDeviceMetricsOverride', width=1000, height=640, deviceScaleFactor=1.4, mobile=False)
     try:
         for name, event in PICTURED.items():
-            out = os.path.join(folder, 'a.html')
-            subprocess.run([sys.executable, os.path.join(BIN, 'tcpsim-replay'), *paths(name), '-o', out],
-                           check=True, capture_output=True)
-            browser.open(out, f'#event={event}')
+            browser.open(page_of(name), f'#event={event}')
             browser.picture(os.path.join(PICTURES, f'replay_{name}.png'))
     finally:
         browser.close()
-        shutil.rmtree(folder, True)
 
 
 if __name__ == '__main__':

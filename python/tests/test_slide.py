@@ -99,9 +99,9 @@ def shown(begin=0, end=100):
 
 def test_a_recoverys_window_is_drawn_whole():
     view = view_of((0, 20, 30, 50), (8000, 16_000, 30_000, 8000), recoveries=[(20, 50)])
-    assert broken.heights_of(shown(), view) == (30_000, 8000)      # the first: slow start's
+    assert broken.heights_of(shown(), view) == (30_000, 8000, 8000)    # the first: slow start's
     view = view_of((0, 10, 20, 50, 60, 70), (9000, 12_000, 6000, 12_000, 15_000, 6000), recoveries=[(10, 20), (60, 70)])
-    assert broken.heights_of(shown(), view) == (15_000, 15_000)
+    assert broken.heights_of(shown(), view) == (15_000, 15_000, 12_000)
 
 
 @pytest.mark.parametrize('name', ['fast_recovery', 'a_lost_retransmission'])
@@ -115,8 +115,11 @@ def test_the_lessons_window_is_in_its_panel(name):
 def test_slow_starts_overshoot_breaks_the_axis():
     high = view_of((0, 10, 20, 60), (4000, 100_000, 10_000, 20_000), timeouts=[20])
     heights = broken.heights_of(shown(), high)
-    assert heights == (100_000, 20_000)
-    assert broken.axis_of([heights], [True]) == (20_000, 100_000)
+    assert heights == (100_000, 20_000, 100_000)
+    assert broken.axis_of([heights], [True]) == (20_000, 100_000, 100_000)
+    # an axis of a height that was asked for is broken above that, or not at all
+    assert broken.axis_of([heights], [True], 40_000) == (40_000, 100_000, 100_000)
+    assert broken.axis_of([heights], [True], 120_000) == (120_000, 120_000, 100_000)
     # one that is not much higher, and one after which little is seen
     assert broken.heights_of(shown(), view_of((0, 20, 60), (30_000, 10_000, 20_000), timeouts=[20])).later == 30_000
     assert broken.heights_of(shown(), view_of((0, 80, 90), (90_000, 10_000, 20_000), timeouts=[80])).later == 90_000
@@ -126,14 +129,15 @@ def test_slow_starts_overshoot_breaks_the_axis():
 
 def test_a_broken_axis_is_told_and_has_its_top():
     axes = Figure().subplots()
-    axis = broken.Axis(20_000, 100_000)
+    axis = broken.Axis(20_000, 100_000, 64_090)
     broken.set_heights(axes, axis, 1000, 6)
-    assert broken.note_of(axis) == 'axis broken: slow start reaches 100 kB'
-    assert broken.note_of(broken.Axis(100, 100)) == ''
+    assert broken.notes_of(axis) == ['axis broken: up to 64.1 kB', 'in recovery 100 kB']
+    assert broken.notes_of(axis._replace(calm=100_000)) == ['axis broken: up to 100 kB']
+    assert broken.notes_of(broken.Axis(100, 100, 100)) == []
     places = axes.transData.transform([(0, y) for y in (0, 10, 20, 60, 100)])[:, 1]
     assert (np.diff(places) > 0).all()
     assert places[4] < axes.bbox.y1
-    assert (places[2] - places[0]) > 3 * (places[4] - places[2])       # what comes later has most of the panel
+    assert (places[2] - places[0]) > 2 * (places[4] - places[2])       # what comes later has most of the panel
     assert [text.get_text() for text in axes.get_yticklabels()][-1] == '100'
     assert [patch for patch in axes.patches if patch.get_hatch()]
 
@@ -142,7 +146,7 @@ def test_a_picture_with_a_broken_axis():
     drawn = figure(*example('four_flows_share_a_long_queue'), '--panels', 'window')
     notes = [text.get_text() for axes in drawn.get_axes() for text in axes.texts] + \
         [axes.get_title(loc='right') for axes in drawn.get_axes()]
-    assert [note for note in notes if note.startswith('axis broken: slow start reaches')]
+    assert [note for note in notes if 'axis broken: up to 64.1 kB\nin recovery 75 kB' in note]
 
 
 def test_the_receivers_window_only_where_it_binds(hand):
@@ -198,6 +202,7 @@ def test_a_slide(name, words):
                     min(box.y1, second.y1) - max(box.y0, second.y0) > 2), (one, other)
     for text, box in boxes:
         assert box.x0 >= axes.bbox.x0 - 2 and box.x1 <= axes.bbox.x1 + 2, text
+        assert box.y0 >= axes.bbox.y0 - 2 and box.y1 <= axes.bbox.y1 + 2, text      # a title is none of them
 
 
 def test_a_slides_label_lies_at_its_line():

@@ -7,45 +7,54 @@ import numpy as np
 from matplotlib.axes import Axes
 from matplotlib.ticker import FixedFormatter, FixedLocator, MaxNLocator
 
-from .picture import recoveries
+from .picture import FlowView, Picture, recoveries
 from .points import outside, within
 from .style import STEPS, bytes_text
 
 OVERSHOOT = 1.8         # slow start's window is this many times the greatest one later, and the axis is broken,
 LATER = .4              # where what comes later is at least this part of the picture,
 LEAST = 16              # and slow start's window has so many segments
-ABOVE = .2              # how high the part above the break is drawn, as a part of what is below it
+ABOVE = .3              # how high the part above the break is drawn, as a part of what is below it,
+GAP = .05               # and the break
+TICKS_ABOVE = 2
 ROOM = 1.12             # how much higher than the greatest value an axis goes
 
-# The greatest window of a flow in sight; the greatest one after slow start, where that is much less, else the same.
-Heights = namedtuple('Heights', 'top later')
-# How high an axis goes: in full to `knee`, and where `top` is above it, in little from there to `top`.
-Axis = namedtuple('Axis', 'knee top')
+# The greatest window of a flow in sight; the greatest one after slow start, where that is much less, else the same; and the
+# greatest one that is none of a recovery.
+Heights = namedtuple('Heights', 'top later calm')
+# How high an axis goes: in full to `knee`, and where `top` is above it, in little from there to `top`. Of the window above the
+# break `calm` is the greatest value that is none of a recovery.
+Axis = namedtuple('Axis', 'knee top calm')
 
 
-def heights_of(picture, view) -> Heights:
+def heights_of(picture: Picture, view: FlowView) -> Heights:
     """The heights of a flow's window in sight, in bytes; a recovery's window counts as any other."""
     times, values = within(view.run.times, view.run.cwnd, picture.until(view))
     top = max(1, int(values.max()) if len(values) else 1)
+    calm = greatest(outside(times, values, recoveries(view)), top)
     over, (begin, end) = slow_start_over(view), picture.window
     if over is None or picture.until(view)[1] - max(over, begin) < LATER * (end - begin):
-        return Heights(top, top)
-    after = outside(times, values, [(picture.window[0], over)])
-    after = int(np.nanmax(after)) if np.isfinite(after).any() else top
-    return Heights(top, after if top > OVERSHOOT * after and top >= LEAST * view.run.flow.mss else top)
+        return Heights(top, top, calm)
+    after = greatest(outside(times, values, [(picture.window[0], over)]), top)
+    return Heights(top, after if top > OVERSHOOT * after and top >= LEAST * view.run.flow.mss else top, calm)
 
 
-def slow_start_over(view):
+def greatest(values: np.ndarray, without: int) -> int:
+    """The greatest value, or where there is none the other one."""
+    return int(np.nanmax(values)) if np.isfinite(values).any() else without
+
+
+def slow_start_over(view: FlowView) -> int | None:
     """When the first slow start and the recovery that ends it are over, in ns; None where no segment was lost."""
     ends = [end for _, end in recoveries(view)[:1]] + list(view.run.timeouts[:1])
     return min(ends, default=None)
 
 
-def axis_of(heights: list, shared: list) -> Axis:
-    """The axis of the panels that share one."""
-    knee = max(its.later for its, common in zip(heights, shared) if common)
-    top = max(its.top for its, common in zip(heights, shared) if common)
-    return Axis(knee, top) if top > OVERSHOOT * knee else Axis(top, top)
+def axis_of(heights: list, shared: list, least: int = 0) -> Axis:
+    """The axis of the panels that share one, at least so high."""
+    mine = [its for its, common in zip(heights, shared) if common]
+    knee, top, calm = max(least, *(its.later for its in mine)), max(its.top for its in mine), max(its.calm for its in mine)
+    return Axis(knee, top, calm) if top > OVERSHOOT * knee else Axis(max(knee, top), max(knee, top), calm)
 
 
 def set_heights(axes: Axes, axis: Axis, scale: int, most: int) -> None:
@@ -66,18 +75,24 @@ def set_heights(axes: Axes, axis: Axis, scale: int, most: int) -> None:
 
     axes.set_yscale('function', functions=(drawn, meant))
     axes.set_ylim(low, 1.06 * top)
-    ticks = [tick for tick in locator.tick_values(0, axis.knee / scale) if 0 <= tick <= knee] + [top]
+    ticks = [tick for tick in locator.tick_values(0, axis.knee / scale) if 0 <= tick <= knee]
+    over = knee + GAP * knee / rest
+    above = MaxNLocator(TICKS_ABOVE, steps=STEPS, min_n_ticks=1).tick_values(over, top)
+    ticks += [tick for tick in above if over < tick <= 1.06 * top] or [top]
     axes.yaxis.set_major_locator(FixedLocator(ticks))
     axes.yaxis.set_major_formatter(FixedFormatter([f'{tick:,.3g}' for tick in ticks]))
-    axes.axhspan(knee, knee + .03 * knee / rest, facecolor='#FFFFFF', edgecolor='#888888', hatch='////', lw=0, zorder=4)
+    axes.axhspan(knee, over, facecolor='#FFFFFF', edgecolor='#777777', hatch='////', lw=.8, zorder=4)
 
 
-def note_of(axis: Axis) -> str:
+def notes_of(axis: Axis) -> list[str]:
     """What is said of an axis that is broken; nothing of another."""
-    return f'axis broken: slow start reaches {bytes_text(axis.top)}' if axis.top > axis.knee else ''
+    if axis.top <= axis.knee:
+        return []
+    return [f'axis broken: up to {bytes_text(axis.calm, 3)}',
+            *([f'in recovery {bytes_text(axis.top, 3)}'] if axis.top > axis.calm else [])]
 
 
-def binds(view, picture) -> bool:
+def binds(view: FlowView, picture: Picture) -> bool:
     """Whether the receiver's window keeps the sender back in sight: what is in flight fills it, but for less than a
     segment."""
     _, flight = within(view.run.times, view.run.flight, picture.until(view))

@@ -4,22 +4,27 @@ from __future__ import annotations
 import argparse
 import os
 from collections import namedtuple
+from collections.abc import Iterable, Sequence
 
 import numpy as np
+from numpy.typing import ArrayLike
 
 from tcpsim.command_line import Words, as_type
 from tcpsim.output import printable
 from tcpsim.scenario import units
-from tcpsim.scenario.text import Unreadable
+from tcpsim.scenario.text import Flow, Link, Unreadable
 from tcpsim.curves import Run, read_run
 from tcpsim.whole_trace import inputs_of
 
-from .clock import Clock, idle_spans, length_text
+from .clock import Clock, Cut, idle_spans, length_text
 from .layout import FIRST_CHOICE, PANELS
+from .notes import differences, flow_notes, link_note
 from .picture import FlowView, LinkView, Picture
 
 S = 10**9
 MOST_LINKS = 4
+# The panels whose axes can be given a height, and what reads it.
+TOPS = {'window': units.size, 'queue': units.count, 'delay': units.moment, 'progress': units.size}
 Named = namedtuple('Named', 'name run')
 
 
@@ -43,6 +48,18 @@ def list_of_names(text: str) -> list[str]:
     return names
 
 
+def tops(text: str) -> dict[str, int]:
+    """A type of option: of panels how high their axes go at least, as `window=36k,queue=60,delay=1s`."""
+    found = {}
+    for part in text.split(','):
+        name, _, value = part.partition('=')
+        if name not in TOPS:
+            raise argparse.ArgumentTypeError(f'{part!r} is no height of an axis: write one of {", ".join(TOPS)} and its value, '
+                                             'as queue=60')
+        found[name] = as_type(TOPS[name])(value)
+    return found
+
+
 def picture_file(text: str) -> str:
     """A type of option: a picture's file, by its ending."""
     if os.path.splitext(text)[1] not in ('.png', '.svg', '.pdf'):
@@ -52,7 +69,22 @@ def picture_file(text: str) -> str:
 
 def words_of(given: list[str] | None = None) -> argparse.Namespace:
     """What the words ask for."""
-    words, moment = Words(description='Draws a run of a scenario.'), as_type(units.moment)
+    words = Words(description='Draws a run of a scenario.')
+    add_words(words)
+    given = words.parse_args(given)
+    if any(len(other) > 2 for other in given.beside):
+        words.error('--beside takes a scenario and at most a trace; for one more run write --beside again')
+    if given.names and len(given.names) != 1 + len(given.beside):
+        words.error(f'--names has {len(given.names)}, and there are {1 + len(given.beside)} runs')
+    if given.slide and len(given.panels or ['window']) > 1:
+        words.error(f'--slide draws one panel, and --panels names {len(given.panels)}')
+    given.panels = given.panels or (['window'] if given.slide else list(FIRST_CHOICE))
+    return given
+
+
+def add_words(words: Words) -> None:
+    """The words that there are."""
+    moment = as_type(units.moment)
     words.add_argument('scenario', metavar='SCENARIO')
     words.add_trace()
     words.add_argument('-o', '--output', dest='file', metavar='FILE', required=True, type=picture_file,
@@ -70,6 +102,9 @@ def words_of(given: list[str] | None = None) -> argparse.Namespace:
                        help='stalls are marked, spans without a new acknowledgement longer than this; else '
                             'than 200ms and a 20th of the picture')
     words.add_argument('--log', action='store_true', help='delays on a logarithmic axis')
+    words.add_argument('--top', dest='tops', type=tops, metavar='PANEL=VALUE,..', default={},
+                       help=f'how high axes go at least, so that two pictures can be compared: of {", ".join(TOPS)}, as '
+                            'queue=60,window=36k')
     words.add_argument('--whole', action='store_true', help='leave no idle span out of the axis of time')
     words.add_argument('--slide', action='store_true',
                        help='one panel for a lecture, 1,600 pixels wide, with letters of 24 points, thick lines, and labels '
@@ -79,15 +114,6 @@ def words_of(given: list[str] | None = None) -> argparse.Namespace:
                        help='one more run, drawn in the same panels or beside them; any number of times')
     words.add_argument('--names', type=list_of_names, metavar='NAMES',
                        help='of the runs, in the place of their files\' names')
-    given = words.parse_args(given)
-    if any(len(other) > 2 for other in given.beside):
-        words.error('--beside takes a scenario and at most a trace; for one more run write --beside again')
-    if given.names and len(given.names) != 1 + len(given.beside):
-        words.error(f'--names has {len(given.names)}, and there are {1 + len(given.beside)} runs')
-    if given.slide and len(given.panels or ['window']) > 1:
-        words.error(f'--slide draws one panel, and --panels names {len(given.panels)}')
-    given.panels = given.panels or (['window'] if given.slide else list(FIRST_CHOICE))
-    return given
 
 
 # ---- names
@@ -97,7 +123,7 @@ def name_of(path: str) -> str:
     return drawable(os.path.splitext(os.path.basename(path))[0])
 
 
-def drawable(text: str):
+def drawable(text: str) -> str:
     """A text as it is drawn: nothing in it is mathematics."""
     return printable(text).replace('$', r'\$')
 
@@ -108,7 +134,7 @@ def title_of(name: str, run: Run) -> str:
     return f'{name}: {count} flow{"" if count == 1 else "s"}, {run.lines:,} events'
 
 
-def distinct(paths):
+def distinct(paths: Iterable[str]) -> list[str]:
     """The runs' names; of equal ones each but the first gets a number."""
     names = []
     for path in paths:
@@ -120,8 +146,8 @@ def distinct(paths):
     return names
 
 
-def named(names, entries, what):
-    """The numbers of the entries of these names, in the names' order."""
+def named(names: Sequence[str], entries: Sequence[Flow | Link], what: str) -> list[int]:
+    """The numbers of the entries of these names, in the names' order; a name that none has is `Unreadable`."""
     by_name = {entry.name: number for number, entry in enumerate(entries)}
     unknown = [name for name in names if name not in by_name]
     if unknown:
@@ -131,8 +157,8 @@ def named(names, entries, what):
 
 # ---- what is shown
 
-def known_until(run: Run):
-    """Up to when nothing more can happen that the trace does not tell."""
+def known_until(run: Run) -> int:
+    """Up to when nothing more can happen that the trace does not tell, in ns."""
     return run.scenario.end if run.whole else run.last
 
 
@@ -142,14 +168,25 @@ def ends_at(run: Run) -> int:
     return run.last if done else known_until(run)
 
 
-def flow_view(run: Run, number: int, name: str, at: int) -> FlowView:
-    """A flow as it is shown: up to its completion."""
-    flow = run.flows[number]
-    return FlowView(flow, name, at, known_until(run) if flow.completed is None else flow.completed)
+def flow_views(chosen: list) -> list[FlowView]:
+    """Flows as they are shown, each up to its completion; `chosen` has of each its run, its number there and its name."""
+    found, unlike = [], differences([run.scenario.flows[number] for run, number, _ in chosen])
+    for at, (run, number, name) in enumerate(chosen):
+        flow = run.flows[number]
+        until = known_until(run) if flow.completed is None else flow.completed
+        words = [word for word in unlike[at] if word not in name]
+        found.append(FlowView(flow, name, at, until, tuple(map(drawable, flow_notes(run.scenario, number, words)))))
+    return found
 
 
-def window_of(given: argparse.Namespace, runs):
-    """The picture's begin and end, and the idle spans that its axis leaves out."""
+def link_view(run: Run, number: int, name: str) -> LinkView:
+    """A link as it is shown; its number is not known yet."""
+    return LinkView(run.links[number], name, 0, ends_at(run), drawable(link_note(run.scenario, number)))
+
+
+def window_of(given: argparse.Namespace, runs: Sequence[Run]) -> tuple[tuple[int, int], list[Cut]]:
+    """The picture's begin and end, and the idle spans that its axis leaves out, in ns; `Unreadable` where nothing
+    happens then."""
     if not all(run.lines for run in runs):
         raise Unreadable('the trace has no line: there is nothing to draw')
     first, last = min(run.begin() for run in runs), max(run.last for run in runs)
@@ -167,21 +204,21 @@ def window_of(given: argparse.Namespace, runs):
     end = max(end, begin + 1)
     cuts = [] if given.whole else idle_spans(moments(runs), begin, end, given.longer or S // 5)
     if given.end is None and end < max(run.scenario.end for run in runs):
-        end += (end - begin - sum(b - a for a, b in cuts)) // 40
+        end += (end - begin - sum(cut.end - cut.begin for cut in cuts)) // 40
     return (begin, end), cuts
 
 
-def stall_of(given: argparse.Namespace, window: tuple[int, int]):
-    """How long a span without a new acknowledgement is at least to be marked: as asked for, else 200 ms or a
-    20th of the window, in a number of one digit."""
+def stall_of(given: argparse.Namespace, window: tuple[int, int]) -> int:
+    """How long a span without a new acknowledgement is at least to be marked, in ns: as asked for, else 200 ms or
+    a 20th of the window, in a number of one digit."""
     if given.longer is not None:
         return given.longer
     least = max(S // 5, (window[1] - window[0]) // 20)
     return next(digit * 10**power for power in range(8, 16) for digit in (1, 2, 5) if digit * 10**power >= least)
 
 
-def moments(runs):
-    """When something happens: at senders and receivers, and at links."""
+def moments(runs: Iterable[Run]) -> np.ndarray:
+    """When something happens, in ns: at senders and receivers, and at links."""
     found_times = [[run.last for run in runs]]
     for run in runs:
         for flow in run.flows:
@@ -192,7 +229,7 @@ def moments(runs):
     return np.concatenate([np.asarray(times, dtype=np.int64) for times in found_times])
 
 
-def worst_links(run: Run, window: tuple[int, int], among):
+def worst_links(run: Run, window: tuple[int, int], among: Iterable[int]) -> list[int]:
     """Of these links those at which packets waited longest in all within the window, if a tenth as long as
     at the worst; where none waited the busiest. In the scenario's order."""
     waited = {number: within(run.links[number].wait_times, run.links[number].waits, window) for number in among}
@@ -203,19 +240,20 @@ def worst_links(run: Run, window: tuple[int, int], among):
     return sorted(number for number in ranked if waited[number] * 10 >= waited[ranked[0]])
 
 
-def within(times, lengths, window: tuple[int, int]) -> int:
-    """The sum of the lengths of what lies in a span."""
+def within(times: ArrayLike, lengths: ArrayLike, window: tuple[int, int]) -> int:
+    """The sum of the lengths of what begins in a span; all are ns."""
     times, lengths = np.asarray(times, dtype=np.int64), np.asarray(lengths, dtype=np.int64)
     return int(lengths[(times >= window[0]) & (times <= window[1])].sum())
 
 
-def ways_of(run: Run, flows):
-    """The links over which these flows go."""
+def ways_of(run: Run, flows: Iterable[int]) -> list[int]:
+    """The links over which these flows go, by their numbers."""
     return sorted({link for flow in flows for way in run.scenario.ways[flow] for link in way})
 
 
-def shown_of(given: argparse.Namespace, run: Run, window: tuple[int, int], most_links=None):
-    """The flows and links of a run that are shown."""
+def shown_of(given: argparse.Namespace, run: Run, window: tuple[int, int],
+             most_links: int | None = None) -> tuple[list[int], list[int]]:
+    """The flows and links of a run that are shown, by their numbers."""
     flows = list(range(len(run.flows))) if given.flows is None else named(given.flows, run.scenario.flows, 'flow')
     if given.links is not None:
         return flows, named(given.links, run.scenario.links, 'link')
@@ -226,37 +264,42 @@ def shown_of(given: argparse.Namespace, run: Run, window: tuple[int, int], most_
     return flows, links
 
 
+def drawn_by(given: argparse.Namespace, flows: list, links: list, clock: Clock) -> Picture:
+    """What is drawn of these flows and links, as the words ask for it."""
+    picture = Picture(flows, [view._replace(number=at) for at, view in enumerate(links)], clock, bool(given.beside),
+                      stall_of(given, clock.window), given.log)
+    picture.tops = given.tops
+    return picture
+
+
 def picture_of(given: argparse.Namespace, run: Run) -> Picture:
     """What is drawn of one run."""
     window, cuts = window_of(given, (run,))
     flows, links = shown_of(given, run, window)
-    return Picture([flow_view(run, n, run.scenario.flows[n].name, at) for at, n in enumerate(flows)],
-                   [LinkView(run.links[n], run.scenario.links[n].name, at, ends_at(run)) for at, n in enumerate(links)],
-                   Clock(window, cuts), longer=stall_of(given, window), log=given.log)
+    return drawn_by(given, flow_views([(run, n, run.scenario.flows[n].name) for n in flows]),
+                    [link_view(run, n, run.scenario.links[n].name) for n in links], Clock(window, cuts))
 
 
-def beside(given: argparse.Namespace, runs) -> Picture:
+def beside(given: argparse.Namespace, runs: Sequence[tuple[str, Run]]) -> Picture:
     """Several runs: the flows of each, and of each the link at which packets waited longest, or those asked
     for, under the names of their scenarios."""
     window, cuts = window_of(given, [run for _, run in runs])
     flows, links = [], []
     for name, run in runs:
         of_flows, of_links = shown_of(given, run, window, most_links=1)
-        flows += [flow_view(run, n, name + f', flow {run.scenario.flows[n].name}', 0) for n in of_flows]
-        links += [LinkView(run.links[n], name + ('' if len(of_links) == 1 else f', {run.scenario.links[n].name}'),
-                           0, ends_at(run)) for n in of_links]
-    return Picture([view._replace(number=at) for at, view in enumerate(flows)],
-                   [view._replace(number=at) for at, view in enumerate(links)],
-                   Clock(window, cuts), True, stall_of(given, window), given.log)
+        flows += [(run, n, name + f', flow {run.scenario.flows[n].name}') for n in of_flows]
+        links += [link_view(run, n, name + ('' if len(of_links) == 1 else f', {run.scenario.links[n].name}'))
+                  for n in of_links]
+    return drawn_by(given, flow_views(flows), links, Clock(window, cuts))
 
 
-def runs_of(given: argparse.Namespace) -> list:
+def runs_of(given: argparse.Namespace) -> list[tuple[str, Run]]:
     """The runs that the words name: (name, run)."""
     wanted = [(given.scenario, given.trace)] + [(other[0], (other[1:] or [None])[0]) for other in given.beside]
     names = [drawable(name) for name in given.names or ()] or distinct([path for path, _ in wanted])
     return [(name, read_run(path, trace, given.program, given.partial)) for name, (path, trace) in zip(names, wanted)]
 
 
-def all_inputs(given: argparse.Namespace):
-    """The files that the words have it read."""
+def all_inputs(given: argparse.Namespace) -> tuple[str | None, ...]:
+    """The files that the words have it read; None for one that they leave out."""
     return (*inputs_of(given), *(path for other in given.beside for path in other))

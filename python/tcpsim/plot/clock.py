@@ -1,27 +1,37 @@
 """The axis of time of a picture: its window, its unit, and the idle spans that it leaves out."""
 from __future__ import annotations
 
+from collections import namedtuple
+from collections.abc import Sequence
+
 import numpy as np
 from matplotlib.axes import Axes
 from matplotlib.ticker import FixedFormatter, FixedLocator, MaxNLocator
+from numpy.typing import ArrayLike
 
-from .style import STEPS
+from .style import NOTE, STEPS
 
 S = 10**9
 IDLE, KEPT = .2, .25    # a gap is left out that is this part of the window, where what stays is at most that
 APART = .85             # ticks are this part of their mean distance apart, at least
 CUT_WIDTH = .09         # how wide a gap that is left out is drawn, as a part of what stays
 MARGIN = .1            # what stays of a gap at either side, as a part of what stays beside it
+AT_FIRST = 2           # and how many times that at the first moment, whose names have no room to the left
+SLACK = 1e-6           # of the rim: what a tick may lie outside by its arithmetic alone
+RIM = .012              # how far the panel goes on beside the first and the last moment, so that their marks are whole
+
+# What an axis leaves out, and how long nothing happens in all, in ns.
+Cut = namedtuple('Cut', 'begin end idle')
 
 
 def unit_of(width: float) -> tuple[int, str]:
-    """How many nanoseconds the unit of an axis has, and its name."""
+    """How many nanoseconds the unit of an axis so wide (ns) has, and its name."""
     return (S, 's') if width >= S else (10**6, 'ms') if width >= 10**7 else (10**3, 'µs')
 
 
-def idle_spans(moments, begin, end, longer):
+def idle_spans(moments: ArrayLike, begin: int, end: int, longer: int) -> list[Cut]:
     """The spans without any event that are longer than `longer`, where they are most of the time from begin
-    to end."""
+    to end. All are ns."""
     moments = np.unique(np.asarray(moments, dtype=np.int64))
     moments = moments[(moments >= begin) & (moments <= end)]
     if len(moments) < 2:
@@ -32,21 +42,22 @@ def idle_spans(moments, begin, end, longer):
     if not len(long) or kept > KEPT * (end - begin):
         return []
     margin = max(1, int(kept * MARGIN))
-    return [(int(moments[at]) + margin, int(moments[at + 1]) - margin) for at in long]
+    return [Cut(int(moments[at]) + margin * (1 if at else AT_FIRST), int(moments[at + 1]) - margin, int(gaps[at]))
+            for at in long]
 
 
 class Clock:
-    """Where a moment is drawn. Without cuts it is the time in its unit."""
+    """Where a moment is drawn. Without cuts it is the time in its unit. The window and what is cut out of it are ns."""
 
-    def __init__(self, window, cuts=()):
+    def __init__(self, window: tuple[int, int], cuts: Sequence[Cut] = ()):
         self.window = window
-        self.cuts = [(max(a, window[0]), min(b, window[1])) for a, b in cuts
-                     if a < window[1] and b > window[0]]
-        self.kept = window[1] - window[0] - sum(end - begin for begin, end in self.cuts)
+        self.cuts = [Cut(max(cut.begin, window[0]), min(cut.end, window[1]), cut.idle) for cut in cuts
+                     if cut.begin < window[1] and cut.end > window[0]]
+        self.kept = window[1] - window[0] - sum(cut.end - cut.begin for cut in self.cuts)
         # where a span is left out, moments are long numbers of a small unit
         self.scale, self.unit = unit_of(max(self.kept, 10**7) if self.cuts else self.kept)
         knots, places, here = [window[0]], [window[0] / self.scale], window[0] / self.scale
-        for begin, end in [*self.cuts, (window[1], window[1])]:
+        for begin, end, _ in [*self.cuts, Cut(window[1], window[1], 0)]:
             here += (begin - knots[-1]) / self.scale
             knots.append(begin)
             places.append(here)
@@ -56,24 +67,27 @@ class Clock:
                 places.append(here)
         self._knots, self._places = np.array(knots, dtype=float), np.array(places)
 
-    def x(self, times):
-        """Where moments within the window are drawn."""
+    def x(self, times: ArrayLike) -> np.ndarray | np.float64:
+        """Where moments (ns) within the window are drawn, or one, in the axis's unit."""
         if not self.cuts:
             return np.asarray(times, dtype=float) / self.scale
         return np.interp(np.asarray(times, dtype=float), self._knots, self._places)
 
-    def edges(self, count: int):
-        """The moments at the edges of so many columns of the same width."""
+    def edges(self, count: int) -> np.ndarray:
+        """The moments, in ns, at the edges of so many columns of the same width."""
         if not self.cuts:
             return np.linspace(self.window[0], self.window[1], count + 1)
         places = np.linspace(self._places[0], self._places[-1], count + 1)
         return np.interp(places, self._places, self._knots)
 
-    def set(self, axes: Axes, most=7) -> None:
+    def set(self, axes: Axes, most: int = 7) -> None:
         """Limits and ticks of an axis; a span that is left out is hatched, with its length."""
-        axes.set_xlim(self._places[0], self._places[-1])
+        rim = RIM * (self._places[-1] - self._places[0])
+        axes.set_xlim(self._places[0] - rim, self._places[-1] + rim)
         if not self.cuts:
-            axes.xaxis.set_major_locator(MaxNLocator(most, steps=STEPS))
+            ticks = MaxNLocator(most, steps=STEPS).tick_values(self._places[0], self._places[-1])
+            inside = (ticks >= self._places[0] - SLACK * rim) & (ticks <= self._places[-1] + SLACK * rim)
+            axes.xaxis.set_major_locator(FixedLocator(ticks[inside]))
             return
         ticks, labels = self._ticks(most + 1)
         axes.xaxis.set_major_locator(FixedLocator(ticks))
@@ -81,23 +95,23 @@ class Clock:
 
     def mark_cuts(self, axes: Axes) -> None:
         """Marks the spans that the axis leaves out."""
-        for begin, end in self.cuts:
+        for begin, end, idle in self.cuts:
             left, right = self.x((begin, end))
             axes.axvspan(left, right, facecolor='#F4F4F4', edgecolor='#C8C8C8', hatch='////', lw=0, zorder=3)
-            axes.annotate(f'{length_text(end - begin)} without an event', ((left + right) / 2, .5),
+            axes.annotate(f'{length_text(idle)} without an event', ((left + right) / 2, .5),
                           xycoords=('data', 'axes fraction'), rotation=90, ha='center', va='center',
-                          fontsize=8.5, color='#333333', zorder=4,
+                          fontsize=NOTE, color='#333333', zorder=4,
                           bbox={'boxstyle': 'square,pad=.15', 'fc': '#F4F4F4', 'ec': 'none'})
 
-    def cut_boxes(self, axes: Axes):
+    def cut_boxes(self, axes: Axes) -> list[tuple[float, float, float, float]]:
         """Where the spans that are left out are drawn: left, below, right, top in pixels."""
         return [(*axes.transData.transform((left, 0))[:1], axes.bbox.y0,
                  *axes.transData.transform((right, 0))[:1], axes.bbox.y1)
-                for left, right in (self.x(cut) for cut in self.cuts)]
+                for left, right in (self.x((cut.begin, cut.end)) for cut in self.cuts)]
 
     def _ticks(self, most):
         parts, begin = [], self.window[0]
-        for cut_begin, cut_end in [*self.cuts, (self.window[1], None)]:
+        for cut_begin, cut_end, _ in [*self.cuts, Cut(self.window[1], None, 0)]:
             parts.append((begin, cut_begin))
             begin = cut_end
         ticks, labels = [], []

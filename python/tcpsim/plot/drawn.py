@@ -7,6 +7,7 @@ from __future__ import annotations
 import hashlib
 
 import numpy as np
+from matplotlib.artist import Artist
 from matplotlib.collections import LineCollection, PolyCollection
 from matplotlib.figure import Figure
 from matplotlib.lines import Line2D
@@ -14,7 +15,7 @@ from matplotlib.patches import Polygon, StepPatch
 from matplotlib.text import Annotation
 
 
-def drawn(figure: Figure):
+def drawn(figure: Figure) -> list[str]:
     """The lines, panel by panel in the order of drawing."""
     lines = []
     for axes in figure.get_axes():
@@ -28,7 +29,7 @@ def drawn(figure: Figure):
     return lines
 
 
-def artist_line(artist):
+def artist_line(artist: Artist) -> str | None:
     """An artist's kind, its count of points, their ranges, and a digest of them; none without data."""
     if isinstance(artist, Line2D):
         sort = 'marks ' + str(artist.get_marker()) if artist.get_linestyle() == 'None' else 'curve'
@@ -50,7 +51,7 @@ def artist_line(artist):
     return None
 
 
-def points_text(points):
+def points_text(points: np.ndarray) -> str:
     """How many points, their ranges, and a digest of all of them in nine digits."""
     if not len(points):
         return '0 points'

@@ -15,13 +15,13 @@ from .drawn import drawn
 WIDTH = {10: 1400}      # pixels of a .png by the picture's width in inches; of another 100 an inch
 
 
-def save(figure: Figure, path) -> None:
-    """Writes the picture."""
+def save(figure: Figure, path: str) -> None:
+    """Writes the picture into a file that ends in .png, .svg or .pdf; `OSError` where it cannot be written."""
     with output.opened(path) as file:
         file.write(content_of(figure, path))
 
 
-def content_of(figure: Figure, path) -> bytes:
+def content_of(figure: Figure, path: str) -> bytes:
     """The picture's bytes, of the sort that the path's ending names; an SVG says in its description what it shows."""
     ending = os.path.splitext(path)[1]
     plain = {'.svg': {'Date': None, 'Creator': None}, '.pdf': {'CreationDate': None}, '.png': {}}[ending]
@@ -36,7 +36,7 @@ def content_of(figure: Figure, path) -> bytes:
     return content
 
 
-def shorter(found):
+def shorter(found: re.Match[str]) -> str:
     """A path of an SVG in fewer bytes: points to a hundredth, and a step as `H` or `V` where it is one."""
     path = re.sub(r'\d+\.\d{3,}', lambda number: f'{float(number[0]):.2f}'.rstrip('0').rstrip('.'), found[0])
     if re.search(r'[A-KN-Za-km-z]', path[3:]):

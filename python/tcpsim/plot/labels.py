@@ -1,21 +1,27 @@
 """Labels beside points, each at the place where it covers least."""
 from __future__ import annotations
 
+from collections.abc import Iterable, Sequence
+
 import numpy as np
 from matplotlib.axes import Axes
+from matplotlib.lines import Line2D
+from matplotlib.text import Annotation
 
 STEP = 3                # pixels from one point of a curve to the next that a label can cover
 FAR = 10_000            # pixels beyond which nothing is looked at
 MARK = 4                # half the width of a mark, in pixels
+LEADER = 11             # pixels from a mark to its label beyond which a line joins them
 # Where a label can stand, in points from its mark: the first of the best is taken.
 PLACES = ((5, -11), (5, 5), (-5, -11), (-5, 5), (0, 9), (0, -16), (9, 14), (9, -22), (-9, 16), (-9, -24), (0, 19),
           (0, -26), (16, 22), (-16, 24), (16, -32), (-16, -34))
 
 
-def place_labels(axes: Axes, labels, boxes=(), first=PLACES[0]):
+def place_labels(axes: Axes, labels: Sequence[Annotation], boxes: Iterable[Iterable[float]] = (),
+                 first: tuple[int, int] = PLACES[0]) -> None:
     """Moves `labels`, annotations of points, off each other, off the marks of all of them, off `boxes` (left, below,
-    right, top, in pixels) and off curves and dots as far as can be. `first` is the place that is preferred. The
-    figure has been laid out."""
+    right, top, in pixels) and off curves and dots as far as can be. `first` is the place that is preferred, in points
+    from the mark. The figure has been laid out."""
     renderer, places = axes.figure.canvas.get_renderer(), sorted(PLACES, key=lambda place: place != first)
     marks = [tuple(axes.transData.transform(label.xy)) for label in labels]
     taken = [(x - MARK, y - MARK, x + MARK, y + MARK) for x, y in marks] + list(boxes)
@@ -33,18 +39,29 @@ def place_labels(axes: Axes, labels, boxes=(), first=PLACES[0]):
         over = sum(left < its[2] and its[0] < right and below < its[3] and its[1] < top for its in taken)
         outside = left < axes.bbox.x0 or right > axes.bbox.x1 or below < axes.bbox.y0 or top > axes.bbox.y1
         inside = (points[:, 0] > left) & (points[:, 0] < right) & (points[:, 1] > below) & (points[:, 1] < top)
-        return 1_000 * (over + outside) + 500 * strange + int(inside.sum())
+        return 1_000 * over + 3_000 * outside + 500 * strange + int(inside.sum())
 
     for label, mark in zip(labels, marks):
         taken.append(put(label, min(places, key=lambda place: covers(put(label, place), mark))))
+        lead(axes, taken[-1], mark)
 
 
-def away(box, mark):
-    """How far a point is from a box, squared."""
+def lead(axes: Axes, box: tuple[float, float, float, float], mark: tuple[float, float]) -> None:
+    """A thin line from a mark to its label, where they are far from each other. It is the figure's and not the panel's, since
+    its place is none of the data's."""
+    left, below, right, top = box
+    near = min(max(mark[0], left), right), min(max(mark[1], below), top)
+    if away(box, mark) > LEADER**2:
+        (x, y), (to_x, to_y) = axes.transAxes.inverted().transform((mark, near))
+        axes.figure.add_artist(Line2D((x, to_x), (y, to_y), transform=axes.transAxes, color='#444444', lw=.9, zorder=5))
+
+
+def away(box: tuple[float, float, float, float], mark: tuple[float, float]) -> float:
+    """How far a point is from a box, squared, in pixels."""
     return sum(max(low - at, at - high, 0)**2 for low, high, at in zip(box[:2], box[2:], mark))
 
 
-def drawn_points(axes: Axes):
+def drawn_points(axes: Axes) -> np.ndarray:
     """Points of all curves, close to each other, and all dots, in pixels."""
     found = [np.empty((0, 2))]
     for line in axes.lines:
@@ -57,8 +74,8 @@ def drawn_points(axes: Axes):
     return points[np.isfinite(points).all(axis=1)]
 
 
-def along(points):
-    """Points on the way from each to the next."""
+def along(points: np.ndarray) -> np.ndarray:
+    """Points on the way from each to the next, in pixels."""
     points = np.clip(points, -FAR, FAR)
     if len(points) < 2:
         return points

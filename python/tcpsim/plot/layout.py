@@ -2,18 +2,20 @@
 from __future__ import annotations
 
 import math
-import textwrap
+from collections.abc import Sequence
 
 import numpy as np
+from matplotlib.artist import Artist
 from matplotlib.axes import Axes
-from matplotlib.figure import Figure
+from matplotlib.figure import Figure, FigureBase
 
 from tcpsim.scenario.text import Unreadable
 
 from .flow_panels import (columns_of, progress_panel, sequence_key, sequence_panel, window_key, window_panel)
 from .labels import place_labels
-from .link_panels import delay_cdf_panel, delay_panel, queue_panel, utilization_panel
-from .style import HEAD, KEY, LETTER, NOTE, TICKS, TITLE_SIZE, columns_that_fit, link_text, new_figure
+from .link_panels import delay_cdf_panel, delay_panel, is_envelope, queue_panel, utilization_panel
+from .picture import Picture
+from .style import HEAD, KEY, NOTE, TICKS, TITLE_SIZE, columns_that_fit, filled, link_words, new_figure
 
 FLOW_PANELS = ('window', 'sequence')
 LINK_PANELS = ('queue', 'delay', 'delay-cdf', 'utilization')
@@ -23,12 +25,13 @@ DRAWING = {'queue': queue_panel, 'delay': delay_panel, 'delay-cdf': delay_cdf_pa
 KEYS = {'window': window_key, 'sequence': sequence_key}
 KEY_HEIGHT = .07        # of a panel's
 MOST_IN_FULL = 2
+MOST_LINK_PANELS = 4    # to the right
 ABOVE_LEFT = -5, 5      # of a curve that rises what is free
 POINTS = 72
 
 
-def draw(picture, panels, title: str) -> Figure:
-    """The figure with these panels."""
+def draw(picture: Picture, panels: Sequence[str], title: str) -> Figure:
+    """The figure with these panels, of PANELS; `Unreadable` where the picture has nothing for any of them."""
     flow_panels = [panel for panel in FLOW_PANELS if panel in panels and picture.flows]
     link_panels = [panel for panel in LINK_PANELS if panel in panels and picture.links]
     link_panels += ['progress'] if 'progress' in panels and picture.flows else []
@@ -49,7 +52,7 @@ def draw(picture, panels, title: str) -> Figure:
     return figure
 
 
-def put_labels(picture, figure: Figure) -> None:
+def put_labels(picture: Picture, figure: Figure) -> None:
     """Gives labels their places, once it is known where the panels are."""
     if picture.labels:
         figure.draw_without_rendering()
@@ -61,8 +64,8 @@ def put_labels(picture, figure: Figure) -> None:
 
 # ---- flows
 
-def draw_flows(picture, figure: Figure, panels, width: float) -> None:
-    """Few flows: window and sequence numbers each. Many: a window each, and one panel of all."""
+def draw_flows(picture: Picture, figure: FigureBase, panels: Sequence[str], width: float) -> None:
+    """Few flows: window and sequence numbers each. Many: a window each, and one panel of all. The width is in points."""
     views = picture.flows
     in_full = len(views) <= MOST_IN_FULL
     across = len(views) if in_full else columns_of(len(views))
@@ -71,7 +74,7 @@ def draw_flows(picture, figure: Figure, panels, width: float) -> None:
     grid = figure.add_gridspec(len(rows), across, height_ratios=[height for *_, height in rows])
     for at, (panel, row, _) in enumerate(rows):
         if panel == 'key':
-            draw_key(figure.add_subplot(grid[at, :]), KEYS[row](picture), width)
+            draw_key(figure.add_subplot(grid[at, :]), KEYS[row](picture), width + 20)
         elif panel == 'sequence' and not in_full:
             axes = figure.add_subplot(grid[at, :])
             progress_panel(picture, axes, views, width)
@@ -79,14 +82,15 @@ def draw_flows(picture, figure: Figure, panels, width: float) -> None:
         else:
             last = at == len(rows) - 1
             for place, number in enumerate(range(row * across, min(len(views), (row + 1) * across))):
-                axes = figure.add_subplot(grid[at, place])
-                flow_panel(picture, axes, panel, views[number], width / across - 30, in_full)
+                axes, notes = figure.add_subplot(grid[at, place]), views[number].notes if panel == panels[0] else ()
+                flow_panel(picture, axes, panel, (views[number], notes), width / across - 30)
                 lowest = last or (panel == 'window' and not in_full and number + across >= len(views))
                 finish(picture, axes, lowest, small=across > 2)
 
 
-def flow_rows(panels, in_full: bool, down):
-    """Each row's panel, its row among those of its kind (of a key whose key it is), and its height."""
+def flow_rows(panels: Sequence[str], in_full: bool, down: int) -> list[tuple[str, int | str, float]]:
+    """Each row's panel, its row among those of its kind (of a key whose key it is), and its height in that of a window.
+    Windows are `down` rows."""
     rows = []
     if 'window' in panels:
         rows += [('key', 'window', KEY_HEIGHT * down)] + [('window', row, 1) for row in range(down)]
@@ -97,16 +101,17 @@ def flow_rows(panels, in_full: bool, down):
     return rows
 
 
-def flow_panel(picture, axes: Axes, panel, view, width: float, in_full: bool) -> None:
-    """Draws a panel of a flow: its window or its sequence numbers."""
+def flow_panel(picture: Picture, axes: Axes, panel: str, told: tuple, width: float) -> None:
+    """Draws a panel of a flow: its window or its sequence numbers. `told` is the flow and what is said of it."""
     drawing, what = {'window': (window_panel, 'congestion window'),
                      'sequence': (sequence_panel, 'sequence numbers')}[panel]
-    name = f'{view.name}' if picture.beside else f'flow {view.name}'
-    drawing(picture, axes, view, f'{name}: {what}' if in_full else name, width, in_full)
+    view, notes = told
+    in_full, name = len(picture.flows) <= MOST_IN_FULL, view.name if picture.beside else f'flow {view.name}'
+    drawing(picture, axes, view, [f'{name}: {what}' if in_full else name, *notes], width, in_full)
 
 
-def draw_key(axes: Axes, handles, width: float) -> None:
-    """Draws the key."""
+def draw_key(axes: Axes, handles: Sequence[Artist], width: float) -> None:
+    """Draws the key, at most so wide, in points."""
     axes.axis('off')
     columns = columns_that_fit([handle.get_label() for handle in handles], width)
     axes.legend(handles=handles, loc='center', ncol=columns, **KEY)
@@ -114,30 +119,53 @@ def draw_key(axes: Axes, handles, width: float) -> None:
 
 # ---- links
 
-def draw_links(picture, figure: Figure, panels, width: float) -> None:
-    """Draws the panels of links."""
-    all_axes = np.atleast_1d(figure.subplots(len(panels), 1))
-    timed = [axes for panel, axes in zip(panels, all_axes) if panel != 'delay-cdf']
-    many = len(picture.links) > 1
-    for panel, axes in zip(panels, all_axes):
+def draw_links(picture: Picture, figure: FigureBase, panels: Sequence[str], width: float) -> None:
+    """Draws the panels of links, those that all share or one for each."""
+    parts = link_parts(picture, panels)
+    all_axes = np.atleast_1d(figure.subplots(len(parts), 1))
+    timed = [axes for (panel, _), axes in zip(parts, all_axes) if panel != 'delay-cdf']
+    shared = [links for panel, links in parts if panel in LINK_PANELS and len(links) == len(picture.links)]
+    for (panel, links), axes in zip(parts, all_axes):
         if panel == 'progress':
             progress_panel(picture, axes, picture.flows, width)
+        elif len(links) < len(picture.links):
+            view, = links
+            heading = [f'packets that wait at {view.name}', [view.note], link_words(view.run.link)]
+            queue_panel(picture, axes, links, width, heading)
         else:
-            DRAWING[panel](picture, axes, picture.links, width, many and axes is all_axes[0])
+            DRAWING[panel](picture, axes, links, width, len(links) > 1 and axes is all_axes[0])
         if panel == 'delay-cdf':
             common_look(axes)
         else:
             finish(picture, axes, axes is timed[-1])
-    texts = [textwrap.fill(link_text(view.run.link, view.name), int(width / LETTER)) for view in picture.links
-             if set(panels) & set(LINK_PANELS)]
-    before = '' if picture.beside or not texts else 'link ' if len(texts) == 1 else 'links '
-    if texts:
-        figure.suptitle(before + '\n'.join(texts), fontsize=NOTE)
+    if shared:
+        figure.suptitle('\n'.join(caption(picture, width + 40)), fontsize=NOTE, linespacing=1.12)
+
+
+def link_parts(picture: Picture, panels: Sequence[str]) -> list:
+    """Each panel and the links that it shows: all, but queues that change too often for curves lie in a panel each, if the
+    panels are few enough."""
+    links, parts = picture.links, []
+    apart = 1 < len(links) <= MOST_LINK_PANELS + 1 - len(panels) and any(is_envelope(picture, view) for view in links)
+    for panel in panels:
+        parts += [(panel, [view]) for view in links] if panel == 'queue' and apart and not picture.beside else [(panel, links)]
+    return parts
+
+
+def caption(picture: Picture, width: float) -> list[str]:
+    """What the links are, in lines; in the picture of one run also who uses them."""
+    before = '' if picture.beside else 'link '
+    lines = []
+    for view in picture.links:
+        first, *others = link_words(view.run.link)
+        lines += filled([f'{before}{view.name}: {first}', *others], width)
+        lines += filled([view.note], width) if not picture.beside else []
+    return lines
 
 
 # ---- what all panels have
 
-def finish(picture, axes: Axes, lowest, small: bool = False) -> None:
+def finish(picture: Picture, axes: Axes, lowest: bool, small: bool = False) -> None:
     """The axis of time; named and numbered at the lowest panel."""
     common_look(axes, small)
     picture.clock.set(axes, 4 if small else 7)

@@ -1,7 +1,12 @@
-"""Fewer points, the same picture: curves of steps, clouds of dots, envelopes, busy parts."""
+"""Fewer points, the same picture: curves of steps, clouds of dots, envelopes, busy parts. All times are ns."""
 from __future__ import annotations
 
+from collections.abc import Iterable
+
 import numpy as np
+from numpy.typing import ArrayLike
+
+from tcpsim.curves import FlowRun, LinkRun
 
 COLUMNS = 1000          # a curve keeps the first, least, greatest and last value of each of so many times
 DOTS = (500, 300)       # dots that fall into one cell of this grid are drawn once
@@ -10,7 +15,7 @@ DENSE = 1.2             # changes a column from which on a curve is drawn as its
 PARTS = 20              # and twice as many in one of so many parts of the window
 
 
-def steps(times, values, window):
+def steps(times: ArrayLike, values: ArrayLike, window: tuple[int, int]) -> tuple[np.ndarray, np.ndarray]:
     """Points of a curve of steps within the window: of one moment the last value; of the values in one
     column of the picture only the first, least, greatest and last are kept."""
     times, values = within(times, values, window)
@@ -26,7 +31,7 @@ def steps(times, values, window):
     return times, values
 
 
-def within(times, values, window):
+def within(times: ArrayLike, values: ArrayLike, window: tuple[int, int]) -> tuple[np.ndarray, np.ndarray]:
     """The part of a curve of steps in the window, with the value at its begin; of one moment the last."""
     times, values = np.asarray(times, dtype=np.int64), np.asarray(values, dtype=np.int64)
     first, last = np.searchsorted(times, window, side='right')
@@ -39,7 +44,7 @@ def within(times, values, window):
     return times, values
 
 
-def dots(times, values, window):
+def dots(times: ArrayLike, values: ArrayLike, window: tuple[int, int]) -> tuple[np.ndarray, np.ndarray]:
     """One point for each cell of a grid over the window in which there is one."""
     times, values = np.asarray(times, dtype=np.int64), np.asarray(values, dtype=np.float64)
     seen = (times >= window[0]) & (times <= window[1])
@@ -52,13 +57,13 @@ def dots(times, values, window):
     return times, values
 
 
-def is_dense(times, window):
+def is_dense(times: ArrayLike, window: tuple[int, int]) -> np.bool_:
     """Whether a curve of steps changes too often to be seen as one, in the whole or in one of its parts."""
     places = np.searchsorted(np.asarray(times, dtype=np.int64), np.linspace(*window, PARTS + 1))
     return places[-1] - places[0] > DENSE * BANDS or max(np.diff(places)) > 2 * DENSE * BANDS / PARTS
 
 
-def envelope(times, values, edges):
+def envelope(times: ArrayLike, values: ArrayLike, edges: ArrayLike) -> tuple[np.ndarray, np.ndarray, np.ndarray]:
     """Of a curve of steps between each two edges: the least and the greatest value and the mean over time.
     The curve begins at the first edge or before."""
     times, values = np.asarray(times, dtype=np.int64), np.asarray(values, dtype=np.int64)
@@ -74,8 +79,8 @@ def envelope(times, values, edges):
     return least, greatest, np.diff(below) / np.maximum(np.diff(edges), 1)
 
 
-def busy_parts(link, window, edges=None):
-    """Edges of bins over the window, and the part of each in which the link was sending."""
+def busy_parts(link: LinkRun, window: tuple[int, int], edges: np.ndarray | None = None) -> tuple[np.ndarray, np.ndarray]:
+    """Edges of bins over the window, and the part of each, from 0 to 1, in which the link was sending."""
     if edges is None:
         edges = np.linspace(window[0], window[1], bins(link) + 1)
     begin, end = np.asarray(link.busy_from, dtype=float), np.asarray(link.busy_to, dtype=float)
@@ -87,12 +92,12 @@ def busy_parts(link, window, edges=None):
     return edges, np.diff(busy) / np.diff(edges)
 
 
-def bins(link):
+def bins(link: LinkRun) -> int:
     """How many parts of the time the utilization of a link is told for."""
     return 100 if len(link.busy_from) > 200 else 50
 
 
-def outside(times, values, spans):
+def outside(times: np.ndarray, values: ArrayLike, spans: Iterable[tuple[int, int]]) -> np.ndarray:
     """The values as numbers with none where their time is within a span: its begin is, its end is not."""
     values = np.array(values, dtype=float)
     for begin, end in spans:
@@ -100,7 +105,7 @@ def outside(times, values, spans):
     return values
 
 
-def stalls(flow, longer, end):
+def stalls(flow: FlowRun, longer: int, end: int) -> list[tuple[int, int]]:
     """Spans of at least `longer` without a new acknowledgement, from the flow's start to its completion,
     or to `end` where it has none."""
     moments = [flow.flow.start, *flow.una_times]

@@ -2,13 +2,18 @@
 from __future__ import annotations
 
 import math
-from collections.abc import Iterable
+from collections.abc import Iterable, Sequence
 
+from matplotlib.artist import Artist
 from matplotlib.axes import Axes
 from matplotlib.backends.backend_agg import FigureCanvasAgg
 from matplotlib.figure import Figure
+from matplotlib.font_manager import FontProperties
 from matplotlib.lines import Line2D
 from matplotlib.patches import Patch
+from matplotlib.textpath import text_to_path
+
+from tcpsim.scenario.text import Link
 
 # Those of series differ in lightness too, by 16 of 100 at least, for grey print and for who doesn't see red and green.
 BLUE, RUST, GREEN, AMBER = '#0B3C6F', '#9C4A1A', '#2FA08A', '#F2BE4A'
@@ -19,14 +24,21 @@ DASHES = ('-', (0, (5, 1.5)), (0, (1, 1)), (0, (5, 1, 1, 1)))  # one for each fo
 # One sign for one meaning, in every panel.
 SIGNS = {'full': ('x', RED, 'dropped: queue full'), 'codel': ('v', PURPLE, 'dropped by CoDel'),
          'lost': ('+', '#000000', 'lost by the scenario\'s list')}
-AGAIN = {'marker': 'o', 'ms': 4.5, 'mfc': 'none', 'color': ORANGE, 'label': 'sent again'}
-# Sizes of letters in points of a picture ten inches wide: 8 pixels and more where it is shown 600 wide.
-HEAD, TITLE_SIZE, KEY_SIZE, TICKS, NOTE = 12, 10.5, 9.5, 9.5, 9.5
+# A ring that is wider than the sign of a loss, which may lie on it.
+AGAIN = {'marker': 'o', 'ms': 8, 'mew': 1.3, 'mfc': 'none', 'color': ORANGE, 'label': 'sent again'}
+# Of packets that are acknowledgements: the colour of the curve of what is acknowledged.
+OF_ACKS = '#555555'
+# Sizes of letters in points of a picture ten inches wide: 8.7 pixels and more where it is shown 600 wide.
+HEAD, TITLE_SIZE, KEY_SIZE, TICKS, NOTE = 12.5, 11, 10.5, 10.5, 10.5
 TITLE = {'fontsize': TITLE_SIZE, 'loc': 'left'}
-KEY = {'fontsize': KEY_SIZE, 'frameon': False, 'handlelength': 1.6, 'borderpad': 0, 'labelspacing': .25,
-       'columnspacing': 1.0, 'borderaxespad': .3, 'handletextpad': .5}
-LETTER, HANDLE, LINE = 5.4, 29, 11.6      # the key's sizes, in points
+KEY = {'fontsize': KEY_SIZE, 'frameon': False, 'handlelength': 1.5, 'borderpad': 0, 'labelspacing': .25,
+       'columnspacing': .9, 'borderaxespad': .3, 'handletextpad': .5}
+# The key's sizes, in points: of a handle with what is before and behind it, of the space between columns, of a row.
+HANDLE, BETWEEN, LINE = 31, 9.5, 12.9
+APART = 14                                # between two texts that stand side by side, in points
 STEPS = [1, 2, 2.5, 5, 10]                # between two ticks, in a power of ten
+WHOLE_STEPS = [1, 2, 5, 10]
+TIMEOUT_WIDTH = 1.3
 
 
 def new_figure(**given: object) -> Figure:
@@ -41,10 +53,12 @@ def series(number: int) -> dict:
     return {'color': SERIES[number % len(SERIES)], 'ls': DASHES[number // len(SERIES) % len(DASHES)]}
 
 
-def sign_of(reason: str) -> Line2D:
-    """The key's mark of a reason for which packets are dropped."""
-    marker, color, text = SIGNS[reason]
-    return Line2D([], [], color=color, marker=marker, ls='none', label=text)
+def sign_of(reason: str, of: str = '', color: str | None = None, at: str = '') -> Line2D:
+    """The key's mark of a reason for which packets are dropped: of all, or of those that `of` says or at a link, in a colour of
+    theirs."""
+    marker, its_own, text = SIGNS[reason]
+    text = (f'{of} ' if of else '') + text + (f' at {at}' if at else '')
+    return Line2D([], [], color=color or its_own, marker=marker, ls='none', mew=1.3, label=text)
 
 
 def recovery_mark() -> Patch:
@@ -52,60 +66,89 @@ def recovery_mark() -> Patch:
     return Patch(color=SKY, alpha=.3, lw=0, label='recovery')
 
 
-def stall_mark(longer) -> Patch:
-    """The key's mark of a span without a new acknowledgement."""
+def stall_mark(longer: str) -> Patch:
+    """The key's mark of a span without a new acknowledgement, longer than this, in words."""
     return Patch(color='#000000', alpha=.13, lw=0, label=f'no new ack for over {longer}')
 
 
 def timeout_mark() -> Line2D:
-    """The key's mark of a timeout."""
-    return Line2D([], [], color=RED, lw=1, ls='--', label='timeout')
+    """The key's mark of a timeout: no dashes, which ssthresh has."""
+    return Line2D([], [], color=RED, lw=TIMEOUT_WIDTH, label='timeout')
 
 
-def key_above(axes: Axes, title: str, handles, width: float, right=None) -> None:
-    """The title, and below it, above the panel, the key: it covers nothing. The width is in points."""
-    rows = 0
+def text_width(text: str, size: float = NOTE) -> float:
+    """How wide a text is, in points."""
+    return text_to_path.get_text_width_height_descent(text, FontProperties(size=size), False)[0]
+
+
+def filled(parts: Iterable[str], width: float, between: str = ', ') -> list[str]:
+    """Parts of a text in lines at most so wide, as far as each part allows it; the lines are about equally long."""
+    parts = list(parts)
+    whole = text_width(between.join(parts))
+    lines = max(1, math.ceil(whole / width))
+    found = packed(parts, min(width, 1.15 * whole / lines), between)
+    return found if len(found) <= lines else packed(parts, width, between)
+
+
+def packed(parts: Iterable[str], width: float, between: str) -> list[str]:
+    """Parts in lines: as many in each as fit."""
+    lines = []
+    for part in parts:
+        if lines and text_width(lines[-1] + between + part) <= width:
+            lines[-1] += between + part
+        else:
+            lines.append(part)
+    return lines
+
+
+def key_above(axes: Axes, title: str, handles: Sequence[Artist], width: float, notes: Iterable[str] = ()) -> None:
+    """The title with its notes, in grey beside it or below it, and below them, above the panel, the key: it covers nothing. A
+    note that is a list of its parts has lines of its own. The width is in points."""
+    rows, notes = 0, [note for note in notes if note]
     if handles:
         columns = columns_that_fit([handle.get_label() for handle in handles], width)
         rows = math.ceil(len(handles) / columns)
         axes.legend(handles=handles, loc='lower left', bbox_to_anchor=(0, 1), ncol=columns, **KEY)
     pad = 4 + LINE * rows + 3 * bool(rows)
-    beside = not right or LETTER * (len(title) + len(right)) <= width
-    axes.set_title(title, pad=pad if beside else pad + LINE, **TITLE)
-    if right and beside:
-        axes.set_title(right, loc='right', fontsize=NOTE, color='#444444', pad=pad)
-    elif right:
-        axes.annotate(right, (0, 1), xycoords='axes fraction', xytext=(0, pad), textcoords='offset points', fontsize=NOTE,
-                      color='#444444')
+    grey = {'fontsize': NOTE, 'color': '#444444'}
+    words, room = [note for note in notes if isinstance(note, str)], width - text_width(title, TITLE_SIZE) - APART
+    beside = next((words[:count] for count in (len(words), 1) if words and text_width(', '.join(words[:count])) <= room), [])
+    blocks = [words[len(beside):], *(note for note in notes if not isinstance(note, str))]
+    lines = [line for parts in blocks if parts for line in filled(parts, width)]
+    axes.set_title(', '.join(beside), loc='right', **grey)      # as high as the title
+    axes.set_title(title, pad=pad + LINE * len(lines), **TITLE)
+    if lines:
+        axes.annotate('\n'.join(lines), (0, 1), xycoords='axes fraction', xytext=(0, pad), textcoords='offset points',
+                      linespacing=1.12, **grey)
 
 
-def columns_that_fit(labels, width: float) -> int:
+def columns_that_fit(labels: Sequence[str], width: float) -> int:
     """In how many columns a key of these labels is at most so wide: the first ones have one entry more."""
+    widths = [HANDLE + text_width(label, KEY_SIZE) for label in labels]
     for columns in range(len(labels), 1, -1):
         rows, longer = divmod(len(labels), columns)
         ends = [(rows + 1) * n for n in range(1, longer + 1)]
         ends += [(rows + 1) * longer + rows * n for n in range(1, columns - longer + 1)]
-        across = [labels[begin:end] for begin, end in zip([0, *ends], ends)]
-        if sum(HANDLE + LETTER * max(map(len, column)) for column in across) <= width:
+        if sum(max(widths[begin:end]) for begin, end in zip([0, *ends], ends)) - BETWEEN <= width:
             return columns
     return 1
 
 
 # ---- units
 
-def byte_unit(greatest) -> tuple[int, str]:
+def byte_unit(greatest: float) -> tuple[int, str]:
     """How many bytes a unit has, and its name, by the greatest value."""
-    return (10**6, 'MB') if greatest >= 2 * 10**6 else (10**3, 'kB') if greatest >= 2000 else (1, 'bytes')
+    return (10**6, 'MB') if greatest >= 2 * 10**6 else (10**3, 'kB') if greatest >= 1000 else (1, 'bytes')
 
 
-def bytes_text(count: int) -> str:
+def bytes_text(count: int, digits: int = 4) -> str:
     """Bytes in words, as 1.5 MB."""
     scale, unit = (10**9, 'GB') if count >= 10**9 else byte_unit(count)
-    return f'{count / scale:,.4g} {unit}'
+    return f'{count / scale:,.{digits}g} {unit}'
 
 
-def delay_unit(greatest) -> tuple[int, str]:
-    """How many nanoseconds a unit has, and its name, by the greatest value."""
+def delay_unit(greatest: float) -> tuple[int, str]:
+    """How many nanoseconds a unit has, and its name, by the greatest value in ns."""
     return (10**9, 's') if greatest >= 2 * 10**9 else (10**6, 'ms') if greatest >= 10**6 or greatest == 0 else (10**3, 'µs')
 
 
@@ -122,11 +165,11 @@ def ms_text(ns: int) -> str:
     return f'{ns / 10**6:g} ms'
 
 
-def link_text(link, name: str) -> str:
-    """What a link is, in words."""
+def link_words(link: Link) -> list[str]:
+    """What a link is: its rate, its delay, its queue."""
     kind = {'droptail': 'drop-tail', 'codel': 'CoDel'}.get(link.queue, link.queue)
-    more = f', target {ms_text(link.target)}, interval {ms_text(link.interval)}' if link.queue == 'codel' else ''
-    return f'{name}: {rate_text(link.rate)}, {ms_text(link.delay)}, {kind}, {link.capacity:,} packets{more}'
+    more = [f'target {ms_text(link.target)}', f'interval {ms_text(link.interval)}'] if link.queue == 'codel' else []
+    return [rate_text(link.rate), ms_text(link.delay), f'{kind}, {link.capacity:,} packets', *more]
 
 
 # Signs of words by which queues drop that are classes of Python's.

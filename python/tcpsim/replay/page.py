@@ -18,6 +18,8 @@ PARTS = os.path.join(HERE, 'web')
 # What shows a run, here and in the page with the simulator (dev/page.py); behind it what opens this page.
 SCRIPTS = ('trace.js', 'record.js', 'words.js', 'layout.js', 'queue.js', 'net.js', 'charts.js', 'page.js')
 OPENING = 'boot.js'
+# What has two runs under one clock.
+OF_TWO = ('clock.js', 'beside.js')
 LIBRARY = os.path.join(PARTS, 'vendor', 'd3.v3.min.js')
 
 
@@ -78,7 +80,7 @@ def page_of_two(pages: list[tuple[str, str]], slide: bool = False) -> str:
         'TITLE': html.escape(f'{first}, {second}'), 'LETTERS': str(24 if slide else 13),
         'FIRST': html.escape(first), 'SECOND': html.escape(second),
         'FIRSTPAGE': html.escape(first_page), 'SECONDPAGE': html.escape(second_page),
-        'SCRIPT': read_part(os.path.join(PARTS, 'beside.js'))}
+        'SCRIPT': '\n'.join(read_part(os.path.join(PARTS, name)) for name in OF_TWO)}
     return filled('beside.html', holes)
 
 

@@ -114,7 +114,7 @@ class Chart {
       const points = thinned(one.curve, this.x);
       points.push([end, points[points.length - 1][1]]);
       this.curves.append('path').attr('d', line(points)).attr('stroke', one.colour).attr('stroke-dasharray', one.dash || null)
-        .attr('stroke-width', one.thin ? 1 : 1.7).append('title').text(one.name);
+        .attr('stroke-width', one.thin ? 1 : 1.7).attr('class', one.thin ? 'thin' : null).append('title').text(one.name);
     }
   }
   mark(time) {

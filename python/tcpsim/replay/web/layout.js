@@ -4,15 +4,46 @@
 // above a track has its name, the queue of the link to the right, the two lines on which packets move, the
 // queue of the link to the left, and a line for what was dropped; no two tracks in a column share these.
 
-const ROW = 98, MORE_NAME = 14;         // the height of a track, and what a name in two lines adds
-const BESIDE = 7;                       // from a track's middle to each of its lines
-const LEAST_LENGTH = 250, MOST_NAME = 240, EDGE = 8;
-const END_TALL = 36, ROUTER_BEYOND = 24;
+const MORE_NAME = 14;                   // what each further line of a name adds to a track's height
+const LINE_TALL = 12, EDGE_OF_ROW = 3;       // LINE_TALL: of a line of words
+// What things take, in units of the drawing: `row` is a track's height, `beside` leads from a track's middle to each of its lines,
+// `upper`, `lower` to its queues, `name` and `dropped` to its name and what was dropped, `reach` of a stub to the ends of its counts;
+// `kinds` says whether a node has its kind.
+const ON_PAGE = {edge: 8, round: 16, row: 98, beside: 7, least: 250, mostName: 240, end: 36, beyond: 24, router: 46, node: 58, kinds: true, counts: 'beside',
+  stub: {tall: 25, length: 90, upper: -21, lower: 9}, upper: -31, lower: 18, name: -36, dropped: 44, reason: 13, offNode: 11, kindSize: 10, down: -2,
+  box: {wide: 10, tall: 12, step: 11}, bar: {at: 13.2, tall: 4}, square: [13, 13], disc: 5.5, ring: 9.5};
+// On a slide no letter is smaller than another, so that all are large where the net has room: a unit is two pixels, and what
+// holds a flow's mark is as wide as that. Where the net is long, links' ends keep their words above each other.
+const ON_SLIDE = {...ON_PAGE, round: 8, row: 109, beside: 9, least: 150, mostName: 170, kindSize: 12,
+  stub: {tall: 22, length: 36, upper: -30, lower: 16, row: 32, reach: [27, 29], node: 30},
+  upper: -39, lower: 20, name: -42, dropped: 48, reason: 16, offNode: 14, down: -2.5};
+const ON_LONG_SLIDE = {...ON_SLIDE, edge: 3, stub: {...ON_SLIDE.stub, node: 26}, row: 142, least: 84, router: 28, node: 30, end: 22,
+  kinds: false, counts: 'apart', name: -56, dropped: 65};
+const SLIDE_LETTERS = 24, LETTERS = 12; // the least that a slide's letters are, in pixels and in units
 const NAME_SIZE = 15, MOST_NAME_SIZE = 21, LEAST_NAME = 10.5;      // of nodes: units, units, and pixels of the screen
 const LEAST_ROWS = 1.15;                // one flow alone is drawn as large as this many rows would be
 // A stub is an end of the net, at one router, with no room for its queues and names: its row's height as a part of a
-// track's, how tall its node is and how long its link at least. Where there are more rows than so many ends are stubs.
-const STUB = 0.36, STUB_TALL = 25, STUB_LENGTH = 90, MOST_ROWS = 5;
+// track's where `sizes` has none. Where there are more rows than so many ends are stubs.
+const STUB = 0.36, MOST_ROWS = 5;
+
+// A slide's sizes for packets that carry these marks.
+function sizesFor(sizes, marks) {
+  const wide = Math.max(11, Math.ceil(d3.max(marks, mark => textWidth(mark, `bold ${LETTERS}px sans-serif`)) || 0));
+  return {...sizes, box: {wide: wide + 3, tall: 14, step: wide + 4}, bar: {at: 15.2, tall: 4}, square: [wide + 5, 16],
+    disc: Math.max(8, wide / 2 + 2), ring: Math.max(8, wide / 2 + 2.5) + 3.5};
+}
+
+// A name's words in lines no wider than this, where it can be.
+function inLines(words, most, font) {
+  const lines = [];
+  // A number keeps its unit.
+  for (const word of words.join(' ').match(/[\d.,]+ [^\d\s]+|\S+/g)) {
+    const longer = lines.length ? `${lines[lines.length - 1]} ${word}` : word;
+    if (lines.length && textWidth(longer, font) <= most) lines[lines.length - 1] = longer;
+    else lines.push(word);
+  }
+  return lines;
+}
 
 function textWidth(text, font) {
   const canvas = textWidth.canvas || (textWidth.canvas = document.createElement('canvas').getContext('2d'));
@@ -85,9 +116,9 @@ function spaced(wishes, apart, low, high) {
 }
 
 class Layout {
-  // `leastLength` is what the words beside a link need of its length.
-  constructor(facts, panelWide, panelTall, leastLength, stubs = false) {
-    this.facts = facts; this.stubs = stubs;
+  // `leastLength` says what the words beside a track need of its length.
+  constructor(facts, panelWide, panelTall, leastLength, stubs = false, sizes = ON_PAGE) {
+    this.facts = facts; this.stubs = stubs; this.sizes = sizes;
     this.leastLength = leastLength;
     this.column = columnsOf(facts);
     this.tracks = tracksOf(facts, this.column);
@@ -95,12 +126,14 @@ class Layout {
     const end = (n, other) => facts.nodes[n].kind !== 'router' && facts.nodes[other].kind === 'router' && alone(n);
     for (const t of this.tracks) {
       t.stub = stubs && !t.inside && (end(t.a, t.b) || end(t.b, t.a));
-      t.weight = t.stub ? STUB : 1;
       // A stub stands beside its router, however far that is from where the first senders are.
       if (t.stub && facts.nodes[t.a].kind !== 'router') this.column[t.a] = this.column[t.b] - 1;
       if (t.stub && facts.nodes[t.b].kind !== 'router') this.column[t.b] = this.column[t.a] + 1;
     }
     this.count = Math.max(...this.column) + 1;
+    this.nameTracks();
+    this.stubTall = sizes.stub.row ? sizes.stub.row / this.row : STUB;
+    for (const t of this.tracks) t.weight = t.stub ? this.stubTall : 1;
     this.makeItems();
     this.sort();
     this.spread();
@@ -116,7 +149,7 @@ class Layout {
     this.ofNode = facts.nodes.map((_, n) => {
       const beside = side => d3.sum(tracks.filter(t => !t.inside && t[side] === n), t => t.weight);
       const stub = tracks.some(t => t.stub && (t.a === n || t.b === n)) && facts.nodes[n].kind !== 'router';
-      const item = {node: n, stub, height: Math.max(stub ? STUB : 1, beside('a'), beside('b')), near: [], y: 0};
+      const item = {node: n, stub, height: Math.max(stub ? this.stubTall : 1, beside('a'), beside('b')), near: [], y: 0};
       this.columns[column[n]].push(item);
       return item;
     });
@@ -212,18 +245,24 @@ class Layout {
     }
   }
 
-  // As large as the panel lets it be.
-  scale(panelWide, panelTall) {
-    const {facts, tracks} = this, name = '12px sans-serif';
-    let lines = 1, length = Math.max(LEAST_LENGTH, this.leastLength);
+  // Names in lines, and how tall a row is and how long a link at least, as their words need.
+  nameTracks() {
+    const {facts, tracks, sizes} = this, name = '12px sans-serif';
+    let lines = 1;
+    this.least = sizes.least;
     for (const t of tracks) {
       if (t.stub) { t.name = []; continue; }
       const words = nameOf(facts, t), whole = textWidth(words.join(' '), name);
-      t.name = whole <= MOST_NAME ? [words.join(' ')] : words;
+      t.name = whole <= sizes.mostName ? [words.join(' ')] : sizes.kinds ? words : inLines(words, sizes.mostName, name);
       lines = Math.max(lines, t.name.length);
-      length = Math.max(length, 16 + d3.max(t.name, line => textWidth(line, name)));
+      this.least = Math.max(this.least, this.leastLength(t), 16 + d3.max(t.name, line => textWidth(line, name)));
     }
-    this.row = ROW + (lines - 1) * MORE_NAME;
+    this.row = sizes.row + (lines - 1) * MORE_NAME;
+  }
+
+  // As large as the panel lets it be.
+  scale(panelWide, panelTall) {
+    const {least: length} = this;
     this.nameSize = NAME_SIZE;
     this.fit(panelWide, panelTall, length);
     // Names of a net that is drawn small are larger beside all else.
@@ -236,32 +275,51 @@ class Layout {
 
   // The widths of nodes and columns, the gaps between these, and how large all is drawn, as `wide` and `tall` say.
   fit(panelWide, panelTall, length) {
-    const {facts, tracks, column} = this;
-    this.nodeWide = facts.nodes.map(node =>
-      Math.max(node.kind === 'router' ? 46 : 58, 14 + textWidth(node.name, `bold ${this.nameSize}px sans-serif`),
-        10 + textWidth(node.kind, '10px sans-serif')));
+    const {facts, tracks, column, sizes} = this;
+    this.nodeWide = facts.nodes.map((node, n) => {
+      const stub = sizes !== ON_PAGE && this.ofNode[n].stub, wide = stub ? sizes.stub.node : node.kind === 'router' ? sizes.router : sizes.node;
+      return Math.max(wide, 14 + textWidth(node.name, `bold ${this.nameSize}px sans-serif`),
+        stub || !sizes.kinds ? 0 : 10 + textWidth(node.kind, `${sizes.kindSize}px sans-serif`));
+    });
     this.columnWide = d3.range(this.count).map(c => d3.max(this.nodeWide.filter((_, n) => column[n] === c)) || 0);
     // Between two columns with stubs alone there is less room than where a queue stands.
     const gaps = d3.range(Math.max(0, this.count - 1)).map(c =>
-      tracks.every(t => t.stub || !(column[t.a] <= c && column[t.b] > c)) ? STUB_LENGTH : length);
-    const least = d3.sum(this.columnWide) + d3.sum(gaps) + 2 * EDGE;
-    const scale = Math.min(panelTall / (Math.max(this.rows, LEAST_ROWS) * this.row), panelWide / least);
+      tracks.every(t => t.stub || !(column[t.a] <= c && column[t.b] > c)) ? sizes.stub.length : length);
+    const least = d3.sum(this.columnWide) + d3.sum(gaps) + 2 * sizes.edge;
+    const [top, bottom] = this.reach();
+    const scale = Math.min(panelTall / Math.max(LEAST_ROWS * this.row, bottom - top), panelWide / least);
     this.wide = panelWide / scale; this.tall = panelTall / scale;
     const more = this.wide - least, share = d3.sum(gaps, gap => gap === length ? 1 : 0) || gaps.length;
     this.gaps = gaps.map(gap => gap + (gap === length || share === gaps.length ? more / share : 0));
+    this.pixels = scale;
   }
 
+  // From where to where all reaches, with the counts at stubs, from the top of the rows.
+  reach() {
+    const {row, sizes} = this, {reach} = sizes.stub, stubs = reach ? this.tracks.filter(t => t.stub) : [];
+    const at = stubs.flatMap(t => [t.aY, t.bY]).map(y => y * row + sizes.down);
+    return [Math.min(0, ...at.map(y => y - reach[0])), Math.max(this.rows * row, ...at.map(y => y + reach[1]))];
+  }
   place() {
-    const {facts, column, row} = this, above = (this.tall - this.rows * row) / 2 + (row - ROW);
-    // A track's middle is a little below that of its row: there is more above it than below.
-    const down = y => above + y * row + 1;
-    let x = EDGE;
+    const {sizes} = this, [top, bottom] = this.reach(), above = (this.tall - bottom - top) / 2 + sizes.down;
+    this.placeAll(above);
+    // Nodes at stubs that would be cut below stand higher, with all else.
+    const cut = d3.max(this.places, it => it.bottom) + EDGE_OF_ROW - this.tall, free = d3.min(this.places, it => it.top) - EDGE_OF_ROW;
+    if (cut > 0 && free > 0) this.placeAll(above - Math.min(cut, free));
+  }
+  placeAll(above) {
+    const {facts, column, row, sizes} = this;
+    // A track's middle is below that of its row, as its name is above it; a stub has none.
+    const down = (y, stub) => above + y * row + 1 + (stub ? 0 : (row - sizes.row) / 2);
+    let x = sizes.edge;
     const middle = this.columnWide.map((wide, c) => { const at = x + wide / 2; x += wide + (this.gaps[c] || 0); return at; });
-    const sides = (n, side) => this.tracks.filter(t => !t.inside && t[side] === n).map(t => down(t[side + 'Y']));
     this.places = facts.nodes.map((node, n) => {
-      const ports = [...sides(n, 'a'), ...sides(n, 'b')], y = down(this.ofNode[n].y);
-      const {stub} = this.ofNode[n], beyond = node.kind === 'router' ? ROUTER_BEYOND : (stub ? STUB_TALL : END_TALL) / 2;
-      const top = Math.min(...ports.length ? ports : [y]) - beyond, bottom = Math.max(...ports.length ? ports : [y]) + beyond;
+      const {stub} = this.ofNode[n], beyond = node.kind === 'router' ? sizes.beyond : (stub ? sizes.stub.tall : sizes.end) / 2;
+      // A node keeps within the rows of its tracks, as those of stubs are not tall.
+      const port = (t, side) => ({y: down(t[side + 'Y'], t.stub), beyond: Math.min(beyond, t.weight * row / 2 - EDGE_OF_ROW)});
+      const ports = ['a', 'b'].flatMap(side => this.tracks.filter(t => !t.inside && t[side] === n).map(t => port(t, side)));
+      if (!ports.length) ports.push({y: down(this.ofNode[n].y, stub), beyond});
+      const top = d3.min(ports, it => it.y - it.beyond), bottom = d3.max(ports, it => it.y + it.beyond);
       const at = this.count > 1 ? middle[column[n]] : this.wide / 2;
       return {x: at, y: (top + bottom) / 2, top, bottom, wide: this.nodeWide[n], column: column[n], stub};
     });
@@ -278,17 +336,17 @@ class Layout {
       return;
     }
     const begin = a.x + a.wide / 2, end = b.x - b.wide / 2;
-    const points = [[begin, down(t.aY)]], level = Math.abs(t.aY - t.bY) < 1e-6;
+    const points = [[begin, down(t.aY, t.stub)]], level = Math.abs(t.aY - t.bY) < 1e-6;
     const clear = t.passes.every(item => Math.abs(item.y - t.aY) < 0.35);
     if (!level || !clear)
       t.passes.forEach((item, k) => {
         const c = this.column[t.a] + 1 + k, half = this.columnWide[c] / 2 + 12;
-        points.push([middle[c] - half, down(item.y)], [middle[c] + half, down(item.y)]);
+        points.push([middle[c] - half, down(item.y, t.stub)], [middle[c] + half, down(item.y, t.stub)]);
       });
     const last = points[points.length - 1];
-    if (Math.abs(last[1] - down(t.bY)) > 1e-3)
-      points.push([Math.max(last[0] + 10, end - 60), last[1]], [end - 14, down(t.bY)]);
-    points.push([end, down(t.bY)]);
+    if (Math.abs(last[1] - down(t.bY, t.stub)) > 1e-3)
+      points.push([Math.max(last[0] + 10, end - 60), last[1]], [end - 14, down(t.bY, t.stub)]);
+    points.push([end, down(t.bY, t.stub)]);
     t.points = points;
   }
 }

@@ -2,12 +2,12 @@
 // The net: links as two lines side by side, queues as rows of boxes at their ports, packets on their way,
 // drops that fall. What is drawn says its numbers in data- attributes.
 
+const NAMES_WIDE = [94, 130];           // units of a name's line on a slide with a long net, whichever makes it larger
+const NARROW = 600, NARROW_LETTERS = 12;        // pixels: a phone's panel has a long slide's sizes where its letters were smaller
 const DECK = 4, MOST_IN_A_DECK = 5;    // how far apart drops of one event lie
+// Of a queue: squares at least, and what it takes of its link besides these and its count, and besides its count alone.
+const LEAST_BOXES = 4, QUEUE_ROOM = 20, APART_ROOM = 8;
 const MOST_BOXES = 30, MOST_ON_A_LINK = 240, MOST_FALLING = 12;
-const REASON_AT = 13;                   // from a drop to its words
-const OFF_THE_NODE = 11;                // a packet at an end of its link lies beside the node, not over it
-// From a track's middle: the queue of the link to the right, that of the link to the left, what was dropped.
-const UPPER_QUEUE = -31, LOWER_QUEUE = 18, DROPPED = 44, NAME = -36;
 // Colours that differ in lightness too, for those who don't see red and green and in grey print, as in tcpsim-plot's
 // pictures; packets carry their flow's mark too.
 const COLOURS = ['#0B3C6F', '#9C4A1A', '#2FA08A', '#F2BE4A', '#5E8FC7', '#D98B5F', '#7CCFBE', '#6B4E00'];
@@ -30,19 +30,24 @@ function reasonOf(facts, drop, count) {
 }
 function waitingWord(p) { return `${p.flow}:${p.sort === DATA ? 'd' : 'a'}:${p.number}@${p.entered}`; }
 
+function isSlide() { return document.documentElement.classList.contains('slide'); }
+// Whether a net on a slide has smaller letters than those of a slide.
+function isSmall(layout) { return LETTERS * layout.pixels < SLIDE_LETTERS - 1e-6; }
+
 class Net {
-  // `fold` says whether ends are stubs; where it is not given they are in a net of many.
+  // `fold` says whether ends are stubs; where it is not given they are in a net of many, and on a slide that has no room.
   constructor(svg, record, show, fold) {
     this.record = record; this.facts = record.facts; this.show = show;
     svg.selectAll('*').remove();
-    const box = svg.node().getBoundingClientRect(), words = this.widestReason() + 2 * REASON_AT;
-    const made = stubs => new Layout(this.facts, box.width || 1264, box.height || 340, words, stubs);
-    let layout = made(false);
-    this.canFold = layout.rows > MOST_ROWS;
-    if (fold === undefined ? this.canFold : fold) layout = made(true);
+    this.reasonWide = this.widestReason();
+    this.countsWide = this.facts.links.map((_, l) => this.widestCount(l));
+    const box = svg.node().getBoundingClientRect(), layoutOf = stubs => this.layoutIn(box.width || 1264, box.height || 340, stubs);
+    let layout = layoutOf(false);
+    this.canFold = layout.rows > MOST_ROWS || isSlide() && isSmall(layout);
+    if (fold === undefined ? this.canFold : fold) layout = layoutOf(true);
     this.folded = layout.stubs;
-    this.places = layout.places; this.tracks = layout.tracks; this.row = layout.row; this.nameSize = layout.nameSize;
-    this.svg = svg.attr('viewBox', `0 0 ${layout.wide} ${layout.tall}`);
+    Object.assign(this, {places: layout.places, tracks: layout.tracks, row: layout.row, nameSize: layout.nameSize, sizes: layout.sizes, pixels: layout.pixels});
+    this.svg = svg.attr('viewBox', `0 0 ${layout.wide} ${layout.tall}`).classed('large', layout.sizes !== ON_PAGE);
     this.world = this.svg.append('g').attr('class', 'world');
     this.svg.call(d3.behavior.zoom().scaleExtent([0.5, 40]).on('zoom', () =>
       this.world.attr('transform', `translate(${d3.event.translate}) scale(${d3.event.scale})`)))
@@ -57,6 +62,18 @@ class Net {
     this.drawn = new Map();       // packets under way that have an element
   }
 
+  // Where all stands in a panel of this size, with its ends as stubs or whole.
+  layoutIn(panelWide, panelTall, stubs) {
+    const {facts, reasonWide, countsWide} = this, made = sizes => new Layout(facts, panelWide, panelTall, track => Math.max(
+      sizes.kinds ? reasonWide + 2 * sizes.reason : 0, ...track.links.map(l => countsWide[l] && countsWide[l] + this.besideCount(sizes))), stubs, sizes);
+    const marks = facts.flows.map((_, f) => markOf(facts, f)), wide = made(isSlide() ? sizesFor(ON_SLIDE, marks) : ON_PAGE);
+    if (LETTERS * wide.pixels >= (isSlide() ? SLIDE_LETTERS - 1e-6 : panelWide < NARROW ? NARROW_LETTERS : 0)) return wide;
+    const others = NAMES_WIDE.map(mostName => made(sizesFor({...ON_LONG_SLIDE, mostName}, marks)));
+    return [wide, ...others].reduce((best, one) => one.pixels > best.pixels ? one : best);
+  }
+  // How large it would be drawn in such a panel.
+  pixelsIn(panelWide, panelTall) { return this.layoutIn(panelWide, panelTall, this.folded).pixels; }
+
   // The width of the longest words of a drop.
   widestReason() {
     const letters = drop => drop.reason.length + this.facts.flows[drop.flow].name.length + String(drop.number).length;
@@ -69,16 +86,24 @@ class Net {
     return d3.max(ones, drop => textWidth(reasonOf(this.facts, drop, 99), 'bold 12px sans-serif')) || 0;
   }
 
+  // The width of a queue's longest count; none where nothing ever waits.
+  widestCount(l) {
+    const longest = this.record.longest[l];
+    return longest ? textWidth(countText(longest, this.facts.links[l].limit, 9.99e8), 'bold 12px sans-serif') : 0;
+  }
+  // What a queue takes of its link besides its count.
+  besideCount({counts, box}) { return counts === 'beside' ? QUEUE_ROOM + LEAST_BOXES * box.step : APART_ROOM; }
+
   // A link's line: the way of its packets, where its queue begins and where its boxes go, where its drops
   // begin to fall and where they lie.
   lineOf(track, l) {
-    const right = track.right === l, aside = right ? BESIDE : -BESIDE, [x, y] = track.inside ? [aside, 0] : [0, -aside];
+    const {sizes} = this, right = track.right === l, aside = right ? sizes.beside : -sizes.beside, [x, y] = track.inside ? [aside, 0] : [0, -aside];
     const points = track.points.map(([px, py]) => [px + x, py + y]);
     if (!right) points.reverse();
     const begin = [...points[0]], end = [...points[points.length - 1]];
     const off = (point, other) => {
       const length = Math.hypot(other[0] - point[0], other[1] - point[1]) || 1;
-      const part = Math.min(OFF_THE_NODE, length / 3) / length;
+      const part = Math.min(sizes.offNode, length / 3) / length;
       return [point[0] + (other[0] - point[0]) * part, point[1] + (other[1] - point[1]) * part];
     };
     points[0] = off(points[0], points[1]);
@@ -86,9 +111,10 @@ class Net {
     const lengths = points.map(([px, py], k) => k ? Math.hypot(px - points[k - 1][0], py - points[k - 1][1]) : 0);
     const level = right ? track.points[1] : track.points[track.points.length - 2];
     const room = track.inside ? 110 : Math.abs(begin[0] - level[0]);
-    const {limit} = this.facts.links[l], count = textWidth(countText(limit, limit, 9.99e8), 'bold 12px sans-serif');
-    const line = {whole: [begin, ...points, end], points, lengths, length: d3.sum(lengths), sign: track.inside || right ? 1 : -1,
-      most: track.stub ? 0 : Math.max(4, Math.min(MOST_BOXES, Math.floor((room - 20 - count) / BOX.step)))};
+    const {limit} = this.facts.links[l], widest = textWidth(countText(limit, limit, 9.99e8), 'bold 12px sans-serif');
+    const count = sizes.counts === 'beside' ? widest : 0;
+    const line = {room, whole: [begin, ...points, end], points, lengths, length: d3.sum(lengths), sign: track.inside || right ? 1 : -1,
+      most: track.stub ? 0 : Math.max(LEAST_BOXES, Math.min(MOST_BOXES, Math.floor((room - QUEUE_ROOM - count) / sizes.box.step)))};
     if (track.inside) {
       const down = end[1] > begin[1];
       const beside = track.points[0][0] + 20;
@@ -97,10 +123,11 @@ class Net {
     }
     const middle = begin[1] - y;
     if (track.stub)
-      return Object.assign(line, {queue: [begin[0] + 4 * line.sign, middle + (right ? -21 : 9)], falls: middle,
+      return Object.assign(line, {queue: [begin[0] + 4 * line.sign, middle + (right ? sizes.stub.upper : sizes.stub.lower)], falls: middle,
         lies: [begin[0] + 12 * line.sign, middle + 12]});
-    return Object.assign(line, {queue: [begin[0] + 4 * line.sign, middle + (right ? UPPER_QUEUE : LOWER_QUEUE)],
-      falls: middle + (right ? UPPER_QUEUE : LOWER_QUEUE) + BOX.tall / 2, lies: [begin[0] + 12 * line.sign, middle + DROPPED]});
+    const queue = middle + (right ? sizes.upper : sizes.lower);
+    return Object.assign(line, {queue: [begin[0] + 4 * line.sign, queue], falls: queue + sizes.box.tall / 2,
+      lies: [begin[0] + 12 * line.sign, middle + sizes.dropped], up: right});
   }
 
   // The point at a part of a link's way.
@@ -119,13 +146,13 @@ class Net {
     this.groups = groups[0];
     for (const track of this.tracks) {
       const [from, to] = track.points, group = d3.select(this.groups[track.links[0]]);
-      const [x, y] = track.inside ? [from[0] + 20, (from[1] + to[1]) / 2 + 4] : [(from[0] + to[0]) / 2, from[1] + NAME];
+      const [x, y] = track.inside ? [from[0] + 20, (from[1] + to[1]) / 2 + 4] : [(from[0] + to[0]) / 2, from[1] + this.sizes.name];
       track.name.forEach((line, k) => group.append('text').attr('class', 'rate').attr('x', x)
         .attr('y', y - (track.name.length - 1 - k) * MORE_NAME)
         .attr('text-anchor', track.inside ? 'start' : 'middle').text(line));
     }
     this.queues = this.facts.links.map((_, l) =>
-      new QueueView(this.groups[l], this.record, l, this.lines[l], this.everUsed[l], this.show));
+      new QueueView(this.groups[l], this.record, l, this.lines[l], this.everUsed[l], this.show, this.sizes));
   }
 
   drawNodes() {
@@ -137,10 +164,11 @@ class Net {
       .on('keydown', (_, n) => { if (d3.event.key === 'Enter') this.show({node: n}); });
     groups.append('rect').attr('x', (_, n) => -this.places[n].wide / 2).attr('width', (_, n) => this.places[n].wide)
       .attr('y', (_, n) => this.places[n].top - this.places[n].y).attr('height', (_, n) => this.places[n].bottom - this.places[n].top)
-      .attr('rx', node => node.kind === 'router' ? 16 : 4);
+      .attr('rx', node => node.kind === 'router' ? this.sizes.round : 4);
     groups.append('text').attr('class', 'name').attr('y', -1.5).style('font-size', `${this.nameSize}px`).text(node => node.name);
-    groups.filter((_, n) => !this.places[n].stub).append('text').attr('class', 'kind').attr('y', 12).text(node => node.kind);
-    groups.filter((_, n) => this.places[n].stub).select('.name').attr('y', this.nameSize / 3);
+    const hasKind = (_, n) => this.sizes.kinds && !this.places[n].stub;
+    groups.filter(hasKind).append('text').attr('class', 'kind').attr('y', 2 + this.sizes.kindSize).text(node => node.kind);
+    groups.filter((node, n) => !hasKind(node, n)).select('.name').attr('y', this.nameSize / 3);
     this.nodes = groups[0];
     this.nodes.forEach((node, n) => {
       const flow = this.record.endOf[n];
@@ -202,9 +230,10 @@ class Net {
     };
     const group = make('g', {class: `packet ${packet.sort === DATA ? 'data' : 'ack'}`}), fill = colourOf(packet.flow);
     make('title', {}, group).textContent = packetName(this.facts, packet) + (packet.again ? ', sent again' : '');
-    if (packet.again) make('circle', {r: 9.5, class: 'ring'}, group);
-    if (packet.sort === DATA) make('rect', {x: -6.5, y: -6.5, width: 13, height: 13, fill}, group);
-    else make('circle', {r: 5.5, fill, class: 'disc'}, group);
+    const {square: [wide, tall], disc, ring} = this.sizes;
+    if (packet.again) make('circle', {r: ring, class: 'ring'}, group);
+    if (packet.sort === DATA) make('rect', {x: -wide / 2, y: -tall / 2, width: wide, height: tall, fill}, group);
+    else make('circle', {r: disc, fill, class: 'disc'}, group);
     const text = make('text', {dy: '.35em'}, group);
     text.textContent = markOf(this.facts, packet.flow);
     text.style.fill = inkOf(packet.flow);
@@ -247,6 +276,12 @@ class Net {
     for (const [key, element] of this.fallen)
       element.classList.toggle('silent', !element.lies || seen.get(key).event !== newest.get(seen.get(key).link));
   }
+  // A drop's words; where there is no room for all of them, why it was dropped alone.
+  reasonAt(drop, count) {
+    const words = reasonOf(this.facts, drop, count), {room} = this.lines[drop.link];
+    return this.sizes.counts === 'beside' || 2 * this.sizes.reason + textWidth(words, 'bold 12px sans-serif') <= room ? words :
+      `\u2715 ${drop.reason}${count > 1 ? ` +${count - 1}` : ''}`;
+  }
   // Drops of one event at one link lie as a deck; the last has the words of all.
   dropShape(drop, rank, count, sign) {
     const group = this.shape(drop);
@@ -255,8 +290,8 @@ class Net {
     Object.assign(group.dataset, {link: drop.link, flow: drop.flow, number: drop.number, reason: drop.reason,
       event: drop.event, count});
     if (rank === count - 1)
-      d3.select(group).append('text').attr('class', 'reason').attr('x', REASON_AT * sign).attr('y', 4)
-        .attr('text-anchor', sign > 0 ? 'start' : 'end').text(reasonOf(this.facts, drop, count));
+      d3.select(group).append('text').attr('class', 'reason').attr('x', this.sizes.reason * sign).attr('y', 4)
+        .attr('text-anchor', sign > 0 ? 'start' : 'end').text(this.reasonAt(drop, count));
     group.addEventListener('click', () => this.show({event: drop.event}));
     return group;
   }

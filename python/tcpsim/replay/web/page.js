@@ -32,10 +32,7 @@ class Page {
     this.makeTicks();
     this.keepRoom();
     this.makeNet();
-    this.windows = new Chart(d3.select('#windows'), record, ['cwnd (thick), ssthresh (thin; along the top where it is higher), bytes',
-      'cwnd (thick), ssthresh (thin), bytes', 'cwnd, ssthresh, bytes'], time => this.goTo(time));
-    this.lengths = new Chart(d3.select('#lengths'), record, ['packets that wait'], time => this.goTo(time));
-    this.drawFlows(); this.drawLinks(); this.makeLines(); this.makeControls();
+    this.makeCharts(); this.makeLines(); this.makeControls();
     this.fromAddress();
     this.onWindow('hashchange', () => this.fromAddress());
     this.onWindow('keydown', event => this.key(event));
@@ -44,6 +41,26 @@ class Page {
   makeNet(fold) {
     this.net = new Net(d3.select('#net'), this.record, what => this.pick(what), fold);
     document.getElementById('fold').hidden = !this.net.canFold;
+  }
+  makeCharts() {
+    const chart = (id, ...titles) => {
+      const svg = d3.select(`#${id}`), before = svg.node().parentNode.querySelector('.present');
+      svg.selectAll('*').remove();
+      if (before) before.remove();
+      return new Chart(svg, this.record, titles, time => this.goTo(time));
+    };
+    this.windows = chart('windows', 'cwnd (thick), ssthresh (thin; along the top where it is higher), bytes',
+      'cwnd (thick), ssthresh (thin), bytes', 'cwnd, ssthresh, bytes');
+    this.lengths = chart('lengths', 'packets that wait');
+    this.drawFlows(); this.drawLinks();
+  }
+  // Lays all out anew, in the room that there is now.
+  lay() {
+    this.keepRoom();
+    this.makeNet(this.net.folded);
+    this.makeCharts();
+    this.measure();
+    this.show();
   }
   fold() {
     this.makeNet(!this.net.folded);
@@ -65,6 +82,7 @@ class Page {
   keepRoom() {
     const {record} = this, room = (id, ...texts) => {
       const element = document.getElementById(id), {style} = element, now = element.textContent;
+      style.minWidth = '';
       style.minWidth = `${d3.max(texts, text => { element.textContent = text; return Math.ceil(element.getBoundingClientRect().width); })}px`;
       element.textContent = now;
     };
@@ -126,13 +144,13 @@ class Page {
 
   makeLines() {
     this.list = document.getElementById('lines');
-    const measure = () => {
+    this.measure = () => {
       this.fit = Math.min(41, Math.max(3, Math.floor((this.list.clientHeight - 4) / 16)));
       // Where the lines are not shown, as in a slide, their list has no width.
       this.letters = Math.max(1, Math.floor((this.list.clientWidth - 14) / textWidth('0', getComputedStyle(this.list).font)));
     };
-    measure();
-    this.onWindow('resize', () => { measure(); this.windows.resize(); this.lengths.resize(); this.show(); });
+    this.measure();
+    this.onWindow('resize', () => { this.measure(); this.windows.resize(); this.lengths.resize(); this.show(); });
     this.rows = d3.range(41).map(() => {
       const row = document.createElement('li');
       row.tabIndex = -1;
@@ -372,3 +390,4 @@ class Page {
     requestAnimationFrame(then => this.frame(then));
   }
 }
+window.Page = Page;      // so that the page around a frame can show a run in it

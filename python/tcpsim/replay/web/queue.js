@@ -2,7 +2,6 @@
 // A queue beside its link's beginning: squares for the packets at its head and its tail, the head next to the node; below
 // them a bar of its capacity, filled in the flows' colours; how many wait of how many, and how long the last of them waits.
 
-const BOX = {wide: 10, tall: 12, step: 11}, BAR = {at: 13.2, tall: 4};
 const OF_THE_HEAD = 0.4;                // this part of the squares is the head's where not all have room
 
 // Nanoseconds as words of three digits.
@@ -16,23 +15,29 @@ function countText(length, limit, ns) {
 
 class QueueView {
   // `line` has where the queue stands: its corner, its sign, how many squares have room (none of a stub).
-  constructor(group, record, l, line, used, show) {
-    Object.assign(this, {record, l, line, link: record.facts.links[l], boxes: [], bars: [], sums: [0], head: -1, tail: -1, used});
+  constructor(group, record, l, line, used, show, sizes) {
+    const {box, bar} = sizes;
+    Object.assign(this, {record, l, line, link: record.facts.links[l], boxes: [], bars: [], sums: [0], head: -1, tail: -1, used, sizes});
     const [x, y] = line.queue, queue = d3.select(group).append('g').attr('class', 'queue').attr('data-link', l)
       .attr('data-limit', this.link.limit).attr('data-most', line.most).attr('transform', `translate(${x},${y})`);
     queue.append('title').text(`the queue of ${this.link.name}, at most ${number(this.link.limit)} packets`);
     // A queue with a place for each square has a bar as long as its squares.
-    this.wide = Math.max(0, BOX.step * Math.min(line.most, this.link.limit) - 1);
-    this.frame = queue.append('rect').attr('class', 'capacity').attr('x', line.sign > 0 ? 0 : -this.wide).attr('y', BAR.at)
-      .attr('width', this.wide).attr('height', BAR.tall).node();
-    this.text = queue.append('text').attr('class', 'count').attr('y', BOX.tall - 1.8)
+    this.wide = Math.max(0, box.step * Math.min(line.most, this.link.limit) - 1);
+    this.frame = queue.append('rect').attr('class', 'capacity').attr('x', line.sign > 0 ? 0 : -this.wide).attr('y', bar.at)
+      .attr('width', this.wide).attr('height', bar.tall).node();
+    // Beside the squares, or above those of the link to the right and below those of the other.
+    this.apart = sizes.counts === 'apart' && line.most > 0;
+    this.short = sizes !== ON_PAGE && !line.most;
+    this.text = queue.append('text').attr('class', 'count')
+      .attr('y', !this.apart ? box.tall - 1.8 : line.up ? -3 : bar.at + bar.tall + LINE_TALL)
       .attr('text-anchor', line.sign > 0 ? 'start' : 'end').text('-').node();
-    this.gap = queue.append('text').attr('class', 'gap').attr('y', BOX.tall - 3).text('\u2026').attr('display', 'none').node();
+    this.gap = queue.append('text').attr('class', 'gap').attr('y', box.tall - 3).text('\u2026').attr('display', 'none').node();
     this.group = queue.node();
-    queue.on('click', () => show({link: l}));
+    queue.attr('tabindex', used ? 0 : null).attr('role', 'button').attr('aria-label', `the queue of ${this.link.name}`);
+    queue.on('click', () => show({link: l})).on('keydown', () => { if (d3.event.key === 'Enter') show({link: l}); });
   }
   // Where the k-th square stands, or what is `wide`, from the queue's corner.
-  at(k, wide = BOX.wide) { return this.line.sign > 0 ? BOX.step * k : -BOX.step * k - wide; }
+  at(k, wide = this.sizes.box.wide) { return this.line.sign * this.sizes.box.step * k - (this.line.sign > 0 ? 0 : wide); }
 
   // The bytes that entered the queue before an entry.
   bytesBefore(entry) {
@@ -51,8 +56,8 @@ class QueueView {
     this.drawBar(now);
     const wait = 8e9 * (this.bytesBefore(now.tail) - this.bytesBefore(now.head)) / this.link.rate;
     Object.assign(this.group.dataset, {length: now.length, heads, wait: Math.round(wait)});
-    this.text.firstChild.data = countText(now.length, this.link.limit, wait);
-    this.text.setAttribute('x', this.line.sign * (most ? this.wide + 5 : 2));
+    this.text.firstChild.data = this.short ? number(now.length) : countText(now.length, this.link.limit, wait);
+    this.text.setAttribute('x', this.apart ? 0 : this.line.sign * (most ? this.wide + 5 : 2));
     this.text.setAttribute('class', now.length ? 'count' : this.used && most ? 'count idle' : 'count idle never');
     this.frame.setAttribute('class', this.used || now.length ? 'capacity' : 'capacity never');
   }
@@ -64,7 +69,7 @@ class QueueView {
       const box = this.boxAt(k);
       if (k >= entries.length || entries[k] < 0) {
         if (box.hasAttribute('data-packet')) { box.setAttribute('display', 'none'); box.removeAttribute('data-packet'); }
-        if (entries[k] < 0) { this.gap.removeAttribute('display'); this.gap.setAttribute('x', this.at(k) + BOX.wide / 2); }
+        if (entries[k] < 0) { this.gap.removeAttribute('display'); this.gap.setAttribute('x', this.at(k) + this.sizes.box.wide / 2); }
         continue;
       }
       const packet = record.packet(l, entries[k]), word = waitingWord(packet);
@@ -85,11 +90,12 @@ class QueueView {
   }
   // The k-th square, with the mark of its packet's flow.
   boxAt(k) {
+    const {wide, tall} = this.sizes.box;
     while (this.boxes.length <= k) {
       const box = d3.select(this.group).append('g').attr('class', 'box').attr('display', 'none')
         .attr('transform', `translate(${this.at(this.boxes.length)},0)`);
-      box.append('rect').attr('width', BOX.wide).attr('height', BOX.tall);
-      box.append('text').attr('x', BOX.wide / 2).attr('y', BOX.tall - 3).text('');
+      box.append('rect').attr('width', wide).attr('height', tall);
+      box.append('text').attr('x', wide / 2).attr('y', tall - 3).text('');
       this.boxes.push(box.node());
     }
     return this.boxes[k];
@@ -98,13 +104,13 @@ class QueueView {
   // those that share it, so that the tail is seen.
   drawBar(now) {
     const flow = this.record.tracks[this.l].flow, filled = now.length ? Math.max(1, this.wide * now.length / this.link.limit) : 0;
-    const columns = Math.min(now.length, Math.ceil(filled)), runs = new Map();
+    const columns = Math.min(now.length, Math.ceil(filled)), runs = new Map(), {bar: {at, tall}} = this.sizes;
     for (let k = 0, begin = 0; k < columns && this.wide; k++) {
       const lastOf = column => flow[now.head + Math.floor((column + 1) * now.length / columns) - 1];
       const its = lastOf(k), next = k + 1 < columns ? lastOf(k + 1) : -1;
       if (next === its) continue;
       const from = begin * filled / columns, to = (k + 1) * filled / columns, x = this.line.sign > 0 ? from : -to;
-      runs.set(its, `${runs.get(its) || ''}M${x.toFixed(2)} ${BAR.at}h${(to - from).toFixed(2)}v${BAR.tall}h${(from - to).toFixed(2)}z`);
+      runs.set(its, `${runs.get(its) || ''}M${x.toFixed(2)} ${at}h${(to - from).toFixed(2)}v${tall}h${(from - to).toFixed(2)}z`);
       begin = k + 1;
     }
     for (const [f, way] of runs) {
@@ -118,6 +124,6 @@ class QueueView {
   // Where what is dropped begins to fall: what found no room at the tail, all else at the head.
   mouth(reason) {
     const shown = Math.min(this.record.link(this.l).length, this.line.most);
-    return this.line.queue[0] + this.at(reason === 'full' ? shown : 0, 0) + this.line.sign * BOX.wide / 2;
+    return this.line.queue[0] + this.at(reason === 'full' ? shown : 0, 0) + this.line.sign * this.sizes.box.wide / 2;
   }
 }

@@ -1,0 +1,133 @@
+"""Tests of what tcpsim-plot says of flows and links beside their curves: ways, round trips, who uses a link, at which link
+packets were lost and of what sort, duplicates, timers, heights of axes.
+"""
+import pytest
+
+pytest.importorskip('matplotlib', reason='no matplotlib: apt-get install python3-matplotlib')
+import pictures  # noqa: E402
+from tcpsim.curves import read_run  # noqa: E402
+from tcpsim.plot import flow_panels, notes, style  # noqa: E402
+from tcpsim.scenario.text import Scenario  # noqa: E402
+from test_plot import MS, Drawn, S, marks  # noqa: E402
+from test_trace import TRACE  # noqa: E402
+
+
+class TestNotes(Drawn):
+    """What is said of flows and links: ways, round trips, in what flows differ, who uses a link."""
+    def test_ways_and_round_trips(self):
+        scenario = read_run(*pictures.run_of('two_round_trips_do_not_share_fairly')).scenario
+        # fa: 1040 bytes take 27.733334 ms at 300 kbit/s and 83.2 us at each of two links of 100 Mbit/s, 40 bytes 1.066667 ms
+        # and 3.2 us; 5 + 1 + 1 ms each way. The sender's link of fb is 199 ms longer, there and back.
+        assert [notes.way_text(scenario, number) for number in (0, 1)] == ['sa→p→q→ra', 'sb→p→q→rb']
+        trips = [notes.least_round_trip(scenario, number) for number in (0, 1)]
+        assert trips == [27_733_334 + 2 * 83_200 + 1_066_667 + 2 * 3_200 + 14 * MS] * 1 + [trips[0] + 398 * MS]
+        assert notes.flow_notes(scenario, 1) == ('sb→p→q→rb', 'round trip ≥ 441 ms')
+
+    def test_a_long_way_is_told_by_its_ends(self):
+        count = 9
+        text = 'sim 1000000\n' + ''.join(f'node n{k} {"sender" if not k else "receiver" if k == count - 1 else "router"}\n'
+                                         for k in range(count))
+        for a, b in [(k, k + 1) for k in range(count - 1)] + [(k + 1, k) for k in range(count - 1)]:
+            text += f'link l{a}{b} n{a} n{b} 8000000 1000 droptail 9\n'
+            if 0 < a < count - 1:
+                text += f'route n{a} n{count - 1 if b > a else 0} l{a}{b}\n'
+        text += f'flow f n0 n{count - 1} 1000 1 0 64000 0\n'
+        assert notes.way_text(Scenario(text), 0) == 'n0→n1→…→n7→n8'
+
+    def test_flows_are_told_apart_by_what_differs(self):
+        first, second = read_run(*pictures.run_of('a_larger_initial_window')).scenario.flows
+        assert notes.differences([first, second]) == [['initial window 3 segments'], ['initial window 10 segments']]
+        assert notes.differences([first, first]) == [[], []]
+        assert notes.differences([first, first._replace(newreno=True, delack=40 * MS)]) == [
+            ['Reno', 'no ack delayed'], ['NewReno', 'acks delayed by up to 40 ms']]
+        assert notes.differences([]) == []
+
+    def test_who_uses_a_link(self):
+        scenario = read_run(*pictures.run_of('acks_share_the_bottleneck')).scenario
+        assert [notes.link_note(scenario, number) for number in (0, 1)] == ['p→q: data of fa and acks of fb',
+                                                                            'q→p: data of fb and acks of fa']
+        scenario = read_run(*pictures.run_of('parking_lot_of_three_routers')).scenario
+        assert notes.link_note(scenario, 0) == 'p→q: data of fa, fb'
+        scenario.flows = [scenario.flows[1]] * 5
+        scenario.ways = [scenario.ways[1]] * 5
+        assert notes.link_note(scenario, 0) == 'p→q: data of 5 flows'
+
+    def test_the_picture_has_them(self):
+        figure = pictures.figure_of('two_round_trips_do_not_share_fairly')
+        texts = [text.get_text() for axes in figure.get_axes() for text in axes.texts]
+        assert 'sa→p→q→ra\nround trip ≥ 43 ms' in texts and 'sb→p→q→rb\nround trip ≥ 441 ms' in texts
+        progress = figure.get_axes()[-1].get_legend().get_texts()
+        assert [text.get_text() for text in progress] == ['fa 335 kB', 'fb 69 kB']
+
+
+class TestSigns(Drawn):
+    def key(self, axes):
+        return [text.get_text() for text in axes.get_legend().get_texts()]
+
+    def test_losses_have_their_links_colours_where_these_are_several(self):
+        figure = pictures.figure_of('parking_lot_of_three_routers')
+        panels = {axes.get_title(loc='left'): axes for axes in figure.get_axes() if axes.axison}
+        assert list(panels) == ['flow fa', 'flow fb', 'flow fc', 'packets that wait at pq', 'packets that wait at qu',
+                                'bytes acknowledged of each flow']
+        crosses = {title: {line.get_color() for line in axes.lines if line.get_marker() == 'x'} for title, axes in panels.items()}
+        assert crosses['flow fa'] == {style.BLUE, style.RUST}       # fa alone loses at both
+        assert crosses['flow fb'] == crosses['packets that wait at pq'] == {style.BLUE}
+        assert crosses['flow fc'] == crosses['packets that wait at qu'] == {style.RUST}
+        assert self.key(figure.get_axes()[0])[-2:] == ['dropped: queue full at pq', 'dropped: queue full at qu']
+        low, high = panels['packets that wait at pq'].get_ylim(), panels['packets that wait at qu'].get_ylim()
+        assert low == high
+
+    def test_lost_acknowledgements_are_grey(self):
+        figure = pictures.figure_of('a_slow_way_back')
+        panels = {axes.get_title(loc='left'): axes for axes in figure.get_axes() if axes.axison}
+        run = read_run(*pictures.run_of('a_slow_way_back'))
+        dropped = [time / MS for time, *_ in run.flows[0].drops]
+        for title in ('flow f: sequence numbers', 'packets that wait in the queue'):
+            line, = [line for line in panels[title].lines if line.get_marker() == 'x']
+            assert line.get_color() == style.OF_ACKS
+            assert sorted(line.get_xdata()) == pytest.approx(dropped)
+        assert 'x' not in marks(panels['flow f: congestion window'])
+        assert self.key(panels['packets that wait in the queue']) == ['ack dropped: queue full']
+
+    def test_duplicates_and_acknowledgements_that_were_held_back(self):
+        # by hand: 3000 is acknowledged, and again by each acknowledgement of 3000 that comes later
+        sequence = self.panels(*self.hand)['flow f: sequence numbers']
+        run = read_run(*self.hand)
+        told = [int(words[1]) for words in map(str.split, TRACE.splitlines()) if words[5:8] == ['ack', '0', '3000']]
+        assert sorted(marks(sequence)['|']) == pytest.approx([(time / MS, 3) for time in told if time not in run.flows[0].una_times])
+        assert len(marks(sequence)['|']) >= 3
+        figure = pictures.figure_of('delayed_acks_and_their_alarm')
+        sequence = figure.get_axes()[-1]
+        # the ninth segment comes at 22.28 ms
+        arrived = max(read_run(*pictures.run_of('delayed_acks_and_their_alarm')).flows[0].next_times)
+        assert list(read_run(*pictures.run_of('delayed_acks_and_their_alarm')).flows[0].alarm_times) == [arrived + 100 * MS]
+        assert [y for _, y in marks(sequence)['>']] == [9]
+        assert 'ack that was held back for 100 ms' in self.key(figure.get_axes()[2])
+
+    def test_timeouts_say_how_long_the_timer_ran(self):
+        def said(name):
+            run = read_run(*pictures.run_of(name))
+            return [[flow_panels.timer_of(flow, time) for time in flow.timeouts] for flow in run.flows]
+        assert said('a_timer_that_stays_doubled') == [[S, 2 * S]]
+        assert said('two_timeouts_in_a_row') == [[S, 2 * S]]
+        assert said('lock_out_at_equal_times')[0] == [S, 2 * S, 4 * S]
+        texts = [text.get_text() for axes in pictures.figure_of('two_timeouts_in_a_row').get_axes() for text in axes.texts]
+        assert texts.count('after 1 s') == texts.count('after 2 s') == 2
+
+    def test_axes_of_a_height_that_was_asked_for(self):
+        words = [*self.hand, '--link', 'a', '--panels', 'window,queue,delay,progress', '--top',
+                 'window=20k,queue=10,delay=5ms,progress=40k']
+        panels = self.panels(*words)
+        assert panels['flow f: congestion window'].get_ylim()[1] == pytest.approx(20 * 1.12)
+        assert panels['packets that wait in the queue'].get_ylim()[1] == pytest.approx(10 * 1.12 + .5)
+        assert panels['delay in the queue of each packet sent'].get_ylim()[1] == pytest.approx(5 * 1.12)
+        assert panels['bytes acknowledged of flow f'].get_ylim()[1] == pytest.approx(40 * 1.06)
+        # what is higher is drawn whole
+        assert self.panels(*self.hand, '--top', 'window=1k')['flow f: congestion window'].get_ylim() == (-.7, 7 * 1.12)
+        for top in ('window', 'cwnd=5', 'queue=many', 'delay=5', 'queue=1.5', ''):
+            self.refused(2, '--top', *self.hand, '--top', top)
+
+    def test_names_of_losses_that_lie_close_to_each_other_are_one(self):
+        figure = pictures.figure_of('reno_and_newreno')
+        names = [text.get_text() for axes in figure.get_axes() for text in axes.texts if 'lost' in text.get_text()]
+        assert names == ['29,000, 34,000, 39,000 lost'] * 2
