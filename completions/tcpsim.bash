@@ -17,7 +17,7 @@ _tcpsim() {
   case ${COMP_WORDS[1]} in
     explain) COMPREPLY=($(compgen -W "$(_tcpsim_codes) --help -h" -- "$word")) ;;
     asm | dis) COMPREPLY=($(compgen -W '--explain --help -h' -- "$word")) ;;
-    figures) COMPREPLY=($(compgen -W '--progress --explain --help -h' -- "$word")) ;;
+    figures) COMPREPLY=($(compgen -W '--from --progress --explain --help -h' -- "$word")) ;;
     run | debug) case $before in
       --workers) COMPREPLY=($(compgen -W '1 2 4 8 16 32 64' -- "$word")) ;;
       --groups) COMPREPLY=($(compgen -W 'one each auto' -- "$word")) ;;
@@ -54,5 +54,5 @@ _tcpsim_tool() {
 }
 
 complete -o default -F _tcpsim tcpsim
-complete -o default -F _tcpsim_tool tcpsim-run tcpsim-model tcpsim-flows tcpsim-plot tcpsim-net tcpsim-sweep tcpsim-follow tcpsim-stalls \
-  tcpsim-replay
+complete -o default -F _tcpsim_tool tcpsim-run tcpsim-debug tcpsim-model tcpsim-flows tcpsim-plot tcpsim-net tcpsim-sweep tcpsim-follow \
+  tcpsim-stalls tcpsim-replay

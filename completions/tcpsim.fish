@@ -10,6 +10,7 @@ complete -c tcpsim -s h -l help -d 'Print help'
 complete -c tcpsim -n __fish_use_subcommand -s V -l version -d 'Print version'
 complete -c tcpsim -n '__fish_seen_subcommand_from run debug' -l workers -x -a '1 2 4 8 16 32 64' -d 'Run the groups by so many workers, 1 to 64'
 complete -c tcpsim -n '__fish_seen_subcommand_from run debug' -l groups -x -a 'one each auto' -d 'Which group each node is in, or a number a node with commas between'
+complete -c tcpsim -n '__fish_seen_subcommand_from figures' -x -l from -d 'Count from this moment on, as 1.5s or 20ms'
 complete -c tcpsim -n '__fish_seen_subcommand_from run figures' -l progress -d 'Say on standard error how far the run is'
 complete -c tcpsim -n '__fish_seen_subcommand_from asm dis run figures debug' -l explain -d 'Show on standard error why an input is refused'
 
@@ -27,7 +28,7 @@ function __tcpsim_shapes
     tcpsim-net --help 2>/dev/null </dev/null | string replace -rf '^    ([a-z][a-z-]+)( .*)?$' '$1'
 end
 
-for tool in run model flows plot net sweep follow stalls replay
+for tool in run debug model flows plot net sweep follow stalls replay
     complete -c tcpsim-$tool -n 'string match -q -- "-*" (commandline -ct)' -f -a '(__tcpsim_options)'
 end
 complete -c tcpsim-net -n 'test (count (commandline -opc)) -eq 1' -f -a '(__tcpsim_shapes)'

@@ -18,9 +18,10 @@ if TYPE_CHECKING:
     from tcpsim.api.series import TimeSeries
     from tcpsim.api.session import DebugSession, debug
     from tcpsim.api.simulation import Simulation, run
+    from tcpsim.api.sweeps import Sweep, sweep
 
 __version__ = '0.2.0'
-FORMATS = {'trace': 1, 'image': 2, 'figures': 1, 'prompt': 8}
+FORMATS = {'trace': 1, 'image': 2, 'figures': 3, 'prompt': 8}
 VERSIONS = f'{__version__} ({", ".join(f"{name} {number}" for name, number in FORMATS.items())})'   # of --version
 
 # Of each public name the module of `api` that has it.
@@ -30,11 +31,11 @@ _MODULES = {
     'run': 'simulation', 'Simulation': 'simulation', 'debug': 'session', 'DebugSession': 'session', 'Event': 'events',
     'Sent': 'events', 'Drop': 'events', 'Trace': 'events', 'TimeSeries': 'series', 'Results': 'results', 'FlowResult': 'results',
     'LinkResult': 'results', 'Error': 'errors', 'Refused': 'errors', 'Wrong': 'errors', 'WrongQueue': 'errors',
-    'NotInstalled': 'errors', 'NoProgram': 'errors',
+    'NotInstalled': 'errors', 'NoProgram': 'errors', 'sweep': 'sweeps', 'Sweep': 'sweeps',
 }
 __all__ = ['__version__', 'dumbbell', 'chain', 'parking_lot', 'tree', 'access_line', 'asymmetric', 'islands', 'read', 'from_text',
            'ScenarioText', 'run', 'Simulation', 'debug', 'DebugSession', 'Event', 'Sent', 'Drop', 'Trace', 'TimeSeries', 'Results',
-           'FlowResult', 'LinkResult', 'Error', 'Refused', 'Wrong', 'WrongQueue', 'NotInstalled', 'NoProgram']
+           'FlowResult', 'LinkResult', 'Error', 'Refused', 'Wrong', 'WrongQueue', 'NotInstalled', 'NoProgram', 'sweep', 'Sweep']
 
 
 def __getattr__(name: str) -> object:

@@ -1,6 +1,6 @@
 """A run's figures by names, from the table that `tcpsim figures` writes: no trace is made or read.
 
-docs/FORMATS.md has the table. Used by figures.py and sweep.py; nothing but Python's standard library. All times are
+docs/FORMATS.md has the table. Used by figures.py and sweeps; nothing but Python's standard library. All times are
 nanoseconds, all sizes bytes.
 """
 from __future__ import annotations
@@ -20,11 +20,12 @@ OF_A_FLOW = {('start', 'ns'): False, ('delivered', 'bytes'): False, ('completed'
              ('sent again by fast retransmit', 'segments'): False, ('sent again by timeout', 'segments'): False,
              ('timeouts', 'times'): False, ('round trips', 'times'): False,
              **{(f'{which} round trip{"s" * (which[0] == "9")}', 'ns'): True
-                for which in ('least', 'median', '99th percentile of', 'greatest')}}
+                for which in ('least', 'median', '95th percentile of', '99th percentile of', 'greatest')}}
 OF_A_LINK = {**{(figure, 'packets'): False for figure in (
-                 'offered', 'dropped as lost', 'dropped as full', 'dropped by CoDel', 'sent', 'greatest queue')},
-             ('sent', 'bytes'): False, BUSY: False, WAITED: False,
-             **{(f'{which} delay in the queue', 'ns'): True for which in ('median', '99th percentile of', 'greatest')}}
+                 'offered', 'dropped as lost', 'dropped as full', 'dropped by CoDel', 'sent packets', 'greatest queue')},
+             ('sent bytes', 'bytes'): False, BUSY: False, WAITED: False,
+             **{(f'{which} delay in the queue', 'ns'): True
+                for which in ('median', '95th percentile of', '99th percentile of', 'greatest')}}
 OF_THE_RUN = {('events', 'events'): False, ('end', 'ns'): False}
 REASONS = ('dropped as lost', 'dropped as full', 'dropped by CoDel')
 

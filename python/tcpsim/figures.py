@@ -341,7 +341,7 @@ def figures(run: Figures, only_busy: bool = False) -> list[tuple]:
 # timed round trips: samples of one segment at a time (RFC 6298 section 3), and not of each that is sent once.
 FLOW_ENGINE = (('timeouts', 'times'), ('sent again by fast retransmit', 'segments'), ('sent again by timeout', 'segments'))
 TIMED = (('least timed round trip', 'least round trip'), ('median timed round trip', 'median round trip'),
-         ('99th percentile of timed round trips', '99th percentile of round trips'))
+         *((f'{n}th percentile of timed round trips', f'{n}th percentile of round trips') for n in (95, 99)))
 
 
 def engine_flow_figures(run: EngineRun, number: int, used: Sequence[float]) -> list[tuple]:
@@ -362,12 +362,12 @@ def engine_flow_figures(run: EngineRun, number: int, used: Sequence[float]) -> l
 def engine_link_figures(run: EngineRun, number: int, used: Sequence[float]) -> list[tuple]:
     """The figures of a link, from the program's table."""
     values, drops = run.links[number], run.dropped(number)
-    sent = values['sent', 'packets']
+    sent = values['sent packets', 'packets']
     return [('utilization', 'part', used[number]),
             ('greatest queue', 'packets', values['greatest queue', 'packets']),
             ('mean queue', 'packets', run.over_span(number, WAITED)),
             *((name, 'ns', values[name, 'ns'])
-              for name in ('median delay in the queue', '99th percentile of delay in the queue')),
+              for name in ('median delay in the queue', '95th percentile of delay in the queue', '99th percentile of delay in the queue')),
             ('sent', 'packets', sent),
             ('dropped', 'packets', drops),
             *((reason, 'packets', values[reason, 'packets']) for reason in REASONS),

@@ -46,6 +46,7 @@ class FlowState:
                             # partial acknowledgement of NewReno's) or else by a timeout
     on_acknowledged = None  # (time): `last_una` rose
     on_received = None      # (time): `expected` rose
+    on_alarm = None         # (time): the receiver acknowledges `expected`, which it had held back
     on_window = None        # (time, cwnd, ssthresh, flight), the first two as words: after a sender's line
     on_turn = None          # (time, recovering): a recovery begins or ends
     on_timeout = None       # (time)
@@ -286,6 +287,8 @@ class Reader(OwnQueues):
         """A line of a flow's end that is no segment: at its sender, or of its receiver's alarm."""
         if kind == 'delack' and node == flow.receiver and flow.answer_waits and time == flow.answer_due:
             flow.answers(None, int(words[7][5:]), time)
+            if flow.on_alarm:
+                flow.on_alarm(time)
             return flow.back_link, self._offer(flow.back_link, f'{flow.text}{flow.expected}', flow.acks, words, 8, time)
         if node != flow.sender or kind not in ('ack', 'start', 'rto'):
             raise ValueError('no event of this node')

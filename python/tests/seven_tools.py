@@ -10,10 +10,8 @@ import tempfile
 
 import pytest
 
-from clone import BIN, MODEL, TOP
+from clone import BIN, PROGRAM, TOP
 
-BUILT = os.path.join(TOP, 'crates', 'tcpsim', 'out', 'tcpsim')
-PROGRAM = BUILT if os.path.exists(BUILT) else MODEL
 EXAMPLE = pathlib.Path(TOP, 'examples', 'two_timeouts_in_a_row')
 OLD = 'what stood here before\n'
 PATIENCE = 60               # seconds in which a tool that is not waited for ends

@@ -12,54 +12,29 @@ import pytest
 
 pexpect = pytest.importorskip('pexpect', reason='no pexpect: apt-get install python3-pexpect')
 
-from clone import BIN, PROGRAM, TOP, Folder  # noqa: E402
+from clone import BIN, PROGRAM, TOP, Folder, read_text  # noqa: E402
 
 COMPLETIONS = os.path.join(TOP, 'completions')
 SUBCOMMANDS = ('asm', 'debug', 'dis', 'explain', 'figures', 'run')
-TOOLS = ('run', 'model', 'flows', 'plot', 'net', 'sweep', 'follow', 'stalls', 'replay')
+TOOLS = ('run', 'debug', 'model', 'flows', 'plot', 'net', 'sweep', 'follow', 'stalls', 'replay')
 MARK = '@ready@'
 PATIENCE = 60           # seconds for one answer, on a machine that is busy
-# A line up to the cursor, and what it becomes, its last word completed. `scenario one.txt`, `scenario_two.txt`
-# and the folder `shelf` with `inner.txt` are there; the completed word is the only one that fits.
-# Of several that fit, as --access and --access-queue, what they have in common.
-LINES = (
-    ('tcpsim ru', 'tcpsim run '),
-    ('tcpsim --v', 'tcpsim --version '),
-    ('tcpsim debug --wor', 'tcpsim debug --workers'),
-    ('tcpsim run --gro', 'tcpsim run --groups'),
-    ('tcpsim run --workers 3', 'tcpsim run --workers 32 '),
-    ('tcpsim run --pro', 'tcpsim run --progress '),
-    ('tcpsim asm --ex', 'tcpsim asm --explain '),
-    ('tcpsim debug --ex', 'tcpsim debug --explain '),
-    ('tcpsim run --groups au', 'tcpsim run --groups auto '),
-    ('tcpsim run --groups=ea', 'tcpsim run --groups=each '),
-    ('tcpsim dis --h', 'tcpsim dis --help '),
-    ('tcpsim run < scenario_', 'tcpsim run < scenario_two.txt '),
-    ('tcpsim run <scenario_', 'tcpsim run <scenario_two.txt '),
-    ('tcpsim run --groups each < scenario_', 'tcpsim run --groups each < scenario_two.txt '),
-    ('tcpsim asm < shelf/in', 'tcpsim asm < shelf/inner.txt '),
-    ('tcpsim asm < scenario\\ ', 'tcpsim asm < scenario\\ one.txt '),
-    ('tcpsim dis > scenario_', 'tcpsim dis > scenario_two.txt '),
-    ('tcpsim run scenario_', 'tcpsim run scenario_two.txt '),
-    ('tcpsim asm sh', 'tcpsim asm shelf/'),
-    ('tcpsim exp', 'tcpsim explain '),
-    ('tcpsim fig', 'tcpsim figures '),
-    ('tcpsim figures --pro', 'tcpsim figures --progress '),
-    ('tcpsim figures scenario_', 'tcpsim figures scenario_two.txt '),
-    ('tcpsim explain gr', 'tcpsim explain groups '),
-    ('tcpsim-flows scenario_', 'tcpsim-flows scenario_two.txt '),
-    ('tcpsim-flows scenario_two.txt --ser', 'tcpsim-flows scenario_two.txt --series '),
-    ('tcpsim-flows --program shelf/in', 'tcpsim-flows --program shelf/inner.txt '),
-    ('tcpsim-follow scenario_', 'tcpsim-follow scenario_two.txt '),
-    ('tcpsim-follow scenario_two.txt --by', 'tcpsim-follow scenario_two.txt --byte '),
-    ('tcpsim-follow scenario_two.txt shelf/in', 'tcpsim-follow scenario_two.txt shelf/inner.txt '),
-    ('tcpsim-stalls scenario_', 'tcpsim-stalls scenario_two.txt '),
-    ('tcpsim-stalls scenario_two.txt --lon', 'tcpsim-stalls scenario_two.txt --longer '),
-    ('tcpsim-stalls --ca', 'tcpsim-stalls --causes '),
-    ('tcpsim-net dumb', 'tcpsim-net dumbbell '),
-    ('tcpsim-net dumbbell --acc', 'tcpsim-net dumbbell --access'),
-    ('tcpsim-net dumbbell --que', 'tcpsim-net dumbbell --queue '),
-)
+# A line up to the cursor, and behind the stroke what its last word gets, completed. `scenario one.txt`, `scenario_two.txt` and
+# the folder `shelf` with `inner.txt` are there; the completed word is the only one that fits. Of several that fit, as --access
+# and --access-queue, what they have in common.
+LINES = [(line.partition('|')[0], line.replace('|', '')) for line in (
+    'tcpsim ru|n ', 'tcpsim --v|ersion ', 'tcpsim debug --wor|kers', 'tcpsim run --gro|ups', 'tcpsim run --workers 3|2 ',
+    'tcpsim run --pro|gress ', 'tcpsim asm --ex|plain ', 'tcpsim debug --ex|plain ', 'tcpsim run --groups au|to ',
+    'tcpsim run --groups=ea|ch ', 'tcpsim dis --h|elp ', 'tcpsim run < scenario_|two.txt ',
+    'tcpsim run <scenario_|two.txt ', 'tcpsim run --groups each < scenario_|two.txt ', 'tcpsim asm < shelf/in|ner.txt ',
+    'tcpsim asm < scenario\\ |one.txt ', 'tcpsim dis > scenario_|two.txt ', 'tcpsim run scenario_|two.txt ',
+    'tcpsim asm sh|elf/', 'tcpsim exp|lain ', 'tcpsim fig|ures ', 'tcpsim figures --pro|gress ',
+    'tcpsim figures scenario_|two.txt ', 'tcpsim explain gr|oups ', 'tcpsim-flows scenario_|two.txt ',
+    'tcpsim-flows scenario_two.txt --ser|ies ', 'tcpsim-flows --program shelf/in|ner.txt ',
+    'tcpsim-follow scenario_|two.txt ', 'tcpsim-follow scenario_two.txt --by|te ',
+    'tcpsim-follow scenario_two.txt shelf/in|ner.txt ', 'tcpsim-stalls scenario_|two.txt ',
+    'tcpsim-stalls scenario_two.txt --lon|ger ', 'tcpsim-stalls --ca|uses ', 'tcpsim-debug --work|ers ', 'tcpsim-debug scenario_|two.txt ', 'tcpsim-net dumb|bell ',
+    'tcpsim-net dumbbell --acc|ess', 'tcpsim-net dumbbell --que|ue ')]
 
 
 class Shelf(Folder):
@@ -82,7 +57,6 @@ class Shelf(Folder):
         done = subprocess.run(words, cwd=self.folder, env=self.environment, capture_output=True, text=True,
                               stdin=subprocess.DEVNULL, check=False, timeout=60)
         return done.stdout.splitlines()
-
 
     def compgen(self, function, *words):
         """bash's answers, all words that fit: those of the function, by `compgen`, or where it has none, files."""
@@ -109,8 +83,7 @@ def long_options(text):
 
 def manual(name):
     """A man page with plain signs, and where fonts are changed a space."""
-    with open(os.path.join(TOP, 'man', f'{name}.1'), encoding='utf-8') as file:
-        return re.sub(r'\\f[A-Z]', ' ', file.read().replace('\\-', '-'))
+    return re.sub(r'\\f[A-Z]', ' ', read_text('man', f'{name}.1').replace('\\-', '-'))
 
 
 def part_of(page, head):
@@ -140,15 +113,13 @@ class TestWords(Shelf):
         assert self.compgen('_tcpsim', 'tcpsim', 'run', '--groups', '') == sorted(self.groups)
 
     def test_zsh(self):
-        with open(os.path.join(COMPLETIONS, '_tcpsim'), encoding='utf-8') as file:
-            text = file.read().partition('_tcpsim_tool()')[0]
+        text = read_text(COMPLETIONS, '_tcpsim').partition('_tcpsim_tool()')[0]
         assert long_options(text) == set().union(*self.options.values()) | {'--version'}
         assert set(re.findall(r"^    '([a-z]+):", text, re.M)) == set(SUBCOMMANDS)
         assert f'({" ".join(self.groups)})' in text
 
     def test_fish(self):
-        with open(os.path.join(COMPLETIONS, 'tcpsim.fish'), encoding='utf-8') as file:
-            lines = [line for line in file if line.startswith('complete -c tcpsim ')]
+        lines = [line for line in read_text(COMPLETIONS, 'tcpsim.fish').splitlines() if line.startswith('complete -c tcpsim ')]
         told = {name: set() for name in SUBCOMMANDS}
         for line in lines:
             option = re.search(r' -l ([a-z-]+)', line)
@@ -184,22 +155,13 @@ def test_a_tool_s_page_has_each_option_of_its_help():
 
 
 class TestCompgen(Shelf):
-    """bash's answers, all words that fit: those of the function, by `compgen`, or where it has none, files."""
-
-    def compgen(self, function, *words):
-        script = ('source "$1"; shift; function=$1; shift; COMP_WORDS=("$@"); COMP_CWORD=$(($# - 1)); "$function"; '
-                  'if [ ${#COMPREPLY[@]} -gt 0 ]; then printf "%s\\n" "${COMPREPLY[@]}"; '
-                  'elif complete -p "$1" | grep -q -- "-o default"; then compgen -f -- "${COMP_WORDS[COMP_CWORD]}"; fi')
-        return sorted(self.run_shell('bash', '-c', script, 'bash', os.path.join(COMPLETIONS, 'tcpsim.bash'), function,
-                                     *words))
-
     def test_words_of_the_program(self):
         for words, answer in ((['tcpsim', ''], ['--help', '--version', '-V', '-h', 'asm', 'debug', 'dis', 'explain', 'figures', 'run']),
                               (['tcpsim', 'd'], ['debug', 'dis']),
                               (['tcpsim', 'run', '--'], ['--explain', '--groups', '--help', '--progress', '--workers']),
                               (['tcpsim', 'dis', '--'], ['--explain', '--help']),
                               (['tcpsim', 'debug', '--'], ['--explain', '--groups', '--help', '--workers']),
-                              (['tcpsim', 'figures', '--'], ['--explain', '--help', '--progress']),
+                              (['tcpsim', 'figures', '--'], ['--explain', '--from', '--help', '--progress']),
                               (['tcpsim', 'run', '--workers', ''], ['1', '16', '2', '32', '4', '64', '8']),
                               (['tcpsim', 'run', '--groups', '=', 'o'], ['one']),
                               (['tcpsim', 'run', '--groups', '='], ['auto', 'each', 'one']),
@@ -259,20 +221,17 @@ class TestInATerminal(Shelf):
                 assert shell.match[1].rstrip(' =') == completed.rstrip(' =')
 
     def test_bash(self):
-        start = os.path.join(self.folder, '..', 'start')
-        with open(start, 'w', encoding='utf-8') as file:
-            file.write(f'source {COMPLETIONS}/tcpsim.bash\nPS1="$ "\n'
-                       f'show() {{ printf "\\n{MARK}<%s>\\n" "$READLINE_LINE"; }}\nbind -x \'"\\C-g": show\'\n'
-                       'bind "set bell-style none"\nbind "set enable-bracketed-paste off"\n')
+        start = self.put('../start', f'source {COMPLETIONS}/tcpsim.bash\nPS1="$ "\n'
+                         f'show() {{ printf "\\n{MARK}<%s>\\n" "$READLINE_LINE"; }}\nbind -x \'"\\C-g": show\'\n'
+                         'bind "set bell-style none"\nbind "set enable-bracketed-paste off"\n')
         self.lines('bash', '--noprofile', '--rcfile', start, '-i')
 
     @pytest.mark.wants(zsh='zsh')
     def test_zsh(self):
-        with open(os.path.join(self.environment['HOME'], '.zshrc'), 'w', encoding='utf-8') as file:
-            file.write(f'fpath=({COMPLETIONS} $fpath)\nautoload -Uz compinit\ncompinit -u -D\nPS1="$ "\n'
-                       'unsetopt beep prompt_sp\n'
-                       f'show() {{ print -r -- "\n{MARK}<$BUFFER>" }}\nzle -N show\nbindkey -e\nbindkey "^G" show\n')
-        self.lines('zsh', '-i', ZDOTDIR=self.environment['HOME'])
+        self.put(f'{self.home}/.zshrc', f'fpath=({COMPLETIONS} $fpath)\nautoload -Uz compinit\ncompinit -u -D\nPS1="$ "\n'
+                 'unsetopt beep prompt_sp\n'
+                 f'show() {{ print -r -- "\n{MARK}<$BUFFER>" }}\nzle -N show\nbindkey -e\nbindkey "^G" show\n')
+        self.lines('zsh', '-i', ZDOTDIR=self.home)
 
 
 class TestFish(Shelf):

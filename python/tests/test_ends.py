@@ -228,14 +228,14 @@ def test_dev_full(tool, place):
 
 @pytest.mark.parametrize('tool', TOOLS)
 def test_full_standard_output(tool, place):
-    """Of plot nothing goes there."""
-    given = words(tool) + (['-o', target(place, tool)] if tool in ('plot', 'replay') else [])
-    with open('/dev/full', 'wb', 0) as full:
-        done = run(tool, *given, cwd=place, stdout=full)
-    if tool == 'plot':
-        assert (done.returncode, done.stderr) == (0, b'')
-    else:
-        is_told(done, 1, 'standard output: No space left on device')
+    """Of plot nothing goes there but its help."""
+    for given in (words(tool) + (['-o', target(place, tool)] if tool in ('plot', 'replay') else []), ['--help']):
+        with open('/dev/full', 'wb', 0) as full:
+            done = run(tool, *given, cwd=place, stdout=full)
+        if tool == 'plot' and given != ['--help']:
+            assert (done.returncode, done.stderr) == (0, b'')
+        else:
+            is_told(done, 1, 'standard output: No space left on device')
 
 
 @pytest.mark.parametrize('tool', TOOLS)
@@ -269,6 +269,14 @@ def test_reader_that_has_seen_enough(tool, place):
         os.close(write)
     assert done.returncode == 128 + signal.SIGPIPE
     assert not [line for line in done.stderr.decode().splitlines() if not re.match(r'\d of \d runs', line)]
+
+
+@pytest.mark.parametrize('tool, more', [('flows', '--csv'), ('flows', '--series=1ms'), ('stalls', '--longer=0'), ('follow', '--csv')])
+def test_reader_that_reads_a_line(tool, more, place):
+    done = subprocess.run(['bash', '-c', '"$@" | head -n 1; exit "${PIPESTATUS[0]}"', 'bash', *call(tool), *words(tool), more], cwd=place,
+                          check=False, capture_output=True, timeout=PATIENCE)
+    assert done.returncode in (0, 128 + signal.SIGPIPE)      # 0 where all was written before
+    assert (done.stderr, done.stdout.count(b'\n')) == (b'', 1)
 
 
 @pytest.mark.parametrize('tool', TOOLS)
@@ -310,6 +318,12 @@ def ends(leader, within=10):
     return not session(leader)
 
 
+def hears(process):
+    """Whether a process has a handler for SIGTERM: a tool's, since Python has none."""
+    caught = re.search(r'^SigCgt:\s*(\w+)$', pathlib.Path('/proc', str(process), 'status').read_text(), re.M)
+    return bool(int(caught[1], 16) >> (signal.SIGTERM - 1) & 1)
+
+
 @contextlib.contextmanager
 def waiting(tool, place, path, **more):
     """A tool that waits: for its trace, for a program that sleeps, or for who reads what it writes."""
@@ -330,8 +344,9 @@ def waiting(tool, place, path, **more):
     process = subprocess.Popen([*call(tool), *map(str, given), '-o', str(path)], cwd=place, start_new_session=True,
                                stdin=subprocess.DEVNULL, stdout=subprocess.PIPE, stderr=subprocess.PIPE, **more)
     try:
-        until = time.monotonic() + 5
-        while time.monotonic() < until and not (tool == 'net' or any(name.endswith('.part') for name in os.listdir(path.parent))):
+        until = time.monotonic() + PATIENCE
+        while time.monotonic() < until and not (hears(process.pid) and (
+                tool == 'net' or any(name.endswith('.part') for name in os.listdir(path.parent)))):
             time.sleep(0.02)
         time.sleep(0.7 if tool in ('sweep', 'net') else 0.1)
         yield process
@@ -448,6 +463,32 @@ def test_traces_that_are_none(tool, place):
             assert os.listdir(place / 'out') == []
 
 
+@pytest.mark.parametrize('tool', READERS)
+def test_files_that_are_none(tool, place):
+    right = (place / 's.txt').read_text()
+    for name, data in (('ff', b'sim \xff\n'), ('words', b'sim 1 2\n'), ('itself', right.replace('flow f s r', 'flow f s s').encode()),
+                       ('back', right.replace('link b r s', 'link b s r').encode()), ('01', right.replace('sim 1', 'sim 01').encode())):
+        (place / name).write_bytes(data)
+    for given, says in ((words(tool, 'nothing', 's.trace'), 'No such file'), (words(tool, 's.txt', 'nothing'), 'No such file'),
+                        (words(tool, 'out'), 'directory'), (words(tool, 's.txt', 'out'), 'directory'), (words(tool, 'ff'), 'not ASCII'),
+                        (words(tool, 'words'), 'line 1'), (words(tool, 's.trace'), 's.trace: line 1: '), (words(tool, 'back'), 'way'),
+                        (words(tool, 'itself'), 'itself' if tool in ('stalls', 'follow') else 'line '),
+                        ([*words(tool, trace=None), '--program', 'out'], 'no program'),
+                        ([*words(tool, '01', None), '--program', PROGRAM], 'refused E4 line')):
+        is_told(run(tool, *given, '-o', target(place, tool), cwd=place), 1, says)
+    assert os.listdir(place / 'out') == []
+
+
+@pytest.mark.parametrize('tool', ['flows', 'stalls', 'follow'])
+def test_pipes(tool, place):
+    """Both files can be pipes, which are read once, and the scenario standard input."""
+    _, _, *more = words(tool)
+    for files in ('<(cat s.txt) <(cat s.trace)', '- s.trace < s.txt'):
+        done = subprocess.run(['bash', '-c', f'"$1" "$2" {files} "${{@:3}}"', 'bash', *call(tool), *more], cwd=place, check=False,
+                              capture_output=True, timeout=PATIENCE)
+        assert (done.returncode, done.stderr, done.stdout) == (0, b'', whole(tool))
+
+
 PROGRAMS = {
     'wrote nothing': ('exit 0', 'is empty'), 'a status': ('echo no memory >&2; exit 4', 'status 4: no memory'),
     'a status behind its trace': ('cat "{trace}"; echo no room >&2; exit 4', 'status 4: no room'),
@@ -472,17 +513,19 @@ def test_program(tool, sort, place):
     assert os.listdir(place / 'out') == []
 
 
-@pytest.mark.parametrize('more', [(), ('--engine',)])
+@pytest.mark.parametrize('more', [('--exact',), ()])
 @pytest.mark.parametrize('sort', [sort for sort in PROGRAMS if sort != 'a long note'])
 def test_program_of_a_sweep(sort, more, place):
     """Each run has a row, and the sweep is no success."""
-    script, says = PROGRAMS[sort]
+    script, _ = PROGRAMS[sort]
     program, path = place / 'program', target(place, 'sweep')
     program.write_text('#!/bin/sh\n' + script.format(trace=place / 's.trace') + '\n')
     program.chmod(0o755)
     done = run('sweep', 's.txt', '--set', 'a.lose=none,5', '--program', program, '-o', path, *more, cwd=place)
     is_told(done, 1, '2 of 2 runs have no figures')
     assert path.read_text().count('\n') == 3 and ',done,' not in path.read_text()
+    status = {'wrote nothing': 'nothing', 'a status': 'no memory', 'no lines': 'no line of this scenario', 'killed': 'signal 9'}
+    assert not more or path.read_text().count(status.get(sort, '')) >= 2
 
 
 def test_table_of_figures_that_is_cut(place):
@@ -495,7 +538,7 @@ def test_table_of_figures_that_is_cut(place):
     for cut in [b''.join(lines[:n]) for n in range(len(lines))] + [table[:-n] for n in range(1, 4)] + [
             table.replace(b'flow,0', b'flow,1', 1), table + lines[-1]]:
         (place / 'table').write_bytes(cut)
-        for given in (('flows', 's.txt', '--engine'), ('sweep', 's.txt', '--engine', '--set', 'a.lose=none')):
+        for given in (('flows', 's.txt', '--engine'), ('sweep', 's.txt', '--set', 'a.lose=none')):
             if given[0] == 'sweep' and len(cut) % 5:
                 continue            # one in five is enough of what is the same table
             is_told(run(*given, '--program', program, cwd=place), 1)

@@ -19,11 +19,10 @@ from tcpsim_model.figures import figures
 from tcpsim_model.text import assemble, disassemble
 
 RANDOM = 80             # scenarios
-# What the program's table has not: parts of one flow at a link, 95th percentiles, and what is in flight at a timeout.
+# What the program's table has not: parts of one flow at a link, round trips of each segment, and what is in flight at a timeout.
 LEFT_OUT = {'share of the bottleneck', 'loss', 'least round trip', 'median round trip', '95th percentile of round trips',
             '99th percentile of round trips', cycle.BEYOND, cycle.MOST, cycle.HELD}
-LEFT_OUT_OF_LINKS = {'95th percentile of delay in the queue'}
-PERCENTILES = {'median delay in the queue', '99th percentile of delay in the queue'}
+PERCENTILES = {'median delay in the queue', '95th percentile of delay in the queue', '99th percentile of delay in the queue'}
 # One segment takes longer than the timer: it is sent again at 1 s, and acknowledged at 1.04232. Until 2.08 s the link
 # sends what nobody waits for, and the end is 2 s.
 PAST_THE_LAST = '''sim 2000000000
@@ -66,8 +65,7 @@ def agree(got, wanted):
     both, none = set(), set()
     for key, value in wanted.items():
         what, _, figure, _ = key
-        if (what == 'flow' and (figure in LEFT_OUT or ' dropped as ' in figure) or
-                what == 'link' and figure in LEFT_OUT_OF_LINKS):
+        if what == 'flow' and (figure in LEFT_OUT or ' dropped as ' in figure):
             assert key not in got
             continue
         both.add((what, figure))
@@ -144,10 +142,10 @@ class TestCommand(Files):
         1.04 ms, whose class ends at 2^20 - 1 ns."""
         lines = self.lines(self.scenario, '--engine')
         assert lines[0].split() == ('flow bytes Mbit/s bottleneck sent timeouts sent again: fast after timeouts '
-                                    'timed RTT ms: least median 99th took s completed s'.split())
-        assert lines[1].split() == 'f 10,000 0.027 a 17 2 0 7 3.080 3.080 3.080 3.015440 3.015440'.split()
+                                    'timed RTT ms: least median 95th 99th took s completed s'.split())
+        assert lines[1].split() == 'f 10,000 0.027 a 17 2 0 7 3.080 3.080 3.080 3.080 3.015440 3.015440'.split()
         assert lines[3].split()[-7:] == 'dropped as lost as full by CoDel loss %'.split()[-7:]
-        assert lines[4].split() == 'a 0.4 3 0.00 1.049 3.120 5 5 0 0 29.41'.split()
+        assert lines[4].split() == 'a 0.4 3 0.00 1.049 3.120 3.120 5 5 0 0 29.41'.split()
         assert lines[-2:] == ['Jain\'s index of goodput: 1.0000', 'span: 3.017520 s']
 
     def test_texts_images_and_standard_input(self):

@@ -1,68 +1,24 @@
 """Tests of tcpsim-flows, tcpsim/trace.py and tcpsim/program.py. What is expected was worked out by hand from the lines of
-TRACE, or is said by another way to the same number.
-
-TRACE is the run of one flow over a queue of two packets at 8 Mbit/s, 1 ms each way: a segment takes
-1.04 ms, and is lost twice, 3000 at 0 and 7000 at 4.12 ms; test_trace.py has its account line by line.
+TRACE, or is said by another way to the same number. test_trace.py has the account of TRACE, line by line; how the tool ends,
+and files that are none, are in test_ends.py.
 """
 import csv
-import io
 import os
 import random
-import signal
-import subprocess
 import sys
 import tempfile
 
 import pytest
 
-from clone import BIN, BUILT, MODEL, PROGRAM, TOP, Folder, tool
+from clone import BIN, BUILT, MODEL, NAMES, PROGRAM, Folder, example, outcome, paths, ran, read_text, tool
 from tcpsim import figures, program
 from tcpsim.program import NoProgram, find_program
 from tcpsim.curves import Run
 from tcpsim.samples import Sample, percentile
 from tcpsim.scenario.text import Scenario, Unreadable
+from test_trace import BY_HAND as SCENARIO, TRACE
 
 MS = 10**6
-SCENARIO = '''sim 12000000
-node s sender
-node r receiver
-link a s r 8000000 1000000 droptail 2
-link b r s 8000000 1000000 droptail 10
-flow f s r 1000 8 0 64000 0
-'''
-TRACE = '''1 0 0 0 0 start 0 una=0 nxt=4000 cwnd=4000 ssthresh=64000 phase=ss tx=0:0:0 drop=full:0:3000
-2 1040000 0 0 3 free 0 una=0 nxt=4000 cwnd=4000 ssthresh=64000 phase=ss tx=0:0:1000
-3 2040000 1 1 1 data 0 0 next=1000 tx=1:0:1000
-4 2080000 0 0 3 free 0 una=0 nxt=4000 cwnd=4000 ssthresh=64000 phase=ss tx=0:0:2000
-5 2080000 1 0 3 free 1 next=1000
-6 3080000 0 2 1 ack 0 1000 una=1000 nxt=6000 cwnd=5000 ssthresh=64000 phase=ss
-7 3080000 1 1 2 data 0 1000 next=2000 tx=1:0:2000
-8 3120000 0 0 3 free 0 una=1000 nxt=6000 cwnd=5000 ssthresh=64000 phase=ss tx=0:0:4000
-9 3120000 1 0 3 free 1 next=2000
-10 4120000 0 2 2 ack 0 2000 una=2000 nxt=8000 cwnd=6000 ssthresh=64000 phase=ss drop=full:0:7000
-11 4120000 1 1 3 data 0 2000 next=3000 tx=1:0:3000
-12 4160000 0 0 3 free 0 una=2000 nxt=8000 cwnd=6000 ssthresh=64000 phase=ss tx=0:0:5000
-13 4160000 1 0 3 free 1 next=3000
-14 5160000 0 2 3 ack 0 3000 una=3000 nxt=8000 cwnd=7000 ssthresh=64000 phase=ss
-15 5160000 1 1 4 data 0 4000 next=3000 tx=1:0:3000
-16 5200000 0 0 3 free 0 una=3000 nxt=8000 cwnd=7000 ssthresh=64000 phase=ss tx=0:0:6000
-17 5200000 1 0 3 free 1 next=3000
-18 6200000 0 2 4 ack 0 3000 una=3000 nxt=8000 cwnd=7000 ssthresh=64000 phase=ss
-19 6200000 1 1 5 data 0 5000 next=3000 tx=1:0:3000
-20 6240000 0 0 3 free 0 una=3000 nxt=8000 cwnd=7000 ssthresh=64000 phase=ss
-21 6240000 1 0 3 free 1 next=3000
-22 7240000 0 2 5 ack 0 3000 una=3000 nxt=8000 cwnd=7000 ssthresh=64000 phase=ss
-23 7240000 1 1 6 data 0 6000 next=3000 tx=1:0:3000
-24 7280000 1 0 3 free 1 next=3000
-25 8280000 0 2 6 ack 0 3000 una=3000 nxt=8000 cwnd=5500 ssthresh=2500 phase=fr tx=0:0:3000
-26 9320000 0 0 3 free 0 una=3000 nxt=8000 cwnd=5500 ssthresh=2500 phase=fr
-27 10320000 1 1 7 data 0 3000 next=7000 tx=1:0:7000
-28 10360000 1 0 3 free 1 next=7000
-29 11360000 0 2 7 ack 0 7000 una=7000 nxt=8000 cwnd=2500 ssthresh=2500 phase=ca
-end 29
-'''
-
-
 def rows(text=SCENARIO, trace=TRACE, **span):
     run = figures.Figures(Scenario(text), trace.splitlines(), **span)
     return {(name, figure): value for _, name, figure, _, value in figures.figures(run)}
@@ -116,10 +72,7 @@ class TestSpans:
     def test_parts_add_up(self):
         """Each count of a whole run is the sum of those of its parts, each mean their weighted mean."""
         for name in ('four_flows_share_codel', 'two_flows_share_fairly'):
-            with open(os.path.join(TOP, 'examples', name + '.txt'), encoding='ascii') as file:
-                text = file.read()
-            with open(os.path.join(TOP, 'examples', name + '.trace'), encoding='ascii') as file:
-                trace = file.read()
+            text, trace = map(read_text, paths(name))
             whole = rows(text, trace)
             cuts = [0, 1_234_567_891, 4 * 10**9, whole['', 'span']]
             parts = [(rows(text, trace, begin=begin, end=end), end - begin) for begin, end in zip(cuts, cuts[1:])]
@@ -140,13 +93,9 @@ class TestSpans:
 
 def test_figures_are_those_of_the_curves():
     """On every example: what is counted on the way is what the kept columns of `Run` say."""
-    for name in sorted(os.listdir(os.path.join(TOP, 'examples'))):
-        if not name.endswith('.trace'):
-            continue
-        with open(os.path.join(TOP, 'examples', name[:-5] + 'txt'), encoding='ascii') as file:
-            scenario = Scenario(file.read())
-        with open(os.path.join(TOP, 'examples', name), encoding='ascii') as file:
-            lines = file.read().splitlines()
+    for name in NAMES:
+        text, lines = example(name)
+        scenario = Scenario(text)
         run, got = Run(scenario, lines), figures.Figures(scenario, lines)
         begin, end = run.begin(), max(run.end(), run.begin() + 1)
         got = {(name, figure): value for _, name, figure, _, value in figures.figures(got)}
@@ -187,19 +136,16 @@ def test_percentiles_of_what_stands_in_a_file():
                     assert sample.percentile(percent) == percentile(numbers, percent)
 
 
-def test_a_run_that_is_spilled_has_the_same_figures():
-    before = figures.HELD, figures.PORTION
-    try:
-        figures.HELD, figures.PORTION = 1, 2
-        spilled = rows()
-    finally:
-        figures.HELD, figures.PORTION = before
-    assert spilled == rows()
+def test_a_run_that_is_spilled_has_the_same_figures(monkeypatch):
+    whole = rows()
+    monkeypatch.setattr(figures, 'HELD', 1)
+    monkeypatch.setattr(figures, 'PORTION', 2)
+    assert rows() == whole
 
 
 class TestSeries(Files):
     def series(self, *words):
-        return list(csv.DictReader(io.StringIO('\n'.join(self.lines(self.scenario, self.trace, *words)))))
+        return list(csv.DictReader(self.lines(self.scenario, self.trace, *words)))
 
     def test_rows(self):
         """In steps of 4 ms. cwnd is 4000 to 3.08, 5000 to 4.12, 6000 to 5.16, 7000 to 8.28, 5500 to 11.36; a's
@@ -217,8 +163,7 @@ class TestSeries(Files):
                     pytest.approx(value, rel=0, abs=.5 * 10 ** -(5 if value < 1000 else 0)), (column, row['from s'])
 
     def test_goodput_of_the_rows_is_what_was_delivered(self):
-        text, trace = (os.path.join(TOP, 'examples', 'two_flows_share_fairly' + end) for end in ('.txt', '.trace'))
-        got = list(csv.DictReader(io.StringIO('\n'.join(self.lines(text, trace, '--series', '1s')))))
+        got = list(csv.DictReader(self.lines(*paths('two_flows_share_fairly'), '--series', '1s')))
         assert len(got) == 14
         assert round(sum(float(row['fa goodput bit/s']) for row in got) / 8) == 225_000
 
@@ -259,7 +204,7 @@ class TestCommands(Files):
         assert 'run,,begin,ns,4140000' in lines
 
     def test_the_program_is_run_on_texts_and_images(self):
-        image = subprocess.run([PROGRAM, 'asm'], input=SCENARIO.encode(), capture_output=True, check=True).stdout
+        image = outcome(['asm'], SCENARIO.encode())[2]
         path = self.put('run.tcb', image)
         given = self.lines(self.scenario, self.trace, '--csv')
         assert self.lines(self.scenario, '--program', PROGRAM, '--csv') == given
@@ -290,15 +235,8 @@ class TestCommands(Files):
                 ((self.scenario, self.put('o', TRACE.replace('1 0 0', f'1 {2**63} 0', 1))), 'line 1 '),
                 ((self.scenario, self.put('p', TRACE.replace('nxt=4000', f'nxt={10**12}', 1))), 'line 1 '),
                 ((self.scenario, self.put('q', TRACE.replace('nxt=4000', f'nxt={10**40}', 1))), 'line 1 '),
-                ((self.scenario, image + 'x'), 'No such file'), ((self.scenario, self.folder), 'directory'),
                 ((self.scenario, self.put('h', TRACE.encode() + b'\xff\n')), 'not ASCII'),
                 ((image, '--program', PROGRAM), 'refused L1'), ((image, self.trace, '--program', PROGRAM), 'refused L1'),
-                ((self.put('j', b'\xff\xfe'), self.trace), 'not ASCII'),
-                ((self.put('k', SCENARIO.replace('sim', 'simm')), self.trace), 'line 1'),
-                ((self.put('l', SCENARIO.replace('sim', 'way')), self.trace), 'line 1'),
-                ((self.put('m', SCENARIO.replace('link b r s', 'link b s r')), self.trace), 'way'),
-                ((self.put('n', SCENARIO.replace('12000000', '012')), '--program', PROGRAM), 'refused E4 line 1'),
-                ((self.scenario, '--program', self.folder), 'no program'),
                 ((self.scenario, self.trace, '--from', '100s'), 'ends at 0.012 s')):
             done = self.run_flows(*words)
             text = done.stderr.decode()
@@ -317,45 +255,26 @@ class TestCommands(Files):
         link = os.path.join(self.folder, 'tcpsim-flows')
         os.symlink(os.path.join(BIN, 'tcpsim-flows'), link)
         for words in ((), ('nothing',), (self.scenario, '--program', '/nowhere')):
-            done = subprocess.run([sys.executable, link, *words], capture_output=True, text=True, check=False)
+            done = ran(sys.executable, link, *words, text=True)
             assert (done.stdout, done.stderr.count('\n')) == ('', 1), done.stderr
             assert done.stderr.startswith('tcpsim-flows: '), done.stderr
 
-    def test_a_full_disk(self):
-        for words in ((), ('--csv',), ('--series', '1us'), ('--help',)):
-            with open('/dev/full', 'w', encoding='ascii') as full:
-                done = subprocess.run([sys.executable, os.path.join(BIN, 'tcpsim-flows'), self.scenario, self.trace, *words],
-                                      stdout=full, stderr=subprocess.PIPE, text=True, check=False)
-            assert (done.returncode, done.stderr) == (1, 'tcpsim-flows: standard output: No space left on device\n')
-
-    def test_a_pipe_that_ends(self):
-        for words in ((), ('--csv',), ('--series', '1us')):
-            script = '"$@" | head -n 1; exit "${PIPESTATUS[0]}"'
-            done = subprocess.run(['bash', '-c', script, 'bash', sys.executable, os.path.join(BIN, 'tcpsim-flows'), self.scenario,
-                                   self.trace, *words], capture_output=True, check=False)
-            assert done.returncode in (0, 128 + signal.SIGPIPE), words      # 0 where all was written before
-            assert done.stderr == b'', words
-
 
 class TestFinding(Files):
-    def test_order(self):
+    def test_order(self, monkeypatch):
         """Named, else beside the script, else on PATH, else the clone's."""
         beside, path = os.path.join(self.folder, 'beside'), os.path.join(self.folder, 'path')
         for folder in beside, path:
             os.mkdir(folder)
             os.symlink(MODEL, os.path.join(folder, 'tcpsim'))
-        argv, before = sys.argv, os.environ['PATH']
-        try:
-            os.environ['PATH'] = path
-            sys.argv = [os.path.join(beside, 'tcpsim-flows')]
-            assert find_program(MODEL) == MODEL
-            assert find_program() == os.path.join(beside, 'tcpsim')
-            sys.argv = [os.path.join(self.folder, 'tcpsim-flows')]
-            assert find_program() == os.path.join(path, 'tcpsim')
-            os.environ['PATH'] = self.folder
-            assert program.found() == BUILT
-            for named in (self.folder, self.trace, 'nothing'):
-                with pytest.raises(NoProgram):
-                    find_program(named)
-        finally:
-            sys.argv, os.environ['PATH'] = argv, before
+        monkeypatch.setenv('PATH', path)
+        monkeypatch.setattr(sys, 'argv', [os.path.join(beside, 'tcpsim-flows')])
+        assert find_program(MODEL) == MODEL
+        assert find_program() == os.path.join(beside, 'tcpsim')
+        monkeypatch.setattr(sys, 'argv', [os.path.join(self.folder, 'tcpsim-flows')])
+        assert find_program() == os.path.join(path, 'tcpsim')
+        monkeypatch.setenv('PATH', self.folder)
+        assert program.found() == BUILT
+        for named in (self.folder, self.trace, 'nothing'):
+            with pytest.raises(NoProgram):
+                find_program(named)

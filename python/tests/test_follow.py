@@ -1,28 +1,24 @@
 """Tests of tcpsim-follow and tcpsim/lives.py. Every segment of every example
 is followed, and its sums are held against another reading of the trace: tcpsim/trace.py says when a packet
 entered a queue and when it left it, and arithmetic when it is at the next one. Two tables were worked out by
-hand from the lines.
+hand from the lines. Traces that are no scenario's, which tcpsim-stalls reads by the same module, are in test_stalls.py; files
+that are none are in test_ends.py.
 """
 import csv
 import io
-import os
 import re
-import subprocess
-import sys
 from bisect import bisect_right
 from collections import defaultdict
 from functools import cache
 
 
 import clone
-from clone import BIN, NAMES, PROGRAM, Folder, paths, tool
+from clone import NAMES, PROGRAM, Folder, paths, tool
 from tcpsim import follow, lives
-from tcpsim.cli import follow as command
 from tcpsim.curves import Run
-from tcpsim.scenario.text import Scenario, Unreadable
+from tcpsim.scenario.text import Scenario
 from tcpsim.scenario.units import HEADER_BYTES
 from tcpsim.trace import ACK, DATA, LinkState, Reader
-
 
 
 @cache
@@ -325,13 +321,6 @@ class TestTables(Files):
         for words in (('--flow', '0', '--byte', '4999'), ('--flow', 'f', '--byte', '4001')):
             assert self.told(scenario, *words, '--program', PROGRAM) == TWO_TIMEOUTS
 
-    def test_pipes(self):
-        """Both files can be pipes, which are read once, and the scenario standard input."""
-        script = '"$1" "$2" <(cat "$3") <(cat "$4") --flow f --byte 4000; "$1" "$2" - "$4" --flow f --byte 4000 < "$3"'
-        done = subprocess.run(['bash', '-c', script, 'bash', sys.executable, os.path.join(BIN, 'tcpsim-follow'), self.scenario,
-                               self.trace], capture_output=True, check=True, text=True)
-        assert (done.stdout, done.stderr) == (2 * TWO_TIMEOUTS, '')
-
     def test_sent_again_by_the_third_duplicate(self):
         """14000 is dropped by CoDel in line 54; the acknowledgements of 15000 to 17000 are the duplicates."""
         rows = self.rows('codel_enters_drop_state', 'f', 14000)
@@ -395,15 +384,13 @@ class TestTables(Files):
 
     def test_runs_that_end_before_the_acknowledgement(self):
         """At 2.5 ms the acknowledgement is under way; where the trace has no `end`, its last line is the end."""
-        text, trace = paths('one_segment')
-        with open(text, encoding='ascii') as file:
-            short = self.put('short.txt', file.read().replace('sim 1000000000', 'sim 2500000'))
+        text, lines = clone.example('one_segment')
+        short = self.put('short.txt', text.replace('sim 1000000000', 'sim 2500000'))
         told = self.told(short, '--program', PROGRAM, '--flow', 'f', '--byte', '0')
         assert ('under way     0.001420000 s\nstood still   0.000000000 s\nwhole         0.002500000 s, from the first '
                       'offering to the end of the run, never acknowledged\n') in told
-        with open(trace, encoding='ascii') as file:
-            cut = self.put('cut.trace', ''.join(file.readlines()[:4]))
-        told = self.told(text, cut, '--partial', '--flow', 'f', '--byte', '0')
+        cut = self.put('cut.trace', ''.join(f'{line}\n' for line in lines[:4]))
+        told = self.told(paths('one_segment')[0], cut, '--partial', '--flow', 'f', '--byte', '0')
         assert ('whole         0.002080000 s, from the first offering to the last line of the trace, which has no end; '
                       'not acknowledged so far\n') in told
 
@@ -417,35 +404,6 @@ class TestRefusals(Files):
         assert note in text
         assert (text.count('\n'), text.startswith('tcpsim-follow: ')) == (1, True), text
 
-    def trace_refused(self, note, lines, end='\n'):
-        self.refused(note, self.scenario, self.put('changed', '\n'.join(lines) + end), '--flow', 'f', '--byte', '0')
-
-    def with_line(self, number, old, new):
-        """The lines, of one of which a part is another."""
-        line = self.lines[number - 1]
-        assert old in line
-        return self.lines[:number - 1] + [line.replace(old, new)] + self.lines[number:]
-
-    def test_a_trace_that_is_not_the_scenarios(self):
-        for number, old, new in ((2, 'free 0', 'free 9'), (3, 'data 0', 'data 4'), (7, '7 3080000', '6 3080000'),
-                                 (7, ' 3080000', ' 3080001'), (6, 'drop=lost:0:4000', 'drop=full:0:4000'),
-                                 (6, 'una=1000', 'una=2000'), (26, 'una=4000', 'una=5000'), (52, 'end 51', 'end 50')):
-            self.trace_refused(f'line {number} is no line', self.with_line(number, old, new))
-        self.trace_refused('line 9 is no line', self.lines[:8] + self.lines[9:])
-        self.trace_refused('line 9 is cut short', self.lines[:8] + [self.lines[8][:-2]], end='')
-        self.refused('is no line of this scenario', self.scenario, paths('one_segment')[1], '--flow', 'f', '--byte', '0')
-
-    def test_files_that_are_none(self):
-        words = '--flow', 'f', '--byte', '0'
-        image = self.put('i', subprocess.run([PROGRAM, 'asm'], input=self.text.encode(), capture_output=True, check=True).stdout)
-        self.refused('is an image', image, self.trace, *words)
-        self.refused('not ASCII', self.scenario, image, *words)
-        self.refused('No such file', 'nothing.txt', self.trace, *words)
-        self.refused('No such file', self.scenario, 'nothing.trace', *words)
-        self.refused('directory', self.scenario, self.folder, *words)
-        self.refused('no program', self.scenario, '--program', self.folder, *words)
-        self.refused('refused E4 line 3', self.put('m', self.text.replace('sim 1', 'sim 01')), '--program', PROGRAM, *words)
-
     def test_flows_and_bytes_that_are_none(self):
         self.refused('no flow g; it has f', self.scenario, self.trace, '--flow', 'g', '--byte', '0')
         self.refused('has the bytes 0 to 9999, and not 10000', self.scenario, self.trace, '--flow', 'f', '--byte', '10000')
@@ -458,27 +416,3 @@ class TestRefusals(Files):
         short = self.put('short', self.text.replace('sim ' + re.search(r'sim (\d+)', self.text)[1], 'sim 2000000'))
         self.refused('the segment 9000 of flow f was never sent in this run', short, '--program', PROGRAM,
                      '--flow', 'f', '--byte', '9999')
-
-    def test_a_reader_that_ends(self):
-        script = '"$@" | head -n 1; exit "${PIPESTATUS[0]}"'
-        for words in ((), ('--csv',)):
-            done = subprocess.run(['bash', '-c', script, 'bash', sys.executable, os.path.join(BIN, 'tcpsim-follow'),
-                                   *paths('bufferbloat'), '--flow', 'g', '--byte', '0', *words], capture_output=True, check=False)
-            assert (done.returncode, done.stderr, done.stdout.count(b'\n')) == (0, b'', 1), words
-
-    def test_any_word_that_is_changed(self):
-        """No change of one word makes anything but a refusal that names a line, or another table."""
-        scenario, refused = Scenario(self.text), 0
-        for number, line in enumerate(self.lines, 1):
-            words = line.split(' ')
-            for at, word in enumerate(words):
-                for new in ('x', '-1', '0', '99999999999', word + '0', word + ' ' + word):
-                    changed = ' '.join(words[:at] + [new] + words[at + 1:])
-                    try:
-                        walk, segment = follow.follow(scenario, iter(self.lines[:number - 1] + [changed] + self.lines[number:]),
-                                                      0, 4000)
-                        command.write_table(walk, segment, io.StringIO())
-                    except Unreadable as wrong:
-                        refused += 1
-                        assert re.search(r'^line \d+ is no line of this scenario', str(wrong))
-        assert refused > 1000

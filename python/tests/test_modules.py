@@ -7,17 +7,12 @@ import sys
 
 import pytest
 
-from clone import BIN, TOP
+from clone import BIN, TOP, read_text
 
 PYTHON = os.path.join(TOP, 'python')
 MOST_LINES = 400
 MODULES = sorted(os.path.relpath(os.path.join(folder, name), PYTHON) for package in ('tcpsim', 'tcpsim_model')
                  for folder, _, names in os.walk(os.path.join(PYTHON, package)) for name in names if name.endswith('.py'))
-
-
-def read(path):
-    with open(os.path.join(PYTHON, path), encoding='utf-8') as file:
-        return file.read()
 
 
 def public(body, before=''):
@@ -39,12 +34,12 @@ def imported(tree):
 
 @pytest.mark.parametrize('path', MODULES)
 def test_no_module_is_long(path):
-    assert read(path).count('\n') <= MOST_LINES
+    assert read_text(PYTHON, path).count('\n') <= MOST_LINES
 
 
 @pytest.mark.parametrize('path', MODULES)
 def test_modules_say_what_they_are(path):
-    tree = ast.parse(read(path))
+    tree = ast.parse(read_text(PYTHON, path))
     assert ast.get_docstring(tree)
     if path.startswith('tcpsim' + os.sep):
         assert [name for name, node in public(tree.body) if not name.endswith('__init__') and not ast.get_docstring(node)] == []
@@ -58,17 +53,16 @@ def untyped(function):
     return lacking + ['its answer'] * (function.returns is None and function.name != '__init__')
 
 
-# What draws has still to get types.
-@pytest.mark.parametrize('path', [path for path in MODULES if not path.startswith((os.path.join('tcpsim', 'plot'), 'tcpsim_model'))])
+@pytest.mark.parametrize('path', [path for path in MODULES if not path.startswith('tcpsim_model')])
 def test_public_names_have_types(path):
-    functions = [(name, node) for name, node in public(ast.parse(read(path)).body) if isinstance(node, ast.FunctionDef)]
+    functions = [(name, node) for name, node in public(ast.parse(read_text(PYTHON, path)).body) if isinstance(node, ast.FunctionDef)]
     assert {name: lack for name, node in functions if (lack := untyped(node))} == {}
 
 
 @pytest.mark.parametrize('path', MODULES)
 def test_the_model_is_independent(path):
     """It imports nothing of the tools; of the tools its own command imports it, and what runs queues of one's own by it."""
-    wanted = set(imported(ast.parse(read(path))))
+    wanted = set(imported(ast.parse(read_text(PYTHON, path))))
     if path.startswith('tcpsim_model'):
         assert 'tcpsim' not in wanted
     elif path not in (os.path.join('tcpsim', 'commands', 'model.py'), os.path.join('tcpsim', 'api', 'by_model.py')):

@@ -7,13 +7,12 @@ import sys
 
 import pytest
 
-from clone import BIN, PROGRAM, TOP
+from clone import BIN, PROGRAM
 from tcpsim.cli import net as command
 from tcpsim.scenario import net, units
 from tcpsim.curves import Run
 from tcpsim.scenario.text import Scenario
 
-BUILT = os.path.join(TOP, 'crates', 'tcpsim', 'out', 'tcpsim')
 MS, US, S = 10**6, 10**3, 10**9
 
 # Two flows, round trips 40 ms and 80 ms. The bottleneck has a quarter of the least one each way, 10 ms, the

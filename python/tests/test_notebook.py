@@ -36,10 +36,13 @@ def executed(notebook, **environment):
     if lacks() and not os.environ.get('CI'):
         pytest.skip(f'not there: {", ".join(lacks())}')
     folder = notebook.parent
+    # Where matplotlib lists the fonts for the first time, and a machine is slow, it says so in a cell.
+    environment = {'HOME': str(folder.parent), **environment}
+    subprocess.run([PYTHON, '-c', 'import matplotlib.font_manager'], env={**os.environ, **environment}, capture_output=True, check=False)
     done = subprocess.run([NBCONVERT, '--to', 'notebook', '--execute', '--ExecutePreprocessor.timeout=900',
                            '--ExecutePreprocessor.startup_timeout=600', '--output', 'ran.ipynb',
                            notebook.name], cwd=folder, capture_output=True, text=True, check=False,
-                          env={**os.environ, 'HOME': str(folder.parent), **environment})
+                          env={**os.environ, **environment})
     assert done.returncode == 0, done.stderr
     return cells(folder / 'ran.ipynb')
 

@@ -13,7 +13,7 @@ import sys
 
 import pytest
 
-from clone import TOP
+from clone import TOP, read_text
 
 import tcpsim
 from tcpsim.api.answers import Move
@@ -24,14 +24,9 @@ BLOCK = re.compile(r'^```python\n(.*?)^```\n(?:\n```\n(.*?)^```\n)?', re.M | re.
 built = pytest.mark.skipif(not os.path.exists(BUILT) and not os.environ.get('CI'), reason='the program is not built: make run')
 
 
-def read(path):
-    with open(path, encoding='utf-8') as file:
-        return file.read()
-
-
 def examples():
     """The page's examples: code, and what is shown below it, if anything."""
-    return [found.groups() for found in BLOCK.finditer(read(PAGE))]
+    return [found.groups() for found in BLOCK.finditer(read_text(PAGE))]
 
 
 def is_test(code):
@@ -67,7 +62,7 @@ def test_examples_print_what_is_shown(tmp_path):
 
 def test_the_experiment_is_a_test_of_ours(tmp_path):
     code, = (code for code, _ in examples() if is_test(code))
-    assert code in read(os.path.join(TOP, 'python', 'tests', 'test_delay.py'))
+    assert code in read_text(os.path.join(TOP, 'python', 'tests', 'test_delay.py'))
     (tmp_path / 'test_delay.py').write_text(code)
     done = subprocess.run([sys.executable, '-m', 'pytest', '-q', '-p', 'no:cacheprovider', 'test_delay.py'], cwd=tmp_path,
                           capture_output=True, text=True, check=False, env={**os.environ, 'PYTHONPATH': os.path.join(TOP, 'python')})
@@ -77,7 +72,7 @@ def test_the_experiment_is_a_test_of_ours(tmp_path):
 
 def table(heading):
     """The names in the table below these words."""
-    rows = read(PAGE).partition(heading)[2].partition('\n\n')[0]
+    rows = read_text(PAGE).partition(heading)[2].partition('\n\n')[0]
     return set(re.findall(r'`(\w+)`', rows))
 
 
@@ -95,7 +90,7 @@ def test_the_fields_of_the_page_are_those_that_there_are():
 
 
 def test_the_page_names_each_public_name():
-    page = read(PAGE)
+    page = read_text(PAGE)
     shown = {name for name in tcpsim.__all__ if re.search(rf'\b{name}\b', page)}
     kinds = {'ScenarioText', 'Simulation', 'DebugSession', 'Event', 'Sent', 'Drop', 'Trace', 'TimeSeries', 'Results', 'FlowResult',
              'LinkResult', '__version__'}

@@ -8,16 +8,11 @@ import sys
 
 import pytest
 
-from clone import BIN, MODEL, TOP
+from clone import BIN, MODEL, TOP, read
 from tcpsim import estimate
 
 ONE_SEGMENT = os.path.join(TOP, 'examples', 'one_segment.txt')
 LONG = os.path.join(TOP, 'examples', 'bufferbloat.txt')
-
-
-def read(path):
-    with open(path, 'rb') as file:
-        return file.read()
 
 
 def ran(*words, source=b'', env=None):

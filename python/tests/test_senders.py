@@ -14,15 +14,15 @@ import sys
 
 import pytest
 
-from clone import BIN, MODEL, TOP
-from tcpsim import cycle, sweep
+from clone import BIN, BUILT, MODEL
+from tcpsim import cycle
+from tcpsim.sweeps import pattern as sweep
 from tcpsim.cli import net as command
 from tcpsim.command_line import Wrong
 from tcpsim.engine import EngineRun
 from tcpsim.scenario import senders
 from tcpsim.scenario.text import Scenario
 
-BUILT = os.path.join(TOP, 'crates', 'tcpsim', 'out', 'tcpsim')
 PROGRAM = [BUILT] if os.path.exists(BUILT) else [sys.executable, MODEL]
 MINUTE = '60s'
 

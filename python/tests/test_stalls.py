@@ -3,17 +3,12 @@ spans are held against another reading of the traces in examples/, a few lines o
 what was found by hand."""
 import csv
 import io
-import os
 import re
-import signal
-import subprocess
-import sys
 
-import pytest
 
-from clone import BIN, EXAMPLES, NAMES, PROGRAM, TOP, Folder, example, paths, tool
-from tcpsim import causes, stalls
-from tcpsim.cli import stalls as cli_stalls
+from clone import NAMES, PROGRAM, Folder, example, outcome, paths, read_text, tool
+from tcpsim import causes, follow, stalls
+from tcpsim.cli import follow as cli_follow, stalls as cli_stalls
 from test_follow import moments_of, run_of
 from tcpsim.scenario.text import Scenario, Unreadable
 from tcpsim.trace import ACK, DATA
@@ -46,8 +41,7 @@ def net(end=10**10, delay=5 * MS, segments=9, delack=0, lose=()):
 
 
 def run_by_program(text):
-    done = subprocess.run([PROGRAM, 'run'], input=text.encode(), capture_output=True, check=True)
-    return done.stdout.decode().splitlines()
+    return outcome(['run'], text.encode())[2].decode().splitlines()
 
 
 def rows_of(text, lines, longer=200 * MS):
@@ -286,8 +280,8 @@ def test_the_debugger_shows_the_span():
         first = {span[1]: span[3] for span in spans(text, lines)}
         for row in rows_of(text, lines):
             session = text + '---\n' + ''.join(f'{command}\n' for command in cli_stalls.commands(row.positions))
-            done = subprocess.run([PROGRAM, 'debug'], input=session.encode(), capture_output=True, check=True)
-            at, una = (list(map(int, re.findall(words, done.stdout.decode(), re.MULTILINE)))
+            told = outcome(['debug'], session.encode())[2].decode()
+            at, una = (list(map(int, re.findall(words, told, re.MULTILINE)))
                        for words in (r'^at (\d+)$', r'^node \d+ sender 0 una=(\d+) '))
             assert at == row.positions, name
             inside = una[at.index(first[row.begin]):-1]
@@ -432,14 +426,12 @@ f          1.023200000       3.034280000     2.011080000  the timer had doubled
 
     def test_the_tutorials_lesson(self):
         """The blocks of the lesson are what its commands print."""
-        with open(os.path.join(TOP, 'docs', 'TUTORIAL.md'), encoding='utf-8') as file:
-            lesson = re.search(r'^## \d+\. Why it stood still\n(.*?)^## ', file.read(), re.MULTILINE | re.DOTALL)[1]
+        page = read_text('docs', 'TUTORIAL.md')
+        lesson = re.search(r'^## \d+\. Why it stood still\n(.*?)^## ', page, re.MULTILINE | re.DOTALL)[1]
         blocks = re.findall(r'^```\n(.*?)^```$', lesson, re.MULTILINE | re.DOTALL)
-        follow = subprocess.run([sys.executable, os.path.join(BIN, 'tcpsim-follow'), self.scenario, self.trace, '--flow', 'f',
-                                 '--byte', '3000'], capture_output=True, check=True, text=True)
-        debug = subprocess.run([PROGRAM, 'debug'], input=self.text + '---\nstep 15\nstep 1\n', capture_output=True,
-                               check=True, text=True)
-        assert blocks[1::2] == [self.TABLE, follow.stdout, debug.stdout]
+        of_follow = tool('follow', self.scenario, self.trace, '--flow', 'f', '--byte', '3000', text=True)
+        debug = outcome(['debug'], (self.text + '---\nstep 15\nstep 1\n').encode())[2]
+        assert blocks[1::2] == [self.TABLE, of_follow.stdout, debug.decode()]
         assert [re.findall(r'bin/[\w-]+|--\w+ \w+|echo [^;]*|tcpsim debug', block) for block in blocks[::2]] == [
             ['bin/tcpsim-stalls'], ['bin/tcpsim-follow', '--flow f', '--byte 3000'],
             ['echo ---', 'echo step 15', 'echo step 1', 'tcpsim debug']]
@@ -460,22 +452,14 @@ f          1.023200000       3.034280000     2.011080000  the timer had doubled
 
     def test_csv_has_the_rows_of_the_table(self):
         for name in ('two_flows_share_fairly', 'four_flows_share_codel'):
-            paths = [os.path.join(EXAMPLES, name + end) for end in ('.txt', '.trace')]
-            rows = list(csv.DictReader(io.StringIO(self.told(*paths, '--csv'))))
+            rows = list(csv.DictReader(io.StringIO(self.told(*paths(name), '--csv'))))
             assert [(row['flow'], int(row['from']), int(row['to']), int(row['ns']), row['cause'], row['found'])
                               for row in rows] == [row[:6] for row in rows_of(*example(name))]
 
-    def test_pipes(self):
-        """Both files can be pipes, which are read once, and the scenario standard input."""
-        script = '"$1" "$2" <(cat "$3") <(cat "$4"); "$1" "$2" - "$4" < "$3"'
-        done = subprocess.run(['bash', '-c', script, 'bash', sys.executable, os.path.join(BIN, 'tcpsim-stalls'), self.scenario,
-                               self.trace], capture_output=True, check=True, text=True)
-        assert (done.stdout, done.stderr) == (2 * self.TABLE, '')
-
     def test_one_flow(self):
-        paths = [os.path.join(EXAMPLES, 'two_flows_share_fairly' + end) for end in ('.txt', '.trace')]
-        whole = self.told(*paths, '--csv').splitlines()
-        named, numbered = (self.told(*paths, '--csv', '--flow', flow).splitlines() for flow in ('fb', '1'))
+        name = 'two_flows_share_fairly'
+        whole = self.told(*paths(name), '--csv').splitlines()
+        named, numbered = (self.told(*paths(name), '--csv', '--flow', flow).splitlines() for flow in ('fb', '1'))
         assert named == [line for line in whole if not line.startswith('fa,')]
         assert named == numbered
         assert 1 < len(named)
@@ -484,6 +468,11 @@ f          1.023200000       3.034280000     2.011080000  the timer had doubled
         told = self.told('--causes')
         assert [line for line in told.splitlines() if not line.startswith(' ')] == list(SHOWN)
         assert len(told.splitlines()) == 2 * len(SHOWN)
+
+
+def table_of_follow(text, lines):
+    walk, segment = follow.follow(Scenario(text), iter(lines), 0, 4000)
+    cli_follow.write_table(walk, segment, io.StringIO())
 
 
 class TestRefusals(Files):
@@ -513,7 +502,7 @@ class TestRefusals(Files):
                 ('line 4 is no line', 4, ' tx=1:0:1000', ''), ('line 5 is no line', 5, 'next=1000', 'next=1000 tx=1:0:1000'),
                 ('line 2 is no line', 2, '1000000000', '999999999'), ('line 2 is no line', 2, 'una=0', 'una=x'),
                 ('line 2 is no line', 2, '1000000000', '10000000000'), ('line 1 is no line', 1, 'lost:0:0', 'full:0:0'),
-                ('line 7 is no line', 7, '7 ', '8 '), ('line 22 is no line', 22, 'end 21', 'end 20')):
+                ('line 7 is no line', 7, '7 ', '8 '), ('line 6 is no line', 6, 'una=1000', 'una=2000'), ('line 22 is no line', 22, 'end 21', 'end 20')):
             self.trace_refused(note, self.with_line(number, old, new))
 
     def test_lines_that_are_missing_or_too_many(self):
@@ -526,26 +515,14 @@ class TestRefusals(Files):
 
     def test_a_trace_of_another_scenario(self):
         for name in ('one_segment', 'two_flows_share_fairly', 'a_lost_acknowledgement'):
-            self.refused('is no line of this scenario', self.scenario, os.path.join(EXAMPLES, name + '.trace'))
+            self.refused('is no line of this scenario', self.scenario, paths(name)[1])
 
     def test_what_is_no_text(self):
-        image = self.put('i', subprocess.run([PROGRAM, 'asm'], input=self.text.encode(), capture_output=True, check=True).stdout)
+        image = self.put('i', outcome(['asm'], self.text.encode())[2])
         self.refused('is an image', image, self.trace)
         self.refused('is an image', image, '--program', PROGRAM)
         self.refused('line 1 is cut short', self.scenario, self.put('j', b'TCB2 0 0 0 0 0'))
         self.refused('not ASCII', self.scenario, image)
-        self.refused('not ASCII', self.put('k', b'sim \xff\n'), self.trace)
-        self.refused('line 1', self.put('l', 'sim 1 2\n'), self.trace)
-        self.refused(f'{self.trace}: line 1: ', self.trace, self.trace)
-
-    def test_files_and_programs_that_are_not_there(self):
-        self.refused('No such file', 'nothing.txt', self.trace)
-        self.refused('No such file', self.scenario, 'nothing.trace')
-        self.refused('directory', self.folder, self.trace)
-        self.refused('directory', self.scenario, self.folder)
-        self.refused('no program', self.scenario, '--program', self.folder)
-        self.refused('refused E4 line 3', self.put('m', self.text.replace('sim 1', 'sim 01')), '--program', PROGRAM)
-        self.refused('itself', self.put('n', self.text.replace('flow f s r', 'flow f s s')), self.trace)
 
     def test_words_that_are_refused(self):
         self.refused('no flow g; it has f', self.scenario, self.trace, '--flow', 'g')
@@ -555,33 +532,18 @@ class TestRefusals(Files):
         self.refused('SCENARIO is missing', status=2)
         self.refused('unrecognized arguments', self.scenario, self.trace, '--fast', status=2)
 
-    def test_a_reader_that_ends(self):
-        paths = [os.path.join(EXAMPLES, 'two_flows_share_fairly' + end) for end in ('.txt', '.trace')]
-        script = '"$@" | head -n 1; exit "${PIPESTATUS[0]}"'
-        for words in ((*paths, '--longer', '0'), (*paths, '--longer', '0', '--csv'), ('--causes',)):
-            done = subprocess.run(['bash', '-c', script, 'bash', sys.executable, os.path.join(BIN, 'tcpsim-stalls'), *words],
-                                  capture_output=True, check=False)
-            assert done.returncode in (0, 128 + signal.SIGPIPE), words      # 0 where all was written before
-            assert (done.stderr, done.stdout.count(b'\n')) == (b'', 1), words
-
-    @pytest.mark.skipif(not os.path.exists('/dev/full'), reason='no /dev/full')
-    def test_a_full_device(self):
-        with open('/dev/full', 'wb') as full:
-            done = subprocess.run([sys.executable, os.path.join(BIN, 'tcpsim-stalls'), self.scenario, self.trace], stdout=full,
-                                  stderr=subprocess.PIPE, check=False)
-        assert (done.returncode, done.stderr.count(b'\n')) == (1, 1), done.stderr
-
     def test_any_word_that_is_changed(self):
-        """No change of one word makes anything but a refusal that names a line, or another row."""
-        refused = 0
-        for number, line in enumerate(self.lines, 1):
-            words = line.split(' ')
-            for at, word in enumerate(words):
-                for new in ('x', '-1', '0', '99999999999', word + '0', word + ' ' + word):
-                    changed = ' '.join(words[:at] + [new] + words[at + 1:])
-                    try:
-                        rows_of(self.text, self.lines[:number - 1] + [changed] + self.lines[number:])
-                    except Unreadable as wrong:
-                        refused += 1
-                        assert re.search(r'^line \d+ is no line of this scenario', str(wrong))
-        assert refused > 900
+        """No change of one word makes anything but a refusal that names a line, or another row, or another table of tcpsim-follow."""
+        for text, lines, read in ((self.text, self.lines, rows_of), (*example('two_timeouts_in_a_row'), table_of_follow)):
+            refused = 0
+            for number, line in enumerate(lines, 1):
+                words = line.split(' ')
+                for at, word in enumerate(words):
+                    for new in ('x', '-1', '0', '99999999999', word + '0', word + ' ' + word):
+                        changed = ' '.join(words[:at] + [new] + words[at + 1:])
+                        try:
+                            read(text, lines[:number - 1] + [changed] + lines[number:])
+                        except Unreadable as wrong:
+                            refused += 1
+                            assert re.search(r'^line \d+ is no line of this scenario', str(wrong))
+            assert refused > 900

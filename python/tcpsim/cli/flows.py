@@ -47,8 +47,9 @@ ENGINE_COLUMNS = {
     'flow': (*TRACE_COLUMNS['flow'][:2], ('bottleneck', 'bottleneck', '{}', 0), TRACE_COLUMNS['flow'][4],
              *TRACE_COLUMNS['flow'][6:9], ('least timed round trip', 'timed RTT ms: least', '{:.3f}', 1e6),
              ('median timed round trip', 'median', '{:.3f}', 1e6),
+             ('95th percentile of timed round trips', '95th', '{:.3f}', 1e6),
              ('99th percentile of timed round trips', '99th', '{:.3f}', 1e6), *TRACE_COLUMNS['flow'][-2:]),
-    'link': (*TRACE_COLUMNS['link'][:4], *TRACE_COLUMNS['link'][5:-1],
+    'link': (*TRACE_COLUMNS['link'][:-1],
              ('dropped as lost', 'as lost', '{:,}', 1), ('dropped as full', 'as full', '{:,}', 1),
              ('dropped by CoDel', 'by CoDel', '{:,}', 1), TRACE_COLUMNS['link'][-1]),
 }
