@@ -11,6 +11,8 @@ function hasMemory64() {
     return WebAssembly.validate(HAS_MEMORY64) && new WebAssembly.Memory({address: 'i64', initial: 1n, maximum: 1n}) !== null;
   } catch { return false; }
 }
+// Whether a program can wait for its input, in a worker, while others run.
+const canKeep = () => 'Suspending' in WebAssembly && 'promising' in WebAssembly;
 async function bytesOf(packed) {
   const parts = [];
   for await (const part of unpacked(packed)) parts.push(part);
@@ -76,6 +78,29 @@ class Engine {
     });
     worker.postMessage({number, words, input, files, pages, most});
     return {pieces, ended, stop};
+  }
+
+  // Keeps a session in a worker of its own, which waits for lines: {give, stop}. `give` takes bytes of input, and answers what the
+  // program wrote behind them, {bytes, note}, with {ended} where it came to its end. The note is all that was noted so far.
+  keep(words, {files = new Map(), pages = MOST_PAGES} = {}) {
+    const worker = this.take(), number = this.count++;
+    let parts = [], told = null, begun = false, over = null;
+    const answer = async more => told({bytes: new Uint8Array(await new Blob(parts.splice(0)).arrayBuffer()), ...more});
+    const leave = ended => { over = ended; worker.terminate(); if (told) answer({note: ended.note || '', ended}); };
+    worker.onmessage = ({data}) => {
+      if (data.number !== number) return;
+      if (data.bytes) parts.push(data.bytes); else if (data.waits) answer({note: data.note}); else leave(data.ended);
+    };
+    worker.onerror = wrong => { wrong.preventDefault(); leave({why: `the program was stopped: ${wrong.message}`}); };
+    return {
+      give: input => new Promise(done => {
+        told = done;
+        if (over) answer({note: over.note || '', ended: over});
+        else if (begun) worker.postMessage({more: input});
+        else { begun = true; worker.postMessage({number, keep: true, words, input, files, pages}); }
+      }),
+      stop: () => leave({why: 'ended'}),
+    };
   }
 
   // Runs to the end: {status, note, bytes}.

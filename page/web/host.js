@@ -39,63 +39,99 @@ function lastEvent(bytes) {
   return number;
 }
 
-// Runs the program: its words, its standard input, files by name; how many pages of memory it may have, and how many events
-// of a trace are wanted at most. `send` takes its output. Answers {status, note}; {why} where it did not come to its end.
-function runProgram(module, {words, input, files, pages, most}, send) {
-  const args = ['tcpsim', ...words].map(word => letters.encode(word)), opened = [{bytes: input, at: 0}];
-  let memory, note = '';
-  const output = new Stream(bytes => {
-    const last = most === Infinity ? 0 : lastEvent(bytes);
-    send(bytes);
-    if (last > most) throw new TooLong();
-  });
-  const names = new TextDecoder(), says = new TextDecoder('latin1');
-  const view = (at, length) => new Uint8Array(memory.buffer, Number(at), Number(length));
-  const page = {
-    arg: (i, at, room) => {
-      const word = args[Number(i)];
-      if (!word) return -1n;
-      if (word.length > room) return -2n;
-      view(at, word.length).set(word);
-      return BigInt(word.length);
-    },
-    open: (name, length) => {
-      const bytes = files.get(names.decode(view(name, length).slice()));
-      return bytes ? NOTE + opened.push({bytes, at: 0}) - 1 : -1;
-    },
-    read: (file, at, room) => {
-      const from = opened[file === INPUT ? 0 : file - NOTE];
-      if (!from || file === OUTPUT || file === NOTE) return -1n;
-      const part = from.bytes.subarray(from.at, from.at + Number(room));
-      view(at, part.length).set(part);
-      from.at += part.length;
-      return BigInt(part.length);
-    },
-    write: (file, at, length) => {
-      if (file === OUTPUT) output.put(view(at, length));
-      else if (file === NOTE) note += says.decode(view(at, length).slice());
-      else return -1n;
-      return length;
-    },
-    exit: status => { throw new Ended(status); },
-  };
-  const flush = answer => { try { output.flush(); } catch (thrown) { if (!(thrown instanceof TooLong)) throw thrown; } return answer; };
-  try {
-    memory = new WebAssembly.Memory({address: 'i64', initial: BigInt(FIRST_PAGES), maximum: BigInt(pages)});
-    const instance = new WebAssembly.Instance(module, {page, env: {memory}});
-    return flush({status: instance.exports.main(), note});
-  } catch (thrown) {
-    if (thrown instanceof Ended) return flush({status: thrown.status, note});
-    if (thrown instanceof TooLong) return {why: 'long', note};
+// A run of the program: what it asks of a system, of its words, its standard input, files by name; how many pages of memory it
+// may have, and how many events of a trace are wanted at most. `send` takes its output.
+class Run {
+  constructor({words, input, files, pages, most = Infinity}, send) {
+    const args = ['tcpsim', ...words].map(word => letters.encode(word)), names = new TextDecoder(), says = new TextDecoder('latin1');
+    Object.assign(this, {pages, note: '', input: {bytes: input, at: 0}});
+    const opened = [this.input], view = (at, length) => new Uint8Array(this.memory.buffer, Number(at), Number(length));
+    this.output = new Stream(bytes => {
+      const last = most === Infinity ? 0 : lastEvent(bytes);
+      send(bytes);
+      if (last > most) throw new TooLong();
+    });
+    this.page = {
+      arg: (i, at, room) => {
+        const word = args[Number(i)];
+        if (!word) return -1n;
+        if (word.length > room) return -2n;
+        view(at, word.length).set(word);
+        return BigInt(word.length);
+      },
+      open: (name, length) => {
+        const bytes = files.get(names.decode(view(name, length).slice()));
+        return bytes ? NOTE + opened.push({bytes, at: 0}) - 1 : -1;
+      },
+      read: (file, at, room) => {
+        const from = opened[file === INPUT ? 0 : file - NOTE];
+        if (!from || file === OUTPUT || file === NOTE) return -1n;
+        const part = from.bytes.subarray(from.at, from.at + Number(room));
+        view(at, part.length).set(part);
+        from.at += part.length;
+        return BigInt(part.length);
+      },
+      write: (file, at, length) => {
+        if (file === OUTPUT) this.output.put(view(at, length));
+        else if (file === NOTE) this.note += says.decode(view(at, length).slice());
+        else return -1n;
+        return length;
+      },
+      exit: status => { throw new Ended(status); },
+    };
+  }
+  instance(module) {
+    this.memory = new WebAssembly.Memory({address: 'i64', initial: BigInt(FIRST_PAGES), maximum: BigInt(this.pages)});
+    return new WebAssembly.Instance(module, {page: this.page, env: {memory: this.memory}});
+  }
+  ended(answer) {
+    try { this.output.flush(); } catch (thrown) { if (!(thrown instanceof TooLong)) throw thrown; }
+    return {note: this.note, ...answer};
+  }
+  // What a run came to that was ended by what was thrown: {status, note}; {why} where it did not come to its end.
+  endedBy(thrown) {
+    if (thrown instanceof Ended) return this.ended({status: thrown.status});
+    if (thrown instanceof TooLong) return {why: 'long', note: this.note};
     // The browser gave no memory for the run, or for a piece of its output.
     if (thrown instanceof RangeError && /alloc|memory/i.test(thrown.message)) return {status: 4, note: 'no memory\n'};
-    return {why: `the program was stopped: ${thrown.message || thrown}`, note};
+    return {why: `the program was stopped: ${thrown.message || thrown}`, note: this.note};
+  }
+}
+function runProgram(module, data, send) {
+  const run = new Run(data, send);
+  try {
+    return run.ended({status: run.instance(module).exports.main()});
+  } catch (thrown) {
+    return run.endedBy(thrown);
+  }
+}
+
+// A session that waits: where it has read all its input, `waits` is told, and it goes on once more is given.
+let more = null;
+async function keepProgram(module, data, send, waits) {
+  const run = new Run(data, send), {page} = run, {read} = page;
+  page.read = new WebAssembly.Suspending(async (file, at, room) => {
+    if (file === INPUT && run.input.at === run.input.bytes.length) {
+      run.output.flush(FIRST_PIECE);
+      const given = new Promise(done => { more = done; });
+      waits(run.note);
+      Object.assign(run.input, {bytes: await given, at: 0});
+    }
+    return read(file, at, room);
+  });
+  try {
+    return run.ended({status: await WebAssembly.promising(run.instance(module).exports.main)()});
+  } catch (thrown) {
+    return run.endedBy(thrown);
   }
 }
 
 let program = null;
-onmessage = ({data}) => {
+onmessage = async ({data}) => {
   if (data.module) { program = data.module; return; }
-  const ended = runProgram(program, data, bytes => postMessage({number: data.number, bytes}, [bytes.buffer]));
-  postMessage({number: data.number, ended});
+  if (data.more) { more(data.more); return; }
+  const {number} = data, send = bytes => postMessage({number, bytes}, [bytes.buffer]);
+  const ended = data.keep ? await keepProgram(program, data, send, note => postMessage({number, waits: true, note})) :
+    runProgram(program, data, send);
+  postMessage({number, ended});
 };

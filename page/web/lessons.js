@@ -31,6 +31,18 @@ class Lessons {
     this.place.append(text);
     this.place.scrollTop = 0;
   }
+  // Heads a run with its scenario's name, and for a lecture with the lesson that is shown, where it is of this scenario.
+  putHead(place, title) {
+    const {now} = this, name = document.createElement('span');
+    name.textContent = title.replace(/_/g, ' ');
+    place.replaceChildren(name);
+    if (!now || !now.examples.includes(title)) return;
+    const head = document.createElement('span');
+    head.className = 'of-lesson';
+    head.textContent = `${now.number}. ${now.title}`;
+    place.prepend(head, ' ');
+    place.classList.toggle('is-one', now.examples.length === 1);
+  }
   button(text, kind, value) {
     const made = document.createElement('button');
     made.textContent = text;

@@ -3,6 +3,9 @@
 
 const byId = id => document.getElementById(id);
 const dataOf = id => JSON.parse(byId(id).textContent);
+const LAY_AFTER = 60;                   // ms after the last change of size
+// Whether all stands below each other, as simulator.css has it.
+const isNarrow = () => matchMedia('(max-width: 900px)').matches;
 const nameOfFile = title => title.replace(/[^\w.-]+/g, '_') || 'scenario';
 
 class Simulator {
@@ -13,6 +16,11 @@ class Simulator {
     this.lessons = new Lessons(byId('lesson'), dataOf('lessons'), name => this.openExample(name), event => this.goFromLesson(event));
     this.editor = new Editor(byId('editor'), dataOf('grammar'), null);
     this.title = 'scenario';
+    this.typed = [];                    // at the debugger's prompt
+    this.templates = new TemplateForm(byId('template-dialog'), dataOf('templates'), (text, name) => this.openText(text, name));
+    this.save = new Save(byId('save-dialog'), this);
+    this.share = new Share(byId('share-dialog'), () => this.shared());
+    this.lecture = new Lecture(this);
     this.makeChoice();
     this.makeButtons();
     this.showTab('net');
@@ -66,16 +74,49 @@ class Simulator {
       this.editor.text = text;
       this.say(text.includes('\r') ? `the lines of ${file.name} end as those of Windows, which the program refuses; here they end with a line feed` : '');
     }
+    this.openText(this.editor.text, title, byId('said').textContent);
+  }
+  // A text that is no lesson's and no example's.
+  openText(text, title, said = '') {
     this.title = title;
+    this.say(said);
+    if (text !== this.editor.text) this.editor.text = text;
     this.lessons.show(null);
     byId('choose').selectedIndex = -1;
   }
-  save(name, parts, type) {
-    const link = document.createElement('a');
-    link.href = URL.createObjectURL(new Blob(parts, {type}));
-    link.download = name;
-    link.click();
-    setTimeout(() => URL.revokeObjectURL(link.href), 1000);
+  // What a fragment behind the address has: answers whether it had a scenario.
+  async openFragment() {
+    try {
+      const given = await readFragment(location.hash);
+      if (!given) return false;
+      history.replaceState(null, '', location.pathname + location.search);
+      const lesson = this.lessons.lessons.find(({number}) => number === given.lesson);
+      if (lesson) this.openLesson(lesson.number); else if (given.text === null) return false;
+      if (given.text !== null) {
+        this.openText(given.text, given.name, 'from the address');
+        this.lessons.show(lesson || null);
+        if (lesson) byId('choose').value = `lesson ${lesson.number}`;
+      }
+      this.wanted = given.runs ? given : null;
+      if (this.engine && this.wanted) await this.showShared(this.wanted);
+      return true;
+    } catch (wrong) {
+      if (!(wrong instanceof Wrong)) throw wrong;
+      this.say(wrong.message);
+      return false;
+    }
+  }
+  async showShared({view, event}) {
+    await this.start();
+    if (!this.page) return;
+    if (event) this.goTo(event);
+    if (view === 'debug' && event) this.prompt.type(`step ${event}`);
+    this.showTab(view);
+  }
+  // What is shared of the page as it is.
+  shared() {
+    const event = this.page && this.run.text === this.editor.text ? this.page.record.at : null;
+    return {text: this.editor.text, name: this.title, lesson: this.lessons.now && this.lessons.now.number, view: byId('run-side').dataset.view, event};
   }
 
   // ---- the program
@@ -83,6 +124,7 @@ class Simulator {
   async begin() {
     const root = document.documentElement;
     this.openLesson(1);
+    await this.openFragment();
     root.dataset.shown = Math.round(performance.now());
     if (!hasMemory64()) { this.say(NO_MEMORY64); this.withoutProgram(); return; }
     try {
@@ -93,9 +135,11 @@ class Simulator {
       return;
     }
     this.editor.run = (words, input) => this.engine.run(words, input);
+    this.compare = new Compare(byId('both'), this.engine, () => this.texts(), dataOf('templates').ranges, this.mostKept, this.lecture);
     this.enable(false);
     root.dataset.ready = Math.round(performance.now());
     this.editor.judge();
+    if (this.wanted) await this.showShared(this.wanted);
   }
   // Without the program only runs that the page carries are shown.
   withoutProgram() {
@@ -213,13 +257,21 @@ class Simulator {
     this.say('ended');
   }
 
+  // What can be compared: [value, name, text] each.
+  texts() {
+    const shown = this.page && this.run ? [['run', `the run shown: ${this.run.title.replace(/_/g, ' ')}`, this.run.text]] : [];
+    return [['editor', `${this.title.replace(/_/g, ' ')}, as it is now`, this.editor.text], ...shown,
+      ...Object.entries(this.examples).map(([name, text]) => [`example ${name}`, name.replace(/_/g, ' '), text])];
+  }
+
   // ---- what is shown
 
   say(text) { byId('said').textContent = text; }
   clear() {
     if (this.page) this.page.end();
     if (this.list) this.list.end();
-    this.page = this.list = window.page = null;
+    if (this.prompt) this.prompt.end();
+    this.page = this.list = this.prompt = window.page = null;
     for (const id of ['tab-net', 'all-lines', 'figures-table', 'debugger']) byId(id).textContent = '';
     byId('save-trace').disabled = byId('save-figures').disabled = true;
     byId('progress').value = 0;
@@ -227,17 +279,21 @@ class Simulator {
   }
   showRun(record, title) {
     if (this.page) this.page.end();
+    if (this.prompt) this.prompt.end();
     this.showTab('net');
     const place = byId('tab-net');
     place.textContent = '';
     place.append(byId('view').content.cloneNode(true));
-    place.querySelector('h1').textContent = title.replace(/_/g, ' ');
+    this.lecture.addKeys(place.querySelector('#keys'));
+    this.lessons.putHead(place.querySelector('h1'), title);
     this.page = window.page = new Page(record);
+    this.lecture.arrange();
     this.list = new TraceList(byId('all-lines'), record, event => this.goTo(event));
     byId('save-trace').disabled = false;
     // Where all stands below each other, the run is brought into view.
-    if (this.engine && matchMedia('(max-width: 900px)').matches) byId('run-side').scrollIntoView();
-    if (this.engine) this.prompt = new Prompt(byId('debugger'), this.engine, this.run.text);
+    if (this.engine && isNarrow()) byId('run-side').scrollIntoView();
+    if (this.engine)
+      this.prompt = new Prompt(byId('debugger'), this.engine, this.run.text, {facts: record.facts, go: event => this.goTo(event), history: this.typed});
   }
   // Of which proof the program is, and the licenses of what the page has besides.
   showAbout() {
@@ -271,6 +327,10 @@ ${dataOf('licenses').join('\n\n')}`;
       tab.tabIndex = chosen ? 0 : -1;
       byId(`tab-${tab.dataset.tab}`).hidden = !chosen;
     }
+    // The debugger has the net above it, which goes to its position.
+    byId('run-side').dataset.view = name;
+    if (name === 'debug') byId('tab-net').hidden = false;
+    if (name === 'compare' && this.compare) this.compare.offer();
     if (name === 'trace' && this.list) this.list.show(this.page.record.at);
   }
 
@@ -281,18 +341,20 @@ ${dataOf('licenses').join('\n\n')}`;
     on('run', () => this.start());
     on('figures', () => this.start({trace: false}));
     on('stop', () => this.stop());
+    on('template-open', () => byId('template-dialog').showModal());
     on('open', () => file.click());
     file.addEventListener('change', () => { if (file.files[0]) this.openFile(file.files[0]); file.value = ''; });
-    on('save', () => this.save(`${nameOfFile(this.title)}.txt`, [this.editor.text], 'text/plain'));
-    on('save-image', async () => {
-      const {status, note, bytes} = await this.engine.run(['asm'], toBytes(this.editor.text));
-      if (status) this.say(note.trim()); else this.save(`${nameOfFile(this.title)}.tcb`, [bytes], 'application/octet-stream');
-    });
-    on('save-trace', () => this.save(`${nameOfFile(this.title)}.trace`, this.page.record.lines.pieces, 'text/plain'));
-    on('save-figures', () => this.save(`${nameOfFile(this.title)}.csv`, [this.run.csv], 'text/csv'));
+    on('save-open', () => this.save.open());
+    on('share-open', () => this.share.open());
     on('about-open', () => this.showAbout());
     on('about-close', () => byId('about-dialog').close());
     for (const choice of ['figures', 'keep', 'leave']) on(`ask-${choice}`, () => byId('ask').close(choice));
+    const keys = this.editor.box.getOption('extraKeys'), runs = () => byId('run').click();
+    this.editor.box.setOption('extraKeys', {...keys, 'Ctrl-Enter': runs, 'Cmd-Enter': runs});
+    this.makeTabs();
+    this.listen();
+  }
+  makeTabs() {
     const tabs = [...document.querySelectorAll('[role=tab]')];
     tabs.forEach((tab, k) => {
       tab.addEventListener('click', () => this.showTab(tab.dataset.tab));
@@ -305,13 +367,25 @@ ${dataOf('licenses').join('\n\n')}`;
         event.preventDefault();
       });
     });
-    this.editor.box.setOption('extraKeys', {'Ctrl-Enter': () => byId('run').click(), 'Cmd-Enter': () => byId('run').click()});
+  }
+  // What comes from outside: files that are dropped, another size, another fragment.
+  listen() {
     document.addEventListener('dragover', event => event.preventDefault());
     document.addEventListener('drop', event => {
       event.preventDefault();
       if (event.dataTransfer.files[0]) this.openFile(event.dataTransfer.files[0]);
     });
-    window.addEventListener('hashchange', () => { if (this.list && this.page) this.list.show(this.page.record.at); });
+    // What is shown of a run is laid out anew where its room has changed.
+    let wide = 0, tall = 0, timer = 0;
+    new ResizeObserver(([{contentRect: {width, height}}]) => {
+      if (!width || width === wide && height === tall) return;
+      [wide, tall] = [width, height];
+      clearTimeout(timer);
+      timer = setTimeout(() => { if (this.page && byId('tab-net').clientWidth) this.page.lay(); }, LAY_AFTER);
+    }).observe(byId('tab-net'));
+    window.addEventListener('hashchange', async () => {
+      if (!await this.openFragment() && this.list && this.page) this.list.show(this.page.record.at);
+    });
   }
 }
 

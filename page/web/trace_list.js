@@ -10,7 +10,8 @@ class TraceList {
     this.box = document.createElement('div');
     this.box.className = 'lines';
     this.box.tabIndex = 0;
-    this.box.setAttribute('aria-label', 'all lines of the trace');
+    this.box.setAttribute('role', 'region');
+    this.box.setAttribute('aria-label', 'all lines of the trace; the arrow keys go from line to line');
     this.space = document.createElement('div');
     this.seen = document.createElement('div');
     this.seen.className = 'seen';
@@ -31,10 +32,18 @@ class TraceList {
     this.box.addEventListener('scroll', () => this.draw());
     this.sized = new ResizeObserver(() => this.draw());
     this.sized.observe(this.box);
+    this.box.addEventListener('keydown', event => this.key(event));
     this.box.addEventListener('click', event => {
       const row = event.target.closest('[data-event]');
       if (row) this.go(+row.dataset.event);
     });
+  }
+  // The arrow keys go from line to line.
+  key(event) {
+    const by = {ArrowDown: 1, ArrowUp: -1}[event.key];
+    if (!by || event.ctrlKey || event.altKey || event.metaKey) return;
+    event.preventDefault();
+    this.go(Math.min(this.record.last, Math.max(this.record.first + 1, this.at + by)));
   }
   end() { this.sized.disconnect(); this.searching = null; }
   // The first line that is seen, and how many are.

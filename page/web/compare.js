@@ -1,0 +1,245 @@
+'use strict';
+// Two runs under one clock: their nets in a frame each, their curves in panels that both share, and the figures that differ.
+
+const SOLID = '', DASHED = '7 4', MOST_WHOLE = 2;
+const HEAD = 36;                        // pixels of a lecture's frame above its net
+const OTHER_QUEUE = 'queue', QUEUE_MEANT = 'codel:5ms:100ms';
+
+// The text with another queue at a link; `word` is one of tcpsim-net's, as codel:5ms:100ms. Throws Wrong.
+function withQueue(text, facts, link, word, ranges) {
+  const net = Object.assign(new NetText(ranges), {links: facts.links, flows: facts.flows}), queue = queueOf(ranges, word);
+  const product = queue.capacity === null ? net.product(link, facts.ways) : 1;
+  return text.split('\n').map(line => {
+    const [, statement, comment] = /^([^#]*)(.*)$/.exec(line), [kind, name, ...rest] = words(statement);
+    if (kind !== 'link' || name !== facts.links[link].name) return line;
+    return ['link', name, ...rest.slice(0, 4), queue.words(net.greatestPacket(), product)].join(' ') + (comment && `  ${comment}`);
+  }).join('\n');
+}
+
+// The rows of two tables of figures that differ: {of, figure, unit, values}. A part that one run alone has differs too.
+function differing(tables, facts) {
+  const rows = new Map();
+  tables.forEach((csv, k) => readFigures(csv).forEach(({what, number, figure, unit, value}) => {
+    const names = what === 'run' ? [] : facts[k][`${what}s`], name = what === 'run' ? 'the run' : `${what} ${names[number].name}`;
+    const key = `${name} ${figure} ${unit}`;
+    if (!rows.has(key)) rows.set(key, {of: name, figure, unit, values: ['', '']});
+    rows.get(key).values[k] = value;
+  }));
+  return {all: rows.size, ones: [...rows.values()].filter(({values: [one, two]}) => one !== two)};
+}
+// What the second is beside the first, where both are numbers.
+function changeOf([one, two], unit) {
+  if (!/^-?\d+$/.test(one) || !/^-?\d+$/.test(two)) return '';
+  const by = two - one;
+  return `${by > 0 ? '+' : '\u2212'}${inUnits(String(Math.abs(by)), unit)}${+one ? ` (${by > 0 ? '+' : '\u2212'}${+(100 * Math.abs(by) / one).toPrecision(3)} %)` : ''}`;
+}
+
+class Compare {
+  // `texts` answers what can be compared, [value, name, text] each; `ranges` are the package's; `lecture` hears keys in the frames too.
+  constructor(place, engine, texts, ranges, most, lecture) {
+    Object.assign(this, {place, engine, texts, ranges, most, lecture, at: name => byId(`both-${name}`)});
+    this.form = byId('compare-form');
+    this.form.addEventListener('submit', event => { event.preventDefault(); this.start(); });
+    for (const id of ['first', 'second']) byId(`compare-${id}`).addEventListener('change', () => this.offer());
+  }
+  say(text) { byId('compare-said').textContent = text; }
+  // The texts that there are, and the links of the first.
+  offer() {
+    const texts = this.texts();
+    for (const id of ['first', 'second']) {
+      const select = byId(`compare-${id}`), kept = select.value || (id === 'first' ? 'editor' : OTHER_QUEUE);
+      select.textContent = '';
+      if (id === 'second') select.append(new Option('the first, with another queue', OTHER_QUEUE));
+      for (const [value, name] of texts) select.append(new Option(name, value));
+      if ([...select.options].some(option => option.value === kept)) select.value = kept;
+    }
+    byId('compare-queue').hidden = byId('compare-second').value !== OTHER_QUEUE;
+    const link = byId('compare-link'), kept = link.value;
+    link.textContent = '';
+    try {
+      factsOf(this.textOf('first'), '').links.forEach(({name}, l) => link.append(new Option(name, l)));
+    } catch { return; }         // a text that the program refuses
+    if (kept && link.options[kept]) link.value = kept;
+  }
+  // Chooses the scenario as it is and what a lecture has beside it: the example that is named, else the same with CoDel at the link
+  // that is given, or without it where that has it.
+  suggest(example, l) {
+    this.offer();
+    byId('compare-first').value = 'editor';
+    byId('compare-second').value = example ? `example ${example}` : OTHER_QUEUE;
+    this.offer();
+    const link = byId('compare-link');
+    if (example || !link.options[l]) return;
+    link.value = l;
+    const {queue, limit} = factsOf(this.textOf('first'), '').links[l];
+    byId('compare-word').value = queue === 'codel' ? `droptail:${limit}` : '';
+  }
+  // Whether one of the two that are shown is of this text.
+  shows(text) { return !!this.clock && this.runs.some(run => run.text === text); }
+  textOf(id) { return this.texts().find(([value]) => value === byId(`compare-${id}`).value)[2]; }
+  nameOf(id) { return byId(`compare-${id}`).selectedOptions[0].textContent; }
+
+  // ---- running both
+
+  async start() {
+    this.end();
+    const token = this.token = {};
+    this.say('running both');
+    try {
+      const first = await this.runOf(this.textOf('first'), this.nameOf('first')), runs = [first];
+      if (this.token !== token) return;
+      runs.push(await this.second(first));
+      if (this.token !== token) return;
+      await this.show(runs);
+      this.say('');
+    } catch (wrong) {
+      if (!(wrong instanceof Wrong)) throw wrong;
+      if (this.token === token) this.say(wrong.message);
+    }
+    document.documentElement.dataset.compared = +(document.documentElement.dataset.compared || 0) + 1;
+  }
+  second(first) {
+    if (byId('compare-second').value !== OTHER_QUEUE) return this.runOf(this.textOf('second'), this.nameOf('second'));
+    const word = byId('compare-word').value.trim() || QUEUE_MEANT, link = +byId('compare-link').value;
+    return this.runOf(withQueue(first.text, first.record.facts, link, word, this.ranges), `${first.record.facts.links[link].name} with ${word}`);
+  }
+  // A run of a text: {text, record, csv}.
+  async runOf(text, title) {
+    const refuse = ({why, note, status}) => {
+      throw new Wrong(`${title}: ${{long: `more than ${number(this.most)} events, which are too many to compare`}[why] || why ||
+        (note || '').trim().split('\n')[0] || `it ended with status ${status}`}`);
+    };
+    const figures = await this.engine.run(['figures'], toBytes(text));
+    if (figures.why || figures.status) refuse(figures);
+    const record = new Record(factsOf(text, title)), run = this.engine.start(['run'], toBytes(text), {most: this.most});
+    await fill(record, run.pieces);
+    const ended = await run.ended;
+    if (ended.why || ended.status) refuse(ended);
+    return {text, record, csv: new TextDecoder().decode(figures.bytes)};
+  }
+
+  // ---- showing both
+
+  async show(runs) {
+    this.place.append(byId('both-view').content.cloneNode(true));
+    const frames = this.frames = [...this.place.querySelectorAll('iframe')];
+    const pages = await Promise.all(frames.map((frame, k) => this.pageIn(frame, runs[k].record)));
+    this.runs = runs;
+    this.records = runs.map(({record}) => record);
+    for (const frame of frames) frame.contentWindow.addEventListener('keydown', event => this.lecture.key(event), true);
+    this.lecture.addKeys(this.at('keys'));
+    const windows = [window, ...frames.map(frame => frame.contentWindow)];
+    const within = event => event.view !== window || this.place.contains(event.target) || event.target === document.body && !this.place.closest('[hidden]');
+    this.drawCharts();
+    this.clock = new Clock(pages, {at: this.at, windows, told: time => this.charts.forEach(chart => chart.mark(time)),
+      listens: event => within(event) && !['SELECT', 'TEXTAREA'].includes(event.target.tagName)});
+    this.drawFigures(runs);
+    this.layNow();
+    this.sized = new ResizeObserver(() => this.lay());
+    this.sized.observe(this.at('charts'));
+    // A frame's net has its new size later than the page around it.
+    frames.forEach((frame, k) => new frame.contentWindow.ResizeObserver(() => this.lay()).observe(pages[k].net.svg.node()));
+  }
+  lay() {
+    clearTimeout(this.timer);
+    this.timer = setTimeout(() => this.layNow(), LAY_AFTER);
+  }
+  layNow() {
+    const nets = this.place.querySelector('.nets');
+    if (!this.clock || !nets.clientWidth) return;
+    this.clock.pages.forEach((page, k) => {
+      const {classList} = this.frames[k].contentDocument.documentElement;
+      if (classList.contains('slide') === isSlide()) return;
+      classList.toggle('slide', isSlide());
+      page.makeNet(this.folds(page.record));
+    });
+    // A lecture's nets lie below each other, or beside, as their letters are larger.
+    const {width, height} = nets.getBoundingClientRect();
+    const pixels = (wide, tall) => Math.min(...this.clock.pages.map(({net}) => net.pixelsIn(wide, tall - HEAD)));
+    nets.classList.toggle('beside', isSlide() && pixels(width / 2, height) > pixels(width, height / 2));
+    this.clock.pages.forEach(page => page.lay());
+    this.at('head').textContent = this.lecture.heading;
+    this.drawCharts();
+    this.clock.go(this.clock.time);
+  }
+  // In half of the room the ends of a net of several flows are stubs.
+  folds({facts: {flows, nodes}}) { return flows.length > MOST_WHOLE || (isNarrow() || isSlide()) && nodes.some(({kind}) => kind === 'router'); }
+  // A page of the replay in a frame, which has style and scripts of this one.
+  pageIn(frame, record) {
+    const script = id => `<script>${byId(id).textContent}</` + 'script>';
+    return new Promise(done => {
+      frame.title = record.facts.title;
+      frame.addEventListener('load', () => {
+        const {contentDocument: inside, contentWindow: own} = frame;
+        inside.querySelector('h1').textContent = record.facts.title;
+        const page = new own.Page(record);
+        if (this.folds(record)) { page.makeNet(true); page.show(); }
+        done(page);
+      }, {once: true});
+      frame.srcdoc = `<!DOCTYPE html><html lang="en" class="within overlaid${isSlide() ? ' slide' : ''}"><meta charset="utf-8"><title>a run</title><style>${byId('replay-style').textContent}` +
+        `</style><body>${byId('view').innerHTML}${script('d3-script')}${script('replay-script')}`;
+    });
+  }
+  // The names of both runs' flows or links, and which have a box ticked.
+  ticked(id, names, count) {
+    const place = this.at(id), kept = [...place.querySelectorAll('input')].map(box => [box.value, box.checked]), was = new Map(kept);
+    place.textContent = '';
+    return names.filter((name, k) => {
+      const label = document.createElement('label'), box = document.createElement('input'), text = document.createElement('span');
+      Object.assign(box, {type: 'checkbox', value: name, checked: was.has(name) ? was.get(name) : k < count});
+      box.addEventListener('change', () => this.drawCharts());
+      text.textContent = name;
+      text.style.borderBottom = `3px solid ${colourOf(k)}`;
+      label.append(box, text);
+      place.append(label);
+      return box.checked;
+    });
+  }
+  drawCharts() {
+    const {records} = this, time = this.clock ? this.clock.time : 0, begin = Math.min(...records.map(it => it.times[0]));
+    const span = {times: [begin, Math.max(...records.map(it => it.times[it.count]))], count: 1};
+    const names = (what, order) => [...new Set(records.flatMap(record => order(record).map(k => record.facts[what][k].name)))];
+    const flows = names('flows', record => d3.range(record.facts.flows.length));
+    const links = names('links', record => d3.range(record.facts.links.length).sort((a, b) => record.longest[b] - record.longest[a] || a - b));
+    const draw = (svg, title, what, all, chosen, curve) => {
+      const node = this.at(svg), before = node.parentNode.querySelector('.present');
+      d3.select(node).selectAll('*').remove();
+      if (before) before.remove();
+      const chart = new Chart(d3.select(node), span, [title, title.split(':')[0]], at => this.clock.jump(at));
+      chart.show(chosen.flatMap(name => records.flatMap((record, k) => {
+        const i = record.facts[what].findIndex(one => one.name === name);
+        return i < 0 ? [] : [{curve: curve(record, i), colour: colourOf(all.indexOf(name)), dash: [SOLID, DASHED][k], name: `${name}, ${record.facts.title}`}];
+      })));
+      chart.mark(time);
+      return chart;
+    };
+    const said = 'solid the first run, dashed the second';
+    this.charts = [draw('windows', `cwnd in bytes: ${said}`, 'flows', flows, this.ticked('flows', flows, 2), (record, f) => record.curve(record.ofFlow(f, CWND))),
+      draw('lengths', `packets that wait: ${said}`, 'links', links, this.ticked('links', links, 1), (record, l) => record.queueCurve(l))];
+  }
+  drawFigures(runs) {
+    const {ones, all} = differing(runs.map(run => run.csv), runs.map(run => run.record.facts)), table = document.createElement('table');
+    const make = (row, tag, text) => { const cell = document.createElement(tag); cell.textContent = text; row.append(cell); return cell; };
+    table.createCaption().textContent = ones.length ? `${number(ones.length)} of ${number(all)} figures differ` : `all ${number(all)} figures are the same`;
+    const head = table.createTHead().insertRow();
+    for (const word of ['of', 'figure', ...runs.map(run => run.record.facts.title), 'difference']) make(head, 'th', word).scope = 'col';
+    const body = table.createTBody();
+    for (const {of, figure, unit, values} of ones) {
+      const row = body.insertRow();
+      make(row, 'th', of).scope = 'row';
+      make(row, 'td', UNITS_IN_CELLS.includes(unit) || unit === figure ? figure : `${figure} (${unit})`).className = 'word';
+      for (const value of values) make(row, 'td', value ? inUnits(value, unit) : 'has none').title = value && value !== '-' ? `${number(value)} ${unit}` : 'there is none';
+      make(row, 'td', changeOf(values, unit));
+    }
+    this.at('figures').append(table);
+  }
+  // Leaves both runs.
+  end() {
+    this.token = null;
+    if (this.clock) this.clock.leave();
+    if (this.sized) this.sized.disconnect();
+    for (const page of this.clock ? this.clock.pages : []) page.end();
+    this.clock = this.sized = null;
+    this.place.textContent = '';
+  }
+}

@@ -1,0 +1,122 @@
+'use strict';
+// A lecture's mode: the whole screen for the net, or two under one clock, one panel and the clock, in large letters, and keys for
+// all else.
+
+const LECTURE_KEYS = [['l', 'a lecture\u2019s mode, and back (Esc too)'], ['p', 'in a lecture: the other panel'],
+  ['c', 'in a lecture: two runs, and back to one'],
+  ['n N', 'the lesson\u2019s next line, the one before'], ['PgDn PgUp', 'in a lecture: the next lesson, the one before']];
+const SHOWN = ['windows', 'lengths'], OF_BOTH = [...SHOWN, 'figures'];
+const ROWS = 120;                       // pixels by which a table of figures is moved
+
+class Lecture {
+  constructor(simulator) {
+    Object.assign(this, {simulator, root: document.documentElement, panel: SHOWN[0], step: -1});
+    window.addEventListener('keydown', event => this.key(event), true);
+    document.addEventListener('fullscreenchange', () => { if (!document.fullscreenElement && this.whole) this.leave(); });
+    byId('lecture-open').addEventListener('click', event => { event.currentTarget.blur(); this.begin(); });
+  }
+  get on() { return this.root.classList.contains('lecture'); }
+  // Whether two runs are what is seen.
+  get both() { return byId('run-side').dataset.view === 'compare'; }
+  begin() {
+    if (this.on) return;
+    this.root.classList.add('lecture', 'slide');
+    if (document.activeElement) document.activeElement.blur();
+    const {compare, editor} = this.simulator;
+    if (this.both && compare && compare.shows(editor.text)) this.showBoth(); else this.show();
+    if (this.root.requestFullscreen) this.root.requestFullscreen().then(() => { this.whole = true; }, () => {});
+  }
+  leave() {
+    if (!this.on) return;
+    const {page, compare} = this.simulator;
+    this.root.classList.remove('lecture', 'slide');
+    this.whole = false;
+    if (document.fullscreenElement) document.exitFullscreen();
+    if (page) { page.makeNet(); page.lay(); this.arrange(); }
+    if (compare) compare.layNow();
+  }
+  // Here and on a phone the ends of a net with routers are stubs, so that what is between them has large letters; the key f draws
+  // them whole.
+  arrange() {
+    const {page} = this.simulator;
+    if (!page || !this.on && !isNarrow()) return;
+    page.makeNet(page.facts.nodes.some(({kind}) => kind === 'router'));
+    page.lay();
+  }
+  // The run of the scenario as it is, which is begun where there is none.
+  show() {
+    const {simulator} = this, {run, page} = simulator;
+    simulator.showTab('net');
+    this.setPanel(SHOWN.includes(this.panel) ? this.panel : SHOWN[0]);
+    if (page && run && run.text === simulator.editor.text) this.arrange();
+    else if (simulator.engine) simulator.start();
+  }
+  // Two runs, or one again. Which two: those that were compared, where one is of the scenario as it is; else the lesson's two
+  // examples, or the scenario and the same with another queue where most packets waited.
+  compareOrNot() {
+    const {simulator} = this, {compare, page, run, editor, title} = simulator, {now} = simulator.lessons;
+    if (this.both) { this.show(); return; }
+    if (!compare) return;
+    simulator.showTab('compare');
+    if (compare.shows(editor.text)) { this.showBoth(); return; }
+    const ones = now && now.examples.includes(title) ? now.examples : [], {longest} = page && run.text === editor.text ? page.record : {longest: [0]};
+    compare.suggest(ones.find(name => name !== title), longest.indexOf(Math.max(...longest)));
+    this.setPanel(this.panel);
+    compare.start();
+  }
+  // The lesson that is shown.
+  get heading() {
+    const {now} = this.simulator.lessons;
+    return now ? `${now.number}. ${now.title}` : '';
+  }
+  showBoth() {
+    this.setPanel(this.panel);
+    this.simulator.compare.layNow();
+  }
+  setPanel(name) { this.root.dataset.panel = this.panel = name; }
+  lesson(by) {
+    const {simulator} = this, {lessons, now} = simulator.lessons, at = now ? lessons.indexOf(now) + by : by > 0 ? 0 : lessons.length - 1;
+    if (!lessons[at]) return;
+    simulator.openLesson(lessons[at].number);
+    this.step = -1;
+    this.show();
+  }
+  // The events that the lesson's text names, in its order, one after another.
+  named(by) {
+    const events = [...document.querySelectorAll('#lesson button.event')].map(button => +button.dataset.event), {simulator} = this;
+    if (!events.length || !simulator.page) return;
+    const at = simulator.page.record.at === events[this.step] ? this.step + by : by > 0 ? 0 : events.length - 1;
+    if (this.on && this.both) this.show();
+    if (events[at] === undefined) { simulator.page.say(`the lesson names no line ${by > 0 ? 'after' : 'before'} this one`); return; }
+    this.step = at;
+    simulator.goTo(events[at]);
+  }
+  key(event) {
+    const {target} = event, writes = ['INPUT', 'TEXTAREA', 'SELECT'].includes(target.tagName) && target.type !== 'checkbox' && target.type !== 'range';
+    if (event.ctrlKey || event.altKey || event.metaKey || writes || document.querySelector('dialog[open]')) return;
+    const does = {l: () => (this.on ? this.leave() : this.begin()), n: () => this.named(1), N: () => this.named(-1),
+      ...(this.on ? {Escape: () => this.leave(), p: () => this.next(), c: () => this.compareOrNot(), PageDown: () => this.lesson(1),
+        PageUp: () => this.lesson(-1)} : {}),
+      ...(this.on && this.both && this.panel === 'figures' ? {ArrowDown: () => this.scroll(ROWS), ArrowUp: () => this.scroll(-ROWS)} : {})}[event.key];
+    if (!does || ['keys', 'both-keys'].some(id => byId(id) && !byId(id).hidden)) return;
+    does();
+    event.preventDefault();
+    event.stopPropagation();
+  }
+  next() {
+    const ones = this.both ? OF_BOTH : SHOWN, {page, compare} = this.simulator;
+    this.setPanel(ones[(ones.indexOf(this.panel) + 1) % ones.length]);
+    if (this.both) compare.layNow(); else if (page) page.lay();
+  }
+  scroll(by) { byId('both-figures').scrollBy(0, by); }
+  // The lecture's keys, with those of the net.
+  addKeys(place) {
+    const last = place.lastElementChild;
+    for (const [keys, means] of LECTURE_KEYS) {
+      const row = document.createElement('p'), key = document.createElement('kbd');
+      key.textContent = keys;
+      row.append(key, ` ${means}`);
+      place.insertBefore(row, last);
+    }
+  }
+}

@@ -1,0 +1,45 @@
+'use strict';
+// The dialog of what can be saved: text, image, trace, figures, and a picture of each panel that is shown.
+
+const PANELS = [['net', 'the net'], ['windows', 'windows'], ['lengths', 'queues'], ['both-windows', 'windows of both runs'], ['both-lengths', 'queues of both runs']];
+
+class Save {
+  constructor(dialog, simulator) {
+    Object.assign(this, {dialog, simulator});
+    const on = (id, does) => byId(id).addEventListener('click', does), name = ending => `${nameOfFile(simulator.title)}${ending}`;
+    on('save', () => this.give(name('.txt'), [simulator.editor.text], 'text/plain'));
+    on('save-image', async () => {
+      const {status, note, bytes} = await simulator.engine.run(['asm'], toBytes(simulator.editor.text));
+      if (status) this.say(note.trim()); else this.give(name('.tcb'), [bytes], 'application/octet-stream');
+    });
+    on('save-trace', () => this.give(name('.trace'), simulator.page.record.lines.pieces, 'text/plain'));
+    on('save-figures', () => this.give(name('.csv'), [simulator.run.csv], 'text/csv'));
+    on('save-svg', () => this.picture('svg'));
+    on('save-png', () => this.picture('png'));
+    on('save-close', () => dialog.close());
+  }
+  say(text) { byId('save-said').textContent = text; }
+  open() {
+    this.say('');
+    const select = byId('save-panel'), kept = select.value;
+    select.textContent = '';
+    for (const [id, title] of PANELS) if (byId(id) && byId(id).getBoundingClientRect().width) select.append(new Option(title, id));
+    if (byId(kept)) select.value = kept;
+    byId('save-svg').disabled = byId('save-png').disabled = !select.options.length;
+    byId('save-pictures').hidden = !select.options.length;
+    this.dialog.showModal();
+  }
+  async picture(kind) {
+    const id = byId('save-panel').value, [, title] = PANELS.find(([one]) => one === id), name = `${nameOfFile(this.simulator.title)}_${title.replace(/\W+/g, '_')}`;
+    const text = pictureOf(byId(id), `${this.simulator.title}: ${title}`);
+    if (kind === 'svg') this.give(`${name}.svg`, [text], 'image/svg+xml'); else this.give(`${name}.png`, [await pngOf(text)], 'image/png');
+  }
+  give(name, parts, type) {
+    const link = document.createElement('a');
+    link.href = URL.createObjectURL(new Blob(parts, {type}));
+    link.download = name;
+    link.click();
+    setTimeout(() => URL.revokeObjectURL(link.href), 1000);
+    this.say(`${name} is saved where the browser keeps downloads`);
+  }
+}
