@@ -7,8 +7,11 @@ Without names these are dev/refuse_tests.sh and each test_*.py of the two folder
 without that dev/refuse_tests.sh has the crates of its tests proved first, which takes a quarter of an hour and more.
 After `make run` alone leave it out, by naming the others. Each test has a folder of its own for what it makes; all are
 ended, and the folders taken away, where this script is interrupted. --python has pytest; where it is empty what wants
-that is left out. What all of them cost is kept for the table of bench/gate.py. The last line is 'N tests passed, N
-failed', and the status is 1 where one failed; where CI=true also where something was left out.
+that is left out. What all of them cost is kept for the table of bench/gate.py.
+
+A test that fails beside others may have lacked time alone: it is run once more when nothing else runs, and fails where it
+does so again. The last lines say which tests passed alone only. The last of all is 'N tests passed, N failed', and the status
+is 1 where one failed; where CI=true also where something was left out.
 """
 import argparse
 import contextlib
@@ -25,8 +28,9 @@ import build
 
 TOP = os.path.dirname(os.path.dirname(os.path.abspath(__file__)))
 # Those that take longest, which are begun first.
-LONG = ('dev/test_page.py', 'python/tests/test_ends.py', 'python/tests/test_inputs.py', 'dev/test_shell.py', 'dev/test_systematic.py',
-        'dev/test_compare.py',
+LONG = ('dev/test_page.py', 'dev/test_page_lecture.py', 'dev/test_page_debugger.py', 'dev/test_page_compare.py', 'dev/test_page_share.py',
+        'python/tests/test_ends.py', 'python/tests/test_inputs.py', 'python/tests/test_debug.py', 'dev/test_shell.py', 'dev/test_systematic.py',
+        'dev/test_compare.py', 'python/tests/test_sweep_engines.py', 'python/tests/test_sweep_means.py',
         'python/tests/test_sweep.py', 'python/tests/test_trace.py', 'python/tests/test_plot.py', 'dev/test_bounds.py',
         'dev/refuse_tests.sh', 'dev/test_helgrind.py', 'dev/test_dist.py')
 LEFT_OUT = 'LEFT OUT', 'SKIPPED'            # how a line begins that says so: ours, and pytest's
@@ -80,13 +84,14 @@ class Test:
         with open(f'{self.folder}.said', encoding='utf-8', errors='replace') as file:
             return file.read()
 
+    def passed(self):
+        return self.process.returncode == 0
+
     def tell(self):
-        """Prints what it said; answers whether it passed."""
-        passed = self.process.returncode == 0
-        how = 'passed' if passed else f'FAILED, status {self.process.returncode}'
+        """Prints what it said."""
+        how = 'passed' if self.passed() else f'FAILED, status {self.process.returncode}'
         took = f'{self.seconds:.0f} s, {self.spent():.0f} s of processors'
         print(f'== {self.name}: {how} ({took})\n{self.said()}', end='', flush=True)
-        return passed
 
 
 @contextlib.contextmanager
@@ -109,11 +114,10 @@ def room():
 
 
 def run(tests, jobs):
-    """Runs the tests, so many at once, and tells of each once those before it were told; answers how many
-    failed, and what was left out."""
+    """Runs the tests, so many at once, and tells of each once those before it were told; answers those that failed."""
     rank = {name: at for at, name in enumerate(LONG)}
     left = sorted(tests, key=lambda it: rank.get(it.name, len(LONG)))
-    running, untold, failed, out = [], list(tests), 0, []
+    running, untold, failed = [], list(tests), []
     try:
         while untold:
             while left and len(running) < jobs:
@@ -122,13 +126,13 @@ def run(tests, jobs):
             running = [it for it in running if not it.has_ended()]
             while untold and untold[0].process and untold[0] not in running:
                 test = untold.pop(0)
-                failed += not test.tell()
-                out += [line for line in test.said().splitlines() if line.startswith(LEFT_OUT)]
+                test.tell()
+                failed += [] if test.passed() else [test]
             time.sleep(0.05)
     finally:
         for test in running:
             test.end()
-    return failed, out
+    return failed
 
 
 def main():
@@ -142,13 +146,20 @@ def main():
     gone = [it for it in names if not python and it.endswith('.py')]
     with room() as folder:
         tests = [Test(it, python or sys.executable, folder) for it in names if it not in gone]
-        failed, out = run(tests, max(1, words.jobs))
+        first = run(tests, max(1, words.jobs))
+        alone = os.path.join(folder, 'alone')
+        os.mkdir(alone, 0o711)
+        failed = run([Test(it.name, python or sys.executable, alone) for it in first], 1)
+        out = [line for it in tests for line in it.said().splitlines() if line.startswith(LEFT_OUT)]
     if not words.names and not failed:
         build.keep_cost('tools', 'tests', sum(it.spent() for it in tests), 0)
     if gone:
         out.append(f'LEFT OUT, not passed: {" ".join(gone)} (no pytest: apt-get install python3-pytest)')
     print(''.join(f'{it}\n' for it in out), end='')
-    print(f'{len(tests) - failed} tests passed, {failed} failed')
+    late = {it.name for it in first} - {it.name for it in failed}
+    if late:
+        print(f'Failed beside others, and passed alone: {" ".join(sorted(late))}')
+    print(f'{len(tests) - len(failed)} tests passed, {len(failed)} failed')
     sys.exit(1 if failed or (out and os.environ.get('CI') == 'true') else 0)
 
 
