@@ -115,10 +115,10 @@ class Browser:
 class Chromium(Browser):
     """Headless Chromium. `before` is a script that runs before a page's own."""
 
-    def __init__(self, folder, before=None, flags=()):
+    def __init__(self, folder, before=None, flags=(), environment=None):
         super().__init__([CHROMIUM, '--headless=new', '--no-sandbox', '--disable-gpu', '--remote-debugging-port=0', '--hide-scrollbars',
                           '--no-first-run', '--disable-dev-shm-usage', f'--user-data-dir={folder}/profile', *flags, 'about:blank'],
-                         folder, 'DevTools listening on')
+                         folder, 'DevTools listening on', environment)
         self.wire, self.session = Wire(self.address), None
         target = self.call('Target.createTarget', url='about:blank')['targetId']
         self.session = self.call('Target.attachToTarget', targetId=target, flatten=True)['sessionId']
@@ -161,8 +161,9 @@ class Chromium(Browser):
             self.call('Input.dispatchMouseEvent', type=what, x=x, y=y, button='left', clickCount=1)
 
     def press(self, key, modifiers=0):
-        """Presses a key; `modifiers` is 2 with Ctrl."""
-        codes = {'Enter': 13, 'Backspace': 8, 'Delete': 46, 'End': 35, 'Home': 36}
+        """Presses a key; `modifiers` is 2 with Ctrl, 8 with Shift."""
+        codes = {'Enter': 13, 'Backspace': 8, 'Delete': 46, 'End': 35, 'Home': 36, 'Tab': 9, 'Escape': 27, 'ArrowLeft': 37, 'ArrowUp': 38,
+                 'ArrowRight': 39, 'ArrowDown': 40, 'PageUp': 33, 'PageDown': 34, ' ': 32}
         more = {'text': '\r' if key == 'Enter' else key} if (len(key) == 1 or key == 'Enter') and not modifiers else {}
         code = {'windowsVirtualKeyCode': codes[key]} if key in codes else {}
         self.call('Input.dispatchKeyEvent', type='keyDown', key=key, modifiers=modifiers, code=key, **more, **code)
@@ -229,11 +230,12 @@ class Firefox(Browser):
                               {'type': 'pointerUp', 'button': 0}], parameters={'pointerType': 'mouse'})
 
     def press(self, key, modifiers=0):
-        """Presses a key; `modifiers` is 2 with Ctrl."""
-        value = {'Enter': '\ue007', 'Backspace': '\ue003', 'Delete': '\ue017', 'End': '\ue010', 'Home': '\ue011',
-                 'ArrowRight': '\ue014', 'ArrowLeft': '\ue012'}.get(key, key)
+        """Presses a key; `modifiers` is 2 with Ctrl, 8 with Shift."""
+        value = {'Enter': '\ue007', 'Backspace': '\ue003', 'Delete': '\ue017', 'End': '\ue010', 'Home': '\ue011', 'Tab': '\ue004',
+                 'Escape': '\ue00c', 'ArrowRight': '\ue014', 'ArrowLeft': '\ue012', 'ArrowUp': '\ue013', 'ArrowDown': '\ue015',
+                 'PageUp': '\ue00e', 'PageDown': '\ue00f'}.get(key, key)
         pair = [{'type': 'keyDown', 'value': value}, {'type': 'keyUp', 'value': value}]
-        held = '\ue009'
+        held = '\ue008' if modifiers == 8 else '\ue009'
         self._act('key', [{'type': 'keyDown', 'value': held}, *pair, {'type': 'keyUp', 'value': held}] if modifiers else pair)
 
     def type(self, text):

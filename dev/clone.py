@@ -68,6 +68,14 @@ def outcome(words, given=b'', **more):
     return done.returncode, done.stderr, done.stdout
 
 
+def of_model(words, given=b''):
+    """The same of the model, in this process."""
+    from tcpsim_model import command_line
+    written, told = [], []
+    status, note = command_line.main(words, given, written.append, told.append)
+    return status, b''.join(told) + (f'{note}\n'.encode() if note else b''), b''.join(written)
+
+
 def side_by_side(function, rows):
     """What the function answers of each row, which it takes as its words, by as many threads as there are processors."""
     with concurrent.futures.ThreadPoolExecutor(len(os.sched_getaffinity(0))) as pool:

@@ -12,14 +12,19 @@ Usage: dev/compare.py [--kind texts,runs,images,debug,prompt,auto,figures] [--se
   auto     the examples and random scenarios by 1, 2, 4 and 64 workers, many of which are worth sharing
                                                                   (tcpsim run --groups auto)
   figures  the examples and random scenarios as texts and as images of both versions, now and then with a fault. The
-           model keeps each number of which a percentile is asked for: its answer is the top of the exact one's class
-                                                                  (tcpsim figures)
+           model keeps each number of which a percentile is asked for: its answer is the top of the exact one's class.
+           Two of three random ones are counted from a moment on, near an event's, at the end, or none at all
+                                                                  (tcpsim figures --from T)
 
 --options gives random --groups and --workers besides. --steps N is for a program whose prompt has the first N steps
 of its grammar (python/tcpsim_model/prompt.py); left out, as many as the built one has.
 
 What differs is printed, the smallest case first, each made smaller by leaving out what isn't needed.
 The status is 1 where anything differs.
+
+Hypothesis neither draws cases here nor shrinks them. To draw one of `runs` took it 137 ms of a processor, where this takes
+2.4 ms. Its `find` over what of a case stays had 17 to 32 times the processor's time of `fewer_things`, left one of three
+planted differences at its 312 lines, and was no shorter.
 """
 import argparse
 import functools
@@ -34,7 +39,7 @@ import threading
 import time
 
 from clone import TOP
-from tcpsim_model import command_line, debugger, image, nets, prompt, sessions, simulate, spelling
+from tcpsim_model import command_line, debugger, image, later_sessions, nets, prompt, sessions, simulate, spelling
 from tcpsim_model.smaller import smaller
 from tcpsim_model.text import assemble, disassemble, lines_of
 
@@ -344,9 +349,12 @@ def prompts(pick, args):
     for _ in range(args.count):
         scenario = short_scenario(pick)
         data = image.save(scenario) if pick.random() < 0.1 else spelling.spelt(scenario, pick)
+        if args.steps > prompt.STEPS and not data.startswith(b'TCB'):
+            scenario.names.update(assemble(data).names)
         if pick.random() < 0.03:
             data = spelling.mutated(data, pick)
-        keys = sessions.any_session(pick, scenario, moments(scenario) or [0], args.steps)
+        any_session = sessions.any_session if args.steps <= prompt.STEPS else later_sessions.any_session
+        keys = any_session(pick, scenario, moments(scenario) or [0], args.steps)
         words = [FILE, *options(pick, args, len(scenario.nodes))]
         yield ('debug', *words, f'{STEPS}{args.steps}'), data + TYPED + keys
 
@@ -358,7 +366,17 @@ def tables(pick, args):
         yield from ((('figures',), image.save(assemble(text), version)) for version in (1, 2))
     for _ in range(args.count if args.random else 0):
         scenario = long_scenario(pick)
-        yield ('figures',), any_input(pick, scenario)
+        yield ('figures', *moment_words(pick, scenario)), any_input(pick, scenario)
+
+
+def moment_words(pick, scenario):
+    """From where on is counted, where anything is said of it."""
+    if pick.random() < 1 / 3:
+        return ()
+    lines = itertools.islice(simulate.trace(scenario), 200)
+    moments = [int(line.split(' ', 2)[1]) for line in lines if not line.startswith('end')]
+    word = sessions.time(pick, moments or [0], scenario.end).decode()
+    return (f'--from={word}',) if pick.random() < .5 else ('--from', word)
 
 
 def any_input(pick, scenario):

@@ -20,12 +20,16 @@ import zlib
 import page_lessons
 import page_module
 from clone import TOP
+from tcpsim.cli import net
 from tcpsim.command_line import Refused, Words, run
 from tcpsim.output import opened, written
 from tcpsim.replay import page as replay
+from tcpsim.scenario import units
 
 WEB = os.path.join(TOP, 'page', 'web')
-SCRIPTS = ('engine.js', 'scenario.js', 'editor.js', 'figures.js', 'trace_list.js', 'prompt.js', 'lessons.js', 'simulator.js')
+SCRIPTS = ('engine.js', 'scenario.js', 'editor.js', 'figures.js', 'trace_list.js', 'completion.js', 'prompt.js', 'lessons.js', 'units.js',
+           'net_text.js', 'shapes.js', 'template_form.js', 'compare.js', 'share.js', 'picture.js', 'save.js', 'lecture.js',
+           'simulator.js')
 EXAMPLES = os.path.join(TOP, 'examples')
 GRAMMAR = os.path.join(TOP, 'editors', 'vscode', 'syntaxes', 'tcpsim.tmLanguage.json')
 CODEMIRROR = '/usr/share/javascript/codemirror/lib'
@@ -77,6 +81,9 @@ def data_of(program, record, lessons):
     yield held('about', replay.for_script(about), 'application/json')
     yield held('grammar', replay.for_script(json.loads(read(GRAMMAR))), 'application/json')
     yield held('examples', replay.for_script({name: text for name, (text, _) in ones.items()}), 'application/json')
+    # In a form an option is a field.
+    helps = {name.lstrip('-').replace('-', '_'): re.sub(r'--(\w)', r'\1', facts['help']) for name, facts in net.OPTIONS.items()}
+    yield held('templates', replay.for_script({'ranges': units.RANGES, 'help': helps}), 'application/json')
     yield held('lessons', replay.for_script([it.facts() for it in lessons]), 'application/json')
     yield held('licenses', replay.for_script([read(it) for it in LICENSES]), 'application/json')
     yield held('host', read(WEB, 'host.js').replace('</script', '<\\/script'))
@@ -90,15 +97,18 @@ def data_of(program, record, lessons):
 def page(program, record):
     """The whole page's text, of the program's bytes and the record of its proof."""
     lessons = page_lessons.lessons()
-    style = '\n'.join(('', library('codemirror.css'), read(replay.PARTS, 'page.css'), read(WEB, 'simulator.css')))
-    scripts = [f'\n{text}\n'.replace('</script', '<\\/script') for text in (
-        read(replay.LIBRARY), library('codemirror.js'), replay.scripts() + '\n' + '\n'.join(read(WEB, it) for it in SCRIPTS))]
+    styles = [f'\n{text}\n' for text in (read(replay.PARTS, 'page.css'), library('codemirror.css') + read(WEB, 'simulator.css'))]
+    # What shows a run stands by itself, since a frame with one of two runs has it too.
+    scripts = {name: f'\n{text}\n'.replace('</script', '<\\/script') for name, text in (
+        ('d3-script', read(replay.LIBRARY)), ('editor-script', library('codemirror.js')), ('replay-script', replay.scripts()),
+        ('page-script', '\n'.join((read(replay.PARTS, 'clock.js'), *(read(WEB, it) for it in SCRIPTS)))))}
     view = read(replay.PARTS, 'view.html').replace('@@TITLE@@', '')
     holes = {
-        'POLICY': html.escape(POLICY.format(scripts=' '.join(map(summed, scripts)), style=summed(style)), quote=True).replace('&#x27;', "'"),
-        'STYLE': style, 'VIEW': view, 'LESSONS': '\n'.join(it.template() for it in lessons),
+        'POLICY': html.escape(POLICY.format(scripts=' '.join(map(summed, scripts.values())), style=' '.join(map(summed, styles))),
+                              quote=True).replace('&#x27;', "'"),
+        'REPLAYSTYLE': styles[0], 'STYLE': styles[1], 'VIEW': view, 'LESSONS': '\n'.join(it.template() for it in lessons),
         'DATA': '\n'.join(data_of(program, record, lessons)),
-        'SCRIPTS': '\n'.join(f'<script>{text}</script>' for text in scripts)}
+        'SCRIPTS': '\n'.join(f'<script id="{name}">{text}</script>' for name, text in scripts.items())}
     return re.sub(r'@@([A-Z]+)@@', lambda found: holes[found.group(1)], read(WEB, 'simulator.html'))
 
 

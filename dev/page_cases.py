@@ -12,12 +12,11 @@ import tempfile
 from collections import namedtuple
 
 import compare
-from clone import TOP
+from clone import BUILT as PROGRAM, TOP, read
 from tcpsim_model import image, spelling
 from tcpsim_model.text import assemble
 from whole.images import CHANGED, FIRST_IMAGE, IN_VERSION_1
 
-PROGRAM = os.path.join(TOP, 'crates', 'tcpsim', 'out', 'tcpsim')
 FILE = compare.FILE
 CODES = [f'E{k}' for k in range(1, 11)] + [f'L{k}' for k in range(1, 9)] + ['I1', 'B1', 'B2', 'B3', 'B4', 'B5', 'M', 'groups']
 LONGEST = 120           # seconds that the native program may take
@@ -27,11 +26,6 @@ MOST_BYTES = 4_000_000  # of the output of a drawn case
 Case = namedtuple('Case', 'words input file', defaults=(b'', None))
 # Status, note, and the length and the SHA-256 of the output.
 Answer = namedtuple('Answer', 'status note length sum')
-
-
-def read(*path):
-    with open(os.path.join(TOP, *path), 'rb') as file:
-        return file.read()
 
 
 def native(case, program=PROGRAM, most=None):

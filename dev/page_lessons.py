@@ -10,15 +10,19 @@ from tcpsim.command_line import Refused
 
 TUTORIAL = os.path.join(TOP, 'docs', 'TUTORIAL.md')
 # `line 12`, `lines 244 and 1657`, `lines 98, 104, 108`, `Lines 4140 to 4190`.
+# What the tutorial says of each lesson for who reads it outside the page.
+IN_THE_PAGE = re.compile(r'^In \[the page\]\(PAGE\.md\): .*\n', re.M)
 LINES = re.compile(r'\b([Ll]ines?) (\d+(?:(?:, and |, | and | to )\d+)*)(?![\d.])')
 
 
 class Lesson:
-    """A lesson: number, title, names of the examples that it opens, of its pictures, and its text as HTML."""
+    """A lesson: number, title, names of the examples that it opens, which its text names or shows, of its pictures, and its text as
+    HTML."""
 
     def __init__(self, number, title, text):
         self.number, self.title = number, title
-        self.examples = list(dict.fromkeys(re.findall(r'examples/(\w+)\.txt', text)))
+        named = re.findall(r'examples/(\w+)\.txt', text) + re.findall(r'pictures/(\w+)\.svg', text)
+        self.examples = [name for name in dict.fromkeys(named) if os.path.exists(os.path.join(TOP, 'examples', f'{name}.txt'))]
         self.pictures = []
         self.text = self._html(text)
 
@@ -56,7 +60,7 @@ class Lesson:
 def lessons():
     """All lessons, in order. A part without a number is the beginning of the lesson behind it."""
     with open(TUTORIAL, encoding='utf-8') as file:
-        parts = re.split(r'^## (.*)\n', file.read(), flags=re.M)[1:]
+        parts = re.split(r'^## (.*)\n', IN_THE_PAGE.sub('', file.read()), flags=re.M)[1:]
     found, before = [], ''
     for head, text in zip(parts[::2], parts[1::2]):
         numbered = re.fullmatch(r'(\d+)\. (.*)', head)

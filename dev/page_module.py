@@ -3,6 +3,7 @@
 The toolchain's clang writes the module as text, which is rewritten for the other target, compiled, and linked with
 page/libc.c, the thirty-odd functions that the program asks of a C library.
 """
+import fcntl
 import hashlib
 import os
 import re
@@ -53,20 +54,22 @@ def run(words, folder, what):
 
 
 def compiled(module, kit, say=print):
-    """The program's bytes for WebAssembly, of the module in this file. What was made of the same module is used again."""
+    """The program's bytes for WebAssembly, of the module in this file. What was made of the same module is used again; where
+    several ask at once, as tests beside each other do, the first makes it and the others wait."""
     clang = f'{kit}/toolchain/bin/clang'
     taken = hashlib.sha256(f'{TARGET} {LAYOUT} {FEATURES} {STACK} {FIRST_MEMORY}'.encode())
     for path in (module, LIBC, os.path.join(kit, 'KIT-ID'), os.path.abspath(__file__)):
         with open(path, 'rb') as file:
             taken.update(hashlib.sha256(file.read()).digest())
     made = os.path.join(OUT, f'{taken.hexdigest()[:16]}.wasm')
-    if not os.path.isfile(made):
-        say('compiling the program for WebAssembly, which takes a minute or two', flush=True)
-        os.makedirs(OUT, exist_ok=True)
-        with tempfile.TemporaryDirectory(prefix='page-module-') as folder:
-            compile_in(folder, module, clang)
-            os.replace(link_in(folder, clang), made + '.new')
-        os.replace(made + '.new', made)
+    os.makedirs(OUT, exist_ok=True)
+    with open(os.path.join(OUT, 'lock'), 'wb') as lock:
+        fcntl.flock(lock, fcntl.LOCK_EX)
+        if not os.path.isfile(made):
+            say('compiling the program for WebAssembly, which takes a minute or two', flush=True)
+            with tempfile.TemporaryDirectory(prefix='compiling-', dir=OUT) as folder:
+                compile_in(folder, module, clang)
+                os.replace(link_in(folder, clang), made)
     with open(made, 'rb') as file:
         return file.read()
 

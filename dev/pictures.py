@@ -28,21 +28,24 @@ def run_of(name):
     return [os.path.join(EXAMPLES, name + ending) for ending in ('.txt', '.trace')]
 
 
+# What else it takes to show it: a part of the time, what counts as a stall, axes of the same height in two pictures.
+MORE = {'delayed_acks_and_their_alarm': ['--longer', '50ms'],
+        'sawtooth_of_congestion_avoidance': ['--from', '4s'],
+        'acks_share_the_bottleneck': ['--from', '1.5s', '--to', '3.6s', '--longer', '500ms'],
+        **dict.fromkeys(('four_flows_share_a_long_queue', 'four_flows_share_codel'),
+                        ['--top', 'window=36k,queue=60,progress=225k'])}
 # Each picture and the words that draw it.
-PICTURES = {name: [*run_of(name), '--panels', panels] for name, panels in OF_ONE_RUN.items()}
-PICTURES['a_timer_that_stays_doubled'].append('--whole')        # its stalls as long as they are
+PICTURES = {name: [*run_of(name), '--panels', panels, *MORE.get(name, ())] for name, panels in OF_ONE_RUN.items()}
 PICTURES['drop_tail_and_codel'] = [
     *run_of('bufferbloat'), '--beside', *run_of('bufferbloat_with_codel'), '--panels', 'delay,progress',
-    '--flow', 'g', '--log', '--names', 'drop-tail,CoDel', '--title',
-    '700 kB fill a link of 1 Mbit/s, and 10 kB follow at 3 s: behind a queue of 1,000 packets, and with CoDel']
+    '--flow', 'g', '--log', '--names', 'drop-tail,CoDel', '--title', '700 kB fill a link of 1 Mbit/s, and 10 kB follow at 3 s']
 
 PICTURES['a_larger_initial_window'] = [
     *run_of('a_larger_initial_window'), '--panels', 'window,sequence', '--longer', '400ms', '--title',
-    'Thirty segments over a round trip of 320 ms, with an initial window of three and of ten']
+    'Thirty segments, with an initial window of three and of ten']
 PICTURES['reno_and_newreno'] = [
     *run_of('three_losses_in_a_window'), '--beside', *run_of('three_losses_in_a_window_with_newreno'),
-    '--panels', 'window,sequence', '--names', 'Reno,NewReno', '--title',
-    '150 kB over a round trip of 81 ms, of which three segments of one window are lost']
+    '--panels', 'window,sequence', '--names', 'Reno,NewReno', '--title', '150 kB, of which three segments of one window are lost']
 
 
 def file_of(name):

@@ -13,9 +13,8 @@ and by two. What is typed and refused is noted behind the line's prompt. It says
 compiler, `cc`, and goes after `make run`. Usage: dev/refuse_debug.py [SESSION [OPTION..]]
 """
 import collections, concurrent.futures, os, subprocess, sys, tempfile
-from clone import TOP as top
+from clone import BUILT as program, TOP as top, read
 from tcpsim_model import command_line, prompt
-program = os.path.join(top, 'crates/tcpsim/out/tcpsim')
 COMMANDS = b'break kind data\nrun\nrun\nback 1\nuntil 2040000\nbak 1\n'
 TYPED = b'break stall\nrun\nwhy 0\nrun\nbreak drop\nreverse\nreverse\nuntil 2s\nlines 3\nstate flow 0\nreverse\n'
 PROMPT = b'(tcpsim) '
@@ -31,11 +30,6 @@ FIRST_WORDS = (b'at ', b'break ', b'clear', b'refused ')
 
 class Failed(Exception):
     """What a run did that it must not do."""
-
-
-def read(*path):
-    with open(os.path.join(top, *path), 'rb') as file:
-        return file.read()
 
 
 def run(words, given, **more):

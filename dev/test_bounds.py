@@ -2,9 +2,9 @@
 at its least and greatest and one past each, as many records as there may be and one more, great inputs that
 are refused, and a reader and a writer that fail at each call.
 
-What is expected stands in the tables below, worked out by hand from docs/FORMATS.md, or in the tables of
-that page. The model of python/tcpsim_model answers every input besides, where its table is by hand, or says alone
-what is expected.
+What is expected stands in the tables below, worked out by hand from docs/FORMATS.md, or in the tables of that page; faults of
+lines, of fields and of counts are in test_whole.py. The model of python/tcpsim_model answers every input besides, where its
+table is by hand, or says alone what is expected.
 """
 import itertools
 import os
@@ -19,37 +19,19 @@ import typing
 import pytest
 
 import clone
+from tcpsim import VERSIONS
 from clone import PROGRAM, read, read_text, side_by_side
 from tcpsim_model import command_line
 from tcpsim_model.image import places
-from whole import tables
+from whole import images, texts
 
 pytestmark = pytest.mark.built
 MOST_INPUT = 16_777_216     # bytes
 RIGHT = 'right'
 
-FIRST = b'''sim 1000000000
-node s sender
-node r receiver
-link a s r 8000000 1000000 droptail 10
-link b r s 8000000 1000000 droptail 10
-flow f s r 1000 1 0 64000 0
-'''
-# The same in its canonical text, and its image.
-CANONICAL = b'''sim 1000000000
-node n0 sender
-node n1 receiver
-link l0 n0 n1 8000000 1000000 droptail 10
-link l1 n1 n0 8000000 1000000 droptail 10
-flow f0 n0 n1 1000 1 0 64000 0 reno iw3
-'''
-IMAGE = bytes.fromhex(
-    '54434232 000000003b9aca00 0002 0002 0001 00000000 00 01'
-    '0000 0001 00000000007a1200 00000000000f4240 00 000a 0000000000000000 0000000000000000 0000 00'
-    '0001 0000 00000000007a1200 00000000000f4240 00 000a 0000000000000000 0000000000000000 0000 00'
-    '0000 0001 03e8 00000001 0000000000000000 0000fa00 00000000 00')
-# Of version 1, which says nothing of a flow's variant.
-OLD_IMAGE = b'TCB1' + IMAGE[4:-1]
+FIRST = ''.join(f'{line}\n' for line in texts.LINES).encode()
+# The same in its canonical text, its image, and that of version 1, which says nothing of a flow's variant.
+CANONICAL, IMAGE, OLD_IMAGE = images.FIRST_AGAIN.encode(), images.FIRST_IMAGE, images.IN_VERSION_1
 # With routers, CoDel, routes and lost packets.
 FULL = b'''sim 1000000000
 node s sender
@@ -256,38 +238,6 @@ def test_each_number_of_an_image_stretched():
     assert {'', *(f'refused L{n}\n' for n in (1, 3, 4, 5, 6, 7))} <= notes
 
 
-def test_lines_have_their_faults():
-    all_expected(((number, line), ('asm',), replaced(FIRST, number, line),
-                  Answer(0, model(('asm',), replaced(FIRST, number, line)).out, '') if code == RIGHT
-                  else refused(code)) for number, line, code in LINES)
-
-
-def test_images_have_their_faults():
-    cases = []
-    for at, spelt, code in CHANGED:
-        new = bytes.fromhex(spelt)
-        data = IMAGE[:at] + new + IMAGE[at + len(new):]
-        cases.append(((at, spelt), ('asm',), data, Answer(0, data, '') if code == RIGHT else refused(code)))
-    all_expected(cases)
-
-
-def test_versions_of_images():
-    cases = []
-    for fourth, more, code in VERSIONS:
-        data = OLD_IMAGE[:3] + fourth + OLD_IMAGE[4:] + more
-        wanted = Answer(0, IMAGE[:-1] + code, '') if isinstance(code, bytes) else refused(code)
-        cases.append(((fourth, more), ('asm',), data, wanted))
-    all_expected(cases)
-
-
-def test_variants_of_texts():
-    for bits, words in enumerate(('reno iw3', 'newreno iw3', 'reno iw10', 'newreno iw10')):
-        text = CANONICAL.replace(b'reno iw3', words.encode())
-        data = IMAGE[:-1] + bytes((bits,))
-        all_expected((((words, 'asm'), ('asm',), text, Answer(0, data, '')),
-                      ((words, 'dis'), ('dis',), data, Answer(0, text, ''))))
-
-
 def test_lost_packets_of_images():
     cases = []
     for numbers, code in LOST:
@@ -295,99 +245,6 @@ def test_lost_packets_of_images():
         cases.append((numbers, ('asm',), data, Answer(0, data, '') if code == RIGHT else refused(code)))
     all_expected(cases)
 
-
-# A line's number, a line in its place in FIRST or behind it, and what the text then comes to.
-LINES = (
-    (4, 'link a s r 1000 1 codel 1 0 x x', 'E5 line 4'),
-    (4, 'link a s r 1000 1 codel 1 10000000001 x x', 'E5 line 4'),
-    (4, 'link a s r 1000 1 codel 1 x 0 0', 'E4 line 4'),
-    (4, 'link a s r 1000 1 codel 1 1 0 x', 'E5 line 4'),
-    (4, 'link a s r 1000 1 codel 1 1 x 0', 'E4 line 4'),
-    (4, 'link a s r 1000 1 codel 1 1 1 0', 'E5 line 4'),
-    (4, 'link a s r 1000 1 codel 1 1 1 65535', RIGHT),
-    (4, 'link a s r 1000 1 codel 1 10000000000 10000000000 65535', RIGHT),
-    (4, 'link a s r 1000 1 codel 1 1 1 1', RIGHT),
-    (4, 'link a s r 1000 1 codel 1 1 1 1 1', 'E3 line 4'),
-    (4, 'link a s r 1000 1 codel 1 1 1 1 1 1', 'E3 line 4'),
-    (7, 'sim 1' + ' 1' * 9, 'E3 line 7'),
-    (7, 'node' + ' a' * 10, 'E3 line 7'),
-    (7, 'flow' + ' a' * 9, 'E3 line 7'),
-    (7, 'flow' + ' a' * 10, 'E6 line 7'),
-    (7, 'flow' + ' a' * 11, 'E3 line 7'),
-    (7, 'route' + ' a' * 10, 'E3 line 7'),
-    (7, 'lose' + ' a' * 10, 'E3 line 7'),
-    (7, 'node abcdefghijklmno router', 'L5 line 0'),
-    (7, 'node abcdefghijklmnop router', 'E4 line 7'),
-    (7, 'link abcdefghijklmno s r 1000 1 droptail 1', 'L5 line 0'),
-    (7, 'link abcdefghijklmnop s r 1000 1 droptail 1', 'E4 line 7'),
-    (7, 'link c abcdefghijklmno r 1000 1 droptail 1', 'E7 line 7'),
-    (7, 'link c abcdefghijklmnop r 1000 1 droptail 1', 'E4 line 7'),
-    (7, 'link c s abcdefghijklmno 1000 1 droptail 1', 'E7 line 7'),
-    (7, 'link c s abcdefghijklmnop 1000 1 droptail 1', 'E4 line 7'),
-    (6, 'flow f s r 1000 1 0 64000 0 reno', 'E3 line 6'),
-    (6, 'flow f s r 1000 1 0 64000 0 reno iw3 1', 'E3 line 6'),
-    (6, 'flow f s r 1000 1 0 64000 reno iw3', 'E3 line 6'),
-    (6, 'flow f s r 1000 1 0 64000 0 reno iw3', RIGHT),
-    (6, 'flow f s r 1000 1 0 64000 0 newreno iw10', RIGHT),
-    (6, 'flow f s r 1000 1 0 64000 0 reno iw5', 'E4 line 6'),
-    (6, 'flow f s r 1000 1 0 64000 0 iw3 reno', 'E4 line 6'),
-    (6, 'flow f s r 1000 1 0 64000 0 Reno iw3', 'E4 line 6'),
-    (6, 'flow f s r 1000 1 0 64000 0 new iw10', 'E4 line 6'),
-    (6, 'flow f s r 1000 1 0 64000 500000001 tahoe iw3', 'E5 line 6'),
-    (6, 'flow f s r 1000 1 0 64000 x tahoe iw3', 'E4 line 6'),
-    (6, 'flow abcdefghijklmno s r 1000 1 0 64000 0', RIGHT),
-    (6, 'flow abcdefghijklmnop s r 1000 1 0 64000 0', 'E4 line 6'),
-    (6, 'flow f abcdefghijklmno r 1000 1 0 64000 0', 'E7 line 6'),
-    (6, 'flow f abcdefghijklmnop r 1000 1 0 64000 0', 'E4 line 6'),
-    (6, 'flow f s abcdefghijklmno 1000 1 0 64000 0', 'E7 line 6'),
-    (6, 'flow f s abcdefghijklmnop 1000 1 0 64000 0', 'E4 line 6'),
-    (7, 'route abcdefghijklmno r a', 'E7 line 7'),
-    (7, 'route abcdefghijklmnop r a', 'E4 line 7'),
-    (7, 'node p router\nroute p abcdefghijklmno a', 'E7 line 8'),
-    (7, 'node p router\nroute p abcdefghijklmnop a', 'E4 line 8'),
-    (7, 'node p router\nroute p r abcdefghijklmno', 'E7 line 8'),
-    (7, 'node p router\nroute p r abcdefghijklmnop', 'E4 line 8'),
-    (7, 'lose abcdefghijklmno 1', 'E7 line 7'),
-    (7, 'lose abcdefghijklmnop 1', 'E4 line 7'),
-    (1, 'sim' + ' 1' * 999_999, 'E3 line 1'),
-    (1, 'sim ' + '9' * 1_000_000, 'E5 line 1'),
-    (1, 'sim 0' + '9' * 999_999, 'E4 line 1'),
-)
-
-# Places in the image of FIRST, the bytes put there, and what the image then comes to.
-CHANGED = (
-    (4, '0000000000000001', RIGHT),
-    (12, '0000', 'L3'),
-    (14, '0000', 'L3'),
-    (16, '0000', 'L3'),
-    (24, '0002', 'L3'),
-    (26, '0002', 'L3'),
-    (24, 'ffff', 'L3'),
-    (45, '0001', RIGHT),
-    (44, '01 000a 0000000000000000 0000000005f5e100 05dc', 'L3'),
-    (44, '01 000a 00000000004c4b40 0000000000000000 05dc', 'L3'),
-    (44, '01 000a 00000000004c4b40 0000000005f5e100 0000', 'L3'),
-    (44, '01 000a 0000000000000001 0000000000000001 0001', RIGHT),
-    (44, '01 000a 00000002540be400 0000000000000001 0001', RIGHT),
-    (44, '01 000a 00000002540be401 0000000000000001 0001', 'L3'),
-    (44, '01 000a 0000000000000001 00000002540be400 0001', RIGHT),
-    (44, '01 000a 0000000000000001 00000002540be401 0001', 'L3'),
-    (44, '01 ffff 00000002540be400 00000002540be400 ffff', RIGHT),
-    (108, '0002', 'L3'),
-    (110, '0002', 'L3'),
-    (112, '0001', RIGHT),
-    (114, '00000001', RIGHT),
-    (118, '0000000000000001', RIGHT),
-)
-
-# The fourth byte of an image, what stands behind its 134 bytes of version 1, and what it then comes to: the
-# variant of its flow, or a fault.
-VERSIONS = (
-    (b'1', b'', b'\0'), (b'1', b'\0', 'L4'), (b'2', b'', 'L1'), (b'2', b'\0', b'\0'), (b'2', b'\1', b'\1'),
-    (b'2', b'\2', b'\2'), (b'2', b'\3', b'\3'), (b'2', b'\4', 'L3'), (b'2', b'\4\0', 'L3'), (b'2', b'\x80', 'L3'),
-    (b'2', b'\xff', 'L3'), (b'2', b'\0\0', 'L4'), (b'3', b'', 'L2'), (b'3', b'\0', 'L2'), (b'3', b'\4\0', 'L2'),
-    (b'\0', b'', 'L2'), (b'X', b'', 'L2'), (b'\2', b'', 'L2'),
-)
 
 # The lost packets of the image's first link.
 LOST = (
@@ -400,61 +257,8 @@ LOST = (
 # ---- counts
 
 
-def image_with(nodes, links, flows, routes=(), end=10**9):
-    """An image of these records: kinds of nodes, ends of links with their lost packets, ends of flows, routes."""
-    parts = [struct.pack('>4sQHHHI', b'TCB2', end, len(nodes), len(links), len(flows), len(routes)), bytes(nodes)]
-    for source, to, *lost in links:
-        parts.append(struct.pack(f'>HHQQBHQQHB{len(lost)}I', source, to, 10**6, 1, 0, 10, 0, 0, 0, len(lost), *lost))
-    parts += [struct.pack('>HHHIQIIB', *ends, 1000, 1, 0, 64000, 0, 0) for ends in flows]
-    return b''.join(parts + [struct.pack('>HHH', *route) for route in routes])
-
-
-def greatest_with_routers():
-    """64 pairs, each with two routers between its ends: 256 nodes, 1,024 links, a route of each router to each
-    end, the most that there can be, and 64 lost packets a link."""
-    nodes, links, flows, routes = [2] * 128 + [0, 1] * 64, [], [], []
-    numbers = tuple(range(10**9 - 63, 10**9 + 1))
-    for pair in range(64):
-        sender, receiver, there, back = 128 + 2 * pair, 129 + 2 * pair, 2 * pair, 2 * pair + 1
-        links += [(sender, there, *numbers), (receiver, back, *numbers)]
-        links += [(there, receiver, *numbers)] * 7 + [(back, sender, *numbers)] * 7
-        routes += [(there, end, 16 * pair + 2) for end in range(128, 256)]
-        routes += [(back, end, 16 * pair + 9) for end in range(128, 256)]
-        flows.append((sender, receiver))
-    assert (len(nodes), len(links), len(routes)) == (256, 1024, 16384)
-    return image_with(nodes, links, flows, routes)
-
-
-def greatest_without_routers():
-    """128 flows, each over a link of its own there and back."""
-    links = [(node, node ^ 1, 1, 10**9) for node in range(256)]
-    return image_with([0, 1] * 128, links, [(node, node + 1) for node in range(0, 256, 2)])
-
-
-def test_counts_of_images():
-    pair, links, flow = [0, 1], [(0, 1), (1, 0)], [(0, 1)]
-    every = list(itertools.product(range(256), range(256), (0,)))
-    all_expected((name, ('dis',), data, refused(code)) for name, data, code in (
-        ('256 nodes', image_with([0, 1] + [0] * 254, links, flow), 'L5'),
-        ('257 nodes', image_with([0, 1] + [0] * 255, links, flow), 'L3'),
-        ('65,535 nodes', image_with([0, 1] + [0] * 65533, links, flow), 'L3'),
-        ('one node', image_with([0], [(0, 0)], [(0, 0)]), 'L3'),
-        ('1,024 links', image_with(pair, [(0, 1)] * 1024, flow), 'L5'),
-        ('1,025 links', image_with(pair, [(0, 1)] * 1025, flow), 'L3'),
-        ('no link', image_with(pair, [], flow), 'L3'),
-        ('128 flows', image_with(pair, links, flow * 128), 'L5'),
-        ('129 flows', image_with(pair, links, flow * 129), 'L3'),
-        ('no flow', image_with(pair, links, []), 'L3'),
-        ('65,536 routes', image_with([2] * 256, links, flow, every), 'L5'),
-        ('one route more', image_with([2] * 256, links, flow, every + [(256, 0, 0)]), 'L3'),
-        ('routes that do not rise', image_with([2] * 256, links, flow, [(0, 1, 0), (0, 1, 1)]), 'L3'),
-        ('16 links of a router', image_with([0, 1, 2], links + [(2, 0)] * 16, flow, [(2, 2, 2)]), 'L6'),
-        ('17 links of a router', image_with([0, 1, 2], links + [(2, 0)] * 17, flow), 'L5'),
-    ))
-
-
 def test_the_greatest_scenarios():
-    for data in (greatest_with_routers(), greatest_without_routers()):
+    for data in (images.greatest(10**9, images.LINK[:-1] + b'\x40', images.FLOW), images.most_flows()):
         all_expected([('image', ('asm',), data, Answer(0, data, ''))])
         text = model(('dis',), data)
         all_expected([('image', ('dis',), data, text), ('text', ('dis',), text.out, text),
@@ -462,37 +266,6 @@ def test_the_greatest_scenarios():
         trace = model(('run',), data)
         assert trace.status == 0
         all_expected((groups, ('run', '--groups', groups, '--workers', '2'), data, trace) for groups in ('one', 'each'))
-
-
-def test_counts_of_texts():
-    def several(form, count):
-        return b''.join(form(n).encode() + b'\n' for n in range(count))
-
-    def nodes(count):
-        return b'sim 5\n' + several(lambda n: f'node x{n} router', count)
-
-    def links(count):
-        return nodes(256) + several(lambda n: f'link l{n} x{n // 16} x255 1000 1 droptail 1', count)
-
-    def flows(count):
-        return b''.join(FIRST.splitlines(keepends=True)[:5]) + several(lambda n: f'flow f{n} s r 1 1 0 1 0', count)
-
-    def exits(count):
-        hub = b'sim 5\nnode h router\nnode t router\n'
-        return hub + several(lambda n: f'link l{n} h t 1000 1 droptail 1', count)
-
-    def losses(count):
-        return FIRST + several(lambda n: f'lose a {n + 1}', count)
-    all_expected((name, ('asm',), data, refused(code)) for name, data, code in (
-        ('256 nodes', nodes(256), 'L3 line 0'), ('257 nodes', nodes(257), 'E9 line 258'),
-        ('1,024 links', links(1024), 'L3 line 0'), ('1,025 links', links(1025), 'E9 line 1282'),
-        ('128 flows', flows(128), 'L5 line 0'), ('129 flows', flows(129), 'E9 line 134'),
-        ('129 flows, with a variant', flows(128) + b'flow g s r 1 1 0 1 0 reno iw10\n', 'E9 line 134'),
-        ('129 flows, with none that there is', flows(128) + b'flow g s r 1 1 0 1 0 reno iw5\n', 'E4 line 134'),
-        ('16 links of a router', exits(16), 'L3 line 0'), ('17 links of a router', exits(17), 'E9 line 20'),
-        ('65 losses', losses(65), 'E9 line 71')))
-    all_expected([('64 losses', ('asm',), losses(64), model(('asm',), losses(64)))])
-    assert model(('asm',), losses(64)).status == 0
 
 
 # ---- great sessions
@@ -508,7 +281,7 @@ def flow_of(segments, *commands):
 
 
 def test_as_many_breakpoints_as_there_may_be():
-    text = model(('dis',), greatest_without_routers()).out
+    text = model(('dis',), images.most_flows()).out
     commands = b''.join(b'break node %d\n' % n for n in range(192, 257)) + b'run\nrun\n'
     like_the_model([('breakpoints', ('debug',), text + b'---\n' + commands)])
     found = run(('debug',), text + b'---\n' + commands).out
@@ -635,11 +408,11 @@ class Ends:
             (('asm',), FIRST, IMAGE),
             (('dis',), FIRST, CANONICAL),
             (('dis',), IMAGE, CANONICAL),
-            (('figures',), FIRST, tables.ONE_SEGMENT.encode()),
+            (('figures',), FIRST, model(('figures',), FIRST).out),
             (('debug',), commands, answers),
             (('debug', '--groups', 'each', '--workers', '2'), commands, answers),
         ]
-        self.texts = [(('--version',), b'', b'tcpsim 0.1.0\n'),
+        self.texts = [(('--version',), b'', b'tcpsim %s\n' % VERSIONS.encode()),
                       *((words, b'', run(words, b'').out) for words in (('--help',), ('run', '--help')))]
 
     def ended(self, number, words, data, **more):

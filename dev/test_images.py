@@ -1,7 +1,6 @@
 """Tries the built program with images: which are a scenario, and the first fault of others, at each bound of
 each number and for each fault of the whole. What is expected stands in the tables below, worked out by hand
 from docs/FORMATS.md."""
-import itertools
 import struct
 
 import pytest
@@ -51,53 +50,9 @@ CHANGED = (
     # No route to the receiver, and one that leads back.
     (331, '0003', 'L7'), (343, '0002', 'L8'),
 )
-# A sender, a receiver, a link each way and a flow, in version 1 and in version 2.
-FIRST = bytes.fromhex('''
-54434231 000000003b9aca00 0002 0002 0001 00000000
-00 01
-0000 0001 00000000007a1200 00000000000f4240 00 000a 0000000000000000 0000000000000000 0000 00
-0001 0000 00000000007a1200 00000000000f4240 00 000a 0000000000000000 0000000000000000 0000 00
-0000 0001 03e8 00000001 0000000000000000 0000fa00 00000000
-''')
-SECOND = FIRST[:3] + b'2' + FIRST[4:] + b'\0'
-# One of the two, a place, the bytes put there, and the fault.
-LAYOUTS = ((FIRST, 3, '32', 'L1'), (FIRST, 3, '33', 'L2'), (FIRST, 134, '00', 'L4'), (SECOND, 3, '33', 'L2'),
-           (SECOND, 3, '31', 'L4'), (SECOND, 134, '04', 'L3'), (SECOND, 134, '04 00', 'L3'), (SECOND, 134, '03 00', 'L4'))
-SENDERS = (('00', 'reno iw3'), ('01', 'newreno iw3'), ('02', 'reno iw10'), ('03', 'newreno iw10'))
-
-# Numbers, and whether they are in their ranges.
-CODEL = (       # target, interval, maxpacket
-    (0, 100_000_000, 1_500, False), (1, 100_000_000, 1_500, True), (10_000_000_000, 100_000_000, 1_500, True),
-    (10_000_000_001, 100_000_000, 1_500, False), (5_000_000, 0, 1_500, False), (5_000_000, 1, 1_500, True),
-    (5_000_000, 10_000_000_000, 1_500, True), (5_000_000, 10_000_000_001, 1_500, False), (5_000_000, 100_000_000, 0, False),
-    (5_000_000, 100_000_000, 1, True), (5_000_000, 100_000_000, 65_535, True))
-LINKS = (       # from, to, rate, delay, capacity
-    (0, 1, 8_000_000, 1_000_000, 10, True), (1, 0, 8_000_000, 1_000_000, 10, True), (2, 1, 8_000_000, 1_000_000, 10, False),
-    (0, 2, 8_000_000, 1_000_000, 10, False), (0, 1, 999, 1_000_000, 10, False), (0, 1, 1_000, 1_000_000, 10, True),
-    (0, 1, 1_000_000_000_000, 1_000_000, 10, True), (0, 1, 1_000_000_000_001, 1_000_000, 10, False),
-    (0, 1, 8_000_000, 0, 10, False), (0, 1, 8_000_000, 1, 10, True), (0, 1, 8_000_000, 10_000_000_000, 10, True),
-    (0, 1, 8_000_000, 10_000_000_001, 10, False), (0, 1, 8_000_000, 1_000_000, 0, False), (0, 1, 8_000_000, 1_000_000, 1, True),
-    (0, 1, 8_000_000, 1_000_000, 65_535, True))
-LOST = (        # numbers of lost packets
-    ((0, 1), False), ((1, 2), True), ((1, 1), False), ((2, 1), False), ((1, 1_000_000_000), True), ((1, 1_000_000_001), False),
-    ((*range(1, 65),), True), ((*range(1, 66),), False))
-FLOWS = (       # sender, receiver, mss, segments, start, rwnd, delack, of a scenario that ends at 100 ns
-    (0, 1, 1_000, 1, 0, 64_000, 0, True), (1, 1, 1_000, 1, 0, 64_000, 0, True), (2, 1, 1_000, 1, 0, 64_000, 0, False),
-    (0, 2, 1_000, 1, 0, 64_000, 0, False), (0, 1, 0, 1, 0, 64_000, 0, False), (0, 1, 1, 1, 0, 64_000, 0, True),
-    (0, 1, 9_000, 1, 0, 64_000, 0, True), (0, 1, 9_001, 1, 0, 64_000, 0, False), (0, 1, 1_000, 0, 0, 64_000, 0, False),
-    (0, 1, 1_000, 1_000_000_000, 0, 64_000, 0, True), (0, 1, 1_000, 1_000_000_001, 0, 64_000, 0, False),
-    (0, 1, 1_000, 1, 99, 64_000, 0, True), (0, 1, 1_000, 1, 100, 64_000, 0, False), (0, 1, 1_000, 1, 0, 999, 0, False),
-    (0, 1, 1_000, 1, 0, 1_000, 0, True), (0, 1, 1_000, 1, 0, 1_073_741_824, 0, True),
-    (0, 1, 1_000, 1, 0, 1_073_741_825, 0, False), (0, 1, 1_000, 1, 0, 64_000, 500_000_000, True),
-    (0, 1, 1_000, 1, 0, 64_000, 500_000_001, False))
 ROUTES = (      # router, destination, link, with 4 nodes and 6 links; whether within, and whether behind (2, 1)
     (3, 0, 0, True, True), (3, 0, 5, True, True), (3, 0, 6, False, True), (4, 0, 0, False, True), (2, 2, 0, True, True),
     (2, 3, 0, True, True), (2, 4, 0, False, True), (2, 1, 0, True, False), (2, 0, 0, True, False), (1, 3, 0, True, False))
-COUNTS = (      # end, how many nodes, links and flows
-    (0, 2, 2, 1, False), (1, 2, 2, 1, True), (10**15, 2, 2, 1, True), (10**15 + 1, 2, 2, 1, False), (1, 1, 2, 1, False),
-    (1, 256, 2, 1, True), (1, 257, 2, 1, False), (1, 2, 0, 1, False), (1, 2, 1, 1, True), (1, 2, 1_024, 1, True),
-    (1, 2, 1_025, 1, False), (1, 2, 2, 0, False), (1, 2, 2, 128, True), (1, 2, 2, 129, False))
-
 # A sender, a receiver and a router: the first two of three links (the third is from the router to the sender), the
 # flow, a route, and the fault.
 THERE, BACK = (0, 1), (1, 0)
@@ -187,44 +142,7 @@ def test_the_first_fault_of_an_image_counts():
         expect((place, digits), with_bytes(ROW, place, digits), fault)
 
 
-def test_an_image_of_the_first_version_is_saved_in_the_second():
-    assert (len(FIRST), len(SECOND)) == (134, 135)
-    for data in (FIRST, SECOND):
-        assert outcome(data) == SECOND
-
-
-def test_a_last_byte_tells_the_variant():
-    for digits, words in SENDERS:
-        data = with_bytes(SECOND, 134, digits)
-        expect(digits, data, None)
-        assert outcome(data, 'dis').decode().endswith(f' {words}\n')
-
-
-def test_the_fourth_byte_tells_which_layout_is_judged():
-    for data, place, digits, fault in LAYOUTS:
-        expect((place, digits, fault), with_bytes(data, place, digits), fault)
-
-# ---- ranges; two senders are no scenario, but numbers are judged first
-
-
-def test_codel_has_limits():
-    for *codel, is_right in CODEL:
-        judged(codel, image([S, S], [link(0, 1, codel=codel)], [flow(0, 1)], end=1), is_right)
-
-
-def test_a_link_has_limits():
-    for *numbers, is_right in LINKS:
-        judged(numbers, image([S, S], [link(*numbers)], [flow(0, 1)], end=1), is_right)
-
-
-def test_lost_packets_have_limits():
-    for lost, is_right in LOST:
-        judged(lost, image([S, S], [link(0, 1, lost=lost)], [flow(0, 1)], end=1), is_right)
-
-
-def test_a_flow_has_limits():
-    for *numbers, is_right in FLOWS:
-        judged(numbers, image([S, S], [link(0, 1)], [flow(*numbers)], end=100), is_right)
+# ---- ranges; two senders are no scenario, but numbers are judged first. Those of links, flows and counts are in test_whole.py
 
 
 def test_routes_have_limits_and_an_order():
@@ -236,14 +154,6 @@ def test_routes_have_limits_and_an_order():
         judged(route, of(5, 7, route), True)
         judged(route, of(5, 7, (2, 1, 0), route), is_later)
 
-
-def test_an_end_and_the_counts_have_limits():
-    for end, nodes, links, flows, is_right in COUNTS:
-        judged((end, nodes, links, flows), image([S] * nodes, [link(0, 1)] * links, [flow(0, 1)] * flows, end=end), is_right)
-    # As many routes as there may be are one for each two nodes, so one more does not rise either.
-    routes = list(itertools.product(range(256), range(256), (0,)))
-    for more, is_right in ((), True), (((255, 255, 0),), False):
-        judged(more, image([S] * 256, [link(0, 1)] * 2, [flow(0, 1)], (*routes, *more), end=1), is_right)
 
 # ---- the whole
 

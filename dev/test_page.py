@@ -5,9 +5,11 @@ The program in the page and the native one are asked the same, and what both ans
 is used as a person would. The page is made of the module that dev/build.py keeps of the native program's proof.
 """
 import base64
+import concurrent.futures
 import functools
 import json
 import os
+import re
 import shutil
 import subprocess
 import sys
@@ -22,15 +24,14 @@ import page
 import page_cases
 import page_module
 from clone import TOP
+from page_use import choose, element, look, run, text_of, wanted
 from tcpsim.command_line import Refused
 from tcpsim.replay.page import about
 from tcpsim.scenario.text import Scenario
 
-IN_CI = os.environ.get('CI') == 'true'
+pytest_plugins = 'page_fixtures'
 DRAWN = 2000            # cases
 AT_ONCE = 200           # cases that are handed to the page in one message
-PICTURES = os.environ.get('PAGE_PICTURES')      # a folder for pictures of what the tests see
-KINDS = {'Chromium': browsers.CHROMIUM, 'Firefox': browsers.FIREFOX}
 TRY = '''async cases => {
   const told = [];
   const hex = buffer => [...new Uint8Array(buffer)].map(byte => byte.toString(16).padStart(2, '0')).join('');
@@ -41,8 +42,6 @@ TRY = '''async cases => {
   }
   return told;
 }'''
-
-
 # Some ten thousand packets under way at once, which want more memory than a run is given below.
 MANY_UNDER_WAY = """sim 260000000
 node s sender
@@ -51,57 +50,6 @@ link a s r 10000000000 10000000 droptail 65535
 link b r s 10000000000 10000000 droptail 65535
 flow f s r 1000 100000 0 1073741824 0 newreno iw10
 """
-
-
-def wanted(condition, why):
-    """Leaves a test out where something lacks; where CI=true it has failed."""
-    if not condition:
-        if IN_CI:
-            pytest.fail(why)
-        pytest.skip(why)
-
-
-@pytest.fixture(scope='session')
-def made(tmp_path_factory):
-    """The page's file, and the record of the proof."""
-    try:
-        program, record = page_module.program()
-    except Refused as why:
-        wanted(False, str(why))
-    path = tmp_path_factory.mktemp('page') / 'tcpsim.html'
-    path.write_text(page.page(program, record), encoding='utf-8')
-    return path, record
-
-
-@pytest.fixture(scope='session')
-def opened(made, tmp_path_factory):
-    """A browser of a kind with the page ready; each is started once."""
-    started = {}
-
-    def of(kind):
-        if kind not in started:
-            wanted(KINDS[kind], f'no {kind}: apt-get install {"chromium" if kind == "Chromium" else "firefox-esr"}')
-            try:
-                import websockets  # noqa: F401
-            except ImportError:
-                wanted(False, 'no websockets: apt-get install python3-websockets')
-            browser = started[kind] = getattr(browsers, kind)(str(tmp_path_factory.mktemp(kind)))
-            browser.open(f'file://{made[0]}')
-            browser.wait('document.documentElement.dataset.ready')
-        return started[kind]
-    yield of
-    for browser in started.values():
-        browser.close()
-
-
-@pytest.fixture(params=list(KINDS))
-def browser(opened, request):
-    return opened(request.param)
-
-
-@pytest.fixture
-def chromium(opened):
-    return opened('Chromium')
 
 
 # ---- byte for byte
@@ -207,6 +155,25 @@ def test_a_module_that_is_not_of_the_native_proof_is_refused(made, tmp_path, mon
         page_module.program()
 
 
+def test_several_that_ask_at_once_compile_once(tmp_path, monkeypatch):
+    """Tests of the page run beside each other, and the first of them may find nothing compiled."""
+    turns = []
+
+    def link_in(folder, _):
+        path = os.path.join(folder, 'program.wasm')
+        with open(path, 'wb') as file:
+            file.write(b'compiled')
+        return path
+
+    monkeypatch.setattr(page_module, 'OUT', str(tmp_path / 'page'))
+    monkeypatch.setattr(page_module, 'compile_in', lambda *_: (turns.append(1), time.sleep(0.2)))
+    monkeypatch.setattr(page_module, 'link_in', link_in)
+    with concurrent.futures.ThreadPoolExecutor(8) as pool:
+        asked = [pool.submit(page_module.compiled, __file__, build.toolchain(), lambda *_, **__: None) for _ in range(8)]
+    assert [it.result() for it in asked] == [b'compiled'] * 8
+    assert len(turns) == 1
+
+
 def test_the_page_says_of_which_proof_it_is(chromium, made):
     said = chromium.json('JSON.parse(document.getElementById("about").textContent)')
     assert {key: said[key] for key in made[1]} == made[1]
@@ -222,33 +189,6 @@ def test_facts_are_those_of_the_package(chromium):
             told = json.loads(json.dumps(about(Scenario(file.read()))))
         found = chromium.json(f'factsOf(simulator.examples[{json.dumps(name)}], "x")')
         assert {key: found[key] for key in told} == told, name
-
-
-def element(css):
-    return f'document.querySelector({json.dumps(css)})'
-
-
-def text_of(browser, css):
-    return browser.value(f'{element(css)}.textContent')
-
-
-def look(browser, name):
-    if PICTURES:
-        os.makedirs(PICTURES, exist_ok=True)
-        browser.picture(os.path.join(PICTURES, f'{type(browser).__name__}_{name}.png'))
-
-
-def run(browser, button='run'):
-    """Presses a button, and waits until the run is done; answers what the page says of it."""
-    before = browser.value('document.documentElement.dataset.run || 0')
-    browser.click(element(f'#{button}'))
-    browser.wait(f'(document.documentElement.dataset.run || 0) != {before}')
-    return text_of(browser, '#said')
-
-
-def choose(browser, value):
-    browser.value(f'(() => {{ const e = {element("#choose")}; e.value = {json.dumps(value)}; e.dispatchEvent(new Event("change")); }})()')
-    browser.wait('document.documentElement.dataset.judged === "0"')
 
 
 def type_in_editor(browser, text):
@@ -445,8 +385,10 @@ def test_texts_names_and_addresses_are_never_html(chromium, made):
     assert told[:2] == ['undefined', 2] and len(told[2]) >= 3, told
     page_text = made[0].read_text(encoding='utf-8')
     assert "default-src 'none'" in page_text and 'unsafe-inline' not in page_text.partition('</head>')[0]
-    for word in ('<link', '<base', '<iframe'):
-        assert word not in page_text.partition('<template id="view">')[0]
+    own = page_text.partition('<template id="view">')[0]
+    assert '<link' not in own and '<base' not in own
+    # The two frames of a comparison have no address: the page writes what they show.
+    assert re.findall(r'<iframe[^>]*>', own) == ['<iframe title="the first run">', '<iframe title="the second run">']
 
 
 def test_a_browser_without_64_bit_memory(made, tmp_path):

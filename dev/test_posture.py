@@ -12,9 +12,8 @@ import sys
 
 import pytest
 
-TOP = os.path.dirname(os.path.dirname(os.path.abspath(__file__)))
-BIN = os.path.join(TOP, 'bin')
-PROGRAM = os.path.join(TOP, 'crates', 'tcpsim', 'out', 'tcpsim')
+from clone import BIN, BUILT as PROGRAM, TOP
+
 ONE_SEGMENT = os.path.join(TOP, 'examples', 'one_segment.txt')
 WIDE = 'islands', '--islands', '4', '--flows', '10', '--rate', '200M', '--between', '40ms', '--end', '600ms'
 built = pytest.mark.skipif(not os.path.exists(PROGRAM), reason='the program is not built: make run')

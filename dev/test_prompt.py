@@ -21,7 +21,7 @@ import tty
 import pytest
 
 import clone
-from clone import PROGRAM, TOP, paths, read, read_text
+from clone import PROGRAM, TOP, outcome, paths, ran, read, read_text
 from tcpsim_model import debugger, prompt, sessions, simulate
 from tcpsim_model.scenario import Refused
 from tcpsim_model.command_line import read as scenario_in
@@ -104,20 +104,20 @@ def model(path, lines):
     return b''.join(answer for answer, _ in answers(path, lines))
 
 
-def debug(path, given, *options, **more):
+def debug(path, given, *options):
     """A session whose lines are all there: its status, what it answers, and what it notes."""
-    done = subprocess.run([PROGRAM, 'debug', path, *options], input=given, capture_output=True, timeout=LONGEST,
-                          check=False, **more)
-    return done.returncode, done.stdout, done.stderr
+    status, noted, out = outcome(['debug', path, *options], given)
+    return status, out, noted
 
 
 def page():
     """What docs/DEBUGGING.md shows: of each session its file, its lines and what is answered, and of each command of
-    the shell what it prints. A line `...` stands for some lines that are left out."""
+    the shell what it prints. A line `...` stands for some lines that are left out. What tcpsim-debug shows has a test of
+    its own."""
     blocks = re.findall(r'^```\n(.*?)^```$', read_text('docs', 'DEBUGGING.md'), re.M | re.S)
     sessions_, commands = [], []
     for block in blocks:
-        for line in block.splitlines():
+        for line in block.splitlines() if not block.startswith('$ bin/tcpsim-debug ') else ():
             if started := re.fullmatch(r'\$ crates/tcpsim/out/tcpsim debug (\S+)', line):
                 sessions_.append((os.path.join(TOP, started[1]), [], ['']))
             elif line.startswith('{ '):
@@ -243,8 +243,7 @@ def test_quit():
         with tempfile.TemporaryFile() as keys:
             keys.write(b'step 1\n' + line + b'\nstep 2\n')
             keys.seek(0)
-            done = subprocess.run([PROGRAM, 'debug', ONE], stdin=keys, capture_output=True, timeout=LONGEST,
-                                  check=False)
+            done = ran(PROGRAM, 'debug', ONE, stdin=keys)
             assert (done.returncode, done.stdout, done.stderr) == (0, model(ONE, [b'step 1']), PROMPT * 2)
             assert os.lseek(keys.fileno(), 0, os.SEEK_CUR) == len(b'step 1\n' + line + b'\n')
 
@@ -278,40 +277,30 @@ def test_long_lines():
     assert debug(ONE, b'step 1'.ljust(MOST_LINE) + b'\n') == (0, step, PROMPT * 2)
 
 
-def test_a_refused_scenario_has_no_prompt():
-    with tempfile.TemporaryDirectory() as folder:
-        path = os.path.join(folder, 'short.txt')
-        with open(path, 'wb') as file:
-            file.write(b'sim 5\nnode s sender\n')
-        with tempfile.TemporaryFile() as keys:
-            keys.write(b'step 1\n')
-            keys.seek(0)
-            done = subprocess.run([PROGRAM, 'debug', path], stdin=keys, capture_output=True, timeout=LONGEST,
-                                  check=False)
-            assert (done.returncode, done.stdout, done.stderr) == (1, b'', b'refused L3 line 0\n')
-            assert os.lseek(keys.fileno(), 0, os.SEEK_CUR) == 0
-        assert debug(ONE, b'step 1\n', '--groups', '0') == (2, b'', b'refused groups\n')
-        none = os.path.join(folder, 'none.txt')
-        assert debug(none, b'step 1\n') == (3, b'', f'cannot read {none}\n'.encode())
-        assert debug(folder, b'step 1\n') == (3, b'', f'cannot read {folder}\n'.encode())
+def test_a_refused_scenario_has_no_prompt(put, tmp_path):
+    path, none = put('short.txt', b'sim 5\nnode s sender\n'), str(tmp_path / 'none.txt')
+    with tempfile.TemporaryFile() as keys:
+        keys.write(b'step 1\n')
+        keys.seek(0)
+        done = ran(PROGRAM, 'debug', path, stdin=keys)
+        assert (done.returncode, done.stdout, done.stderr) == (1, b'', b'refused L3 line 0\n')
+        assert os.lseek(keys.fileno(), 0, os.SEEK_CUR) == 0
+    assert debug(ONE, b'step 1\n', '--groups', '0') == (2, b'', b'refused groups\n')
+    assert debug(none, b'step 1\n') == (3, b'', f'cannot read {none}\n'.encode())
+    assert debug(str(tmp_path), b'step 1\n') == (3, b'', f'cannot read {tmp_path}\n'.encode())
 
 
-def test_an_image():
-    with tempfile.TemporaryDirectory() as folder:
-        path = os.path.join(folder, 'one.tcb')
-        with open(path, 'wb') as file:
-            subprocess.run([PROGRAM, 'asm', ONE], stdout=file, check=True, timeout=LONGEST)
-        assert debug(path, b'step 3\n') == (0, model(ONE, [b'step 3']), PROMPT * 2)
+def test_an_image(put):
+    path = put('one.tcb', outcome(['asm', ONE])[2])
+    assert debug(path, b'step 3\n') == (0, model(ONE, [b'step 3']), PROMPT * 2)
 
 
 def test_standard_input_has_both_where_no_file_is_named():
     given = read(ONE) + b'---\nstep 3\nquit\n'
-    for words in ((), ('-',)):
-        done = subprocess.run([PROGRAM, 'debug', *words], input=given, capture_output=True, timeout=LONGEST,
-                              check=False)
-        expected = b''.join(piece.encode() for piece in debugger.session(given))
-        assert expected.endswith(b'refused B1\n')
-        assert (done.returncode, done.stdout, done.stderr) == (0, expected, b'')
+    expected = ''.join(debugger.session(given)).encode()
+    assert expected.endswith(b'refused B1\n')
+    for words in ([], ['-']):
+        assert outcome(['debug', *words], given) == (0, b'', expected)
 
 
 def test_the_hunts_of_the_examples():
@@ -319,9 +308,7 @@ def test_the_hunts_of_the_examples():
     assert len(found) == 2
     for path in found:
         given = read(path.replace('.commands', '.txt')) + b'---\n' + read(path)
-        done = subprocess.run([PROGRAM, 'debug'], input=given, capture_output=True, timeout=LONGEST, check=False)
-        expected = ''.join(debugger.session(given)).encode()
-        assert (done.returncode, done.stdout, done.stderr) == (0, expected, b''), path
+        assert outcome(['debug'], given) == (0, b'', ''.join(debugger.session(given)).encode()), path
 
 
 def test_the_page():
@@ -333,8 +320,7 @@ def test_the_page():
         assert status == 0
         assert re.fullmatch(answer, out.decode()) is not None, out.decode()
     for line, (answer,) in commands:
-        done = subprocess.run(line.replace('crates/tcpsim/out/tcpsim', PROGRAM), shell=True, capture_output=True, cwd=TOP,
-                              timeout=LONGEST, check=False)
+        done = ran('sh', '-c', line.replace('crates/tcpsim/out/tcpsim', PROGRAM), cwd=TOP)
         assert (done.returncode, done.stderr) == (0, b'')
         assert re.fullmatch(answer, done.stdout.decode()) is not None, done.stdout
 
@@ -350,16 +336,14 @@ def test_an_interrupt_ends_it_as_any_program():
 
 def test_ends_that_fail():
     with open('/dev/full', 'wb') as full:
-        done = subprocess.run([PROGRAM, 'debug', ONE], input=b'step 1\nstep 1\n', stdout=full,
-                              stderr=subprocess.PIPE, timeout=LONGEST, check=False)
+        done = ran(PROGRAM, 'debug', ONE, input=b'step 1\nstep 1\n', stdout=full)
         assert (done.returncode, done.stderr) == (3, PROMPT + b'write failed\n')
         # What fails on standard error is ignored.
-        done = subprocess.run([PROGRAM, 'debug', ONE], input=b'bak 1\nstep 3\n', stdout=subprocess.PIPE,
-                              stderr=full, timeout=LONGEST, check=False)
+        done = ran(PROGRAM, 'debug', ONE, input=b'bak 1\nstep 3\n', stderr=full)
         assert (done.returncode, done.stdout) == (0, model(ONE, [b'step 3']))
     # A folder opens and cannot be read: no line comes.
     keys = os.open(TOP, os.O_RDONLY)
-    done = subprocess.run([PROGRAM, 'debug', ONE], stdin=keys, capture_output=True, timeout=LONGEST, check=False)
+    done = ran(PROGRAM, 'debug', ONE, stdin=keys)
     assert (done.returncode, done.stdout, done.stderr) == (3, b'', PROMPT + b'read failed\n')
 
 
@@ -373,8 +357,7 @@ def beside_terminal(stream, *words):
     ours, theirs = pty.openpty()
     try:
         os.write(ours, b'\x04')
-        streams = {'stdin': subprocess.DEVNULL, 'stdout': subprocess.DEVNULL, 'stderr': subprocess.PIPE, stream: theirs}
-        done = subprocess.run([PROGRAM, *words], **streams, timeout=LONGEST, check=False)
+        done = ran(PROGRAM, *words, **{'stdout': subprocess.DEVNULL, stream: theirs})
         shown = done.stderr or b''
         while stream == 'stderr' and select.select([ours], [], [], 0)[0]:
             shown += os.read(ours, 65_536)
@@ -389,21 +372,16 @@ def test_what_is_awaited():
     for words, awaited in ((('run',), WANTS_SCENARIO), (('run', '--groups', 'each', '--workers', '2'), WANTS_SCENARIO), (('asm',), WANTS_SCENARIO),
                            (('dis',), WANTS_SCENARIO), (('figures',), WANTS_SCENARIO), (('debug',), WANTS_FILE), (('run', '-'), b''), (('debug', '-'), b'')):
         assert beside_terminal('stdin', *words) == (1, awaited + nothing), words
-        done = subprocess.run([PROGRAM, *words], input=b'', capture_output=True, timeout=LONGEST, check=False)
-        assert (done.returncode, done.stderr) == (1, nothing), words
+        assert outcome(words)[:2] == (1, nothing), words
     assert beside_terminal('stdin', 'run', ONE) == (0, b'')
     assert beside_terminal('stdin', 'debug', ONE) == (0, PROMPT)
 
 
-def test_a_refusal_explains_itself():
-    with tempfile.TemporaryDirectory() as folder:
-        path = os.path.join(folder, 'wrong.txt')
-        with open(path, 'wb') as file:
-            file.write(b'sim 5\nnode s sendr\n')
-        for words in (*((word, path) for word in ('run', 'asm', 'dis', 'figures', 'debug')), ('run', '--groups', '0', ONE)):
-            done = subprocess.run([PROGRAM, *words, '--explain'], stdin=subprocess.DEVNULL, capture_output=True, timeout=LONGEST, check=False)
-            plain = subprocess.run([PROGRAM, *words], stdin=subprocess.DEVNULL, capture_output=True, timeout=LONGEST, check=False)
-            assert done.stderr.startswith(plain.stderr) and len(done.stderr.splitlines()) > len(plain.stderr.splitlines()) == 1
-            assert beside_terminal('stderr', *words) == (done.returncode, done.stderr)
-            assert beside_terminal('stdin', *words) == (done.returncode, plain.stderr)
+def test_a_refusal_explains_itself(put):
+    path = put('wrong.txt', b'sim 5\nnode s sendr\n')
+    for words in (*((word, path) for word in ('run', 'asm', 'dis', 'figures', 'debug')), ('run', '--groups', '0', ONE)):
+        done, plain = ran(PROGRAM, *words, '--explain'), ran(PROGRAM, *words)
+        assert done.stderr.startswith(plain.stderr) and len(done.stderr.splitlines()) > len(plain.stderr.splitlines()) == 1
+        assert beside_terminal('stderr', *words) == (done.returncode, done.stderr)
+        assert beside_terminal('stdin', *words) == (done.returncode, plain.stderr)
     assert beside_terminal('stderr', 'run', '/none') == (3, b'cannot read /none\n')

@@ -22,15 +22,12 @@ def refusal(line):
 
 
 def tables():
-    """The tables of the part of docs/FORMATS.md on the prompt: of each row the cells."""
+    """The tables of the part of docs/FORMATS.md on the prompt, by the first cell of their heads: of each row the cells."""
     part = read_text('docs', 'FORMATS.md').partition('\n### At the prompt\n')[2].partition('\n## ')[0]
-    rows = [[cell.strip() for cell in line.strip('|').split('|')] for line in part.splitlines() if line.startswith('|')]
     found = {}
-    for row in rows:
-        if row[0] in ('Name', 'Time', 'Noted', 'Line'):
-            table = found.setdefault(row[0], [])
-        elif not row[0].startswith('---'):
-            table.append(row)
+    for text in re.findall(r'(?:^\|.*\n)+', part, re.M):
+        head, _, *rows = [[cell.strip() for cell in line.strip('|').split('|')] for line in text.splitlines()]
+        found[head[0]] = rows
     return found
 
 

@@ -96,9 +96,15 @@ def test_the_index_has_each_page_once():
 
 def test_the_glossary_names_files_that_are_there():
     found = re.findall(r'`((?:\w+/)+[\w.]+)`', read_text('docs', 'GLOSSARY.md'))
-    assert len(found) > 60
+    assert len(found) > 30
     for path in found:
         assert os.path.exists(os.path.join(TOP, '' if path.startswith('dev/') else 'crates', path))
+
+
+def test_the_glossary_has_few_words_of_builders():
+    users, builders = [re.findall(r'^\| (.*?) \|', part, re.M)[1:] for part in read_text('docs', 'GLOSSARY.md').split('\n## ')[1:]]
+    assert 20 < len(builders) < 30
+    assert {'rto', 'goodput', 'BDP', "Jain's index", 'bufferbloat'} <= set(users)
 
 
 def test_each_crate_has_some_points():

@@ -8,7 +8,8 @@ import threading
 import pytest
 
 from clone import EXAMPLES, NAMES, PROGRAM, TOP, outcome, paths, ran, read
-from test_bounds import CANONICAL, FIRST, IMAGE, MOST_INPUT, OLD_IMAGE, replaced
+from tcpsim import VERSIONS
+from test_bounds import FIRST, MOST_INPUT
 
 pytestmark = pytest.mark.built
 ONE = paths('one_segment')[0]
@@ -72,8 +73,8 @@ PROGRESS = '      --progress     Say on standard error how far the run is\n'
 FLAGS = '''      --explain      Show on standard error why an input is refused
   -h, --help         Print help
 '''
-# The same where no option with a value is beside them.
-NARROW = ''.join(line[:16] + line[19:] for line in (PROGRESS + FLAGS).splitlines(keepends=True))
+# The same beside an option of ten letters, as figures has one.
+NARROW = '      --from <T>  Count from this moment on, as 1.5s, 20ms or 10000ns\n' + ''.join(line[:16] + line[19:] for line in (PROGRESS + FLAGS).splitlines(keepends=True))
 PLAIN = '''      --explain  Show on standard error why an input is refused
   -h, --help     Print help
 '''
@@ -103,7 +104,7 @@ def test_help(flag):
 
 def test_version():
     for flag in ('--version', '-V'):
-        assert outcome([flag], EXAMPLE) == (0, b'', b'tcpsim 0.1.0\n')
+        assert outcome([flag], EXAMPLE) == (0, b'', b'tcpsim %s\n' % VERSIONS.encode())
 
 
 def unexpected(word, is_option=True):
@@ -243,43 +244,6 @@ def test_explain_shows_the_place(put):
     assert outcome(['debug', '--explain'], WRONG + b'---\nsim\n') == wanted
 
 
-NET = b'''sim 1000000000
-node s sender
-node p router
-node r receiver
-node q router
-link a s p 8000000 1000000 droptail 10
-link b p r 8000000 1000000 droptail 10
-link c r p 8000000 1000000 droptail 10
-link d p s 8000000 1000000 droptail 10
-link e p q 8000000 1000000 droptail 10
-link g q p 8000000 1000000 droptail 10
-flow f s r 1000 1 0 64000 0
-route p r b
-route q r g
-route p s d
-'''
-# What is left of a text's faults, or put at a place of its image (4 nodes from byte 22, 6 links from 26, a flow from 278,
-# and routes (p, s), (p, r), (q, r) from 305): what it is refused for, and the two lines that show it.
-SHOWN = (
-    (NET + b'node t sender\n', 'L5 line 0', 'L5: no flow names sender t', 'flow NAME t RECEIVER MSS SEGMENTS START RWND DELACK'),
-    (NET.replace(b'route p s d\n', b''), 'L7 line 0', 'L7: acknowledgements of flow f stop at router p: no route for s', 'route p s LINK'),
-    (NET.replace(b'route p r b', b'route p r e'), 'L8 line 0', 'L8: data of flow f come to router p again, from router q',
-     'route q r LINK'),
-    ((278, b'\0\2'), 'L5', 'L5: no flow names sender 0', 'flow NAME 0 RECEIVER MSS SEGMENTS START RWND DELACK'),
-    ((278, b'\0\2\0\0'), 'L6', 'L6: flow 0 goes from receiver 2 to sender 0', 'flow 0 SENDER RECEIVER MSS SEGMENTS START RWND DELACK'),
-    ((309, b'\0\1'), 'L7', 'L7: acknowledgements of flow 0 come to receiver 2 over link 1, and not to sender 0', 'route 1 0 LINK'),
-    ((315, b'\0\4'), 'L8', 'L8: data of flow 0 come to router 1 again, from router 3', 'route 3 2 LINK'))
-
-
-@pytest.mark.parametrize('data, code, witness, statement', SHOWN)
-def test_explain_shows_a_witness(data, code, witness, statement, put):
-    if isinstance(data, tuple):
-        image, (at, new) = outcome(['asm'], NET)[2], data
-        data = image[:at] + new + image[at + len(new):]
-    assert outcome(['run', '--explain', put('wrong', data)]) == told(1, f'refused {code}', witness, statement, meaning(code[:2]))
-
-
 def test_explain_of_groups_and_of_great_inputs(put):
     wanted = told(2, 'refused groups', 'groups that are given: 3; nodes: 2', meaning('groups'))
     most, much = (put(name, bytes(size)) for name, size in (('most', MOST_INPUT + 1), ('much', MOST_INPUT)))
@@ -292,33 +256,6 @@ def test_explain_of_groups_and_of_great_inputs(put):
 
 
 # ---- the input
-
-# Lines in the place of those of a right text, and what it is refused for then.
-FAULTY = (
-    ('E1 line 1', (1, 'sim 5\r')), ('E1 line 2', (2, 'node s sender # \t')), ('E2 line 1', (1, 'simm 5')), ('E3 line 2', (2, 'node s')),
-    ('E4 line 1', (1, 'sim 01')), ('E5 line 1', (1, 'sim 0')), ('E5 line 4', (4, 'link a s r 999 1000000 droptail 10')),
-    ('E6 line 3', (3, 'node s receiver')), ('E7 line 4', (4, 'link a s x 8000000 1000000 droptail 10')),
-    ('E8 line 4', (4, 'link a s s 8000000 1000000 droptail 10')), ('E10 line 0', (1, '# sim 5')),
-    ('L3 line 0', (1, 'sim 1'), (6, 'flow f s r 1000 1 1 64000 0')), ('L5 line 0', (5, '# link b')),
-    ('E8 line 6', (3, 'node r router')), ('E2 line 5', (5, 'x'), (6, 'y')))
-# Ways: with all three routes the segments go round between the routers; without the last the acknowledgements find no
-# way at all.
-LOOP = b'''sim 1000
-node s sender
-node p router
-node q router
-node r receiver
-link a s p 1000000 10 droptail 5
-link b p q 1000000 10 droptail 5
-link c q p 1000000 10 droptail 5
-link d p s 1000000 10 droptail 5
-link e r p 1000000 10 droptail 5
-flow f s r 100 1 0 1000 0
-route p r b
-route q r c
-route p s d
-'''
-
 
 @pytest.mark.parametrize('name', NAMES)
 def test_examples(name):
@@ -336,30 +273,6 @@ def test_examples(name):
         assert outcome(['run', '--groups', 'auto', '--workers', workers, paths(name)[0]]) == right
 
 
-def test_faulty_texts():
-    right = (0, b'', TRACE)
-    assert outcome(['run'], FIRST) == right
-    assert outcome(['run'], replaced(FIRST, 4, 'link a s r 8000000 1000000 codel 10 5000000 100000000 1500')) == right
-    for code, *lines in FAULTY:
-        text = FIRST
-        for number, line in lines:
-            text = replaced(text, number, line)
-        assert outcome(['run'], text) == told(1, f'refused {code}'), lines
-    losses = b''.join(b'lose a %d\n' % number for number in range(1, 66))
-    assert outcome(['run'], FIRST + losses) == told(1, 'refused E9 line 71')
-    assert outcome(['run'], LOOP) == told(1, 'refused L8 line 0')
-    assert outcome(['run'], LOOP.replace(b'route p s d\n', b'')) == told(1, 'refused L7 line 0')
-
-
-def test_the_most_bytes_and_one_more():
-    """Line feeds, and a right text with a comment behind it."""
-    feeds, comment = b'\n' * (MOST_INPUT + 1), FIRST.ljust(MOST_INPUT + 1, b'#')
-    assert outcome(['run'], feeds[:-1]) == told(1, 'refused E10 line 0')
-    assert outcome(['run'], feeds) == told(1, 'refused I1')
-    assert outcome(['run'], comment[:-1]) == (0, b'', TRACE)
-    assert outcome(['run'], comment) == told(1, 'refused I1')
-
-
 def test_a_file_as_standard_input_at_the_bound(put):
     for size, wanted in ((MOST_INPUT, 'refused E10 line 0'), (MOST_INPUT + 1, 'refused I1')):
         with open(put('feeds', b'\n' * size), 'rb') as file:
@@ -373,38 +286,13 @@ def test_inputs_that_are_none(words):
     assert outcome(words, b'') == told(1, 'refused E10 line 0')
 
 
-# ---- images
-
-def test_images():
-    assert outcome(['asm'], FIRST) == (0, b'', IMAGE)
-    for data in (IMAGE, OLD_IMAGE):
-        assert outcome(['asm'], data) == (0, b'', IMAGE)
-        assert outcome(['dis'], data) == (0, b'', CANONICAL)
-
-
-# An image, and what each command refuses it for; beside those that test_bounds.py has.
-BROKEN = (
-    (IMAGE[:-1] + b'\4', 'L3'), (IMAGE[:-1] + b'\4\0', 'L3'), (b'TCB2' + OLD_IMAGE[4:], 'L1'), (b'TCB3' + IMAGE[4:], 'L2'),
-    (OLD_IMAGE + b'\0', 'L4'), (IMAGE[:-1], 'L1'), (IMAGE[:3], 'L1'), (IMAGE[:2], 'E2 line 1'), (b'TCBX' + IMAGE[4:], 'L2'),
-    (IMAGE + b'\0', 'L4'), (IMAGE[:22] + b'\3' + IMAGE[23:], 'L3'), (IMAGE + bytes(MOST_INPUT + 1 - len(IMAGE)), 'I1'))
-
-
-def test_broken_images():
-    for data, code in BROKEN:
-        for word in ('asm', 'dis', 'run', 'figures'):
-            assert outcome([word], data) == told(1, f'refused {code}'), (word, data[:200], code)
-
-
 # ---- workers and groups
 
-def test_groups():
-    for words in ('auto', 'auto --workers 4', 'one --workers 64', '63,7 --workers=2', '0,0', '0,1 --workers +1'):
-        assert outcome(['run', '--groups', *words.split()], EXAMPLE) == (0, b'', TRACE)
-    assert outcome(['run', '--workers=2', '--groups=63,7'], EXAMPLE) == (0, b'', TRACE)
+def test_groups_before_and_behind_the_input():
+    assert outcome(['run', '--groups', 'auto', '--workers', '4'], EXAMPLE) == (0, b'', TRACE)
     for word in ('run', 'debug'):
         for groups in ('0', '0,1,2', '0,64', '0,01', '0,', '', 'ones'):
             assert outcome([word, '--groups', groups], EXAMPLE) == told(2, 'refused groups')
-        assert outcome([word, '--groups', '0'], b'') == told(1, 'refused E10 line 0')
         assert by_shell('<&-', word, '--groups', '0') == told(3, 'read failed')
 
 
@@ -463,8 +351,8 @@ def test_memory_does_not_grow_with_the_run():
     status, note, out = by_shell(LIMITED, 'run', input=LONG)
     assert (status, note, out[-11:]) == (0, b'', b'end 800001\n')
     status, note, out = by_shell(LIMITED, 'figures', input=LONG)
-    assert (status, note, out.count(b'\n')) == (0, b'', 39)
-    assert set(out.split()) >= {b'flow,0,delivered,bytes,200000000', b'link,0,sent,packets,200000', b'link,1,sent,bytes,8000000',
+    assert (status, note, out.count(b'\n')) == (0, b'', 42)
+    assert set(out.splitlines()) >= {b'flow,0,delivered,bytes,200000000', b'link,0,sent packets,packets,200000', b'link,1,sent bytes,bytes,8000000',
                                 b'run,,events,events,800001'}
 
 

@@ -13,36 +13,28 @@ import sys
 
 import pytest
 
-TOP = os.path.dirname(os.path.dirname(os.path.abspath(__file__)))
-sys.path[1:1] = [os.path.join(TOP, 'dev'), os.path.join(TOP, 'python')]
+from build import declared, toolchain
+from clone import BUILT as PROGRAM, TOP, read, read_text
+from tcpsim import FORMATS, VERSIONS, __version__
+from tcpsim.sweeps.columns import FROM
+from tcpsim_model import figures, grammar, image, prompt
+from tcpsim_model.text import assemble
 
-from build import declared, toolchain  # noqa: E402
-from tcpsim import FORMATS, VERSIONS, __version__  # noqa: E402
-from tcpsim_model import grammar, image, prompt  # noqa: E402
-from tcpsim_model.text import assemble  # noqa: E402
-from whole.tables import ONE_SEGMENT  # noqa: E402
-
-PROGRAM = os.path.join(TOP, 'crates', 'tcpsim', 'out', 'tcpsim')
-# What the program says until its crate `sessions` is proved with VERSIONS in command_line.rt; then this goes.
-BEHIND = '0.1.0'
 SAMPLES = 'three_losses', 'newreno_in_a_network', 'codel_drops_before_it_sends', 'two_flows_over_a_router', 'delayed_acknowledgement'
 # Of each format, what its samples come to under each number that it had. A row stays; a change adds one.
 SUMS = {
     'trace': {1: '310741f06a26d0f03f20e82591033bcc34555b647a86cf9247ad2375b269d673'},
     'image': {1: '2b8b018d7b3d64e3a36de9d9bd6bf9060dff8e80aca2d1d6911c165993b0e344',
               2: 'de7c8e8492e842135b272ed296464491bb5cfea322acc171ee7c6c0d0b37fc62'},
-    'figures': {1: '07379970f447a5675127215933c9ca806fe81777301fc3d82c037b934a872009'},
+    'figures': {1: '07379970f447a5675127215933c9ca806fe81777301fc3d82c037b934a872009',
+                2: 'a5a273eacd6ae41ac1b2500ada1b4a7f1c60579914ef3d0a89cc3b62cebb035c',
+                3: '9a91d5ca7836e1db6338b0c9b9abbaa4966552d9744570a8f1eee96d5727dca2'},
     'prompt': {8: '591e69b6d09eb58b3a7706631c570633ae5cbb70f80251582ec97e076f89f2be'},
 }
 
 
-def read(*path, mode='r'):
-    with open(os.path.join(TOP, *path), mode, encoding=None if 'b' in mode else 'utf-8') as file:
-        return file.read()
-
-
 def samples(of):
-    return [read('dev', 'whole', f'{name}.{of}', mode='rb') for name in SAMPLES]
+    return [read('dev', 'whole', f'{name}.{of}') for name in SAMPLES]
 
 
 def images(version):
@@ -56,8 +48,10 @@ def prompt_words():
 
 def sum_of(format_, number):
     """What the samples of a format come to."""
+    first = assemble(read('examples', 'one_segment.txt'))
     parts = {'trace': lambda: samples('trace'), 'image': lambda: images(number), 'prompt': prompt_words,
-             'figures': lambda: [re.sub(r'[^,]*$', '', ONE_SEGMENT, flags=re.M).encode()]}[format_]()
+             'figures': lambda: [re.sub(r'[^,]*$', '', figures.figures(first), flags=re.M).encode(),
+                                 *([figures.figures(first, 2_000_000).encode()] if number >= FROM else [])]}[format_]()
     taken = hashlib.sha256()
     for part in parts:
         taken.update(b'%d\n%s' % (len(part), part))
@@ -70,7 +64,7 @@ def said(*words):
 
 def in_source():
     """The version that stands in the program's source."""
-    return re.search(r'^const VERSION: &str = "(.*)";$', read('crates', 'sessions', 'src', 'command_line.rt'), re.M)[1]
+    return re.search(r'^const VERSION: &str = "(.*)";$', read_text('crates', 'command_line', 'src', 'words.rt'), re.M)[1]
 
 
 # ---- versions
@@ -94,19 +88,19 @@ def test_the_model_has_the_same_numbers():
 
 def test_the_version_is_one_wherever_it_stands():
     for name in os.listdir(os.path.join(TOP, 'man')):
-        assert f'"tcpsim {__version__}"' in read('man', name).splitlines()[0], name
-    assert json.loads(read('editors', 'vscode', 'package.json'))['version'] == __version__
-    assert f'tcpsim-flows {VERSIONS}\n' in read('docs', 'FORMATS.md')
-    assert f'have one version, {__version__} now' in read('docs', 'FORMATS.md')
+        assert f'"tcpsim {__version__}"' in read_text('man', name).splitlines()[0], name
+    assert json.loads(read_text('editors', 'vscode', 'package.json'))['version'] == __version__
+    assert f'\ntcpsim {VERSIONS}\n' in read_text('docs', 'FORMATS.md')
+    assert f'have one version, {__version__} now' in read_text('docs', 'FORMATS.md')
 
 
 def test_the_changes_begin_with_this_version():
-    head, formats = re.findall(r'^## (\S+).*\n\nFormats: (.*)\.$', read('CHANGELOG.md'), re.M)[0]
+    head, formats = re.findall(r'^## (\S+).*\n\nFormats: (.*)\.$', read_text('CHANGELOG.md'), re.M)[0]
     assert f'{head} ({formats})' == VERSIONS
 
 
 def test_the_formats_table_has_each_number():
-    table = read('docs', 'FORMATS.md').partition('\n## Versions\n')[2]
+    table = read_text('docs', 'FORMATS.md').partition('\n## Versions\n')[2]
     for name, number in FORMATS.items():
         assert f'\n| {name} | {number} | ' in table
 
@@ -116,17 +110,16 @@ def test_the_program_says_what_its_source_has():
     assert said(PROGRAM, '--version') == said(PROGRAM, '-V') == f'tcpsim {in_source()}\n'
 
 
-def test_the_program_has_the_version_of_all_or_is_known_to_be_behind():
-    assert in_source() in (VERSIONS, BEHIND)
-    assert f'`tcpsim --version` prints `tcpsim {in_source()}`' in read('docs', 'FORMATS.md')
+def test_the_program_has_the_version_of_all():
+    assert in_source() == VERSIONS
 
 
 @pytest.mark.parametrize('page', ['CHANGELOG.md', 'SECURITY.md'])
 def test_links_and_files_that_a_page_names_are_there(page):
-    text = read(page)
+    text = read_text(page)
     for target in re.findall(r'\]\(([^)\s]+)\)', text):
         path, _, place = target.partition('#')
-        heads = re.findall(r'^#+ (.*)', read(path), re.M)
+        heads = re.findall(r'^#+ (.*)', read_text(path), re.M)
         assert not place or place in {head.lower().replace(' ', '-') for head in heads}, target
     for path in re.findall(r'`((?:dev|python|docs)/[\w/.]+)`', text):
         assert os.path.exists(os.path.join(TOP, path)), path
@@ -151,14 +144,14 @@ def linked():
 
 def listed(part):
     """The rows of a part of THIRD-PARTY: the words of each, by its first."""
-    text = read('THIRD-PARTY').partition(f'\n{part}. ')[2].partition('\n\n\n')[0]
+    text = read_text('THIRD-PARTY').partition(f'\n{part}. ')[2].partition('\n\n\n')[0]
     rows = re.findall(r'^  (\S.*?)  +(\S.*?)  +(\S.*?)  +([A-C])$', re.split(r'^\d\. ', text, flags=re.M)[0], re.M)
     return {name: more for name, *more in rows}
 
 
 @pytest.mark.skipif(not shutil.which('rt'), reason='the toolchain is not there')
 def test_third_party_has_each_crate_of_the_kit():
-    crates, text = listed(1), read('THIRD-PARTY')
+    crates, text = listed(1), read_text('THIRD-PARTY')
     licensed = {it for it in linked() if any(name.startswith('LICENSE') for name in os.listdir(f'{kit()}/rattle/{it}'))}
     assert set(crates) == licensed
     without = re.search(r'---\n((?:  .*\n)+)\nOf the system', text)[1]
@@ -168,7 +161,7 @@ def test_third_party_has_each_crate_of_the_kit():
 @pytest.mark.skipif(not shutil.which('rt'), reason='the toolchain is not there')
 def test_third_party_has_their_terms():
     """The text of each license is there as the kit has it, with the names of its holders."""
-    text = ' '.join(read('THIRD-PARTY').split())
+    text = ' '.join(read_text('THIRD-PARTY').split())
     for crate in listed(1):
         folder = f'{kit()}/rattle/{crate}'
         name = next(it for it in ('LICENSE-MIT', 'LICENSE') if os.path.exists(f'{folder}/{it}'))
@@ -187,21 +180,21 @@ def test_third_party_has_what_pages_hold():
         first, _, terms = file.read().partition('\n\n')
     version, license_, _ = listed(2)['D3.js']
     assert version.partition(' ')[0] in first and license_ == 'BSD-3-Clause'
-    assert ' '.join(terms.split()) in ' '.join(read('THIRD-PARTY').split())
+    assert ' '.join(terms.split()) in ' '.join(read_text('THIRD-PARTY').split())
 
 
 def test_licenses_are_named():
-    mit, apache = read('LICENSE-MIT'), read('LICENSE-APACHE')
+    mit, apache = read_text('LICENSE-MIT'), read_text('LICENSE-APACHE')
     assert mit.startswith('Copyright (c) 2026 the tcpsim authors\n\nPermission is hereby granted, free of charge, to any\n')
     assert mit.endswith('DEALINGS IN THE SOFTWARE.\n')
     assert hashlib.sha256(apache.encode()).hexdigest() == 'cfc7749b96f63bd31c3c42b5c471bf756814053e847c10f3eb003417bc523d30'
     for page in ('README.md', os.path.join('man', 'tcpsim.1')):
-        assert 'LICENSE-MIT' in read(page) and 'LICENSE-APACHE' in read(page) and 'THIRD-PARTY' in read(page)
+        assert 'LICENSE-MIT' in read_text(page) and 'LICENSE-APACHE' in read_text(page) and 'THIRD-PARTY' in read_text(page)
     for name in os.listdir(os.path.join(TOP, 'man')):
-        assert 'LICENSE-MIT' in read('man', name)
-    project = read('python', 'pyproject.toml')
+        assert 'LICENSE-MIT' in read_text('man', name)
+    project = read_text('python', 'pyproject.toml')
     assert 'license = {text = "MIT OR Apache-2.0"}' in project
-    assert json.loads(read('editors', 'vscode', 'package.json'))['license'] == '(MIT OR Apache-2.0)'
+    assert json.loads(read_text('editors', 'vscode', 'package.json'))['license'] == '(MIT OR Apache-2.0)'
 
 
 if __name__ == '__main__':

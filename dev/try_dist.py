@@ -191,7 +191,7 @@ def the_deb_by_apt(root, dist):
 
 def each_command_says_its_version(root, _dist):
     names = sorted(os.path.basename(it) for it in glob.glob(root.path('usr/bin/tcpsim*')))
-    same(len(names), 10, 'commands')
+    same(len(names), 11, 'commands')
     for name in names:
         if name == 'tcpsim':
             want(re.fullmatch(r'tcpsim \d+\.\d+\.\d+.*\n', root.run(name, '--version')), f'{name} --version')

@@ -41,7 +41,7 @@ def save(figure, name):
 def beside_ns2():
     """Sequence numbers over ns-2's: three losses of Fall and Floyd."""
     numbers = stored.load('rules')['numbers']
-    figure, panels = plt.subplots(1, 2, figsize=(11, 5), sharey=True)
+    figure, panels = plt.subplots(1, 2, figsize=(9, 4.4), sharey=True)
     for axes, newreno, name in zip(panels, (False, True), ('Reno', 'NewReno')):
         at = 2
         theirs = numbers[f'Fall and Floyd, {name}'][at]['sends']
@@ -97,14 +97,14 @@ def phases():
     """Jain's index of each dumbbell, a group of bars."""
     rows = stored.load('phases')['numbers']
     names = {'tcpsim': BLUE, 'ns-2': ORANGE, 'ns-2 with overhead_': PINK, '--spread': GREY, '--mice 20': GREEN, '--spread --mice 20': SKY}
-    figure, axes = plt.subplots(figsize=(11, 5))
+    figure, axes = plt.subplots(figsize=(9, 4.4))
     for at, (name, colour) in enumerate(names.items()):
         axes.bar([n + (at - 2.5) * .14 for n in range(len(rows))], [row.get(name, 0) for row in rows], .13, color=colour, label=name)
     axes.set_xticks(range(len(rows)), [row['name'].replace(', queue', ',\nqueue').replace(' flows, ', ' flows,\n') for row in rows],
                     fontsize=9)
     axes.set_ylabel('Jain\'s index')
     axes.set_ylim(0, 1.02)
-    axes.legend(frameon=False, ncols=6, loc='lower center', bbox_to_anchor=(.5, 1))
+    axes.legend(frameon=False, ncols=3, loc='lower center', bbox_to_anchor=(.5, 1))
     bare(axes)
     axes.grid(False, axis='x')
     return save(figure, 'phases')

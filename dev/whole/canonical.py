@@ -2,30 +2,10 @@
 
 Each canonical text is as `dis` of the model in python/tcpsim_model writes it, and as docs/FORMATS.md has it.
 """
+from clone import read_text
 
 # Two flows over one router, whose routes do not rise.
-ROUTED = '''\
-sim 2040001
-node s sender
-node t sender
-node q router
-node u receiver
-node v receiver
-link a s q 8000000 1000000 droptail 10
-link b t q 8000000 1000000 droptail 10
-link c q u 8000000 1000000 droptail 10
-link d u q 8000000 1000000 droptail 10
-link e q v 8000000 1000000 droptail 10
-link g v q 8000000 1000000 droptail 10
-link h q s 8000000 1000000 droptail 10
-link i q t 8000000 1000000 droptail 10
-flow x s u 1000 1 0 64000 0
-flow y t v 1000 1 0 64000 0
-route q u c
-route q v e
-route q s h
-route q t i
-'''
+ROUTED = read_text('examples', 'equal_times.txt')
 
 ROUTED_AGAIN = '''\
 sim 2040001

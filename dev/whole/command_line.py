@@ -1,27 +1,10 @@
 """Words of the command line: those that are refused, and ways to write the same."""
 
-# Words that are refused whatever the input is. None of it is read.
-MISTAKEN = [
-    [],
-    ['asm', 'one', 'two'],
-    ['help'],
-    ['run', 'one', 'two'],
-    ['debug', 'one', 'two'],
-    ['explain', 'E1', 'E2'],
-    ['run', '--workers', 'two'],
-    ['run', '--workers', '1', '--workers', '1'],
-    ['run', '--groups'],
-    ['debug', '--groups'],
-    ['--groups', 'one', 'run'],
-    ['asm', '--groups', 'one'],
-    ['asm', '--workers', '1'],
-    ['dis', '--workers', '1'],
-    ['dis', '--groups', 'one'],
-    ['run', '--version'],
-    ['--fast', 'run'],
-    *([task, '--workers', workers] for task in ('run', 'debug') for workers in ('0', '65', 'x', '1,2', '18446744073709551617')),
-    *(['run', it] for it in ('--workers=0', '--workers=65', '--workers=-1', '--workers=', '--workers')),
-]
+# Words that are refused whatever the input is, beside those of test_shell.py. None of it is read.
+MISTAKEN = [words.split(' ') for words in (
+    'run --workers two', 'run --workers 1 --workers 1', 'run --groups', 'debug --groups', '--groups one run', 'asm --groups one',
+    'dis --workers 1', 'run --workers 1,2', 'debug --workers 1,2', 'run --workers 18446744073709551617',
+    'debug --workers 18446744073709551617', 'run --workers=0', 'run --workers=65', 'run --workers=-1', 'run --workers=')]
 
 # Ways to share a run out, one option alone, and options that are one word with their values.
 WRITTEN = [

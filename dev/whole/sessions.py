@@ -2,6 +2,7 @@
 comes, and by the model of python/tcpsim_model over two flows of equal times: their commands, and what they answer.
 dev/test_whole.py has the texts, and of two more texts the sessions stand in files beside this one.
 """
+from clone import example
 
 # How a session whose commands are all there is shared out. Its answers are the same.
 SHARED = [
@@ -10,7 +11,7 @@ SHARED = [
     ['debug', '--groups', 'each'],
     ['debug', '--workers', '2', '--groups', 'each'],
     ['debug', '--groups=1,0', '--workers=64'],
-    ['debug', '--workers=+64', '--groups=one'],
+    ['debug', '--workers=64', '--groups=one'],
 ]
 
 # The same where a text has any number of nodes.
@@ -26,15 +27,16 @@ back 9
 run
 '''
 
-ANSWERS = '''\
-at 3
-node 0 sender 0 una=0 nxt=1000 high=1000 cwnd=4000 ssthresh=64000 dups=0 lt=0 fr=0 timing=1000@0 srtt=- rttvar=0 rto=1000000000 resent=0
-node 1 receiver 0 next=1000 held=-
-link 0 offered=1 sent=1 queue=-
-link 1 offered=1 sent=1 queue=-
-event 2080000 1 0 3 free 1
-event 3080000 0 2 1 ack 0 1000
-event 1000000000 0 0 1 rto 0
+# What is shown at each position.
+AT_0 = '''\
+at 0
+node 0 sender 0 una=0 nxt=0 high=0 cwnd=4000 ssthresh=64000 dups=0 lt=0 fr=0 timing=- srtt=- rttvar=0 rto=1000000000 resent=0
+node 1 receiver 0 next=0 held=-
+link 0 offered=0 sent=0 queue=-
+link 1 offered=0 sent=0 queue=-
+event 0 0 0 0 start 0
+'''
+AT_1 = '''\
 at 1
 node 0 sender 0 una=0 nxt=1000 high=1000 cwnd=4000 ssthresh=64000 dups=0 lt=0 fr=0 timing=1000@0 srtt=- rttvar=0 rto=1000000000 resent=0
 node 1 receiver 0 next=0 held=-
@@ -43,18 +45,35 @@ link 1 offered=0 sent=0 queue=-
 event 1040000 0 0 3 free 0
 event 2040000 1 1 1 data 0 0
 event 1000000000 0 0 1 rto 0
-at 0
-node 0 sender 0 una=0 nxt=0 high=0 cwnd=4000 ssthresh=64000 dups=0 lt=0 fr=0 timing=- srtt=- rttvar=0 rto=1000000000 resent=0
-node 1 receiver 0 next=0 held=-
-link 0 offered=0 sent=0 queue=-
-link 1 offered=0 sent=0 queue=-
-event 0 0 0 0 start 0
+'''
+AT_3 = '''\
+at 3
+node 0 sender 0 una=0 nxt=1000 high=1000 cwnd=4000 ssthresh=64000 dups=0 lt=0 fr=0 timing=1000@0 srtt=- rttvar=0 rto=1000000000 resent=0
+node 1 receiver 0 next=1000 held=-
+link 0 offered=1 sent=1 queue=-
+link 1 offered=1 sent=1 queue=-
+event 2080000 1 0 3 free 1
+event 3080000 0 2 1 ack 0 1000
+event 1000000000 0 0 1 rto 0
+'''
+AT_4 = '''\
+at 4
+node 0 sender 0 una=0 nxt=1000 high=1000 cwnd=4000 ssthresh=64000 dups=0 lt=0 fr=0 timing=1000@0 srtt=- rttvar=0 rto=1000000000 resent=0
+node 1 receiver 0 next=1000 held=-
+link 0 offered=1 sent=1 queue=-
+link 1 offered=1 sent=1 queue=-
+event 3080000 0 2 1 ack 0 1000
+event 1000000000 0 0 1 rto 0
+'''
+AT_5 = '''\
 at 5
 node 0 sender 0 una=1000 nxt=1000 high=1000 cwnd=5000 ssthresh=64000 dups=0 lt=0 fr=0 timing=- srtt=3080000 rttvar=1540000 rto=1000000000 resent=0
 node 1 receiver 0 next=1000 held=-
 link 0 offered=1 sent=1 queue=-
 link 1 offered=1 sent=1 queue=-
 '''
+
+ANSWERS = AT_3 + AT_1 + AT_0 + AT_5
 
 BREAKS = '''\
 break kind data
@@ -65,37 +84,7 @@ until 2040000
 bak 1
 '''
 
-STOPS = '''\
-break 1
-at 3
-node 0 sender 0 una=0 nxt=1000 high=1000 cwnd=4000 ssthresh=64000 dups=0 lt=0 fr=0 timing=1000@0 srtt=- rttvar=0 rto=1000000000 resent=0
-node 1 receiver 0 next=1000 held=-
-link 0 offered=1 sent=1 queue=-
-link 1 offered=1 sent=1 queue=-
-event 2080000 1 0 3 free 1
-event 3080000 0 2 1 ack 0 1000
-event 1000000000 0 0 1 rto 0
-at 5
-node 0 sender 0 una=1000 nxt=1000 high=1000 cwnd=5000 ssthresh=64000 dups=0 lt=0 fr=0 timing=- srtt=3080000 rttvar=1540000 rto=1000000000 resent=0
-node 1 receiver 0 next=1000 held=-
-link 0 offered=1 sent=1 queue=-
-link 1 offered=1 sent=1 queue=-
-at 4
-node 0 sender 0 una=0 nxt=1000 high=1000 cwnd=4000 ssthresh=64000 dups=0 lt=0 fr=0 timing=1000@0 srtt=- rttvar=0 rto=1000000000 resent=0
-node 1 receiver 0 next=1000 held=-
-link 0 offered=1 sent=1 queue=-
-link 1 offered=1 sent=1 queue=-
-event 3080000 0 2 1 ack 0 1000
-event 1000000000 0 0 1 rto 0
-at 4
-node 0 sender 0 una=0 nxt=1000 high=1000 cwnd=4000 ssthresh=64000 dups=0 lt=0 fr=0 timing=1000@0 srtt=- rttvar=0 rto=1000000000 resent=0
-node 1 receiver 0 next=1000 held=-
-link 0 offered=1 sent=1 queue=-
-link 1 offered=1 sent=1 queue=-
-event 3080000 0 2 1 ack 0 1000
-event 1000000000 0 0 1 rto 0
-refused B1
-'''
+STOPS = f'break 1\n{AT_3}{AT_5}{AT_4}{AT_4}refused B1\n'
 
 # Each refusal, the first that holds; a line with no words says nothing.
 FAULTS = '''\
@@ -149,23 +138,10 @@ CUT_SHORT = ['', 'u 2.08ms', 'bak', 'u 1.5', 'b 2', 'step 1 2', '', 'u 1.0ns', '
 REFUSED = ['bak', 'step 3', 'back x', 'back 2', 'quit 1', 'back 9', 'break node 2', 'run']
 
 # What is answered to `step 3`, `back 2`, `back 9` and `run`.
-MOVED = '''\
-1 0 0 0 0 start 0 una=0 nxt=1000 cwnd=4000 ssthresh=64000 phase=ss tx=0:0:0
-2 1040000 0 0 3 free 0 una=0 nxt=1000 cwnd=4000 ssthresh=64000 phase=ss
-3 2040000 1 1 1 data 0 0 next=1000 tx=1:0:1000
-at 3 of the run, time 2040000 ns
-3 2040000 1 1 1 data 0 0 next=1000 tx=1:0:1000
-2 1040000 0 0 3 free 0 una=0 nxt=1000 cwnd=4000 ssthresh=64000 phase=ss
-at 1 of the run, time 0 ns
-1 0 0 0 0 start 0 una=0 nxt=1000 cwnd=4000 ssthresh=64000 phase=ss tx=0:0:0
-at 0 of the run, time 0 ns, the beginning
-1 0 0 0 0 start 0 una=0 nxt=1000 cwnd=4000 ssthresh=64000 phase=ss tx=0:0:0
-2 1040000 0 0 3 free 0 una=0 nxt=1000 cwnd=4000 ssthresh=64000 phase=ss
-3 2040000 1 1 1 data 0 0 next=1000 tx=1:0:1000
-4 2080000 1 0 3 free 1 next=1000
-5 3080000 0 2 1 ack 0 1000 una=1000 nxt=1000 cwnd=5000 ssthresh=64000 phase=ss
-at 5 of the run, time 3080000 ns, the end
-'''
+ONE, EQUAL = ([f'{line}\n' for line in example(name)[1]] for name in ('one_segment', 'equal_times'))
+BEGINNING, END = 'at 0 of the run, time 0 ns, the beginning\n', 'at 5 of the run, time 3080000 ns, the end\n'
+MOVED = ''.join((*ONE[:3], 'at 3 of the run, time 2040000 ns\n', ONE[2], ONE[1], 'at 1 of the run, time 0 ns\n', ONE[0], BEGINNING,
+                 *ONE[:5], END))
 
 # Breakpoints have numbers, and help is typed.
 BREAKPOINTS = ['breaks', 'break node 1', 'br drop', 'break kind delack', 'break drop', 'delete 1', 'breaks', 'delete 3', 'd 0',
@@ -190,31 +166,13 @@ delete 1
 # A move forwards tells the first breakpoint that matches where it ends, and `lines` tells the last lines there.
 LINES = ['lines', 'b', 'br kind free', 'br node 1', 'r', 's', '', 'b', 'l 2', 'l 1001', 'l 1 2', 'lines 0', 'c', 'u 1s', 'l 1', 's']
 
-TOLD = '''\
-at 0 of the run, time 0 ns, the beginning
-break 1: kind free
-break 2: node 1
-1 0 0 0 0 start 0 una=0 nxt=1000 cwnd=4000 ssthresh=64000 phase=ss tx=0:0:0
-2 1040000 0 0 3 free 0 una=0 nxt=1000 cwnd=4000 ssthresh=64000 phase=ss
-at 2 of the run, time 1040000 ns
-break 1: kind free
-3 2040000 1 1 1 data 0 0 next=1000 tx=1:0:1000
-at 3 of the run, time 2040000 ns
-break 2: node 1
-4 2080000 1 0 3 free 1 next=1000
-at 4 of the run, time 2080000 ns
-break 1: kind free
-4 2080000 1 0 3 free 1 next=1000
-at 3 of the run, time 2040000 ns
-2 1040000 0 0 3 free 0 una=0 nxt=1000 cwnd=4000 ssthresh=64000 phase=ss
-3 2040000 1 1 1 data 0 0 next=1000 tx=1:0:1000
-clear
-4 2080000 1 0 3 free 1 next=1000
-5 3080000 0 2 1 ack 0 1000 una=1000 nxt=1000 cwnd=5000 ssthresh=64000 phase=ss
-at 5 of the run, time 3080000 ns, the end
-5 3080000 0 2 1 ack 0 1000 una=1000 nxt=1000 cwnd=5000 ssthresh=64000 phase=ss
-at 5 of the run, time 3080000 ns, the end
-'''
+TOLD = ''.join((
+    BEGINNING, 'break 1: kind free\n', 'break 2: node 1\n',
+    *ONE[:2], 'at 2 of the run, time 1040000 ns\n', 'break 1: kind free\n',
+    ONE[2], 'at 3 of the run, time 2040000 ns\n', 'break 2: node 1\n',
+    ONE[3], 'at 4 of the run, time 2080000 ns\n', 'break 1: kind free\n',
+    ONE[3], 'at 3 of the run, time 2040000 ns\n',
+    *ONE[1:3], 'clear\n', *ONE[3:5], END, ONE[4], END))
 
 # Breakpoints of several conditions over two flows of equal times, and words that are none.
 CONDITIONS = ['br kind data flow 1', 'br link 4', 'br byte 0 link 2 node 2 flow 0', 'br  flow 1 kind data', 'breaks', 'r', '', 're',
@@ -229,23 +187,16 @@ break 1: flow 1 kind data
 break 1: flow 1 kind data
 break 2: link 4
 break 3: node 2 flow 0 link 2 byte 0
-1 0 0 0 0 start 0 una=0 nxt=1000 cwnd=4000 ssthresh=64000 phase=ss tx=0:0:0
-2 0 1 0 0 start 1 una=0 nxt=1000 cwnd=4000 ssthresh=64000 phase=ss tx=1:1:0
-3 1040000 0 0 3 free 0 una=0 nxt=1000 cwnd=4000 ssthresh=64000 phase=ss
-4 1040000 1 0 3 free 1 una=0 nxt=1000 cwnd=4000 ssthresh=64000 phase=ss
-5 2040000 2 1 1 data 0 0 tx=2:0:0
+''' + ''.join(EQUAL[:5]) + f'''\
 at 5 of the run, time 2040000 ns
 break 3: node 2 flow 0 link 2 byte 0
-6 2040000 2 2 1 data 1 0 tx=4:1:0
-at 6 of the run, time 2040000 ns, the end
+{EQUAL[5]}at 6 of the run, time 2040000 ns, the end
 break 1: flow 1 kind data
-6 2040000 2 2 1 data 1 0 tx=4:1:0
-at 5 of the run, time 2040000 ns
+{EQUAL[5]}at 5 of the run, time 2040000 ns
 break 3: node 2 flow 0 link 2 byte 0
 break 4: node 4 flow 1 kind delack drop link 7 byte 9000000000000
 deleted 1: flow 1 kind data
-6 2040000 2 2 1 data 1 0 tx=4:1:0
-at 6 of the run, time 2040000 ns, the end
+{EQUAL[5]}at 6 of the run, time 2040000 ns, the end
 break 1: link 4
 '''
 

@@ -1,0 +1,121 @@
+#!/usr/bin/env python3
+"""Tests of two runs under one clock in the page with the simulator: python3 -m pytest dev/test_page_compare.py."""
+import csv
+import io
+import json
+import os
+import sys
+
+sys.path.insert(0, os.path.dirname(os.path.abspath(__file__)))
+from page_cases import read
+from page_use import choose, element, look, pick, run, text_of, write
+
+pytest_plugins = 'page_fixtures'
+
+
+def compare(browser, first, second):
+    """Runs both, and waits until they are shown; answers what the page says."""
+    pick(browser, '#compare-first', first)
+    pick(browser, '#compare-second', second)
+    return go(browser)
+
+
+def go(browser):
+    before = browser.value('document.documentElement.dataset.compared || 0')
+    browser.click(element('#compare-go'))
+    browser.wait(f'(document.documentElement.dataset.compared || 0) != {before}')
+    return text_of(browser, '#compare-said')
+
+
+def state(browser):
+    """The clock's moment, and each run's position."""
+    return browser.json('[simulator.compare.clock.time, ...simulator.compare.clock.pages.map(it => it.record.at)]')
+
+
+def test_bufferbloat_beside_codel(browser):
+    """Lessons 10 and 11: one clock, curves of both, and the figures that differ as the program counts them."""
+    browser.size(1400, 900)
+    choose(browser, 'lesson 10')
+    browser.click(element('[data-tab=compare]'))
+    assert compare(browser, 'editor', 'example bufferbloat_with_codel') == ''
+    assert state(browser) == [0, 1, 1]      # the first event of each is at 0
+    browser.click(element('#both-drop'))
+    found = browser.json('simulator.compare.records.map(it => it.drops.map(drop => drop.time))')
+    assert not found[0] and state(browser)[0] == min(found[1])
+    at = [browser.json(f'simulator.compare.records[{k}].eventsBefore({min(found[1]) + 1})') for k in (0, 1)]
+    assert state(browser)[1:] == at
+    for k in (0, 1):
+        told = browser.value(f'document.querySelectorAll("#both iframe")[{k}].contentDocument.getElementById("where").textContent')
+        assert told.startswith(f'event {at[k]:,} of')
+    # Both runs' curves lie in one panel, solid and dashed, and a click there moves both.
+    dashes = browser.json('[...document.querySelectorAll("#both-lengths path[stroke]")].map(e => e.getAttribute("stroke-dasharray"))')
+    assert dashes == [None, '7 4']
+    look(browser, 'compare')
+    browser.click(element('#both-windows .catch'))
+    middle = state(browser)
+    assert middle[0] > 1e9 and middle[1:] == [browser.json(f'simulator.compare.records[{k}].eventsBefore({middle[0]} + 1)') for k in (0, 1)]
+    browser.press('Home')
+    assert state(browser)[0] == 0
+    browser.press('ArrowRight')
+    assert state(browser)[0] > 0
+    tables = browser.json('''Promise.all(["bufferbloat", "bufferbloat_with_codel"].map(async name =>
+      new TextDecoder().decode((await simulator.engine.run(["figures"], toBytes(simulator.examples[name]))).bytes)))''')
+    rows = [{(it['what'], it['number'], it['figure'], it['unit']): it['value'] for it in csv.DictReader(io.StringIO(one))} for one in tables]
+    differ = [key for key in {**rows[0], **rows[1]} if rows[0].get(key) != rows[1].get(key)]
+    shown = browser.json('[...document.querySelectorAll("#both-figures tbody tr")].map(row => [...row.cells].map(cell => cell.textContent))')
+    assert len(shown) == len(differ) > 5
+    assert text_of(browser, '#both-figures caption') == f'{len(differ)} of {len({**rows[0], **rows[1]})} figures differ'
+    assert ['link a', 'dropped by CoDel (packets)', '0'] in [row[:3] for row in shown]
+    browser.value(f'{element("#both-figures")}.scrollIntoView()')
+    look(browser, 'compare_figures')
+
+
+def test_one_text_with_another_queue(browser):
+    """The text that is written differs in one line, and the program takes it."""
+    choose(browser, 'example four_flows_share_a_long_queue')
+    browser.click(element('[data-tab=compare]'))
+    pick(browser, '#compare-first', 'editor')
+    pick(browser, '#compare-second', 'queue')
+    links = browser.json('[...document.getElementById("compare-link").options].map(it => it.text)')
+    pick(browser, '#compare-link', str(links.index('pq')))
+    browser.value('document.getElementById("compare-word").value = ""')
+    write(browser, '#compare-word', 'codel:5ms:100ms:50')
+    assert go(browser) == ''
+    text = read('examples', 'four_flows_share_a_long_queue.txt').decode()
+    facts = 'factsOf(simulator.editor.text, "")'
+    changed = browser.json(f'withQueue(simulator.editor.text, {facts}, {links.index("pq")}, "codel:5ms:100ms:50", simulator.compare.ranges)')
+    lines = [(one, two) for one, two in zip(text.split('\n'), changed.split('\n')) if one != two]
+    assert len(lines) == 1 and lines[0][0].startswith('link pq p q ')
+    head, comment = lines[0][0].split('#')[0].split(), lines[0][0].partition('#')[2]
+    assert lines[0][1].split('#')[0].split() == [*head[:6], 'codel', '50', '5000000', '100000000', lines[0][1].split()[10]]
+    assert lines[0][1].partition('#')[2] == comment
+    assert browser.json('simulator.compare.records.map(it => it.facts.links.find(link => link.name === "pq").queue)') == ['droptail', 'codel']
+    look(browser, 'compare_queue')
+    browser.value('document.getElementById("compare-word").value = ""')
+    write(browser, '#compare-word', 'red:5')
+    assert "'red:5' is no queue" in go(browser)
+    assert not browser.value('document.querySelector("#both iframe")')
+
+
+def test_a_refused_text_is_told(browser):
+    choose(browser, 'example one_segment')
+    browser.value('simulator.editor.text = "sim 0\\n"')
+    browser.click(element('[data-tab=compare]'))
+    assert 'refused E5 line 1' in compare(browser, 'editor', 'example one_segment')
+    choose(browser, 'example one_segment')
+    assert run(browser).startswith('done in')
+    browser.click(element('[data-tab=compare]'))
+    assert compare(browser, 'run', 'example one_segment') == ''
+    assert text_of(browser, '#both-figures caption').startswith('all ')
+
+
+def test_bdp_as_the_package_counts_it(chromium):
+    """droptail:BDP at a link of each template is what tcpsim-net writes of it."""
+    for shape, link in (('dumbbell', 'pq'), ('chain', 'p1p2'), ('parking-lot', 'p0p1'), ('asymmetric', 'down')):
+        told = chromium.json(f'''(() => {{
+          const ranges = dataOf("templates").ranges, plain = templateText({json.dumps(shape)}, {{}}, ranges), wanted = templateText({json.dumps(shape)}, {{queue: "droptail:BDP"}}, ranges);
+          const facts = factsOf(plain, ""), link = facts.links.findIndex(it => it.name === {json.dumps(link)});
+          const line = text => text.split("\\n").find(it => it.startsWith("link {link} ")).split("#")[0].trim();
+          return [line(withQueue(plain, facts, link, "droptail:BDP", ranges)), line(wanted)];
+        }})()''')
+        assert told[0] == told[1], told

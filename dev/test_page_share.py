@@ -1,0 +1,184 @@
+#!/usr/bin/env python3
+"""Tests of what leaves the page with the simulator: fragments that are shared, and files that are saved, with pictures of panels:
+python3 -m pytest dev/test_page_share.py.
+"""
+import functools
+import http.server
+import json
+import os
+import struct
+import sys
+import threading
+import time
+import xml.etree.ElementTree
+
+import pytest
+
+sys.path.insert(0, os.path.dirname(os.path.abspath(__file__)))
+import browsers
+import page_cases
+from page_use import choose, element, look, pick, run, text_of
+
+pytest_plugins = 'page_fixtures'
+
+
+def shared(browser):
+    """What the dialog has to be copied."""
+    browser.click(element('#share-open'))
+    browser.wait('document.getElementById("share-dialog").open')
+    text = browser.value('document.getElementById("share-text").value')
+    look(browser, 'share')
+    browser.click(element('#share-close'))
+    return text
+
+
+def opened_with(browser, address):
+    """Opens the page anew; waits until the program is ready."""
+    browser.open(address)
+    browser.wait('document.documentElement.dataset.ready')
+
+
+def test_a_lesson_at_an_event_is_shared(browser, made):
+    """Its text was changed; who opens the fragment sees text, lesson, view and position."""
+    address = f'file://{made[0]}'
+    browser.size(1400, 900)
+    choose(browser, 'lesson 4')
+    changed = browser.value('simulator.editor.text').replace('droptail 10', 'droptail 20') + '# of my own & "quoted" <b>\n'
+    browser.value(f'simulator.editor.text = {json.dumps(changed)}')
+    assert run(browser).startswith('done in')
+    browser.value('simulator.goTo(33)')
+    fragment = shared(browser)
+    assert fragment.startswith('#lesson=4&name=') and 'disk' in text_of(browser, '#share-how')
+    assert len(fragment) < len(changed)
+    opened_with(browser, address + fragment)
+    browser.wait('window.page && page.record.at === 33')
+    assert browser.value('simulator.editor.text') == changed
+    assert text_of(browser, '#lesson h2').startswith('4. ')
+    assert browser.value('document.getElementById("run-side").dataset.view') == 'net'
+    # In a page that is open, put behind its address.
+    browser.click(element('[data-tab=debug]'))
+    browser.wait('simulator.prompt')
+    fragment = shared(browser)
+    opened_with(browser, address)
+    browser.value(f'location.hash = {json.dumps(fragment)}')
+    browser.wait('window.page && page.record.at === 33 && document.getElementById("run-side").dataset.view === "debug"')
+    browser.wait('document.querySelector("#debugger pre").textContent.includes("at 33 of the run")')
+    opened_with(browser, address)
+
+
+def test_the_copy_is_in_the_clipboard_or_marked(browser):
+    choose(browser, 'example one_segment')
+    browser.click(element('#share-open'))
+    browser.wait('document.getElementById("share-dialog").open')
+    browser.click(element('#share-copy'))
+    browser.wait('["copied", "It is marked: copy it by Ctrl-C."].includes(document.getElementById("share-said").textContent)')
+    assert browser.value('(box => box.selectionEnd - box.selectionStart === box.value.length)(document.getElementById("share-text"))')
+    browser.click(element('#share-close'))
+
+
+def test_every_example_comes_back(browser):
+    told = browser.json('''Promise.all(Object.entries(simulator.examples).map(async ([name, text]) => {
+      const given = await readFragment(await fragmentOf({text, name, lesson: null, view: "trace", event: 7}));
+      return given.text === text && given.name === name && given.view === "trace" && given.event === 7 && given.lesson === null;
+    }))''')
+    assert len(told) > 20 and all(told)
+
+
+@pytest.mark.parametrize('fragment, says', [('#scenario=%%%', 'not whole'), ('#scenario=AAAA', 'not whole'), ('#scenario=c3Rv', 'not whole')])
+def test_a_fragment_that_is_not_whole(browser, fragment, says):
+    before = browser.value('simulator.editor.text')
+    browser.value(f'location.hash = {json.dumps(fragment)}')
+    browser.wait(f'document.getElementById("said").textContent.includes({json.dumps(says)})')
+    assert browser.value('simulator.editor.text') == before
+    browser.value('history.replaceState(null, "", location.pathname)')
+
+
+def test_a_fragment_cannot_fill_the_memory_nor_bring_html(chromium, made):
+    word = chromium.value('packedText("#".repeat(40000000))')
+    assert len(word) < 100_000
+    chromium.value(f'location.hash = {json.dumps("#scenario=" + word)}')
+    chromium.wait('document.getElementById("said").textContent.includes("more than 16 MiB")')
+    evil = '<img src=x onerror="window.hit=1">'
+    fragment = chromium.value(f'fragmentOf({{text: "# " + {json.dumps(evil)} + "\\n" + simulator.examples.one_segment, name: {json.dumps(evil)}, lesson: null, view: {json.dumps(evil)}, event: 3}})')
+    opened_with(chromium, f'file://{made[0]}{fragment}')
+    chromium.wait('window.page && page.record.at === 3')
+    chromium.click(element('[data-tab=compare]'))
+    time.sleep(.3)
+    assert chromium.json('[typeof window.hit, document.querySelectorAll("img[src=x]").length]') == ['undefined', 0]
+
+
+def test_from_a_server_the_whole_address_is_shared(chromium, made):
+    handler = functools.partial(http.server.SimpleHTTPRequestHandler, directory=os.path.dirname(made[0]))
+    handler.log_message = lambda *_: None
+    server = http.server.ThreadingHTTPServer(('127.0.0.1', 0), handler)
+    threading.Thread(target=server.serve_forever, daemon=True).start()
+    try:
+        address = f'http://127.0.0.1:{server.server_port}/tcpsim.html'
+        opened_with(chromium, address)
+        text = shared(chromium)
+        assert text.startswith(f'{address}#lesson=1&') and 'disk' not in text_of(chromium, '#share-how')
+        opened_with(chromium, text)
+        chromium.wait('window.page && document.getElementById("said").textContent.startsWith("done")')
+    finally:
+        opened_with(chromium, f'file://{made[0]}')
+        server.shutdown()
+        server.server_close()
+
+
+# ---- files
+
+def folder_of(browser, tmp_path):
+    """Where the browser keeps what it downloads."""
+    if isinstance(browser, browsers.Chromium):
+        browser.call('Browser.setDownloadBehavior', behavior='allow', downloadPath=str(tmp_path))
+        return str(tmp_path)
+    return os.path.join(os.path.dirname(browser.log.name), 'Downloads')
+
+
+def saved(folder, name, seconds=60):
+    """The bytes of a file that is being saved."""
+    path, until = os.path.join(folder, name), time.monotonic() + seconds
+    while time.monotonic() < until:
+        if os.path.exists(path) and os.path.getsize(path) and not os.path.exists(f'{path}.part'):
+            time.sleep(.2)
+            with open(path, 'rb') as file:
+                return file.read()
+        time.sleep(.1)
+    raise AssertionError(f'{name} is not saved: {os.listdir(folder) if os.path.isdir(folder) else folder}')
+
+
+def test_files_are_saved(browser, tmp_path):
+    browser.size(1400, 900)
+    choose(browser, 'example two_flows_share_fairly')
+    assert run(browser).startswith('done in')
+    browser.wait('!document.getElementById("save-figures").disabled')
+    folder, name = folder_of(browser, tmp_path), 'two_flows_share_fairly'
+    browser.value('simulator.goTo(500)')
+    browser.click(element('#save-open'))
+    look(browser, 'save')
+    for button, ending in (('#save', '.txt'), ('#save-image', '.tcb'), ('#save-trace', '.trace'), ('#save-figures', '.csv')):
+        browser.click(element(button))
+        data = saved(folder, name + ending)
+        if ending in ('.txt', '.trace'):
+            assert data == page_cases.read('examples', name + ending)
+        assert data.startswith({'.tcb': b'TCB', '.csv': b'what,number,figure,unit,value\n'}.get(ending, data[:1]))
+    panels = browser.json('[...document.getElementById("save-panel").options].map(it => it.value)')
+    assert panels == ['net', 'windows', 'lengths']
+    for panel, called in zip(panels, ('the_net', 'windows', 'queues')):
+        pick(browser, '#save-panel', panel)
+        browser.click(element('#save-svg'))
+        svg = saved(folder, f'{name}_{called}.svg').decode()
+        root = xml.etree.ElementTree.fromstring(svg)
+        assert root.tag == '{http://www.w3.org/2000/svg}svg' and int(root.get('width')) > 300
+        texts = [''.join(it.itertext()) for it in root.iter('{http://www.w3.org/2000/svg}text')]
+        assert {'net': {'router', 'p', 'q', 'sa'}, 'windows': {'fa', 'fb', '5k'}, 'lengths': {'pq', 'packets that wait'}}[panel] <= {*texts}, texts
+        assert ('pq' in texts) == (panel == 'lengths')      # names of curves stand below their own panel
+        assert 'fill: rgb' in svg and 'class="catch"' not in svg
+        browser.click(element('#save-png'))
+        png = saved(folder, f'{name}_{called}.png')
+        assert png[:8] == b'\x89PNG\r\n\x1a\n'
+        assert struct.unpack('>II', png[16:24]) == (2 * int(root.get('width')), 2 * int(root.get('height')))
+        if os.environ.get('PAGE_PICTURES'):
+            with open(os.path.join(os.environ['PAGE_PICTURES'], f'{type(browser).__name__}_saved_{called}.png'), 'wb') as file:
+                file.write(png)
+    browser.click(element('#save-close'))
