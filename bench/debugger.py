@@ -18,7 +18,7 @@ import sys
 import time
 from collections import namedtuple
 
-from results import BENCH, CALLGRIND, ENVIRONMENT, PROGRAM, instructions, number, processor, saved, table
+from results import BENCH, CALLGRIND, ENVIRONMENT, PROGRAM, instructions, made, number, saved, table
 from scenarios import EVER, GBIT, MBIT, MS, MSS, ROUTER, SCENARIOS, US, Net, disassemble, droptail, four_groups, islands, two_ends, under_way
 
 PAGE = os.path.join(BENCH, 'DEBUGGER.md')
@@ -255,7 +255,7 @@ def within(count, bar):
 
 def page(args, before):
     yield '# What the debugger costs\n'
-    yield (f'Made by `python3 bench/debugger.py` on {processor()}: commands are typed at a prompt, one by one, into pipes; a time is from '
+    yield (f'{made()}. Made by `python3 bench/debugger.py`: commands are typed at a prompt, one by one, into pipes. A time is from '
            'a line to the next prompt, so the program\'s own and the pipes\'. '
            f'The least of {args.rounds} rounds counts, and of commands in a row the mean and the longest of the best round.\n')
     yield '## At a prompt\n'

@@ -23,7 +23,7 @@ import beside_ns2
 import images
 import steps
 import workers
-from results import CALLGRIND, ENVIRONMENT, PROGRAM, RESULTS, TOP, instructions, number, processor, saved, table
+from results import CALLGRIND, ENVIRONMENT, PROGRAM, RESULTS, TOP, instructions, made, number, processor, saved, table
 from scenarios import SCENARIOS, disassemble, started
 
 FEW, MANY = 20_000, 200_000
@@ -272,7 +272,7 @@ def report(start, runs, crowded, networks, long):
         return (r.instructions - start.instructions) / (r.events - start.events)
 
     yield '# What a run costs\n'
-    yield (f'Made by `make bench` with `{told("rt", "version")}` and `{told("valgrind", "--version")}`. One flow '
+    yield (f'{made()}. Made by `make bench` with `{told("rt", "version")}` and `{told("valgrind", "--version")}`. One flow '
            'of segments of 1,460 bytes over 100 Mbit/s, 1 ms each way, through a drop-tail queue of 20 packets '
            'that it overflows now and then. The whole trace is written, to /dev/null. A link takes at most 64 '
            'losses by name, so the last is that of its packet 64,000. What the debugger costs is in '

@@ -1,6 +1,8 @@
 """What the measuring scripts share: the program, how it is counted, and the sections of bench/RESULTS.md."""
 import os
 import re
+import subprocess
+import time
 
 TOP = os.path.dirname(os.path.dirname(os.path.abspath(__file__)))
 BENCH = os.path.join(TOP, 'bench')
@@ -34,6 +36,12 @@ def processor():
     with open('/proc/cpuinfo') as info:
         found = re.search(r'model name\s*:\s*(.*)', info.read())
     return found[1] if found else 'an unnamed processor'
+
+
+def made():
+    """When, of which commit and on which machine a page is made."""
+    commit = subprocess.run(['git', 'rev-parse', '--short', 'HEAD'], cwd=TOP, capture_output=True, check=False, text=True).stdout.strip()
+    return f'{time.strftime("%Y-%m-%d")}, commit {commit or "unknown"}, {processor()}, {os.cpu_count()} processors'
 
 
 def table(heads, rows):
