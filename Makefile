@@ -31,7 +31,7 @@ BASH_COMPLETIONS = share/bash-completion/completions
 ZSH_COMPLETION = share/zsh/site-functions/_tcpsim
 FISH_COMPLETIONS = share/fish/vendor_completions.d
 # The tools that are installed, each started by bin/tcpsim-NAME, and the packages below python/ that they are made of.
-TOOLS = run plot flows net sweep replay follow stalls model
+TOOLS = run debug plot flows net sweep replay follow stalls model
 PACKAGES = tcpsim tcpsim_model
 
 # Where CI=true all that tests want is installed first, and a test that is left out has failed.
@@ -92,7 +92,7 @@ install:
 	install -D -m 644 "$$it" "$$ROOT/lib/tcpsim/$${it#python/}" || exit 1; done
 	install -m 755 $(TOOLS:%=bin/tcpsim-%) "$$ROOT/bin"
 	install -m 644 man/*.1 "$$ROOT/share/man/man1"
-	@for it in README.md CHANGELOG.md SECURITY.md THIRD-PARTY LICENSE-MIT LICENSE-APACHE docs/*.md docs/pictures/* \
+	@for it in README.md CHANGELOG.md CONTRIBUTING.md SECURITY.md THIRD-PARTY LICENSE-MIT LICENSE-APACHE docs/*.md docs/pictures/* \
 	bench/*.md examples/* dev/README.md python/README.md python/tcpsim_model/README.md $$(find editors -type f); do \
 	install -D -m 644 "$$it" "$$ROOT/$(DOCUMENTS)/$$it" || exit 1; done
 	install -m 644 completions/tcpsim.bash "$$ROOT/$(BASH_COMPLETIONS)/tcpsim"

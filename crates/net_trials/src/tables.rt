@@ -7,8 +7,16 @@ use std::test::Fail;
 #[test]
 fn of_neither_flow_nor_link(rt: HostRuntime) -> Result<(), Fail> {
     let mut text = Vec::from_slice(rt.alloc(), b"before\n")?;
-    figures_text(&[], &[], RunSummary { events: 0, end: 7 }, &mut text)?;
-    let told = b"before\nwhat,number,figure,unit,value\nrun,,events,events,0\nrun,,end,ns,7\n";
+    figures_text(
+        &[],
+        &[],
+        RunSummary {
+            events: 0,
+            end: None,
+        },
+        &mut text,
+    )?;
+    let told = b"before\nwhat,number,figure,unit,value\nrun,,events,events,0\nrun,,end,ns,-\n";
     assert!(rt; text.as_slice() == told.as_slice());
     Ok(())
 }
