@@ -5,14 +5,12 @@ scenario's end. Nothing but Python's standard library. All times are nanoseconds
 """
 from __future__ import annotations
 
-import math
 import tempfile
 from array import array
 from collections import Counter, defaultdict
 from collections.abc import Iterable, Sequence
 from itertools import islice
 
-from tcpsim import output
 from tcpsim.cycle import Cycle, cycle_of
 from tcpsim.cycle import figures_of as cycle_figures
 from tcpsim.engine import BUSY, REASONS, WAITED, EngineRun
@@ -24,7 +22,6 @@ from tcpsim.trace import ACK, DATA, NEVER, FlowState, LinkState, Reader, Stream
 S = 10**9
 HELD = 1 << 19          # numbers that all samples together hold in memory
 PORTION = 1 << 16       # lines between two looks at how many are held
-ROWS = 10**6            # the most of a series
 
 
 def jain(shares: Sequence[float]) -> float | None:
@@ -83,18 +80,6 @@ class FlowFigures(FlowState):
         return self.delivered() * BITS_NS / (until - since) if since < until else None
 
 
-class FlowSeries(FlowFigures):
-    """A flow's counts, and its window summed over the time."""
-
-    cwnd = area = 0     # the area up to a moment t is `area + cwnd * t`
-
-    def on_window(self, time: int, cwnd: str, _ssthresh: str, _flight: int) -> None:
-        """Sums the window over the time."""
-        now = int(cwnd) if self.completed is None else 0
-        self.area += (self.cwnd - now) * time
-        self.cwnd = now
-
-
 class LinkFigures(LinkState):
     """A link's counts from the span's begin on."""
 
@@ -109,7 +94,6 @@ class LinkFigures(LinkState):
         self.overhang = 0 if self.last is None else max(0, self.began + self.duration(self.last) - time)
         self.count = defaultdict(int)       # packets sent of each stream
         self.drops, self.greatest, self.before = 0, len(self.waiting), self.summed(time)
-        self.most = 0                       # of the rows before, `greatest` counts anew in each
         self.last = None
         self.longest_wait = 0               # ns, of the packets that it began to send
         del self.waits[:]
@@ -147,10 +131,6 @@ class LinkFigures(LinkState):
         """How many packets waited, in the mean over a span in ns."""
         return (self.summed(end) - self.before) / (end - begin)
 
-    def greatest_queue(self) -> int:
-        """The most packets that waited at once."""
-        return max(self.most, self.greatest)
-
     def sending(self, end: int) -> int:
         """Nanoseconds in which it was sending."""
         past = 0 if self.last is None else max(0, self.began + self.duration(self.last) - end)
@@ -162,13 +142,13 @@ class LinkFigures(LinkState):
 
 
 class Figures(Reader):
-    """A trace's figures from `begin` (else the first flow's start) to `end`, read as they come. With a
-    `step`, the rows of a series."""
+    """A trace's figures from `begin` (else the first flow's start) to `end`, read as they come."""
 
-    def __init__(self, scenario: Scenario, lines: Iterable[str], begin: int | None = None, end: int | None = None,
-                 step: int | None = None):
-        super().__init__(scenario, FlowFigures if step is None else FlowSeries, LinkFigures)
-        self._file, self.series = tempfile.TemporaryFile(), tempfile.TemporaryFile()
+    kinds = FlowFigures, LinkFigures
+
+    def __init__(self, scenario: Scenario, lines: Iterable[str], begin: int | None = None, end: int | None = None):
+        super().__init__(scenario, *self.kinds)
+        self._file = tempfile.TemporaryFile()
         self.trips = [Sample(self._file) for _ in self.flows]
         self.waits = [Sample(self._file) for _ in self.links]
         for flow, sample in zip(self.flows, self.trips):
@@ -177,8 +157,8 @@ class Figures(Reader):
             link.waits = sample.recent
         self.first = min(flow.start for flow in scenario.flows)
         self.begin, self.end = self.first if begin is None else begin, end
-        self._stop, self._step, self.rows = NEVER if end is None else end, step, 0
-        self._due, self._started, self._row_begin = self.begin, False, self.begin
+        self._stop = NEVER if end is None else end
+        self._due, self._started = self.begin, False
         self._read_all(lines)
 
     def _read_all(self, lines):
@@ -190,38 +170,34 @@ class Figures(Reader):
             if sum(len(sample.recent) for sample in samples) > HELD:
                 for sample in samples:
                     sample.spill()
-        done = all(flow.completed is not None for flow in self.flows)
-        last = self.last if done or not self.whole else self.scenario.end
-        if not self._stopped():
-            self.end = min(self._stop, last)
+        if self._due is not None:
+            self.end = min(self._stop, self._run_end())
         if not self._started and self.begin < max(self.end, self.first + 1):
-            self._start()
+            self.reached(self.begin)
         if not self._started:
             raise Unreadable(f'the run ends at {self.end / S:g} s: nothing of it is at or after {self.begin / S:g} s')
         self.end = max(self.end, self.begin + 1)
-        if self._step is not None:
-            self.reached(self.end - 1)
-            self._row(self.end)
 
-    def _stopped(self):
-        return self._due is None
+    def _run_end(self):
+        """Where the span ends if no `end` is before that."""
+        done = all(flow.completed is not None for flow in self.flows)
+        return self.last if done or not self.whole else self.scenario.end
 
-    # Moments at which the span begins, a row ends, or the span ends.
+    # Moments at which the span begins, or ends.
 
     def reached(self, time: int) -> int | None:
-        """Begins the span, ends a row or the span; answers the next such moment in ns. Unreadable where rows are too many."""
-        if self._step and (min(time, self._stop) - self._row_begin) // self._step + self.rows > ROWS:
-            raise Unreadable(f'the series has more than {ROWS:,} rows: take a longer step')
+        """Begins the span, or ends it; answers the next such moment in ns."""
         while self._due is not None and self._due <= time:
-            if not self._started:
-                self._start()
-            elif self._due == self._stop:
+            if self._started and self._due == self._stop:
                 self._due = None
-                break
             else:
-                self._row(self._due)
-            self._due = min(self._stop, NEVER if self._step is None else self._row_begin + self._step)
+                self._due = self._passed(self._due)
         return self._due
+
+    def _passed(self, _moment):
+        """Begins the span; answers the next moment."""
+        self._start()
+        return self._stop
 
     def _start(self):
         self._started = True
@@ -231,40 +207,6 @@ class Figures(Reader):
             link.begin(self.begin)
         for sample in self.trips + self.waits:
             sample.clear()
-        self._before = self._sums(self.begin)
-
-    # The rows of a series: in the file `series`, the two moments and then a number for each column.
-
-    def columns(self) -> list[tuple]:
-        """The titles of a row's numbers, and the link of each, if it is a link's."""
-        return [('from s', None), ('to s', None)] + [
-            (f'{flow.flow.name} {what}', None) for flow in self.flows
-            for what in ('mean cwnd bytes', 'goodput bit/s')] + [
-            (f'{link.link.name} {what}', link) for link in self.links
-            for what in ('mean queue packets', 'greatest queue packets')]
-
-    def _sums(self, time):
-        if self._step is None:
-            return None
-        return [(flow.area + flow.cwnd * time, flow.expected) for flow in self.flows], [
-            link.summed(time) for link in self.links]
-
-    def _row(self, end):
-        begin = self._row_begin
-        if begin == end:
-            return
-        now, row = self._sums(end), array('d', (begin, end))
-        for flow, before, after in zip(self.flows, self._before[0], now[0]):
-            active = min(end, end if flow.completed is None else flow.completed) - max(begin, flow.flow.start)
-            row.append((after[0] - before[0]) / active if active > 0 else math.nan)
-            row.append((after[1] - before[1]) * BITS_NS / (end - begin))
-        for link, before, after in zip(self.links, self._before[1], now[1]):
-            row.append((after - before) / (end - begin))
-            row.append(link.greatest)
-            link.most, link.greatest = max(link.most, link.greatest), len(link.waiting)
-        with output.named(tempfile.gettempdir()):
-            row.tofile(self.series)
-        self.rows, self._row_begin, self._before = self.rows + 1, end, now
 
 
 def part(count: int, of: int) -> float | None:
@@ -310,7 +252,7 @@ def link_figures(run: Figures, number: int, used: Sequence[float]) -> list[tuple
     """The figures of a link, as those of a flow. Its loss is of the packets that it has sent or dropped."""
     link, waits = run.links[number], run.waits[number]
     return [('utilization', 'part', used[number]),
-            ('greatest queue', 'packets', link.greatest_queue()),
+            ('greatest queue', 'packets', link.greatest),
             ('mean queue', 'packets', link.mean_queue(run.begin, run.end)),
             ('median delay in the queue', 'ns', waits.percentile(50)),
             ('95th percentile of delay in the queue', 'ns', waits.percentile(95)),

@@ -67,3 +67,32 @@ class Sample:
             portion.fromfile(self._file, count)
             yield portion
         yield self.recent
+
+
+class Classes:
+    """How many numbers not below 0 there are of each class, as `tcpsim figures` counts them (docs/FORMATS.md, "Percentiles").
+    The room for it has a bound. A number below 64 is a class; from there on each doubling has 32."""
+
+    def __init__(self):
+        self._counts = Counter()        # of each class, by its greatest number
+        self._greatest = 0
+
+    def add(self, number: int) -> None:
+        """Counts a number."""
+        shift = max(0, number.bit_length() - 6)
+        self._counts[((number >> shift) + 1 << shift) - 1] += 1
+        self._greatest = max(self._greatest, number)
+
+    def clear(self) -> None:
+        """Forgets all numbers."""
+        self._counts.clear()
+        self._greatest = 0
+
+    def percentile(self, percent: int) -> int | None:
+        """The greatest number of the class that has the nearest rank, or of all where that is less; None of no numbers."""
+        rank = -(-percent * sum(self._counts.values()) // 100)
+        for top in sorted(self._counts):
+            rank -= self._counts[top]
+            if rank <= 0:
+                return min(top, self._greatest)
+        return None

@@ -252,13 +252,19 @@ def test_a_trace_is_read_as_far_as_is_wanted(engine):
 
 
 def test_series_are_those_of_tcpsim_flows(engine):
+    """The first flow starts at 0, where the rows of tcpsim-flows begin. Flow 1 is g, link 0 is a."""
     series = tcpsim.run(example('bufferbloat_with_codel'), engine=engine).series('2s')
-    rows = list(csv.reader(io.StringIO(ran(os.path.join(BIN, 'tcpsim-flows'), example('bufferbloat_with_codel'), '--series', '2s'))))
-    assert len(series) == len(rows) - 1
-    for title, column in (('f mean cwnd bytes', series.flows['f'].cwnd), ('g goodput bit/s', series.flows['g'].goodput),
-                          ('a mean queue packets', series.links['a'].queue_mean), ('a greatest queue packets', series.links['a'].queue_max)):
-        at = rows[0].index(title)
-        assert [row[at] for row in rows[1:]] == ['' if value != value else f'{value:.9f}'.rstrip('0').rstrip('.') for value in column]
+    rows = csv.DictReader(io.StringIO(ran(os.path.join(BIN, 'tcpsim-flows'), example('bufferbloat_with_codel'), '--series', '2s')))
+    values = {}
+    for row in rows:
+        values.setdefault((row['what'], row['number'], row['figure']), []).append(row['value'])
+    lengths = [round(end * 1e9) - round(begin * 1e9) for begin, end in zip(series.begin_s, series.end_s)]
+    assert lengths[:-1] == [2 * 10**9] * 3 and lengths[-1] < 2 * 10**9
+    for key, column, value in ((('flow', '1', 'delivered'), series.flows['g'].goodput, lambda count, length: count * 8 * 10**9 / length),
+                               (('link', '0', 'waited'), series.links['a'].queue_mean, lambda count, length: count / length),
+                               (('link', '0', 'greatest queue'), series.links['a'].queue_max, lambda count, length: count)):
+        assert list(column) == [value(int(word), length) for word, length in zip(values[key], lengths, strict=True)], key
+    assert all(0 < mean <= 64000 for mean in series.flows['f'].cwnd)
 
 
 def test_stalls_are_those_of_tcpsim_stalls():

@@ -114,7 +114,7 @@ def link_counts(run, link, end):
             (('dropped as lost', 'packets'), dropped['lost']), (('dropped as full', 'packets'), dropped['full']),
             (('dropped by CoDel', 'packets'), dropped['codel']), (('sent packets', 'packets'), link.sent()),
             (('sent bytes', 'bytes'), sum(n * stream.size for stream, n in link.count.items())),
-            (('busy', 'ns'), link.sending(end)), (('greatest queue', 'packets'), link.greatest_queue()),
+            (('busy', 'ns'), link.sending(end)), (('greatest queue', 'packets'), link.greatest),
             (('waited', 'packet-ns'), link.summed(end)),
             (('greatest delay in the queue', 'ns'), max(link.waits, default=None))]
 

@@ -2,7 +2,6 @@
 TRACE, or is said by another way to the same number. test_trace.py has the account of TRACE, line by line; how the tool ends,
 and files that are none, are in test_ends.py.
 """
-import csv
 import os
 import random
 import sys
@@ -143,50 +142,16 @@ def test_a_run_that_is_spilled_has_the_same_figures(monkeypatch):
     assert rows() == whole
 
 
-class TestSeries(Files):
-    def series(self, *words):
-        return list(csv.DictReader(self.lines(self.scenario, self.trace, *words)))
-
-    def test_rows(self):
-        """In steps of 4 ms. cwnd is 4000 to 3.08, 5000 to 4.12, 6000 to 5.16, 7000 to 8.28, 5500 to 11.36; a's
-        queue is 2 to 1.04, 1 to 2.08, 0 to 3.08, 2 to 3.12, 1 to 4.12, 2 to 4.16, 1 to 5.2."""
-        got = self.series('--series', '4ms')
-        assert [(row['from s'], row['to s']) for row in got] == [('0', '0.004'), ('0.004', '0.008'), ('0.008', '0.012')]
-        for column, values in (
-                ('f mean cwnd bytes', ((4 * 3.08 + 5 * .92) / .004, (5 * .12 + 6 * 1.04 + 7 * 2.84) / .004,
-                                       (7 * .28 + 5.5 * 3.08 + 2.5 * .64) / .004)),
-                ('f goodput bit/s', (2000 * 8 / .004, 1000 * 8 / .004, 4000 * 8 / .004)),
-                ('a mean queue packets', ((2.08 + 1.04 + .08 + .88) / 4, (.12 + .08 + 1.04) / 4, 0)),
-                ('a greatest queue packets', (2, 2, 0)), ('b greatest queue packets', (0, 0, 0))):
-            for row, value in zip(got, values):
-                assert float(row[column]) == \
-                    pytest.approx(value, rel=0, abs=.5 * 10 ** -(5 if value < 1000 else 0)), (column, row['from s'])
-
-    def test_goodput_of_the_rows_is_what_was_delivered(self):
-        got = list(csv.DictReader(self.lines(*paths('two_flows_share_fairly'), '--series', '1s')))
-        assert len(got) == 14
-        assert round(sum(float(row['fa goodput bit/s']) for row in got) / 8) == 225_000
-
-    def test_a_last_row_that_is_shorter_and_one_that_is_chosen(self):
-        assert [row['to s'] for row in self.series('--series', '5ms')] == ['0.005', '0.01', '0.012']
-        assert [(row['from s'], row['to s']) for row in self.series('--series', '5ms', '--from', '1ms', '--to', '7ms')] == \
-            [('0.001', '0.006'), ('0.006', '0.007')]
-
-    def test_idle_links_are_left_out(self):
+class TestIdleLinks(Files):
+    def test_they_are_left_out(self):
         text = SCENARIO.replace('flow f', 'node p router\nlink c p s 8000000 1000000 droptail 2\nflow f')
         path = self.put('idle.txt', text)
-        for words in ((), ('--series', '4ms'), ('--csv',)):
+        for words, idle, used in (((), '\nc  ', '\na  '), (('--csv',), 'link,c,', 'link,a,')):
             every = '\n'.join(self.lines(path, self.trace, *words))
             busy = '\n'.join(self.lines(path, self.trace, '--busy', *words))
-            name = 'c mean' if '--series' in words else 'link,c,' if words else '\nc  '
-            assert name in every
-            assert name not in busy
-            assert (name.replace('c', 'a', 1) if words != ('--csv',) else 'link,a,') in busy
-
-    def test_too_many_rows(self):
-        done = self.run_flows(self.scenario, self.trace, '--series', '1ns')
-        assert (done.returncode, done.stdout) == (1, b'')
-        assert b'longer step' in done.stderr
+            assert idle in every
+            assert idle not in busy
+            assert used in busy
 
 
 class TestCommands(Files):

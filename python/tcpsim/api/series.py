@@ -1,12 +1,16 @@
 """A run by time: of each flow its mean window and goodput, of each link its mean and greatest queue, step by step."""
 from __future__ import annotations
 
+import math
 from array import array
 from dataclasses import dataclass, field
 from typing import TYPE_CHECKING
 
 from tcpsim.api.errors import ByName, wanted
-from tcpsim.figures import S, Figures
+from tcpsim.engine import WAITED
+from tcpsim.figures import S
+from tcpsim.scenario.units import BITS_NS
+from tcpsim.series import DELIVERED, GREATEST, Series, Step
 
 if TYPE_CHECKING:
     from pandas import DataFrame
@@ -32,22 +36,25 @@ class TimeSeries:
     """Rows for steps of time: `begin_s` and `end_s` of each, in seconds, and by name `flows` and `links`. The last step can be
     shorter."""
 
-    def __init__(self, run: Figures):
+    def __init__(self, run: Series):
         self.begin_s, self.end_s = array('d'), array('d')
         self.flows: dict[str, FlowCurve] = ByName((flow.flow.name, FlowCurve()) for flow in run.flows)
         self.links: dict[str, LinkCurve] = ByName((link.link.name, LinkCurve()) for link in run.links)
-        columns = [self.begin_s, self.end_s]
-        for flow in self.flows.values():
-            columns += [flow.cwnd, flow.goodput]
-        for link in self.links.values():
-            columns += [link.queue_mean, link.queue_max]
-        run.series.seek(0)
-        for _ in range(run.rows):
-            row = array('d')
-            row.fromfile(run.series, len(columns))
-            row[0], row[1] = row[0] / S, row[1] / S
-            for column, value in zip(columns, row):
-                column.append(value)
+        places = {column: at for at, column in enumerate(run.columns())}
+        for step in run.steps():
+            if step.begin < step.end:
+                self._add(step, places)
+
+    def _add(self, step: Step, places: dict[tuple, int]) -> None:
+        length = step.end - step.begin
+        self.begin_s.append(step.begin / S)
+        self.end_s.append(step.end / S)
+        for number, (flow, (area, active)) in enumerate(zip(self.flows.values(), step.windows)):
+            flow.cwnd.append(area / active if active else math.nan)
+            flow.goodput.append(int(step.values[places['flow', number, *DELIVERED]]) * BITS_NS / length)
+        for number, link in enumerate(self.links.values()):
+            link.queue_mean.append(int(step.values[places['link', number, *WAITED]]) / length)
+            link.queue_max.append(int(step.values[places['link', number, *GREATEST]]))
 
     def __len__(self) -> int:
         return len(self.begin_s)

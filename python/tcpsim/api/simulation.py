@@ -17,9 +17,9 @@ from tcpsim.api.scenarios import ScenarioText, as_word, scenario_of
 from tcpsim.api.series import TimeSeries
 from tcpsim.api.shown import PlottedRun, ReplayPage
 from tcpsim.engine import EngineRun
-from tcpsim.figures import ROWS, Figures
 from tcpsim.scenario import units
 from tcpsim.scenario.text import Scenario
+from tcpsim.series import STEPS, Series
 from tcpsim.stalls import stalls_of
 from tcpsim.walk import flow_named
 from tcpsim.whole_trace import blocks
@@ -147,14 +147,14 @@ class Simulation:
         with as_api():
             self._check_steps(step, begin, end)
             with self._lines() as lines:
-                return TimeSeries(Figures(self._parsed(), lines, begin, end, step))
+                return TimeSeries(Series(self._parsed(), lines, step, begin, end))
 
     def _check_steps(self, step, begin, end):
-        """Wrong where a series has too many rows, before any is made. The figures tell when a run ends before its scenario."""
+        """Wrong where a series has too many steps, before any is made. The figures tell when a run ends before its scenario."""
         begin = min(flow.start for flow in self.scenario.parsed.flows) if begin is None else begin
         end = min(self.scenario.end_ns if end is None else end, self.scenario.end_ns)
-        if (end - begin) // step > ROWS and (min(end, self.figures.end_ns) - begin) // step > ROWS:
-            raise Wrong(f'step: {units.spelled_time(step)} is too short: the series has more than {ROWS:,} steps, so take a longer '
+        if -(-(end - begin) // step) > STEPS and -(-(min(end, self.figures.end_ns) - begin) // step) > STEPS:
+            raise Wrong(f'step: {units.spelled_time(step)} is too short: the series has more than {STEPS:,} steps, so take a longer '
                         'step, or a part by `begin` and `end`')
 
     def stalls(self, longer: str | int = '200ms', flow: str | int | None = None) -> Stalls:

@@ -7,16 +7,15 @@ Usage: bin/tcpsim-flows SCENARIO [TRACE] [--csv | --series STEP] [--from T] [--t
 SCENARIO is a text or an image, `-` is standard input. Without TRACE the program is run. The trace is read as it comes
 and is not kept; with --engine there is none, and the figures are from `tcpsim figures`. --from and --to (times, as 5s
 or 20ms) choose a part of the span, to which what happens at --to itself does not belong. A trace that is cut is
-refused, or with --partial taken as far as it goes. --series writes as CSV each flow's mean window and goodput and each
-link's mean and greatest queue, a row for each STEP. --busy leaves out the links at which nothing was dropped and no
-packet waited longer than the greatest takes to be sent.
+refused, or with --partial taken as far as it goes. --series writes as CSV time,what,number,figure,unit,value: a row for
+each figure of each flow and of each link in each STEP, from time 0 or --from on. The figures have the names of the table of
+`tcpsim figures`, and sum to it. --busy leaves out the links at which nothing was dropped and no packet waited longer than
+the greatest takes to be sent.
 """
 from __future__ import annotations
 
 import argparse
 import csv
-import math
-from array import array
 
 from tcpsim import output
 from tcpsim.command_line import Words, as_type
@@ -25,6 +24,7 @@ from tcpsim.engine import engine_run
 from tcpsim.figures import S, Figures, cycles, engine_figures, figures
 from tcpsim.output import Output, aligned
 from tcpsim.scenario import units
+from tcpsim.series import Rows
 from tcpsim.whole_trace import inputs_of, opened_run
 
 TRACE_COLUMNS = {
@@ -90,18 +90,13 @@ def write_csv(rows: list, file: Output) -> None:
         out.writerow((*words, '' if value is None else f'{value:.6f}' if isinstance(value, float) else value))
 
 
-def write_series(run: Figures, file: Output, only_busy: bool = False) -> None:
-    """A row for each step: the two moments, each flow's and each link's columns. What is not is empty."""
-    columns = run.columns()
-    kept = [at for at, (_, link) in enumerate(columns) if not (only_busy and link and not link.is_busy())]
-    out = csv.writer(file, lineterminator='\n')
-    out.writerow([columns[at][0] for at in kept])
-    run.series.seek(0)
-    for _ in range(run.rows):
-        row = array('d')
-        row.fromfile(run.series, len(columns))
-        row[0], row[1] = row[0] / S, row[1] / S
-        out.writerow(['' if math.isnan(row[at]) else f'{row[at]:.9f}'.rstrip('0').rstrip('.') for at in kept])
+def write_series(run: Rows, file: Output, only_busy: bool = False) -> None:
+    """Writes the figures of each step, one a row."""
+    kept = [(at, ','.join(map(str, (what, number, *figure)))) for at, (what, number, *figure) in enumerate(run.columns())
+            if not (only_busy and what == 'link' and not run.links[number].is_busy())]
+    file.write('time,what,number,figure,unit,value\n')
+    for step in run.steps():
+        file.write(''.join([f'{step.begin},{words},{step.values[at]}\n' for at, words in kept]))
 
 
 # ---- the command
@@ -113,9 +108,9 @@ def words_of(given: list[str] | None = None) -> argparse.Namespace:
     words.add_trace()
     words.add_argument('--csv', action='store_true', help='one figure a row: what,name,figure,unit,value')
     words.add_argument('--series', metavar='STEP', type=moment,
-                       help='CSV of windows, goodput and queues, a row for each STEP, as 1s')
+                       help='CSV of each STEP, as 1s, a figure a row: time,what,number,figure,unit,value')
     words.add_argument('--from', dest='begin', metavar='T', type=moment,
-                       help='count from here on, as 5s or 20ms; else from the first flow\'s start')
+                       help='count from here on, as 5s or 20ms; else from the first flow\'s start, with --series from 0')
     words.add_argument('--to', dest='end', metavar='T', type=moment, help='count up to here; else to the run\'s end')
     words.add_argument('--busy', action='store_true',
                        help='leave out links that dropped nothing and at which no packet waited longer than the greatest '
@@ -140,7 +135,9 @@ def words_of(given: list[str] | None = None) -> argparse.Namespace:
 def run_of(given: argparse.Namespace) -> Figures:
     """The figures that the words ask for."""
     with opened_run(given.scenario, given.trace, given.program, given.partial, given.end) as (scenario, lines):
-        return Figures(scenario, lines, given.begin, given.end, given.series)
+        if given.series is not None:
+            return Rows(scenario, lines, given.series, given.begin, given.end)
+        return Figures(scenario, lines, given.begin, given.end)
 
 
 def write(given: argparse.Namespace, file: Output) -> None:
