@@ -1,0 +1,14 @@
+pub mod Acknowledged
+pub mod States
+pub mod Ports
+pub mod Touched
+pub mod Events
+pub mod Along
+pub mod Conserved
+pub mod Rows
+pub mod Senders
+pub mod Turns
+pub mod Causes
+pub mod Rates
+pub mod Once
+pub mod Offered

@@ -1,0 +1,142 @@
+-- What each row of the sender's table does to what was sent, the timer and the rto.
+use Rattle.std.proofs.Common.{◌≡◌, ℕ, ◌+◌, ◌-◌, ◌*◌, ◌/◌, ◌<◌, ◌≤◌, min, max, Bool, true, false, cond, ◌&&◌, eqb, leb, ltb, List, [], ◌∷◌, refl, Option, Some, None, arith, inl, inr, ◌⊎◌, ⊎_elim}
+use Rattle.std.proofs.lemmas.Bool.{and_parts, eqb-true, leb-true, leb-false, le-ltb, or_right, eq-eqb}
+use Rattle.std.proofs.Math.Nat.{div-add-mod'}
+use Rattle.std.specs.Option.{option_or}
+use Rattle.reno_sender.specs.declared.fields.SenderFields.{SenderFields}
+use Rattle.reno_sender.specs.declared.fields.Timing.{Timing}
+use Rattle.reno_sender.specs.Fields.{IsSound, total}
+use Rattle.reno_sender.specs.Laws.{IsAckFor}
+use Rattle.reno_sender.specs.Sending.{Planned, spaced, fill_count, allowed_end, deadline_after, filling}
+use Rattle.reno_sender.specs.Table.{started, acknowledged, timed_out, nothing_sent, may_send_new, partly, advanced, measured_by, inflated, one_more, enlarged, with_estimate}
+use Rattle.reno_sender.specs.Timer.{sampled}
+use Rattle.reno_sender.proofs.RowLaws.{by_rows}
+
+by_test : (P : Planned → Type 0) (b : Bool) (x y : Planned) → (b ≡ true → P x) → (b ≡ false → P y) → P (cond b x y)
+by_test P true x y h k = h refl
+by_test P false x y h k = k refl
+
+-- new segments lie within the window
+abbrev pub FitsNew : SenderFields → Planned → Type 0
+FitsNew f q = let g = q.fields in (g.high ≡ f.high) ⊎ (g.high ≤ g.una + min (g.cwnd + 2 * g.mss) g.rwnd)
+
+le_cases : (a b : ℕ) → (a ≤ b) ⊎ (b < a)
+le_cases a b = elim (leb a b) as (λ t. leb a b ≡ t → (a ≤ b) ⊎ (b < a)) [ true ↦ λ e. inl (leb-true a b e) | false ↦ λ e. inr (leb-false a b e) ] refl
+
+fill_end : (nxt end mss : ℕ) → nxt + (end - nxt) / mss * mss ≤ max nxt end
+fill_end nxt end mss = let a = div-add-mod' (end - nxt) mss in omega (arith, a)
+
+filling_fits : (f h : SenderFields) (now : ℕ) → h.high ≡ f.high → h.nxt ≤ h.high → FitsNew f (filling h now)
+filling_fits f h now high within =
+    let end = fill_end h.nxt (allowed_end h) h.mss in
+    let nxt = h.nxt + fill_count h * h.mss in
+    ⊎_elim
+    (λ (least : nxt ≤ h.high). inl (omega (arith, least, high)))
+    (λ (more : h.high < nxt). inr (omega (arith, more, end, within)))
+    (le_cases nxt h.high)
+
+may_parts : (h : SenderFields) (end : ℕ) → may_send_new h end ≡ true → (h.nxt ≡ h.high) × (h.nxt + h.mss ≤ end)
+may_parts h end is =
+    let first = and_parts (eqb h.nxt h.high) (ltb h.nxt (total h) && leb (h.nxt + h.mss) end) is in
+    let second = and_parts (ltb h.nxt (total h)) (leb (h.nxt + h.mss) end) first.1 in
+    (eqb-true h.nxt h.high first.0, leb-true (h.nxt + h.mss) end second.1)
+
+measured_window : (o : Option Timing) (f : SenderFields) (ack now : ℕ) → let g = measured_by o f ack now in (g.high ≡ f.high) × (g.nxt ≡ f.nxt)
+measured_window None f ack now = (refl, refl)
+measured_window (Some t) f ack now = elim (leb t.number ack) as (λ b. let g = cond b (with_estimate f (sampled f.srtt f.rttvar (now - t.sent_at))) f in (g.high ≡ f.high) × (g.nxt ≡ f.nxt)) [ true ↦ (refl, refl) | false ↦ (refl, refl) ]
+
+pub started_fits : (f : SenderFields) (now : ℕ) → IsSound f → FitsNew f (started f now)
+unfolding started
+started_fits f now sound = filling_fits f f now refl sound.nxt_high
+
+pub timeout_fits : (f : SenderFields) (now : ℕ) → IsSound f → FitsNew f (timed_out f now)
+unfolding timed_out
+timeout_fits f now sound =
+    let least = sound.rwnd_least in
+    ⊎_elim
+    (λ (a : f.una + f.mss ≤ f.high). inl (omega (arith, a)))
+    (λ (a : f.high < f.una + f.mss). inr (omega (arith, a, least)))
+    (le_cases (f.una + f.mss) f.high)
+
+pub ack_fits : (f : SenderFields) (ack now : ℕ) → IsSound f → IsAckFor f ack now → FitsNew f (acknowledged f ack now)
+ack_fits f ack now sound is_ack =
+    let below = sound.nxt_high in
+    let most = is_ack.most in
+    let measured = measured_window f.timing f ack now in
+    let g = measured_by f.timing f ack now in
+    by_rows (FitsNew f) f ack now
+    (λ _ _. filling_fits f (advanced f ack now) now measured.0 (let a = measured.0 in omega (arith, a, below, most)))
+    (λ _ _. let h = partly f ack now in by_test (FitsNew f) (may_send_new h (h.una + min h.cwnd h.rwnd)) _ _
+    (λ may. let parts = may_parts h (h.una + min h.cwnd h.rwnd) may in inr (let a = parts.0 in let b = parts.1 in omega (arith, a, b)))
+    (λ _. inl (let a = measured.0 in omega (arith, a, below, most))))
+    (inl refl)
+    (λ _. by_test (FitsNew f) (may_send_new f (f.una + min (enlarged f.cwnd f.mss) f.rwnd)) _ _
+    (λ may. let parts = may_parts f (f.una + min (enlarged f.cwnd f.mss) f.rwnd) may in inr (let a = parts.0 in let b = parts.1 in omega (arith, a, b)))
+    (λ _. inl refl))
+    (λ _ _ _. inl (omega (arith, below)))
+    (λ _ _. inl refl)
+    (λ _ _. by_test (FitsNew f) (may_send_new f (f.una + min (f.cwnd + 2 * f.mss) f.rwnd)) _ _
+    (λ may. let parts = may_parts f (f.una + min (f.cwnd + 2 * f.mss) f.rwnd) may in inr (let a = parts.0 in let b = parts.1 in omega (arith, a, b)))
+    (λ _. inl refl))
+    (λ _ _. inl refl)
+
+-- a timer that is set ends one rto later
+abbrev pub EndsAfter : ℕ → SenderFields → Planned → Type 0
+EndsAfter now f q = (q.fields.deadline ≡ None) ⊎ ((q.fields.deadline ≡ f.deadline) ⊎ (q.fields.deadline ≡ Some (now + q.fields.rto)))
+
+abbrev IsRight : ℕ → Option ℕ → ℕ → Option ℕ → Type 0
+IsRight now old rto d = (d ≡ None) ⊎ ((d ≡ old) ⊎ (d ≡ Some (now + rto)))
+
+after_sending : (h : SenderFields) (xs : List ℕ) (now : ℕ) (old : Option ℕ) → IsRight now old h.rto h.deadline → IsRight now old h.rto (deadline_after h xs now)
+after_sending h [] now old is = is
+after_sending h (x ∷ xs) now old is = by h.deadline is
+  where
+    by : (d : Option ℕ) → IsRight now old h.rto d → IsRight now old h.rto (option_or d (Some (now + h.rto)))
+    by None is = inr (inr refl)
+    by (Some t) is = is
+
+pub started_ends : (f : SenderFields) (now : ℕ) → EndsAfter now f (started f now)
+unfolding started
+started_ends f now = after_sending f (spaced f.nxt f.mss (fill_count f)) now f.deadline (inr (inl refl))
+
+pub timeout_ends : (f : SenderFields) (now : ℕ) → EndsAfter now f (timed_out f now)
+unfolding timed_out
+timeout_ends f now = inr (inr refl)
+
+restarts : (b : Bool) (now rto : ℕ) (old : Option ℕ) → IsRight now old rto (cond b None (Some (now + rto)))
+restarts true now rto old = inl refl
+restarts false now rto old = inr (inr refl)
+
+stays_or_restarts : (b : Bool) (now rto : ℕ) (old : Option ℕ) → IsRight now old rto (cond b old (Some (now + rto)))
+stays_or_restarts true now rto old = inr (inl refl)
+stays_or_restarts false now rto old = inr (inr refl)
+
+pub ack_ends : (f : SenderFields) (ack now : ℕ) → EndsAfter now f (acknowledged f ack now)
+ack_ends f ack now =
+    let g = measured_by f.timing f ack now in
+    let keeps : EndsAfter now f (nothing_sent f) = inr (inl refl) in
+    by_rows (EndsAfter now f) f ack now
+    (λ _ _. let h = advanced f ack now in after_sending h (spaced h.nxt h.mss (fill_count h)) now f.deadline (restarts (eqb ack (max f.nxt ack)) now g.rto f.deadline))
+    (λ _ _. let h = partly f ack now in
+    let is = stays_or_restarts f.partial now g.rto f.deadline in
+    by_test (EndsAfter now f) (may_send_new h (h.una + min h.cwnd h.rwnd)) _ _ (λ _. after_sending h (h.una ∷ h.nxt ∷ []) now f.deadline is) (λ _. after_sending h (h.una ∷ []) now f.deadline is))
+    keeps
+    (λ _. by_test (EndsAfter now f) (may_send_new f (f.una + min (enlarged f.cwnd f.mss) f.rwnd)) _ _ (λ _. after_sending (inflated f) (f.nxt ∷ []) now f.deadline (inr (inl refl))) (λ _. keeps))
+    (λ _ _ _. after_sending (record f { dups = 3; recovery = true }) (f.una ∷ []) now f.deadline (inr (inl refl)))
+    (λ _ _. keeps)
+    (λ _ _. by_test (EndsAfter now f) (may_send_new f (f.una + min (f.cwnd + 2 * f.mss) f.rwnd)) _ _ (λ _. after_sending (record f { dups = one_more f.dups; lt = f.lt + f.mss }) (f.nxt ∷ []) now f.deadline (inr (inl refl))) (λ _. keeps))
+    (λ _ _. keeps)
+
+pub start_keeps_rto : (f : SenderFields) (now : ℕ) → (started f now).fields.rto ≡ f.rto
+unfolding started
+start_keeps_rto f now = refl
+
+-- an acknowledgement that comes to a complete flow
+pub ack_silent : (f : SenderFields) (ack now : ℕ) → IsSound f → IsAckFor f ack now → f.una ≡ total f → acknowledged f ack now ≡ nothing_sent f
+unfolding acknowledged
+ack_silent f ack now sound is_ack whole =
+    let nxt = sound.una_nxt in
+    let high = sound.nxt_high in
+    let most = sound.high_total in
+    let upto = is_ack.most in
+    rw (le-ltb f.una ack (omega (arith, upto, whole, most)), or_right (ltb ack f.una) (eqb f.una f.nxt) (eq-eqb f.una f.nxt (omega (arith, nxt, high, most, whole)))) refl
