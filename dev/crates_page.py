@@ -1,7 +1,7 @@
 #!/usr/bin/env python3
-"""Writes what two pages have of the crates: docs/ARCHITECTURE.md their levels, from crates.txt, and a line on each, from the first
-sentence of its code; docs/FILES.md a line on each file, from its first sentence, and whose lemmas each crate's proofs take, from the
-lines `use Rattle.CRATE.proofs..` of its files.
+"""Writes the parts of two pages that list the crates. docs/ARCHITECTURE.md has their levels, from crates.txt, and a row for each,
+from the first sentence of its code. docs/FILES.md has a row for each file, from its first sentence. It also has a row for each crate
+whose lemmas others use, from the lines `use Rattle.CRATE.proofs..` of their files.
 
     dev/crates_page.py
 """
@@ -16,7 +16,7 @@ MOST_WORDS = 25     # of a cell, as of any sentence (dev/style.py)
 
 
 def crates():
-    """Of each crate, in the order of crates.txt, those of the project below it."""
+    """Of each crate, in the order of crates.txt, those of the project that its line names."""
     with open(os.path.join(TOP, 'crates.txt'), encoding='utf-8') as file:
         lines = [line.partition(':') for line in file if ':' in line and not line.startswith('#')]
     below = {head.split()[0]: tail.split() for head, _, tail in lines}
@@ -24,7 +24,7 @@ def crates():
 
 
 def levels():
-    """A figure: a crate names none of its own line or of those above it."""
+    """A figure: a crate names only crates of lower levels."""
     at = {}
 
     def level(name):
@@ -67,15 +67,15 @@ def files(crate, folder, kind):
 
 
 def nearest(name):
-    """The crates that a crate stands on, without those that these stand on."""
+    """The crates that a crate depends on, without those that these depend on."""
     below = crates()
     further = {it for of in below[name] for it in below[of]}
     return [it for it in below[name] if it not in further]
 
 
 def of_crates():
-    """A row for each crate: what it says of itself, and the nearest crates that it stands on."""
-    yield '| Crate | What | Stands on |'
+    """A row for each crate: the first sentence of its code, and the crates that it depends on directly."""
+    yield '| Crate | What it is | Depends on |'
     yield '|---|---|---|'
     for name in crates():
         main_file, = glob.glob(f'{TOP}/crates/{name}/src/lib.rt') or glob.glob(f'{TOP}/crates/{name}/src/main.rt')
@@ -94,7 +94,7 @@ def of_files():
 
 
 def lemmas():
-    """A row for each crate whose lemmas others take: the modules below its proofs/, and who takes them."""
+    """A row for each crate whose lemmas others use: the modules in its proofs/, and who uses them."""
     taken = defaultdict(lambda: defaultdict(set))
     for name in crates():
         for path in glob.glob(f'{TOP}/crates/{name}/*/**/*.*t', recursive=True):
@@ -103,7 +103,7 @@ def lemmas():
                     for of, module in re.findall(r'\bRattle\.(\w+)\.proofs\.([\w.]*\w)', file.read()):
                         if of != name and of in crates():
                             taken[of][module.partition('.')[0]].add(name)
-    yield '| Lemmas of | Below its `proofs/` | Taken by |'
+    yield '| Lemmas of | In its `proofs/` | Used by |'
     yield '|---|---|---|'
     for name in crates():
         by_takers = defaultdict(list)
