@@ -53,8 +53,8 @@ SWITCHES = {
         'Newreno: recover begins as segment 0, so that a loss of segment 0 has no fast retransmit; at segment 1 one is always allowed',
         'RFC 6582, 3.2: recover begins as the initial send sequence number', 'both'),
     'round trips in ticks of 16 bits': (
-        'round trips are whole ticks, here of 1 us, a difference of two is kept in 16 bits, and after four timeouts in a row '
-        'the mean is forgotten',
+        'round trips are whole ticks, here of 1 us. The difference of two is kept in 16 bits, and four timeouts in a row clear the '
+        'mean',
         'RFC 6298, 2: SRTT and RTTVAR of the measured R, with a clock granularity G; 5: an implementation MAY clear both', 'tcpsim'),
     'an acknowledgement before the link that becomes free': (
         'at one moment an acknowledgement comes first, and what it sends may find the queue full; as moments are doubles, it is '
