@@ -58,11 +58,11 @@ def section(program, rounds):
     counts = [instructions(ran(*whole, CALLGRIND)) - instructions(ran(*start, CALLGRIND)) for start, whole in zip(starts, few)]
     took = seconds(starts + many, rounds)
     yield HEAD
-    yield (f'`{version}` on bench/ns2.tcl, the first flow above, its packets with the headers alone that are used here. What a '
-           'run of one segment costs is taken off. tcpsim writes its trace, a line for each event; ns-2 writes '
-           'three for each packet and link, both to /dev/null. Their rules differ too, so this says only how large both are. '
-           f'Instructions with {FEW:,} segments; seconds with {MANY:,}, on one core of {processor()}, each in turn, the least of '
-           f'{rounds} rounds.\n')
+    yield (f'`{version}` runs bench/ns2.tcl, the first flow above, with no headers but those that are used here. The cost of a run of '
+           'one segment is subtracted. Of the two, tcpsim writes a line for each event; ns-2 writes three lines for each packet and link. '
+           'Both write to /dev/null. Their rules differ too, so this only gives the order of both.\n'
+           f'Instructions are those of {FEW:,} segments, seconds those of {MANY:,}. Both ran in turn on one core of {processor()}, and '
+           f'the least of {rounds} rounds counts.\n')
     yield from table(('Simulator', 'Instructions a segment', 'Seconds', 'Segments a second'),
                      [(name, f'{count / FEW:,.0f}', f'{whole - start:.3f}', f'{MANY / (whole - start):,.0f}')
                       for (name, _), count, start, whole in zip(known, counts, took, took[len(known):])])

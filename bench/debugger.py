@@ -181,7 +181,7 @@ def stalls(rounds, before):
     for name, scenario, start in (
             ('one flow, nothing lost', no_losses(250_000), 0), ('98 flows over one bottleneck, nothing lost', crowd(98, 500), 0),
             ("a flow that its receiver's window binds, acknowledgements delayed", under_way(64, 100_000, 40 * MS), 0),
-            ('from the midst of a run with 20,000 packets under way', under_way(20_000, 60_000), 50_000)):
+            ('from the middle of a run with 20,000 packets under way', under_way(20_000, 60_000), 50_000)):
         path, least, events = path_of(f'debugger {name}', scenario), {}, 0
         for _ in range(rounds):
             for kind in 'kind rto', 'stall':
@@ -255,13 +255,13 @@ def within(count, bar):
 
 def page(args, before):
     yield '# What the debugger costs\n'
-    yield (f'{made()}. Made by `python3 bench/debugger.py`: commands are typed at a prompt, one by one, into pipes. A time is from '
-           'a line to the next prompt, so the program\'s own and the pipes\'. '
+    yield (f'{made()}. Made by `python3 bench/debugger.py`, which types commands at a prompt, one by one, into pipes. A time is from '
+           'a line to the next prompt, so it is the program\'s and the pipes\'. '
            f'The least of {args.rounds} rounds counts, and of commands in a row the mean and the longest of the best round.\n')
     yield '## At a prompt\n'
     first, times, back, memory = answers(place(before), args.rounds, before)
-    yield (f'A flow of 100,000 segments through two routers, 12 events each; a second one starts at position {first:,}, where `reverse` goes '
-           f'back to by `break kind start`. The commands are typed {STRETCH:,} events behind it.\n')
+    yield (f'A flow of 100,000 segments goes through two routers, with 12 events each. A second one starts at position {first:,}, to '
+           f'which `reverse` goes back by `break kind start`. The script types the commands {STRETCH:,} events behind it.\n')
     names = {'step': '`step`, 100 in a row', 'back': '`back`, 1,000 in a row', 'why 0': '`why 0`', 'state flow 0': '`state flow 0`'}
     yield from table(('What', 'Mean', 'Longest', 'At most', 'Within'),
                      [(names[line], shown(it.mean), shown(it.longest), shown(ANSWER), within(it.longest, ANSWER)) for line, it in times.items()]
@@ -277,7 +277,7 @@ def page(args, before):
         rows.append(('`step 100000`, instructions an event', f'{costs[0]:,.0f}', f'{most:,.0f}: {STEP} times those of `run`', within(costs[0], most)))
     yield from table(('What', 'Measured', 'At most', 'Within'), rows)
     yield '## A breakpoint on stalls\n'
-    yield 'To the end, where neither breakpoint matches: `break kind rto` and `run`, and `break stall` and `run`.\n'
+    yield 'Seconds to the end, as neither breakpoint matches: `break kind rto` and `run`, and `break stall` and `run`.\n'
     rows = []
     for name, events, rto, stall in stalls(args.rounds, before):
         last = (shown(stall), f'{stall / rto:.2f}', f'{STALL}', within(stall / rto, STALL)) if stall else ('no such breakpoint', '', f'{STALL}', '')

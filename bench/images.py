@@ -74,11 +74,11 @@ def rows(program):
 
 def section(program):
     yield HEAD
-    yield ('What `asm` costs on the images of some scenarios (bench/scenarios.py; `largest` has 256 nodes of which 128 are '
-           'routers, 1,024 links with 64 lost packets each, 64 flows and 16,384 routes): instructions of loading, with all '
-           'that a scenario is checked for, and of saving and writing, and a byte of image. Milliseconds are whole runs of '
-           f'the program; the largest image is to be loaded in {LOAD_MS} ms and saved in {SAVE_MS}.\n')
-    heads = ('Scenario', 'Bytes of image', 'Instructions to load', 'a byte', 'to save', 'a byte', '`asm` of the image, ms',
+    yield ('Instructions of `asm` on the images of some scenarios (bench/scenarios.py), in all and for each byte of image. Loading '
+           'includes the check of the scenario, saving the writing. `largest` has 256 nodes of which 128 are routers, 1,024 links '
+           'with 64 lost packets each, 64 flows and 16,384 routes. Milliseconds are whole runs of the program.\n'
+           f'The bound for the largest image is {LOAD_MS} ms to load and {SAVE_MS} to save.\n')
+    heads = ('Scenario', 'Bytes of image', 'Instructions to load', 'for each byte', 'to save', 'for each byte', '`asm` of the image, ms',
              '`dis` of it, ms', '`asm` of the text, ms')
     yield from table(heads, rows(program))
 

@@ -242,12 +242,12 @@ def cost_table(rows):
                      [(f'`{r.name}`: {r.what}', f'{r.events:,}', f'{r.run.instructions:,.0f}', f'{r.bar:,}',
                        within(r.run.instructions, r.bar), f'{r.run.references:,.0f}', f'{r.run.misses:,.1f}',
                        f'{r.run.mispredicted:,.1f}') for r in rows])
-    yield ('Data references, misses of the nearest cache (48 kB, of 12 ways) and mispredicted branches are an event\'s, '
-           f'of the machine that callgrind simulates; in `{GUESSED}` at most {REFERENCES} and {MISPREDICTED} of the first and '
-           'the last.\n')
+    yield ('Data references, misses of the nearest cache (48 kB, of 12 ways) and mispredicted branches are those of an event. '
+           f'Callgrind simulates the machine. `{GUESSED}` has a bound of {REFERENCES} data references and of {MISPREDICTED} '
+           'mispredicted branches.\n')
     yield from (f'They are {r.run.references:,.1f} and {r.run.mispredicted:,.2f} there.\n' for r in rows if r.name == GUESSED)
-    yield ('The same without its text, which is what is left of it once the calls that make text are taken off, with '
-           f'the loop that makes them, and what `figures` costs, which makes no text: {ABOVE} instructions more at most.\n')
+    yield ('An event without its text: the calls that make text are subtracted, with the loop that makes these calls. '
+           f'`figures` makes no text, and may take {ABOVE} instructions more.\n')
     yield from table(('Scenario', '`run` without text', '`figures`', 'At most', 'Within'),
                      [(f'`{r.name}`', f'{r.bare:,.0f}', f'{r.figures:,.0f}', f'{r.bare + ABOVE:,.0f}',
                        within(r.figures, r.bare + ABOVE)) for r in rows])
@@ -272,18 +272,18 @@ def report(start, runs, crowded, networks, long):
         return (r.instructions - start.instructions) / (r.events - start.events)
 
     yield '# What a run costs\n'
-    yield (f'{made()}. Made by `make bench` with `{told("rt", "version")}` and `{told("valgrind", "--version")}`. One flow '
-           'of segments of 1,460 bytes over 100 Mbit/s, 1 ms each way, through a drop-tail queue of 20 packets '
-           'that it overflows now and then. The whole trace is written, to /dev/null. A link takes at most 64 '
-           'losses by name, so the last is that of its packet 64,000. What the debugger costs is in '
-           '[DEBUGGER.md](DEBUGGER.md), what one link costs in [PORT.md](PORT.md).\n')
+    yield (f'{made()}. Made by `make bench` with `{told("rt", "version")}` and `{told("valgrind", "--version")}`. '
+           '[DEBUGGER.md](DEBUGGER.md) has the cost of the debugger, [PORT.md](PORT.md) that of one link.\n')
+    yield ('In the first tables one flow sends segments of 1,460 bytes over 100 Mbit/s, 1 ms each way. It goes through a '
+           'drop-tail queue of 20 packets and overflows it now and then. The program writes the whole trace, to /dev/null. '
+           'A link takes at most 64 losses by name, so the last is that of its packet 64,000.\n')
     yield '## What does not depend on the machine\'s speed\n'
     yield from table(
         ('Flow', 'Segments', 'Events', 'Packets sent', 'Instructions', 'Instructions an event', 'Heap, bytes'),
         [('start: one event', '1', '1', '1', f'{start.instructions:,}', '', f'{start.heap:,}')]
         + [(r.name, f'{r.segments:,}', f'{r.events:,}', f'{r.packets:,}', f'{r.instructions:,}',
             f'{an_event(r):,.1f}', f'{r.heap:,}') for r in runs])
-    yield ('Instructions are those of the whole run (callgrind); those an event are without the start\'s. '
+    yield ('Instructions are those of the whole run (callgrind); those of an event are without the start\'s. '
            'Heap is the most that was held at once (DHAT).\n')
     yield f'From {FEW:,} to {MANY:,} segments:\n'
     pairs = [[next(r for r in runs if (r.name, r.segments) == (name, n)) for n in (FEW, MANY)]
@@ -293,14 +293,13 @@ def report(start, runs, crowded, networks, long):
         [(a.name, f'× {b.events / a.events:.2f}', f'× {an_event(b) / an_event(a):.3f}',
           f'{a.written / a.events:.1f} to {b.written / b.events:.1f}', f'{b.heap - a.heap:+,} bytes')
          for a, b in pairs])
-    yield (f'With more packets under way at once: {FEW:,} segments over 10 Gbit/s, 100 ms each way, and a window '
-           'of so many segments (nothing is lost):\n')
+    yield (f'With more packets under way at once: {FEW:,} segments over 10 Gbit/s, 100 ms each way. The window has as many '
+           'segments as are under way, and none is lost:\n')
     yield from table(('Packets under way', 'Events', 'Instructions an event', 'Heap, bytes'),
                      [(f'{w:,}', f'{r.events:,}', f'{an_event(r):,.1f}', f'{r.heap:,}')
                       for w, r in zip(UNDER_WAY, crowded)])
-    yield ('What an event costs in scenarios of each kind (bench/scenarios.py), and what it is to cost at most. '
-           'Text of the trace included; taken off is a run of the same scenario that ends where its last flow '
-           'starts.\n')
+    yield ('Instructions of an event in scenarios of each kind (bench/scenarios.py), and the bound. They include the text of '
+           'the trace. A run of the same scenario that ends when its last flow starts is subtracted.\n')
     yield from cost_table(networks)
     yield '## What this machine took, for information\n'
     yield f'{processor()}; seconds are the least of three runs; resident memory has the C library in it.\n'

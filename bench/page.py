@@ -12,6 +12,7 @@ import os
 import subprocess
 import sys
 import tempfile
+import textwrap
 import time
 
 sys.path.insert(1, os.path.join(os.path.dirname(os.path.dirname(os.path.abspath(__file__))), 'dev'))
@@ -121,11 +122,13 @@ def written(path, rounds):
     first, ready, rows, verdict = measured(path, rounds)
     version = subprocess.run([browsers.CHROMIUM, '--version'], capture_output=True, text=True, check=True).stdout.strip()
     commit = subprocess.run(['git', '-C', TOP, 'rev-parse', '--short', 'HEAD'], capture_output=True, text=True, check=True).stdout.strip()
-    yield '# The page with the simulator, beside the native program'
+    yield '# What the page with the simulator costs'
     yield ''
-    yield f'The least of {rounds} rounds, in which both do the same in turn. What is above what was wanted is bold. `bench/page.py` writes this page.'
+    yield f'The page and the native program do the same in turn, and the least of {rounds} rounds counts. A number above its bound is bold. `bench/page.py` writes this page.'
     yield ''
-    yield f'{time.strftime("%Y-%m-%d")}, commit {commit}, {processor()}, {os.cpu_count()} processors, load {os.getloadavg()[0]:.1f}; {version}, headless. Of the program in the page the prover said `{verdict}`.'
+    yield f'{time.strftime("%Y-%m-%d")}, commit {commit}, {processor()}, {os.cpu_count()} processors, load {os.getloadavg()[0]:.1f}; {version}, headless. The prover\'s verdict on the program in the page:'
+    yield ''
+    yield from ('```', *textwrap.wrap(verdict, 120, break_long_words=False, break_on_hyphens=False), '```')
     yield ''
     yield from table(('Of opening the page', 'Seconds', 'At most'), (
         ('until the first view', judged(first, FIRST_VIEW, f'{first:.2f}'), f'{FIRST_VIEW:.0f}'),
@@ -135,12 +138,12 @@ def written(path, rounds):
          judged(best['page figures'], FIGURES * best['figures'], f'{best["page figures"] / best["figures"]:.1f}'),
          f'{best["run"]:.3f}', f'{best["page run"]:.3f}', judged(best['page run'], RUN * best['run'], f'{best["page run"] / best["run"]:.1f}'))
         for name, events, size, best, _, _ in rows))
-    yield f'Wanted are at most {FIGURES} and {RUN} times.'
+    yield f'The bounds are {FIGURES} and {RUN} times.'
     yield ''
     yield from table(('Shown with its figures', 'Longest task, ms', 'Memory more than before, MB', 'of that beyond twice the trace'), (
         (name, judged(longest, FREEZE, f'{1000 * longest:.0f}'), f'{more / 1e6:.0f}', judged(more - 2 * size, MEMORY, f'{(more - 2 * size) / 1e6:.0f}'))
         for name, _, size, _, longest, more in rows))
-    yield f'Wanted are at most {1000 * FREEZE:.0f} ms, and {MEMORY / 2**20:.0f} MiB beyond twice the trace.'
+    yield f'The bounds are {1000 * FREEZE:.0f} ms, and {MEMORY / 2**20:.0f} MiB beyond twice the trace.'
 
 
 def main():

@@ -99,8 +99,8 @@ def an_event(program, name):
 
 def section(jobs):
     yield HEAD
-    yield (f'What an event costs by `Net::step_into` alone, with the loop that calls it: at most {MOST} instructions. A run whose '
-           'text is taken off, above, costs more by what its loop does for the text.\n')
+    yield (f'Instructions of an event by `Net::step_into` alone, with the loop that calls it. The bound is {MOST}. A run without its '
+           'text, above, costs more, since its loop works for the text.\n')
     with tempfile.TemporaryDirectory() as folder, ThreadPoolExecutor(jobs) as pool:
         program = built(folder)
         rows = list(pool.map(lambda name: (name, an_event(program, name)), NAMES))

@@ -207,9 +207,9 @@ def found(program, rounds, before):
 
 
 def found_table(rows):
-    yield (f'Seconds with the groups that `--groups auto` finds for four workers, reckoned by bench/found.py, beside those of '
-           f'`run` without options and of four workers with groups by hand. `run` is to take at least {FOUND_LEAST} times as long, '
-           f'groups that are found at most {FOUND_MOST} times as long as those by hand or as `run`, whichever is less. With one '
+    yield (f'Seconds with the groups that `--groups auto` finds for four workers (bench/found.py), of `run` without options, and '
+           f'of four workers with groups by hand. The bound of `run` is at least {FOUND_LEAST} times the seconds of found groups. '
+           f'That of found groups is at most {FOUND_MOST} times those of groups by hand or of `run`, whichever is less. With one '
            'group the program runs one event at a time, on no thread of its own.\n')
     yield from table(('Scenario', 'Events', 'Groups found', 'Threads', '`run`', 'found', 'by hand', '`run` to found',
                       'found to the best', 'Within'),
@@ -238,7 +238,7 @@ def times(events, rounds):
 
 def rounds_said(rounds):
     """The same in words."""
-    return f'the least of {rounds} rounds, of {OFTEN * rounds} where a run has fewer than {SHORT:,} events'
+    return f'The least of {rounds} rounds counts, of {OFTEN * rounds} if a run has fewer than {SHORT:,} events.'
 
 
 Drawn = namedtuple('Drawn', 'name events plain took')
@@ -266,8 +266,8 @@ def drawn(program, rounds, before):
 
 def drawn_table(rows, rounds):
     rows = list(rows)
-    yield (f'Seconds of four workers with a group for each node, and with groups drawn at random, in which packets go from group to '
-           f'group at nearly every link, {rounds_said(rounds)}. None is to take more than {SMALL_MOST} times as long as '
+    yield (f'Seconds of four workers with a group for each node, and with groups drawn at random. {rounds_said(rounds)} In '
+           f'drawn groups packets go from group to group at nearly every link. The bound is {SMALL_MOST} times the seconds of '
            '`run` without options.\n')
     yield from table(('Scenario', 'Events', '`run`', '`each`', *(f'of {count}' for count in DRAWN), 'most to `run`', 'Within'),
                      [(f'`{r.name}`', f'{r.events:,}', f'{r.plain:.3f}', *(f'{it:.3f}' for it in r.took),
@@ -309,36 +309,36 @@ def shown(words):
 
 def section(program, rounds, before):
     yield HEAD
-    yield ('Instructions of a run by two workers whose windows are so small that the calling thread runs a few of them, and nearly '
-           'all events one after another, those of its start taken off, beside those of `run` without options; '
-           f'`--groups one` is to cost {ONE} times as much at most, `--groups each` {EACH} times. With one worker, or one '
+    yield ('Instructions of a run by two workers with small windows, and of `run` without options, each without those of its '
+           'start. The calling thread runs a few windows, and nearly all events one after another. The bound is '
+           f'{ONE} times those of `run` for `--groups one`, and {EACH} times for `--groups each`. With one worker, or one '
            'group, the program runs one event at a time.\n')
     yield from table(('Scenario', '`run`', '`--workers 2 --groups one`', 'times', '`--workers 2 --groups each`', 'times', 'events a text'),
                      [(f'`{c.name}`', f'{c.plain:,}', f'{c.one:,}', f'{c.one / c.plain:.2f}', f'{c.each:,}', f'{c.each / c.plain:.2f}',
                        f'{c.a_text:,.0f}')
                       for c in counted(program)])
     yield (f'Seconds of whole runs on {processor()}, {os.cpu_count()} cores, pinned to as many cores as workers'
-           + (', with real-time priority' if before else '') + f', {rounds_said(rounds)}; the four '
-           'groups are the four parts of each scenario (bench/scenarios.py), joined by links of 10 ms and more. Four workers '
-           f'are to be at least {LEAST} times as fast as `run`, and one worker is to take at most {ALONE_MOST} times as long. '
-           f'What the cores give is how many times the work of one `run` {FOUR} of them do in the same time at once, a core each: '
-           'programs that share nothing gain no more.\n')
+           + (', with real-time priority' if before else '') + f'. {rounds_said(rounds)} The four '
+           'groups are the four parts of each scenario (bench/scenarios.py), joined by links of 10 ms and more.\n'
+           f'By their bounds four workers are at least {LEAST} times as fast as `run`, and one worker takes at most '
+           f'{ALONE_MOST} times as long. For "cores give" {FOUR} runs go at once, a core each. The column has how many times the '
+           'work of one `run` they do in the same time. Programs that share nothing gain no more.\n')
     wide = list(sped_up(program, rounds, before))
     yield from table(('Scenario', 'Events', 'Threads of 4 workers', '`run`', f'{FOUR} at once', '1 worker', '2 workers', '4 workers',
                       'four to one', '`run` to four', 'cores give', 'one to `run`'),
                      [(f'`{name}`', f'{events:,}', f'{many:,}', *(f'{s:.3f}' for s in took),
                        f'{took[2] / took[4]:.2f}', f'{took[0] / took[4]:.2f}', f'{FOUR * took[0] / took[1]:.2f}',
                        f'{took[2] / took[0]:.2f}') for name, events, many, took in wide])
-    yield said([took[0] / took[4] >= LEAST for _, _, _, took in wide], 'have four workers as fast as they are to be')
+    yield said([took[0] / took[4] >= LEAST for _, _, _, took in wide], 'have four workers within their bound')
     yield said([took[2] / took[0] <= ALONE_MOST for _, _, _, took in wide], 'have one worker within its bound')
-    yield (f'Seconds of the same runs where the trace goes into a file of the system\'s memory ({IN_MEMORY}): the calling thread '
-           'writes it, while the others run.\n')
+    yield (f'Seconds of the same runs with the trace in a file of the system\'s memory ({IN_MEMORY}). The calling thread '
+           'writes it while the others run.\n')
     yield from table(('Scenario', 'MB of trace', '`run`', '4 workers', '`run` to four'),
                      [(f'`{name}`', f'{size / 1e6:,.0f}', *(f'{s:.3f}' for s in took), f'{took[0] / took[1]:.2f}')
                       for name, size, took in kept(program, rounds, before)])
-    yield (f'The same with a group for each node and no trace kept, so that windows are small: the calling thread runs the first of them, and '
-           f'then events one after another, with a few windows now and then. No crew is to take more than {SMALL_MOST} times as long as `run`, nor more than {USED_MOST} times its '
-           'processor time.\n')
+    yield ('The same with a group for each node and no trace kept, so that windows are small. The calling thread runs the first of '
+           'them, and then events one after another, with a few windows now and then. The bound for any number of workers is '
+           f'{SMALL_MOST} times the seconds of `run`, and {USED_MOST} times its processor time.\n')
     narrow = list(small(program, rounds, before))
     yield from table(('Scenario', 'Events', 'Events a text', 'Threads of 4 workers', '`run`', *(f'{n} worker{"s" * (n > 1)}' for n in CREWS),
                       'most to `run`', f'processor time of {CREWS[-1]} to that of `run`'),
@@ -346,18 +346,18 @@ def section(program, rounds, before):
                        f'{max(took[1:]) / took[0]:.2f}', f'{used:.2f}')
                       for name, events, many, started_, took, used in narrow])
     yield said([max(took[1:]) <= SMALL_MOST * took[0] and used <= USED_MOST for *_, took, used in narrow], 'hold both')
-    yield (f'Seconds beside {LOOPS} busy loops, on all cores and with no priority, the least of {rounds} rounds: four workers are to take at '
-           f'most {LOADED_MOST} times as long as `run` does there.\n')
+    yield (f'Seconds with {LOOPS} busy loops on the same cores, on all cores and with no priority, the least of {rounds} rounds. The '
+           f'bound of four workers is {LOADED_MOST} times the seconds of `run` there.\n')
     under = list(loaded(program, rounds))
     yield from table(('Scenario', 'Groups', '`run`', '4 workers', 'to `run`'),
                      [(f'`{name}`', groups, *(f'{s:.3f}' for s in took), f'{took[1] / took[0]:.2f}') for name, groups, took in under])
     yield said([took[1] <= LOADED_MOST * took[0] for *_, took in under], 'hold it')
     yield from found_table(found(program, rounds, before))
     yield from drawn_table(drawn(program, few(rounds), before), few(rounds))
-    yield (f'The most resident memory of {rounds} runs (GNU time), and of as many beside {LOOPS} busy loops, where a thread comes late '
-           f'and another makes its text, at most {MOST} MB:\n')
+    yield (f'The most resident memory of {rounds} runs (GNU time), and of as many with {LOOPS} busy loops on the same cores. With these '
+           f'a thread begins late and another makes its text. The bound is {MOST} MB.\n')
     taken = list(memory(program, rounds))
-    yield from table(('Scenario', 'Run', 'MB', 'beside loops'),
+    yield from table(('Scenario', 'Run', 'MB', 'with loops'),
                      [(name, shown(words), *(f'{most:.1f}' for most in both)) for name, words, *both in taken])
     yield said([max(both) <= MOST for _, _, *both in taken], 'hold it')
 
