@@ -22,19 +22,19 @@ SWITCHES = {
         'RFC 5681, 3.1, equation 3: cwnd += SMSS*SMSS/cwnd; "If the above formula yields 0, the result SHOULD be rounded up to 1 '
         'byte"', 'both'),
     'limited transmit below the highest sent': (
-        'the first two duplicates send the next segment even where it was sent before a timeout',
+        'the first two duplicates send the next segment even if it was sent before a timeout',
         'RFC 5681, 3.2 step 1: "SHOULD send a segment of previously unsent data"', 'tcpsim'),
     'the first duplicate sends one': (
-        'at the first duplicate what is in flight may be cwnd + 1 segment, at the second cwnd + 2',
+        'at the first duplicate cwnd + 1 segment may be in flight, at the second cwnd + 2',
         'RFC 5681, 3.2 step 1: "FlightSize would remain less than or equal to cwnd plus 2*SMSS"', 'both'),
     'a second timeout halves again': (
         'each timeout sets ssthresh anew, so that a second one leaves 2 segments',
-        'RFC 5681, 3.1: where the segment was resent by the timer before, "the value of ssthresh is held constant"', 'tcpsim'),
+        'RFC 5681, 3.1: if the timer resent the segment before, "the value of ssthresh is held constant"', 'tcpsim'),
     'the third duplicate restarts the timer': (
         'fast retransmit sets the timer anew',
         'RFC 6298, 5: (5.3) an acknowledgement of new data restarts the timer, a resending does not', 'tcpsim'),
     'the third duplicate sends new data': (
-        'after fast retransmit new segments go where the inflated window has room; so do several at a later duplicate',
+        'after fast retransmit new segments go if the inflated window has room; so do several at a later duplicate',
         'RFC 5681, 3.2 step 5: "send 1*SMSS bytes of previously unsent data" for each additional duplicate', 'tcpsim'),
     'new data below the highest sent': (
         'in a recovery after a timeout segments that were sent before go again',
@@ -43,7 +43,7 @@ SWITCHES = {
         'a partial acknowledgement\'s resending does not end the timing of a segment',
         'RFC 6298, 3 (Karn): "RTT samples MUST NOT be made using segments that were retransmitted"', 'both'),
     'no recovery, but the window': (
-        'Newreno: a third duplicate that begins no recovery, and later ones, send what the window has room for',
+        'Newreno: a third duplicate that begins no recovery, and later ones, send as many segments as the window has room for',
         'RFC 6582, 3.2 step 2: "the TCP does not enter fast retransmit and does not reset ssthresh"', 'both'),
     'deflated at the exit': (
         'Newreno: partial acknowledgements take from cwnd what they do not find as duplicates, and so much is missing at the exit',
@@ -57,15 +57,15 @@ SWITCHES = {
         'mean',
         'RFC 6298, 2: SRTT and RTTVAR of the measured R, with a clock granularity G; 5: an implementation MAY clear both', 'tcpsim'),
     'an acknowledgement before the link that becomes free': (
-        'at one moment an acknowledgement comes first, and what it sends may find the queue full; as moments are doubles, it is '
+        'at one moment an acknowledgement is first, and its segments may find the queue full; as moments are doubles, it is '
         'not always so', 'no rule of an RFC', '-'),
     'segment 0 has no header': (
-        'the packet of segment 0 is 40 bytes smaller where there is no SYN', 'no rule of an RFC', '-'),
+        'the packet of segment 0 is 40 bytes smaller without a SYN', 'no rule of an RFC', '-'),
     'an acknowledgement where all is acknowledged': (
-        'a duplicate counts also where nothing is in flight',
-        'RFC 5681, 2: a duplicate acknowledgement comes where "the receiver of the ACK has outstanding data"', 'tcpsim'),
+        'a duplicate counts even if nothing is in flight',
+        'RFC 5681, 2: an acknowledgement is a duplicate if "the receiver of the ACK has outstanding data"', 'tcpsim'),
     'a copy of the last segment is acknowledged late': (
-        'a delayed acknowledgement also waits where the last segment in order comes again',
+        'a delayed acknowledgement also waits if the last segment in order arrives again',
         'RFC 5681, 4.2: "Out-of-order data segments SHOULD be acknowledged immediately"', 'both'),
 }
 ALL, TIE = frozenset(SWITCHES), 'an acknowledgement before the link that becomes free'

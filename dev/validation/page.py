@@ -36,7 +36,7 @@ def rules(kept):
                      sum(row['timeouts'] > 0 for row in rows),
                      sum(row['timeouts'] > 0 and row['timeouts ruled'] for row in rows)) for name in names])
     tried = [row['needs'] for rows in numbers.values() for row in rows if 'needs' in row]
-    lines += ['', f'ns-2\'s rules, and in how many of {len(tried)} scenarios that were tried the two part where that one is left out:', '']
+    lines += ['', f'ns-2\'s rules. The last column has in how many of {len(tried)} scenarios the two differ without that rule:', '']
     lines += table(('ns-2', 'The RFC', 'Follows it', 'Scenarios'),
                    [(what[0].upper() + what[1:], rfc, who, sum(name in needs for needs in tried) or '-')
                     for name, (what, rfc, who) in SWITCHES.items()])
@@ -61,7 +61,7 @@ def codel(kept):
                     for row in numbers['runs'] for rate, flows, end in [row['run']]])
     law = numbers['control law']
     names = [name for name in ('tcpsim', 'RFC 8289', 'Linux', 'ns-3') if name in law]
-    lines += ['', 'One drop state: how long after the first drop each comes, in ms. A packet takes 1.2 ms on the link.', '']
+    lines += ['', 'One drop state: how long after the first drop each is, in ms. A packet takes 1.2 ms on the link.', '']
     lines += table(('Drop', *names), [(n + 1, *(f'{law[name][n] / MS:.1f}' for name in names)) for n in (1, 2, 3, 4, 5, 9, 19, 39)])
     return lines
 
