@@ -63,7 +63,7 @@ def section(program, rounds):
            'Both write to /dev/null. Their rules differ too, so this only gives the order of both.\n'
            f'Instructions are those of {FEW:,} segments, seconds those of {MANY:,}. Both ran in turn on one core of {processor()}, and '
            f'the least of {rounds} rounds counts.\n')
-    yield from table(('Simulator', 'Instructions a segment', 'Seconds', 'Segments a second'),
+    yield from table(('Simulator', 'Instructions per segment', 'Seconds', 'Segments per second'),
                      [(name, f'{count / FEW:,.0f}', f'{whole - start:.3f}', f'{MANY / (whole - start):,.0f}')
                       for (name, _), count, start, whole in zip(known, counts, took, took[len(known):])])
 

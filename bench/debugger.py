@@ -230,7 +230,7 @@ def crowded(before):
 
 
 def counted():
-    """Instructions an event of `step` and of `run`, over 100,000 events of one flow; nothing without valgrind."""
+    """Instructions per event of `step` and of `run`, over 100,000 events of one flow; nothing without valgrind."""
     if not shutil.which('valgrind', path=ENVIRONMENT['PATH']):
         return None
     link = 8 * MBIT, MS, droptail(100)
@@ -274,7 +274,7 @@ def page(args, before):
              f'{(plain + SAVED) / 10**6:.0f} MB: {plain / 10**6:.0f} of `tcpsim run`, {SAVED / 10**6:.0f} of saved states', within(kept, plain + SAVED))]
     if costs := counted():
         most = STEP * costs[1]
-        rows.append(('`step 100000`, instructions an event', f'{costs[0]:,.0f}', f'{most:,.0f}: {STEP} times those of `run`', within(costs[0], most)))
+        rows.append(('`step 100000`, instructions per event', f'{costs[0]:,.0f}', f'{most:,.0f}: {STEP} times those of `run`', within(costs[0], most)))
     yield from table(('What', 'Measured', 'At most', 'Within'), rows)
     yield '## A breakpoint on stalls\n'
     yield 'Seconds to the end, as neither breakpoint matches: `break kind rto` and `run`, and `break stall` and `run`.\n'

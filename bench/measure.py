@@ -237,7 +237,7 @@ def within(count, bar):
 
 
 def cost_table(rows):
-    yield from table(('Scenario', 'Events', 'Instructions an event', 'At most', 'Within', 'Data references',
+    yield from table(('Scenario', 'Events', 'Instructions per event', 'At most', 'Within', 'Data references',
                       'Misses of the nearest cache', 'Mispredicted branches'),
                      [(f'`{r.name}`: {r.what}', f'{r.events:,}', f'{r.run.instructions:,.0f}', f'{r.bar:,}',
                        within(r.run.instructions, r.bar), f'{r.run.references:,.0f}', f'{r.run.misses:,.1f}',
@@ -279,7 +279,7 @@ def report(start, runs, crowded, networks, long):
            'A link takes at most 64 losses by name, so the last is that of its packet 64,000.\n')
     yield '## What does not depend on the machine\'s speed\n'
     yield from table(
-        ('Flow', 'Segments', 'Events', 'Packets sent', 'Instructions', 'Instructions an event', 'Heap, bytes'),
+        ('Flow', 'Segments', 'Events', 'Packets sent', 'Instructions', 'Instructions per event', 'Heap, bytes'),
         [('start: one event', '1', '1', '1', f'{start.instructions:,}', '', f'{start.heap:,}')]
         + [(r.name, f'{r.segments:,}', f'{r.events:,}', f'{r.packets:,}', f'{r.instructions:,}',
             f'{an_event(r):,.1f}', f'{r.heap:,}') for r in runs])
@@ -289,13 +289,13 @@ def report(start, runs, crowded, networks, long):
     pairs = [[next(r for r in runs if (r.name, r.segments) == (name, n)) for n in (FEW, MANY)]
              for name, _, _ in FLOWS]
     yield from table(
-        ('Flow', 'Events', 'Instructions an event', 'Bytes of trace an event', 'Heap'),
+        ('Flow', 'Events', 'Instructions per event', 'Bytes of trace per event', 'Heap'),
         [(a.name, f'× {b.events / a.events:.2f}', f'× {an_event(b) / an_event(a):.3f}',
           f'{a.written / a.events:.1f} to {b.written / b.events:.1f}', f'{b.heap - a.heap:+,} bytes')
          for a, b in pairs])
     yield (f'With more packets under way at once: {FEW:,} segments over 10 Gbit/s, 100 ms each way. The window has as many '
            'segments as are under way, and none is lost:\n')
-    yield from table(('Packets under way', 'Events', 'Instructions an event', 'Heap, bytes'),
+    yield from table(('Packets under way', 'Events', 'Instructions per event', 'Heap, bytes'),
                      [(f'{w:,}', f'{r.events:,}', f'{an_event(r):,.1f}', f'{r.heap:,}')
                       for w, r in zip(UNDER_WAY, crowded)])
     yield ('Instructions of an event in scenarios of each kind (bench/scenarios.py), and the bound. They include the text of '
@@ -304,7 +304,7 @@ def report(start, runs, crowded, networks, long):
     yield '## What this machine took, for information\n'
     yield f'{processor()}; seconds are the least of three runs; resident memory has the C library in it.\n'
     yield from table(
-        ('Flow', 'Segments', 'Seconds', 'Packets sent a second', 'Events a second', 'Resident memory (VmHWM), bytes'),
+        ('Flow', 'Segments', 'Seconds', 'Packets sent per second', 'Events per second', 'Resident memory (VmHWM), bytes'),
         [(r.name, f'{r.segments:,}', f'{r.seconds:.3f}', f'{r.packets / r.seconds:,.0f}',
           f'{r.events / r.seconds:,.0f}', f'{r.resident:,}') for r in runs])
     events, whole, figures = long

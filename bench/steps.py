@@ -104,7 +104,7 @@ def section(jobs):
     with tempfile.TemporaryDirectory() as folder, ThreadPoolExecutor(jobs) as pool:
         program = built(folder)
         rows = list(pool.map(lambda name: (name, an_event(program, name)), NAMES))
-    yield from table(('Scenario', 'Instructions an event', 'Within'),
+    yield from table(('Scenario', 'Instructions per event', 'Within'),
                      [(f'`{name}`', f'{cost:.1f}', 'yes' if cost <= MOST else 'no') for name, cost in rows])
 
 

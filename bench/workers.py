@@ -313,7 +313,7 @@ def section(program, rounds, before):
            'start. The calling thread runs a few windows, and nearly all events one after another. The bound is '
            f'{ONE} times those of `run` for `--groups one`, and {EACH} times for `--groups each`. With one worker, or one '
            'group, the program runs one event at a time.\n')
-    yield from table(('Scenario', '`run`', '`--workers 2 --groups one`', 'times', '`--workers 2 --groups each`', 'times', 'events a text'),
+    yield from table(('Scenario', '`run`', '`--workers 2 --groups one`', 'times', '`--workers 2 --groups each`', 'times', 'events per text'),
                      [(f'`{c.name}`', f'{c.plain:,}', f'{c.one:,}', f'{c.one / c.plain:.2f}', f'{c.each:,}', f'{c.each / c.plain:.2f}',
                        f'{c.a_text:,.0f}')
                       for c in counted(program)])
@@ -340,7 +340,7 @@ def section(program, rounds, before):
            'them, and then events one after another, with a few windows now and then. The bound for any number of workers is '
            f'{SMALL_MOST} times the seconds of `run`, and {USED_MOST} times its processor time.\n')
     narrow = list(small(program, rounds, before))
-    yield from table(('Scenario', 'Events', 'Events a text', 'Threads of 4 workers', '`run`', *(f'{n} worker{"s" * (n > 1)}' for n in CREWS),
+    yield from table(('Scenario', 'Events', 'Events per text', 'Threads of 4 workers', '`run`', *(f'{n} worker{"s" * (n > 1)}' for n in CREWS),
                       'most to `run`', f'processor time of {CREWS[-1]} to that of `run`'),
                      [(f'`{name}`', f'{events:,}', f'{events / many:,.0f}', f'{started_:,}', *(f'{s:.3f}' for s in took),
                        f'{max(took[1:]) / took[0]:.2f}', f'{used:.2f}')
