@@ -26,7 +26,7 @@ def test_the_sources_are_read():
         if clauses:
             assert calls()[crate, name].clauses == clauses
     assert len(calls()) > 250
-    assert {crate for crate, _ in calls()} | {'table_run', 'window_law'} == set(crates())
+    assert {crate for crate, _ in calls()} | {'table_run', 'run_laws', 'window_law'} == set(crates())
     assert {'AllocError', 'LoadFault', 'AsmFault', 'StepFault', 'GroupFault', 'TurnFault',
                           'EngineFault', 'MoveFault', 'BreakFault', 'SessionFault'} <= refusals()
 
