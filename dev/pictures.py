@@ -17,10 +17,10 @@ OF_ONE_RUN = {
     'a_lost_retransmission': 'window,sequence', 'sawtooth_of_congestion_avoidance': 'window,queue,delay,utilization',
     'bufferbloat': 'sequence,queue,delay', 'a_slow_way_back': 'window,sequence,queue',
     'fast_recovery': 'window,sequence,utilization', 'bufferbloat_with_codel': 'sequence,queue,delay',
-    'two_flows_share_fairly': 'window,progress', 'two_round_trips_do_not_share_fairly': 'window,progress',
-    'lock_out_at_equal_times': 'window,progress', 'four_flows_share_a_long_queue': 'window,queue,progress',
+    'two_flows_share_fairly': 'window,queue,progress', 'two_round_trips_do_not_share_fairly': 'window,queue,progress',
+    'lock_out_at_equal_times': 'window,queue,progress', 'four_flows_share_a_long_queue': 'window,queue,progress',
     'four_flows_share_codel': 'window,queue,progress', 'parking_lot_of_three_routers': 'window,queue,progress',
-    'acks_share_the_bottleneck': 'sequence,queue', 'a_timer_that_stays_doubled': 'window,sequence'}
+    'acks_share_the_bottleneck': 'sequence,queue', 'a_timer_that_stays_doubled': 'sequence,timer'}
 
 
 def run_of(name):

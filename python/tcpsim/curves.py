@@ -88,6 +88,7 @@ class LinkRun(LinkState):
         super().__init__(link, number, kind)
         self.queue_times, self.queue = array('q'), array('q')   # packets that wait, where that changed
         self.wait_times, self.waits = array('q'), array('q')    # of each packet sent: when it began, its wait
+        self.taken_of = array('q')      # of each packet sent: its flow
         self.busy_from, self.busy_to = array('q'), array('q')
         self.drops = []                 # (time, reason, flow, DATA or ACK, number)
         self.bytes_of = Counter()       # bytes sent of each flow
@@ -96,6 +97,7 @@ class LinkRun(LinkState):
         """Keeps how long a packet waited, and for how long the link is busy with it."""
         self.wait_times.append(time)
         self.waits.append(time - entered)
+        self.taken_of.append(stream.flow)
         self.busy_from.append(time)
         self.busy_to.append(time - -stream.size * BITS_NS // self.link.rate)
         self.bytes_of[stream.flow] += stream.size

@@ -165,14 +165,19 @@ class FlowState:
         return waits
 
     def sample(self, trip: int) -> None:
-        """RFC 6298 section 2."""
-        if self.srtt is None:
-            self.srtt, self.rttvar = trip, trip // 2
-        else:
-            self.rttvar = (3 * self.rttvar + abs(self.srtt - trip)) // 4
-            self.srtt = (7 * self.srtt + trip) // 8
-        self.rto = min(max(self.srtt + max(1, 4 * self.rttvar), LEAST_RTO), MOST_RTO)
+        """The sender measured a round trip."""
+        self.srtt, self.rttvar, self.rto = after_sample(self.srtt, self.rttvar, trip)
         self.doubled = False
+
+
+def after_sample(srtt: int | None, rttvar: int, trip: int) -> tuple[int, int, int]:
+    """RFC 6298 section 2: srtt, rttvar and rto after a measured round trip; srtt is None before the first."""
+    if srtt is None:
+        srtt, rttvar = trip, trip // 2
+    else:
+        rttvar = (3 * rttvar + abs(srtt - trip)) // 4
+        srtt = (7 * srtt + trip) // 8
+    return srtt, rttvar, min(max(srtt + max(1, 4 * rttvar), LEAST_RTO), MOST_RTO)
 
 
 def way(ports: list[Port], size: int, kind: str, flow: FlowState) -> Hop:

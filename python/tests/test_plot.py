@@ -133,10 +133,10 @@ class TestWhatIsShown(Drawn):
         panels = self.panels(*self.hand, '--from', '8.5ms', '--to', '12ms')
         window, sequence = panels['flow f: congestion window'], panels['flow f: sequence numbers']
         # in sight: a recovery with cwnd 5500, then 2500; the axis goes by 5500 and 1.12 times that
-        assert np.allclose(window.get_ylim(), (-.55, 6.16))
+        assert np.allclose(window.get_ylim(), (-.77, 6.16))
         # the window of time, and beside it a little for the marks at its ends
         left, right = window.get_xlim()
-        assert 8450 < left < 8500 and 12000 < right < 12050
+        assert 8390 < left < 8420 and 12080 < right < 12110
         assert {tick for tick in window.get_xticks()} <= set(range(8500, 12001, 500))
         # the segments from 3000, not yet acknowledged at the beginning, to 7000
         low, high = sequence.get_ylim()
@@ -150,7 +150,7 @@ class TestWhatIsShown(Drawn):
 
     def test_a_queue_in_sight_begins_with_what_waits(self):
         queue = self.panels(*self.hand, '--from', '1ms', '--to', '3ms', '--link', 'a')['packets that wait in the queue']
-        assert curves(queue)[style.BLUE] == [(1000, 2), (1040, 1), (2080, 0), (3000, 0)]
+        assert curves(queue)[style.LINKS[0]] == [(1000, 2), (1040, 1), (2080, 0), (3000, 0)]
 
     def test_nothing_is_drawn_where_nothing_was(self):
         self.refused(1, 'the last event is at 11.4 ms', *self.hand, '--from', '100s')
@@ -227,23 +227,23 @@ class TestWhatIsShown(Drawn):
 
 
 class TestWindows(Drawn):
-    def test_inflation_is_thin_and_grey(self):
+    def test_inflation_is_thin_and_muted(self):
         window = self.panels(*self.hand)['flow f: congestion window']
-        drawn = curves(window)
+        drawn, muted = curves(window), style.muted(style.BLUE)
         cwnd = {x: y for x, y in drawn[style.BLUE]}
         assert cwnd[7.24 if 7.24 in cwnd else 6.2] == 7
         assert np.isnan(cwnd[8.28])
         assert cwnd[11.36] == 2.5
-        assert dict(drawn[style.GREY])[8.28] == 5.5
-        assert next(line.get_linewidth() for line in window.lines if line.get_color() == style.GREY) < 1.3
-        assert window.get_ylim() == (-.7, 7 * 1.12)
+        assert dict(drawn[muted])[8.28] == 5.5
+        assert next(line.get_linewidth() for line in window.lines if line.get_color() == muted) < 1.3
+        assert np.allclose(window.get_ylim(), (-.14 * 7, 7 * 1.12))
 
     def test_the_receivers_window_is_a_line_where_it_keeps_the_sender_back(self):
         # At most 6000 bytes are in flight: a window of 6500 has no room for one segment more, one of 7000 has.
         def drawn(rwnd):
             run = self.write(f'rwnd{rwnd}', BY_HAND.replace('64000', str(rwnd)), TRACE.replace('64000', str(rwnd)))
             key, window = self.figure(*run, '--panels', 'window').get_axes()
-            return curves(window).get(style.GREEN), [text.get_text() for text in key.get_legend().get_texts()]
+            return curves(window).get(style.RECEIVER), [text.get_text() for text in key.get_legend().get_texts()]
         line, key = drawn(6500)
         assert line == [(0, 6.5), (12, 6.5)]
         assert 'receiver\'s window, 6.5 kB' in key
@@ -297,7 +297,9 @@ class TestWindows(Drawn):
     def test_the_key_names_what_is_in_sight(self):
         def key(*run):
             return [text.get_text() for text in self.figure(*run).get_axes()[0].get_legend().get_texts()]
-        assert 'ssthresh' in key(*self.hand)
+        assert 'ssthresh (first above: 64 kB)' in key(*self.hand)
+        # from 9 ms on it is 2500 and nothing above
+        assert 'ssthresh' in key(*self.hand, '--from', '9ms')
         high = self.write('high', BY_HAND.replace('64000', str(2**30)), TRACE.replace('ssthresh=2500', 'ssthresh=64000'))
         assert not [name for name in key(*high) if name.startswith('ssthresh')]
         # the recovery from 8.28 to 11.36 ms is seen in 12 ms, and not in a second
@@ -384,7 +386,7 @@ class TestLinks(Drawn):
 
     def test_the_distribution(self):
         cdf = self.panels(*self.hand, '--link', 'a', '--panels', 'delay-cdf')['distribution of the delay in the queue']
-        steps = curves(cdf)[style.BLUE]
+        steps = curves(cdf)[style.LINKS[0]]
         wanted = [(0, 0), (0, 200 / 7), (.04, 300 / 7), (1.04, 400 / 7), (1.08, 600 / 7), (2.08, 100)]
         assert np.allclose(steps, wanted), steps
         assert cdf.get_legend().get_texts()[0].get_text() == 'a: median 1.04, 99th percentile 2.08 ms'
@@ -406,8 +408,9 @@ class TestLinks(Drawn):
         panels = self.panels(*self.hand)
         for title in ('flow f: congestion window', 'flow f: sequence numbers', 'packets that wait in the queue'):
             assert len(marks(panels[title])['x']) == 2, title
-        assert len({sign[:2] for sign in style.SIGNS.values()}) == 3
-        assert style.AGAIN['marker'] not in [sign[0] for sign in style.SIGNS.values()]
+        looks = [tuple(sorted(style.sign_look(reason, is_ack).items())) for reason in ('full', 'codel', 'lost') for is_ack in (False, True)]
+        assert len(set(looks)) == 6
+        assert style.AGAIN['marker'] not in [dict(look)['marker'] for look in looks]
 
     def test_keys_cover_nothing(self):
         for words in (self.hand, self.stall, [*self.hand, '--beside', *self.stall]):

@@ -1,12 +1,16 @@
 """Tests of what tcpsim-plot says of flows and links beside their curves: ways, round trips, who uses a link, at which link
 packets were lost and of what sort, duplicates, timers, heights of axes.
 """
+from types import SimpleNamespace
+
 import pytest
 
 pytest.importorskip('matplotlib', reason='no matplotlib: apt-get install python3-matplotlib')
 import pictures  # noqa: E402
+from matplotlib.lines import TICKDOWN  # noqa: E402
 from tcpsim.curves import read_run  # noqa: E402
-from tcpsim.plot import flow_panels, notes, style  # noqa: E402
+from tcpsim.plot import notes, spans, style  # noqa: E402
+from tcpsim.plot.points import growth  # noqa: E402
 from tcpsim.scenario.text import Scenario  # noqa: E402
 from test_plot import MS, Drawn, S, marks  # noqa: E402
 from test_trace import TRACE  # noqa: E402
@@ -21,7 +25,9 @@ class TestNotes(Drawn):
         assert [notes.way_text(scenario, number) for number in (0, 1)] == ['sa→p→q→ra', 'sb→p→q→rb']
         trips = [notes.least_round_trip(scenario, number) for number in (0, 1)]
         assert trips == [27_733_334 + 2 * 83_200 + 1_066_667 + 2 * 3_200 + 14 * MS] * 1 + [trips[0] + 398 * MS]
-        assert notes.flow_notes(scenario, 1) == ('sb→p→q→rb', 'round trip ≥ 441 ms')
+        assert notes.trip_text(scenario, 1) == 'round trip ≥ 441 ms'
+        assert notes.flow_notes(scenario, 1, (), notes.trip_text(scenario, 1)) == ('sb→p→q→rb', 'round trip ≥ 441 ms')
+        assert notes.flow_notes(scenario, 1, ('Reno',), None) == ('sb→p→q→rb', 'Reno')
 
     def test_a_long_way_is_told_by_its_ends(self):
         count = 9
@@ -52,28 +58,51 @@ class TestNotes(Drawn):
         scenario.ways = [scenario.ways[1]] * 5
         assert notes.link_note(scenario, 0) == 'p→q: data of 5 flows'
 
-    def test_the_picture_has_them(self):
+    def test_round_trips_that_differ_are_in_the_flows_names(self):
         figure = pictures.figure_of('two_round_trips_do_not_share_fairly')
+        titles = [axes.get_title(loc='left') for axes in figure.get_axes()]
+        assert 'flow fa, round trip ≥ 43 ms: congestion window' in titles
+        assert 'flow fb, round trip ≥ 441 ms: congestion window' in titles
         texts = [text.get_text() for axes in figure.get_axes() for text in axes.texts]
-        assert 'sa→p→q→ra\nround trip ≥ 43 ms' in texts and 'sb→p→q→rb\nround trip ≥ 441 ms' in texts
+        assert 'beyond ssthresh +3.2 kB a second' in texts and 'sb→p→q→rb, beyond ssthresh +1.1 kB a second' in texts
         progress = figure.get_axes()[-1].get_legend().get_texts()
-        assert [text.get_text() for text in progress] == ['fa 335 kB', 'fb 69 kB']
+        assert [text.get_text() for text in progress] == ['fa, round trip ≥ 43 ms: 335 kB', 'fb, round trip ≥ 441 ms: 69 kB']
+        alike = pictures.figure_of('two_flows_share_fairly')
+        assert 'flow fa: congestion window' in [axes.get_title(loc='left') for axes in alike.get_axes()]
+        progress = alike.get_axes()[-1].get_legend().get_texts()
+        assert [text.get_text() for text in progress] == ['fa 225 kB', 'fb 226 kB']
+
+    def test_how_fast_a_window_grows(self):
+        # beyond ssthresh from 10 to 20 ms, by 400 bytes; then a recovery, slow start, and from 50 ms on again
+        flow = SimpleNamespace(times=[0, 10 * MS, 15 * MS, 20 * MS, 30 * MS, 40 * MS, 50 * MS, 60 * MS],
+                               cwnd=[1000, 2000, 2200, 2400, 5000, 1000, 2000, 2600], ssthresh=[2000] * 8)
+        window = 0, 100 * MS
+        assert growth(flow, [(20 * MS, 40 * MS)], window) == pytest.approx((200 + 600) * S / (15 * MS))
+        assert growth(flow, [], (0, 9 * MS)) is None
 
 
 class TestSigns(Drawn):
     def key(self, axes):
         return [text.get_text() for text in axes.get_legend().get_texts()]
 
-    def test_losses_have_their_links_colours_where_these_are_several(self):
+    def test_losses_have_a_row_for_each_link_where_these_are_several(self):
         figure = pictures.figure_of('parking_lot_of_three_routers')
         panels = {axes.get_title(loc='left'): axes for axes in figure.get_axes() if axes.axison}
-        assert list(panels) == ['flow fa', 'flow fb', 'flow fc', 'packets that wait at pq', 'packets that wait at qu',
-                                'bytes acknowledged of each flow']
+        names = {'fa': ' 102 ms', 'fb': ' 71 ms', 'fc': ' 71 ms'}
+        of = {name: panels[f'flow {name}, round trip ≥{trip}'] for name, trip in names.items()}
+        rows = {name: {y for line in axes.lines if line.get_marker() == 'x' for y in line.get_ydata()} for name, axes in of.items()}
+        assert len(rows['fa']) == 2 and rows['fb'] == {max(rows['fa'])} and rows['fc'] == {min(rows['fa'])}
+        named = {name: [text.get_text() for text in axes.texts if text.get_text() in ('pq', 'qu')] for name, axes in of.items()}
+        assert named == {'fa': ['pq', 'qu'], 'fb': ['pq'], 'fc': ['qu']}
+        # a colour is a flow's, in each panel
         crosses = {title: {line.get_color() for line in axes.lines if line.get_marker() == 'x'} for title, axes in panels.items()}
-        assert crosses['flow fa'] == {style.BLUE, style.RUST}       # fa alone loses at both
-        assert crosses['flow fb'] == crosses['packets that wait at pq'] == {style.BLUE}
-        assert crosses['flow fc'] == crosses['packets that wait at qu'] == {style.RUST}
-        assert self.key(figure.get_axes()[0])[-2:] == ['dropped: queue full at pq', 'dropped: queue full at qu']
+        for name, color in zip(of, style.SERIES):
+            assert crosses[of[name].get_title(loc='left')] == {color}
+        assert crosses['packets that wait at pq'] == {style.BLUE, style.RUST}
+        assert crosses['packets that wait at qu'] == {style.BLUE, style.GREEN}
+        assert self.key(figure.get_axes()[0])[-1] == '35 dropped: queue full'
+        assert [self.key(panels[f'packets that wait at {link}'])[-1] for link in ('pq', 'qu')] == ['17 dropped: queue full',
+                                                                                                  '18 dropped: queue full']
         low, high = panels['packets that wait at pq'].get_ylim(), panels['packets that wait at qu'].get_ylim()
         assert low == high
 
@@ -82,20 +111,23 @@ class TestSigns(Drawn):
         panels = {axes.get_title(loc='left'): axes for axes in figure.get_axes() if axes.axison}
         run = read_run(*pictures.run_of('a_slow_way_back'))
         dropped = [time / MS for time, *_ in run.flows[0].drops]
-        for title in ('flow f: sequence numbers', 'packets that wait in the queue'):
-            line, = [line for line in panels[title].lines if line.get_marker() == 'x']
-            assert line.get_color() == style.OF_ACKS
-            assert sorted(line.get_xdata()) == pytest.approx(dropped)
-        assert 'x' not in marks(panels['flow f: congestion window'])
-        assert self.key(panels['packets that wait in the queue']) == ['ack dropped: queue full']
+        sign = style.sign_look('full', is_ack=True)['marker']
+        assert sign != style.sign_look('full')['marker']
+        line, = [line for line in panels['flow f: sequence numbers'].lines if line.get_marker() == sign]
+        assert line.get_color() == style.OF_ACKS
+        assert sorted(line.get_xdata()) == pytest.approx(dropped)
+        assert sign not in marks(panels['flow f: congestion window'])
+        queue = panels['packets that wait in the queue']
+        assert self.key(queue) == ['33 acks dropped: queue full']
+        assert {line.get_color() for line in queue.lines if line.get_marker() == sign} == {style.OF_ACKS}
 
     def test_duplicates_and_acknowledgements_that_were_held_back(self):
         # by hand: 3000 is acknowledged, and again by each acknowledgement of 3000 that comes later
         sequence = self.panels(*self.hand)['flow f: sequence numbers']
         run = read_run(*self.hand)
         told = [int(words[1]) for words in map(str.split, TRACE.splitlines()) if words[5:8] == ['ack', '0', '3000']]
-        assert sorted(marks(sequence)['|']) == pytest.approx([(time / MS, 3) for time in told if time not in run.flows[0].una_times])
-        assert len(marks(sequence)['|']) >= 3
+        assert sorted(marks(sequence)[TICKDOWN]) == pytest.approx([(time / MS, 3) for time in told if time not in run.flows[0].una_times])
+        assert len(marks(sequence)[TICKDOWN]) >= 3
         figure = pictures.figure_of('delayed_acks_and_their_alarm')
         sequence = figure.get_axes()[-1]
         # the ninth segment comes at 22.28 ms
@@ -107,23 +139,50 @@ class TestSigns(Drawn):
     def test_timeouts_say_how_long_the_timer_ran(self):
         def said(name):
             run = read_run(*pictures.run_of(name))
-            return [[flow_panels.timer_of(flow, time) for time in flow.timeouts] for flow in run.flows]
+            return [[spans.time_of_timer(flow, time) for time in flow.timeouts] for flow in run.flows]
         assert said('a_timer_that_stays_doubled') == [[S, 2 * S]]
         assert said('two_timeouts_in_a_row') == [[S, 2 * S]]
         assert said('lock_out_at_equal_times')[0] == [S, 2 * S, 4 * S]
         texts = [text.get_text() for axes in pictures.figure_of('two_timeouts_in_a_row').get_axes() for text in axes.texts]
-        assert texts.count('after 1 s') == texts.count('after 2 s') == 2
+        # two duplicates came for 4000; and each is said once, in the first panel
+        assert texts.count('after 1 s, 2 dup. acks') == texts.count('after 2 s, 0 dup. acks') == 1
+
+    def test_timeouts_say_how_many_duplicates_came(self):
+        def said(name):
+            return [[spans.timeout_text(flow, time, False) for time in flow.timeouts]
+                    for flow in read_run(*pictures.run_of(name)).flows]
+        # Reno's second recovery ends with an acknowledgement of all up to the third loss, and then nothing comes
+        assert said('three_losses_in_a_window') == [['0 dup.']]
+        assert said('a_lost_retransmission') == [['12 dup.']]
+        assert said('lock_out_at_equal_times') == [['0 dup.', '2 dup.', '0 dup.'], ['0 dup.']]
+        counted = [text.get_text() for axes in pictures.figure_of('four_flows_share_codel').get_axes() for text in axes.texts
+                   if text.get_text().endswith(' dup.')]
+        assert counted == ['27 dup.', '0 dup.', '0 dup.', '2 dup.', '10 dup.', '6 dup.', '0 dup.', '0 dup.', '0 dup.', '0 dup.']
+
+    def test_labels_of_timeouts_are_left_of_their_lines_and_off_each_other(self):
+        for name in ('lock_out_at_equal_times', 'two_timeouts_in_a_row', 'four_flows_share_codel', 'a_timer_that_stays_doubled'):
+            figure = pictures.figure_of(name)
+            figure.draw_without_rendering()
+            renderer = figure.canvas.get_renderer()
+            for axes in figure.get_axes():
+                labels = [text for text in axes.texts if text.get_color() == style.DARK_RED]
+                boxes = [label.get_window_extent(renderer) for label in labels]
+                for label, box in zip(labels, boxes):
+                    assert box.x1 <= axes.transData.transform((label.xy[0], 0))[0], (name, label)
+                    assert box.x0 >= axes.bbox.x0 and box.y0 >= axes.bbox.y0, (name, label)
+                assert not [pair for n, pair in enumerate(boxes) for other in boxes[:n] if pair.overlaps(other)], name
 
     def test_axes_of_a_height_that_was_asked_for(self):
         words = [*self.hand, '--link', 'a', '--panels', 'window,queue,delay,progress', '--top',
                  'window=20k,queue=10,delay=5ms,progress=40k']
         panels = self.panels(*words)
         assert panels['flow f: congestion window'].get_ylim()[1] == pytest.approx(20 * 1.12)
-        assert panels['packets that wait in the queue'].get_ylim()[1] == pytest.approx(10 * 1.12 + .5)
+        assert panels['packets that wait in the queue'].get_ylim()[1] == pytest.approx(10 * (1.12 + 3 * .045) + .5)
         assert panels['delay in the queue of each packet sent'].get_ylim()[1] == pytest.approx(5 * 1.12)
         assert panels['bytes acknowledged of flow f'].get_ylim()[1] == pytest.approx(40 * 1.06)
         # what is higher is drawn whole
-        assert self.panels(*self.hand, '--top', 'window=1k')['flow f: congestion window'].get_ylim() == (-.7, 7 * 1.12)
+        low, high = self.panels(*self.hand, '--top', 'window=1k')['flow f: congestion window'].get_ylim()
+        assert (low, high) == pytest.approx((-.98, 7 * 1.12))
         for top in ('window', 'cwnd=5', 'queue=many', 'delay=5', 'queue=1.5', ''):
             self.refused(2, '--top', *self.hand, '--top', top)
 

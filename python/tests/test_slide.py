@@ -64,7 +64,7 @@ def linear_of(color):
     return np.array([part / 12.92 if part <= .04045 else ((part + .055) / 1.055) ** 2.4 for part in parts])
 
 
-@pytest.mark.parametrize('one, other', itertools.combinations(style.SERIES, 2))
+@pytest.mark.parametrize('one, other', [*itertools.combinations(style.SERIES, 2), *itertools.combinations(style.LINKS, 2)])
 def test_colours_are_told_apart(one, other):
     """By who does not see red and green, and in grey print, where lightness alone is left. (A difference of 2.3 is just
     seen; of red and green of the same lightness a protanope's is near 0.)"""
@@ -72,6 +72,11 @@ def test_colours_are_told_apart(one, other):
     for sight in (np.eye(3), PROTAN, DEUTAN):
         seen = [lab(np.clip(np.array(sight) @ linear_of(color), 0, 1)) for color in (one, other)]
         assert np.linalg.norm(seen[0] - seen[1]) >= 35
+
+
+def test_a_links_colour_is_no_flows():
+    for one, other in itertools.product((*style.LINKS, style.SSTHRESH, style.RECEIVER, style.TIMEOUT), style.SERIES):
+        assert np.linalg.norm(lab(linear_of(one)) - lab(linear_of(other))) >= 25, (one, other)
 
 
 def test_dashes_from_the_fifth_flow_on():
@@ -131,22 +136,26 @@ def test_a_broken_axis_is_told_and_has_its_top():
     axes = Figure().subplots()
     axis = broken.Axis(20_000, 100_000, 64_090)
     broken.set_heights(axes, axis, 1000, 6)
-    assert broken.notes_of(axis) == ['axis broken: up to 64.1 kB', 'in recovery 100 kB']
-    assert broken.notes_of(axis._replace(calm=100_000)) == ['axis broken: up to 100 kB']
-    assert broken.notes_of(broken.Axis(100, 100, 100)) == []
     places = axes.transData.transform([(0, y) for y in (0, 10, 20, 60, 100)])[:, 1]
     assert (np.diff(places) > 0).all()
     assert places[4] < axes.bbox.y1
     assert (places[2] - places[0]) > 2 * (places[4] - places[2])       # what comes later has most of the panel
-    assert [text.get_text() for text in axes.get_yticklabels()][-1] == '100'
-    assert [patch for patch in axes.patches if patch.get_hatch()]
+    # no tick near the break, above it the greatest window, and the greatest outside of recoveries where that is apart
+    assert [text.get_text() for text in axes.get_yticklabels()] == ['0', '5', '10', '15', '20', '64.1', '100']
+    strokes = [line for line in axes.lines if line.get_linestyle() == 'None']
+    assert sorted(line.get_ydata()[0] for line in strokes) == pytest.approx([22.4, 22.4 + .07 * 22.4 / (.3 * 22.4 / (106 - 22.4))])
+    assert all(list(line.get_xdata()) == [0, 1] and not line.get_clip_on() for line in strokes)
+    whole = Figure().subplots()
+    broken.set_heights(whole, broken.Axis(100, 100, 100), 1, 6)
+    assert not whole.lines
 
 
 def test_a_picture_with_a_broken_axis():
     drawn = figure(*example('four_flows_share_a_long_queue'), '--panels', 'window')
-    notes = [text.get_text() for axes in drawn.get_axes() for text in axes.texts] + \
-        [axes.get_title(loc='right') for axes in drawn.get_axes()]
-    assert [note for note in notes if 'axis broken: up to 64.1 kB\nin recovery 75 kB' in note]
+    panels = {axes.get_title(loc='left'): axes for axes in drawn.get_axes()}
+    assert [text.get_text() for text in panels['flow fa'].get_yticklabels()][-1] == '75'
+    sizes = {axes.bbox.height for name, axes in panels.items() if name.startswith('flow')}
+    assert max(sizes) - min(sizes) < 2          # as high as the others
 
 
 def test_the_receivers_window_only_where_it_binds(hand):
@@ -167,7 +176,7 @@ def test_one_unit_for_an_axis_of_delays(ns, unit):
 def test_a_run_that_has_ended_ends():
     """One segment is over after 3.08 ms; beside it a run of a minute."""
     drawn = figure(*example('one_segment'), '--beside', *example('fast_recovery'), '--panels', 'window,queue,utilization')
-    window = panel(drawn, 'one_segment, flow f: congestion window')
+    window = panel(drawn, 'one_segment, flow f, round trip ≥ 3.08 ms: congestion window')
     cwnd = next(line for line in window.lines if line.get_color() == style.BLUE)
     assert max(cwnd.get_xdata()) == pytest.approx(3.08)
     assert window.get_xlim()[1] > 60

@@ -169,9 +169,9 @@ class Simulation:
     # ---- pictures and pages
 
     def plot(self, *panels: str, **options: object) -> PlottedRun:
-        """A picture of the run, which a notebook shows: of the panels window, sequence, queue, delay, delay-cdf, utilization
-        and progress, else of the first choice. Options are those of tcpsim-plot: `flows` and `links` (names), `begin` and
-        `end` (times), `longer`, `title`, `log`, `whole`. Wants matplotlib."""
+        """A picture of the run, which a notebook shows: of the panels window, sequence, timer, queue, delay, delay-cdf,
+        utilization and progress, else of the first choice. Options are those of tcpsim-plot: `flows` and `links` (names),
+        `begin` and `end` (times), `longer`, `title`, `log`, `whole`. Wants matplotlib."""
         wanted('matplotlib')
         from tcpsim import plot
         from tcpsim.curves import Run

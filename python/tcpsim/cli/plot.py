@@ -1,7 +1,7 @@
 """tcpsim-plot: draws a run.
 
 Usage: bin/tcpsim-plot SCENARIO [TRACE] -o FILE.png|.svg|.pdf
-                       [--panels window,sequence,queue,delay,delay-cdf,utilization,progress]
+                       [--panels window,sequence,timer,queue,delay,delay-cdf,utilization,progress]
                        [--flow NAMES] [--links NAMES] [--from T] [--to T] [--longer T] [--log] [--whole]
                        [--title TEXT] [--partial] [--program PATH | --model] [--beside SCENARIO [TRACE]]... [--names NAMES]
 

@@ -9,14 +9,15 @@ from matplotlib.ticker import FixedFormatter, FixedLocator, MaxNLocator
 
 from .picture import FlowView, Picture, recoveries
 from .points import outside, within
-from .style import STEPS, bytes_text
+from .style import STEPS
 
 OVERSHOOT = 1.8         # slow start's window is this many times the greatest one later, and the axis is broken,
 LATER = .4              # where what comes later is at least this part of the picture,
 LEAST = 16              # and slow start's window has so many segments
 ABOVE = .3              # how high the part above the break is drawn, as a part of what is below it,
-GAP = .05               # and the break
-TICKS_ABOVE = 2
+GAP = .07               # and the break
+CLEAR = .93             # up to which part of what is below it there are ticks
+STROKE = {'marker': (2, 2, -60), 'ms': 13, 'mew': 1.4, 'color': '#000000'}      # through the side of a frame
 ROOM = 1.12             # how much higher than the greatest value an axis goes
 
 # The greatest window of a flow in sight; the greatest one after slow start, where that is much less, else the same; and the
@@ -57,9 +58,10 @@ def axis_of(heights: list, shared: list, least: int = 0) -> Axis:
     return Axis(knee, top, calm) if top > OVERSHOOT * knee else Axis(max(knee, top), max(knee, top), calm)
 
 
-def set_heights(axes: Axes, axis: Axis, scale: int, most: int) -> None:
-    """Limits and ticks of an axis of windows, whose unit has `scale` bytes; a break is drawn where it is broken."""
-    low, knee, top = (value / scale for value in (-.1 * axis.knee, axis.knee * ROOM, axis.top))
+def set_heights(axes: Axes, axis: Axis, scale: int, most: int, low: float | None = None) -> None:
+    """Limits and ticks of an axis of windows, whose unit has `scale` bytes, from `low` on; a break is drawn where it is broken."""
+    knee, top = axis.knee * ROOM / scale, axis.top / scale
+    low = -.1 * axis.knee / scale if low is None else low
     locator = MaxNLocator(most, steps=STEPS)
     if axis.top <= axis.knee:
         axes.set_ylim(low, knee)
@@ -75,21 +77,21 @@ def set_heights(axes: Axes, axis: Axis, scale: int, most: int) -> None:
 
     axes.set_yscale('function', functions=(drawn, meant))
     axes.set_ylim(low, 1.06 * top)
-    ticks = [tick for tick in locator.tick_values(0, axis.knee / scale) if 0 <= tick <= knee]
     over = knee + GAP * knee / rest
-    above = MaxNLocator(TICKS_ABOVE, steps=STEPS, min_n_ticks=1).tick_values(over, top)
-    ticks += [tick for tick in above if over < tick <= 1.06 * top] or [top]
+    ticks = [tick for tick in locator.tick_values(0, axis.knee / scale) if 0 <= tick <= CLEAR * knee]
+    ticks += [tick for tick in (axis.calm / scale,) if over < tick and (top - tick) * rest > .1 * knee] + [top]
     axes.yaxis.set_major_locator(FixedLocator(ticks))
     axes.yaxis.set_major_formatter(FixedFormatter([f'{tick:,.3g}' for tick in ticks]))
-    axes.axhspan(knee, over, facecolor='#FFFFFF', edgecolor='#777777', hatch='////', lw=.8, zorder=4)
+    draw_break(axes, knee, over)
 
 
-def notes_of(axis: Axis) -> list[str]:
-    """What is said of an axis that is broken; nothing of another."""
-    if axis.top <= axis.knee:
-        return []
-    return [f'axis broken: up to {bytes_text(axis.calm, 3)}',
-            *([f'in recovery {bytes_text(axis.top, 3)}'] if axis.top > axis.calm else [])]
+def draw_break(axes: Axes, low: float, high: float) -> None:
+    """A gap in an axis from one height to another, in the axis' unit: nothing is drawn in it, and strokes end the frame's
+    sides."""
+    axes.axhspan(low, high, facecolor='#FFFFFF', edgecolor='none', zorder=4)
+    for height in (low, high):
+        axes.axhline(height, color='#777777', lw=1, ls=':', zorder=4.1)
+        axes.plot([0, 1], [height] * 2, transform=axes.get_yaxis_transform(), ls='none', clip_on=False, zorder=6, **STROKE)
 
 
 def binds(view: FlowView, picture: Picture) -> bool:

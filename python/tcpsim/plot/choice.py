@@ -18,7 +18,7 @@ from tcpsim.whole_trace import inputs_of
 
 from .clock import Clock, Cut, idle_spans, length_text
 from .layout import FIRST_CHOICE, PANELS
-from .notes import differences, flow_notes, link_note
+from .notes import differences, flow_notes, link_note, only_acks, trip_text
 from .picture import FlowView, LinkView, Picture
 
 S = 10**9
@@ -171,17 +171,20 @@ def ends_at(run: Run) -> int:
 def flow_views(chosen: list) -> list[FlowView]:
     """Flows as they are shown, each up to its completion; `chosen` has of each its run, its number there and its name."""
     found, unlike = [], differences([run.scenario.flows[number] for run, number, _ in chosen])
+    trips = [trip_text(run.scenario, number) for run, number, _ in chosen]
     for at, (run, number, name) in enumerate(chosen):
         flow = run.flows[number]
         until = known_until(run) if flow.completed is None else flow.completed
         words = [word for word in unlike[at] if word not in name]
-        found.append(FlowView(flow, name, at, until, tuple(map(drawable, flow_notes(run.scenario, number, words)))))
+        notes = flow_notes(run.scenario, number, words, trips[at] if len(set(trips)) == 1 else None)
+        found.append(FlowView(flow, name, at, until, tuple(map(drawable, notes)), trips[at] if len(set(trips)) > 1 else ''))
     return found
 
 
 def link_view(run: Run, number: int, name: str) -> LinkView:
     """A link as it is shown; its number is not known yet."""
-    return LinkView(run.links[number], name, 0, ends_at(run), drawable(link_note(run.scenario, number)))
+    return LinkView(run.links[number], name, 0, ends_at(run), drawable(link_note(run.scenario, number)),
+                    only_acks(run.scenario, number))
 
 
 def window_of(given: argparse.Namespace, runs: Sequence[Run]) -> tuple[tuple[int, int], list[Cut]]:
@@ -268,8 +271,15 @@ def drawn_by(given: argparse.Namespace, flows: list, links: list, clock: Clock) 
     """What is drawn of these flows and links, as the words ask for it."""
     picture = Picture(flows, [view._replace(number=at) for at, view in enumerate(links)], clock, bool(given.beside),
                       stall_of(given, clock.window), given.log)
-    picture.tops = given.tops
+    picture.tops, picture.part = given.tops, part_text(given)
     return picture
+
+
+def part_text(given: argparse.Namespace) -> str:
+    """What is said of the axis of time where a part of the run is asked for."""
+    begin = f' from {length_text(given.begin)}' if given.begin else ''
+    end = f' {"to" if begin else "up to"} {length_text(given.end)}' if given.end else ' on' if begin else ''
+    return f' (the run{begin}{end})' if begin or end else ''
 
 
 def picture_of(given: argparse.Namespace, run: Run) -> Picture:

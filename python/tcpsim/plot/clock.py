@@ -18,7 +18,7 @@ CUT_WIDTH = .09         # how wide a gap that is left out is drawn, as a part of
 MARGIN = .1            # what stays of a gap at either side, as a part of what stays beside it
 AT_FIRST = 2           # and how many times that at the first moment, whose names have no room to the left
 SLACK = 1e-6           # of the rim: what a tick may lie outside by its arithmetic alone
-RIM = .012              # how far the panel goes on beside the first and the last moment, so that their marks are whole
+RIM = .03               # how far the panel goes on beside the first and the last moment, so that their marks are whole
 
 # What an axis leaves out, and how long nothing happens in all, in ns.
 Cut = namedtuple('Cut', 'begin end idle')

@@ -7,79 +7,30 @@ from collections.abc import Sequence
 import numpy as np
 from matplotlib.artist import Artist
 from matplotlib.axes import Axes
-from matplotlib.lines import Line2D
+from matplotlib.lines import TICKDOWN, Line2D
 from matplotlib.patches import Patch
 from matplotlib.ticker import MaxNLocator
 
-from tcpsim.curves import FlowRun
-
-from .broken import ROOM, Axis, axis_of, binds, heights_of, notes_of, set_heights
+from .broken import ROOM, Axis, axis_of, binds, heights_of, set_heights
 from .clock import length_text
-from .losses import loss_key, lost, mark_lost, name_lost
+from .losses import color_of, loss_key, loss_rows, lost, mark_lost, mark_row, name_lost
 from .picture import FlowView, Picture, recoveries
-from .points import dots, stalls, steps, within
-from .style import (AGAIN, BLUE, GREEN, GREY, IN_FLIGHT, NOTE, OF_ACKS, ORANGE, RED, SKY, TIMEOUT_WIDTH, WHOLE_STEPS, byte_unit,
-                    bytes_text, key_above, recovery_mark, series, stall_mark, timeout_mark)
+from .points import dots, growth, steps, within
+from .spans import duplicate_times, mark_spans, span_key
+from .style import (AGAIN, IN_FLIGHT, NOTE, RECEIVER, RUST, SSTHRESH, WHOLE_STEPS, byte_unit, bytes_text, key_above,
+                    muted, series, sign_look)
 
-DARK_RED = '#A34700'    # in which letters can be read
-MOST_TIMERS = 4         # of so many timeouts it is said how long the timer ran
 MOST_DUPLICATES = 100   # so many are marked
 FEW = 60                # rings that are large
-SEEN = 1 / 100          # what lasts for less of the time that is shown, or lies closer to each other, is not seen as such
 OWN_AXIS = .1           # a flow whose values are below this part of the greatest has an axis of its own
 APART = 2               # flows whose byte numbers lie over so many times the longest way of one are far apart
 OWN = 'an axis of its own'
-COMPLETE = {'marker': 'o', 'ms': 5, 'ls': 'none', 'color': BLUE}
-DUPLICATE = {'marker': '|', 'ms': 9, 'mew': 1.2, 'color': OF_ACKS, 'zorder': 3.2}
-HELD_BACK = {'marker': '>', 'ms': 9, 'color': GREEN, 'zorder': 3.2}
-ON_WHITE = {'boxstyle': 'square,pad=.1', 'fc': '#FFFFFF', 'ec': 'none', 'alpha': .8}
-
-
-# ---- marks that window and sequence panels share
-
-def mark_spans(picture: Picture, axes: Axes, view: FlowView, in_full: bool = True) -> None:
-    """Shades stalls and recoveries, below all curves and areas, and draws timeouts."""
-    for begin, end in picture.in_sight(stalls(view.run, picture.longer, view.until)):
-        axes.axvspan(*picture.clock.x((begin, end)), color='#000000', alpha=.13, lw=0, zorder=.8)
-    for begin, end in picture.in_sight(recoveries(view)):
-        axes.axvspan(*picture.clock.x((begin, end)), color=SKY, alpha=.3, lw=0, zorder=.9)
-    timeouts = [time for time in view.run.timeouts if picture.sees(time)]
-    for row, time in enumerate(timeouts):
-        axes.axvline(float(picture.clock.x(time)), color=RED, lw=TIMEOUT_WIDTH, zorder=3.5)
-        length = timer_of(view.run, time) if in_full and len(timeouts) <= MOST_TIMERS else None
-        if length is not None:
-            name_timer(picture, axes, (time, length), row)
-
-
-def timer_of(run: FlowRun, time: int) -> int | None:
-    """How long the timer ran that ended then, in ns: since the last new acknowledgement or timeout. In a recovery of NewReno's
-    only the first partial acknowledgement starts it anew, and nothing is said."""
-    before = [moments[:np.searchsorted(moments, time)][-1:] for moments in (run.una_times, run.timeouts)]
-    since = max([run.flow.start, *(int(moment) for moments in before for moment in moments)])
-    if run.flow.newreno and any(begin <= since and (end is None or since < end) for begin, end in run.recoveries):
-        return None
-    return time - since
-
-
-def name_timer(picture: Picture, axes: Axes, timeout: tuple[int, int], row: int) -> None:
-    """Writes beside a timeout how long the timer ran, each a row below the one before."""
-    x, (left, right) = float(picture.clock.x(timeout[0])), picture.clock.x(picture.window)
-    to_left = x > (left + right) / 2
-    axes.annotate(f'after {length_text(timeout[1])}', (x, 1), xycoords=('data', 'axes fraction'),
-                  xytext=(-4 if to_left else 4, -4 - 1.4 * NOTE * row), textcoords='offset points',
-                  ha='right' if to_left else 'left', va='top', fontsize=NOTE, color=DARK_RED, zorder=5, bbox=ON_WHITE)
-
-
-def span_key(picture: Picture) -> list[Artist]:
-    """The key's entries of what is shaded or drawn in any of the flows' panels."""
-    key, least = [], SEEN * picture.clock.kept
-    if any(end - begin >= least for view in picture.flows for begin, end in picture.in_sight(recoveries(view))):
-        key.append(recovery_mark())
-    if any(picture.sees(time) for view in picture.flows for time in view.run.timeouts):
-        key.append(timeout_mark())
-    if any(picture.in_sight(stalls(view.run, picture.longer, view.until)) for view in picture.flows):
-        key.append(stall_mark(length_text(picture.longer)))
-    return key
+ROWS = .07, .15         # how far below 0 the first row of losses is, and each further one, as parts of the axis
+COMPLETE = {'marker': 'o', 'ms': 5, 'ls': 'none'}
+DUPLICATE = {'marker': TICKDOWN, 'ms': 9, 'mew': 1.2, 'color': '#000000', 'zorder': 3.2}
+HELD_BACK = {'marker': '>', 'ms': 9, 'color': RUST, 'zorder': 3.2}
+# Of two curves of which one mostly hides the other: a wide pale one, and a thin one on it.
+RECEIVED, ACKNOWLEDGED = {'color': '#8FD0C2', 'lw': 4.5}, {'color': '#000000', 'lw': 1.1}
 
 
 # ---- which panels share their axis
@@ -102,7 +53,7 @@ def window_axes(picture: Picture) -> list[tuple[Axis, list[str]]]:
     found = []
     for its, with_others in zip(heights, shared):
         axis = Axis(common.knee, max(common.knee, its.top), its.calm) if with_others else axis_of([its], [True])
-        found.append((axis, ([] if with_others else [OWN]) + notes_of(axis)))
+        found.append((axis, [] if with_others else [OWN]))
     return found
 
 
@@ -111,25 +62,32 @@ def window_panel(picture: Picture, axes: Axes, view: FlowView, heading: list, wi
     flow, all_axes = view.run, window_axes(picture)
     axis, notes = all_axes[view.number]
     scale, unit = byte_unit(max(each.knee for each, _ in all_axes))
-    mark_spans(picture, axes, view, in_full)
+    mark_spans(picture, axes, view, in_full=in_full)
     times, flight = steps(flow.times, flow.flight, picture.until(view))
     axes.fill_between(picture.clock.x(times), flight / scale, step='post', color=IN_FLIGHT, lw=0, zorder=1)
     if binds(view, picture):
-        picture.curve(axes, view, [flow.flow.start], [flow.flow.rwnd], scale, color=GREEN, ls='-.')
+        picture.curve(axes, view, [flow.flow.start], [flow.flow.rwnd], scale, color=RECEIVER, ls='-.')
     # ssthresh starts at the receiver's window, often far above all else: it may leave the panel.
-    picture.curve(axes, view, flow.times, flow.ssthresh, scale, color=ORANGE, ls=(0, (4, 2)), lw=1.4)
+    picture.curve(axes, view, flow.times, flow.ssthresh, scale, color=SSTHRESH, ls=(0, (4, 2)), lw=1.2)
+    look = picture.look_of(view)
     if picture.in_sight(recoveries(view)):
         spans = recoveries(view)
         calm = zip([picture.window[0], *(end + 1 for _, end in spans)],
                    [*(begin for begin, _ in spans), picture.window[1] + 1])
-        picture.curve(axes, view, flow.times, flow.cwnd, scale, hidden=list(calm), color=GREY, lw=1.2)
-    picture.curve(axes, view, flow.times, flow.cwnd, scale, hidden=recoveries(view), color=BLUE, lw=2)
+        picture.curve(axes, view, flow.times, flow.cwnd, scale, hidden=list(calm), color=muted(look['color']), lw=1.2)
+    picture.curve(axes, view, flow.times, flow.cwnd, scale, hidden=recoveries(view), **{**look, 'lw': 2.2})
     if is_complete(picture, view):
-        axes.plot([picture.clock.x(flow.completed)], [flow.cwnd[-1] / scale], **COMPLETE)
-    loss_row(picture, axes, view, axis.knee / scale, in_full)
-    set_heights(axes, axis, scale, 7 if in_full else 5)
+        axes.plot([picture.clock.x(flow.completed)], [flow.cwnd[-1] / scale], color=look['color'], **COMPLETE)
+    low = mark_losses(picture, axes, view, axis.knee / scale, width)
+    set_heights(axes, axis, scale, 7 if in_full else 5, low)
     axes.set_ylabel(unit)
-    key_above(axes, heading[0], [], width, [*heading[1:], *notes])
+    key_above(axes, heading[0], [], width, [*heading[1:], growth_note(picture, view), *notes])
+
+
+def growth_note(picture: Picture, view: FlowView) -> str | None:
+    """How fast a window grows beyond ssthresh, where the flows' round trips differ, by which it grows."""
+    rate = growth(view.run, recoveries(view), picture.until(view)) if view.trip else None
+    return f'beyond ssthresh +{bytes_text(round(rate), 2)} a second' if rate else None
 
 
 def is_complete(picture: Picture, view: FlowView) -> bool:
@@ -137,28 +95,56 @@ def is_complete(picture: Picture, view: FlowView) -> bool:
     return view.run.completed is not None and picture.sees(view.run.completed)
 
 
-def loss_row(picture: Picture, axes: Axes, view: FlowView, greatest: float, in_full: bool) -> None:
-    """Lost segments as a row below the curves, which would hide them."""
-    mark_lost(picture, axes, lost(picture, view), lambda loss: -.05 * greatest, 6 if in_full else 5)
+def mark_losses(picture: Picture, axes: Axes, view: FlowView, greatest: float, width: float) -> float:
+    """Lost segments in rows below the curves, which would hide them, one for each link at which segments were lost; answers where
+    the axis begins."""
+    rows = loss_rows(picture, lost(picture, view))
+    for row, (name, losses) in enumerate(rows):
+        height = -(ROWS[0] + row * ROWS[1]) * greatest
+        for reason in {loss.reason: None for loss in losses}:
+            mark_row(picture, axes, [loss.time for loss in losses if loss.reason == reason], height, width,
+                     color=color_of(picture, view, reason), **sign_look(reason))
+        if name and losses:
+            axes.annotate(name, (1, height), xycoords=('axes fraction', 'data'), xytext=(3, 0), textcoords='offset points',
+                          va='center', fontsize=NOTE)
+    return -(.14 + ROWS[1] * (len(rows) - 1)) * greatest
+
+
+def first_thresholds(picture: Picture) -> list[int]:
+    """The ssthresh of flows that leave their panels above, in bytes."""
+    found = []
+    for view, (axis, _) in zip(picture.flows, window_axes(picture)):
+        times, values = within(view.run.times, view.run.ssthresh, picture.until(view))
+        values = values[times <= view.until]
+        found += [int(values.max())] if len(values) and values.max() > top_of(axis) else []
+    return found
+
+
+def top_of(axis: Axis) -> float:
+    """How high an axis of windows goes, in bytes."""
+    return axis.top * (1.06 if axis.top > axis.knee else ROOM)
 
 
 def window_key(picture: Picture) -> list[Artist]:
     """The key of all windows: what is in sight."""
     def is_in_sight(view, axis):
         times, values = within(view.run.times, view.run.ssthresh, picture.until(view))
-        return bool((values[times <= view.until] <= axis.top * (1 if axis.top > axis.knee else ROOM)).any())
-    key = [Line2D([], [], color=BLUE, lw=2, label='cwnd')]
+        return bool((values[times <= view.until] <= top_of(axis)).any())
+    color, several = picture.key_color(), len(picture.flows) > 1
+    key = [Line2D([], [], color=color, lw=2.2, label='cwnd, in its flow\'s colour' if several else 'cwnd')]
     if any(picture.in_sight(recoveries(view)) for view in picture.flows):
-        key.append(Line2D([], [], color=GREY, lw=1.2, label='cwnd in recovery'))
+        key.append(Line2D([], [], color=muted(color), lw=1.2, label='cwnd in recovery'))
     if any(is_in_sight(view, axis) for view, (axis, _) in zip(picture.flows, window_axes(picture))):
-        key.append(Line2D([], [], color=ORANGE, ls='--', label='ssthresh'))
+        above = sorted(set(first_thresholds(picture)))
+        more = f' (first above: {bytes_text(above[0])})' if len(above) == 1 else ' (first above)' if above else ''
+        key.append(Line2D([], [], color=SSTHRESH, ls='--', lw=1.2, label=f'ssthresh{more}'))
     windows = [view.run.flow.rwnd for view in picture.flows if binds(view, picture)]
     if windows:
         where = f', {bytes_text(max(windows))}' if len(windows) == len(picture.flows) else ' where it binds'
-        key.append(Line2D([], [], color=GREEN, ls='-.', label=f'receiver\'s window{where}'))
+        key.append(Line2D([], [], color=RECEIVER, ls='-.', label=f'receiver\'s window{where}'))
     key.append(Patch(color=IN_FLIGHT, label='in flight'))
     if any(is_complete(picture, view) for view in picture.flows):
-        key.append(Line2D([], [], **COMPLETE, label='all is acknowledged'))
+        key.append(Line2D([], [], color=color, **COMPLETE, label='all is acknowledged'))
     return key + span_key(picture) + loss_key(picture)
 
 
@@ -171,7 +157,7 @@ def windows_panel(picture: Picture, axes: Axes, views: Sequence[FlowView], width
     set_heights(axes, axis, scale, 6)
     axes.set_ylabel(unit)
     key_above(axes, 'congestion windows', [Line2D([], [], label=view.name, **series(at)) for at, view in enumerate(views)],
-              width, notes_of(axis))
+              width)
 
 
 # ---- sequence numbers
@@ -209,18 +195,18 @@ def sequence_panel(picture: Picture, axes: Axes, view: FlowView, heading: list, 
     flow = view.run
     least, greatest, note = sequence_limits(picture)[view.number]
     scale, unit = byte_unit(greatest)
-    mark_spans(picture, axes, view, in_full)
+    mark_spans(picture, axes, view, None if picture.first in (None, 'sequence') else {}, gap=AGAIN['ms'] - 1)
     begin, count = [flow.flow.start], len(flow.sent)
     picture.points(axes, flow.sent_times, flow.sent, scale, marker='.', ms=8 if count < 20 else 6 if count < 400 else 2,
-                   color=BLUE, zorder=2.5)
-    picture.curve(axes, view, begin + list(flow.next_times), [0] + list(flow.next), scale, color=GREEN, lw=1.8)
-    picture.curve(axes, view, begin + list(flow.una_times), [0] + list(flow.una), scale, color=OF_ACKS)
+                   color=picture.color_of(view), zorder=3.85)
+    picture.curve(axes, view, begin + list(flow.next_times), [0] + list(flow.next), scale, **RECEIVED)
+    picture.curve(axes, view, begin + list(flow.una_times), [0] + list(flow.una), scale, **ACKNOWLEDGED)
     picture.points(axes, *duplicates(picture, view), scale, **DUPLICATE)
     picture.points(axes, flow.alarm_times, flow.alarms, scale, **HELD_BACK)
     missed = [*lost(picture, view), *lost(picture, view, acks=True)]
-    mark_lost(picture, axes, missed, lambda loss: loss.number / scale, 8 if len(missed) < 20 else 5)
+    mark_lost(picture, axes, view, missed, lambda loss: loss.number / scale, 9 if len(missed) < 20 else 5.5)
     picture.points(axes, flow.again_times, flow.again, scale, zorder=3.7,
-                   **{**AGAIN, 'ms': AGAIN['ms'] if len(flow.again) < FEW else 4.5})
+                   **{**AGAIN, 'ms': AGAIN['ms'] if len(flow.again) < FEW else 5})
     span = max(1, greatest - least)
     axes.set_ylim((least - .05 * span) / scale, (greatest + .08 * span) / scale)
     axes.yaxis.set_major_locator(MaxNLocator(7, steps=WHOLE_STEPS))
@@ -231,23 +217,19 @@ def sequence_panel(picture: Picture, axes: Axes, view: FlowView, heading: list, 
 
 
 def duplicates(picture: Picture, view: FlowView) -> tuple[np.ndarray, np.ndarray] | tuple[tuple[()], tuple[()]]:
-    """The duplicate acknowledgements in sight, if they are few and can be told from each other: when they came, and their number.
-    A sender's line that neither begins, nor acknowledges anything new, nor is a timeout, is one."""
-    flow = view.run
-    others = np.concatenate([np.asarray(known, dtype=np.int64) for known in ([flow.flow.start], flow.una_times, flow.timeouts)])
-    times = np.setdiff1d(np.asarray(flow.times, dtype=np.int64), others)
+    """The duplicate acknowledgements in sight, if they are not too many: when they came, and their number."""
+    times = duplicate_times(view.run)
     times = times[(times >= picture.window[0]) & (times <= picture.until(view)[1])]
-    apart = np.median(np.diff(times)) if len(times) > 1 else picture.clock.kept
-    if not 0 < len(times) <= MOST_DUPLICATES or apart < SEEN * picture.clock.kept:
+    if not 0 < len(times) <= MOST_DUPLICATES:
         return (), ()
-    return times, np.asarray([0, *flow.una])[np.searchsorted(np.asarray(flow.una_times), times)]
+    return times, np.asarray([0, *view.run.una])[np.searchsorted(np.asarray(view.run.una_times), times)]
 
 
 def sequence_key(picture: Picture) -> list[Artist]:
     """The key of the marks of sequence panels."""
-    key = [Line2D([], [], color=BLUE, marker='.', ls='none', label='sent'),
-           Line2D([], [], color=GREEN, lw=1.8, label='received in order'),
-           Line2D([], [], color=OF_ACKS, label='acknowledged')]
+    sent = 'sent, in its flow\'s colour' if len(picture.flows) > 1 else 'sent'
+    key = [Line2D([], [], color=picture.key_color(), marker='.', ls='none', label=sent),
+           Line2D([], [], label='received in order', **RECEIVED), Line2D([], [], label='acknowledged', **ACKNOWLEDGED)]
     if any(len(duplicates(picture, view)[0]) for view in picture.flows):
         key.append(Line2D([], [], **DUPLICATE, ls='none', label='duplicate ack'))
     held = {view.run.flow.delack for view in picture.flows for time in view.run.alarm_times if picture.sees(time)}
@@ -269,17 +251,17 @@ def progress_panel(picture: Picture, axes: Axes, views: Sequence[FlowView], widt
     scale, unit = byte_unit(greatest)
     key = []
     for at, (view, una) in enumerate(zip(views, seen)):
-        flow, label = view.run, view.name
+        flow, label = view.run, f'{view.name}, {view.trip}:' if view.trip else view.name
         picture.curve(axes, view, [flow.flow.start] + list(flow.una_times), [0] + list(flow.una), scale,
                       **{'lw': 1.8, **series(at)})
         if is_complete(picture, view):
-            label += f', done in {length_text(flow.completed - flow.flow.start)}'
+            label += f'{"" if view.trip else ","} done in {length_text(flow.completed - flow.flow.start)}'
             axes.plot([picture.clock.x(flow.completed)], [flow.last_una / scale], marker='o', ms=5,
                       ls='none', color=series(at)['color'])
         elif len(una) and flow.completed is None:
             label += f' {bytes_text(int(una[-1] - una[0]))}'
         key.append(Line2D([], [], label=label, **{'lw': 1.8, **series(at)}))
-    axes.set_ylabel(f'acknowledged, {unit}')
+    axes.set_ylabel(unit)
     span = max(1, greatest - least)
     axes.set_ylim((least - .03 * span) / scale, (greatest + .06 * span) / scale)
     names = {view.run.flow.name for view in views}

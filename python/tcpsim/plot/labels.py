@@ -46,6 +46,20 @@ def place_labels(axes: Axes, labels: Sequence[Annotation], boxes: Iterable[Itera
         lead(axes, taken[-1], mark)
 
 
+def turn_timers(axes: Axes, labels: Sequence[Annotation], walls: Sequence[float]) -> None:
+    """Labels to the left of their lines stand upright, all of a panel's, where one would cover a curve or reach over the line
+    before its own, over one of the walls (where they are across, in pixels) or the panel's rim. The figure has been laid out."""
+    renderer, points, upright = axes.figure.canvas.get_renderer(), drawn_points(axes), False
+    lines = [axes.transData.transform((label.xy[0], 0))[0] for label in labels]
+    for label, line in zip(labels, lines):
+        left, below, right, top = label.get_window_extent(renderer).extents
+        last = max(wall for wall in (axes.bbox.x0, *walls, *lines) if wall < line or wall == axes.bbox.x0)
+        inside = (points[:, 0] > left) & (points[:, 0] < right) & (points[:, 1] > below) & (points[:, 1] < top)
+        upright = upright or left < last or inside.any()
+    for label in labels if upright else ():
+        label.set_rotation(90)
+
+
 def lead(axes: Axes, box: tuple[float, float, float, float], mark: tuple[float, float]) -> None:
     """A thin line from a mark to its label, where they are far from each other. It is the figure's and not the panel's, since
     its place is none of the data's."""

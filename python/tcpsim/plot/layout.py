@@ -12,22 +12,27 @@ from matplotlib.figure import Figure, FigureBase
 from tcpsim.scenario.text import Unreadable
 
 from .flow_panels import (columns_of, progress_panel, sequence_key, sequence_panel, window_key, window_panel)
-from .labels import place_labels
+from .labels import place_labels, turn_timers
 from .link_panels import delay_cdf_panel, delay_panel, is_envelope, queue_panel, utilization_panel
-from .picture import Picture
+from .picture import FlowView, Picture
+from .spans import MOST_IN_FULL
 from .style import HEAD, KEY, NOTE, TICKS, TITLE_SIZE, columns_that_fit, filled, link_words, new_figure
+from .timers import timer_key, timer_panel
 
-FLOW_PANELS = ('window', 'sequence')
+FLOW_PANELS = ('window', 'sequence', 'timer')
 LINK_PANELS = ('queue', 'delay', 'delay-cdf', 'utilization')
 PANELS = FLOW_PANELS + LINK_PANELS + ('progress',)
 FIRST_CHOICE = ('window', 'sequence', 'queue', 'delay', 'utilization')
 DRAWING = {'queue': queue_panel, 'delay': delay_panel, 'delay-cdf': delay_cdf_panel, 'utilization': utilization_panel}
-KEYS = {'window': window_key, 'sequence': sequence_key}
+KEYS = {'window': window_key, 'sequence': sequence_key, 'timer': timer_key}
+# Of each panel of a flow what draws it, what its title says, and its height in that of a window.
+OF_FLOWS = {'window': (window_panel, 'congestion window', 1), 'sequence': (sequence_panel, 'sequence numbers', 1),
+            'timer': (timer_panel, 'retransmission timer', .6)}
 KEY_HEIGHT = .07        # of a panel's
-MOST_IN_FULL = 2
 MOST_LINK_PANELS = 4    # to the right
 ABOVE_LEFT = -5, 5      # of a curve that rises what is free
 POINTS = 72
+ROWS = .06, .045        # how high a row of signs above a queue is at least, and for each panel, as a part of the queue's axis
 
 
 def draw(picture: Picture, panels: Sequence[str], title: str) -> Figure:
@@ -54,9 +59,11 @@ def draw(picture: Picture, panels: Sequence[str], title: str) -> Figure:
 
 def put_labels(picture: Picture, figure: Figure) -> None:
     """Gives labels their places, once it is known where the panels are."""
-    if picture.labels:
+    if picture.labels or picture.timers:
         figure.draw_without_rendering()
         renderer = figure.canvas.get_renderer()
+    for axes, labels in picture.timers.items():
+        turn_timers(axes, labels, [right for _, _, right, _ in picture.clock.cut_boxes(axes)])
     for axes, labels in picture.labels.items():
         others = [text.get_window_extent(renderer).extents for text in axes.texts if text not in labels]
         place_labels(axes, labels, [*others, *picture.clock.cut_boxes(axes)], ABOVE_LEFT)
@@ -65,12 +72,12 @@ def put_labels(picture: Picture, figure: Figure) -> None:
 # ---- flows
 
 def draw_flows(picture: Picture, figure: FigureBase, panels: Sequence[str], width: float) -> None:
-    """Few flows: window and sequence numbers each. Many: a window each, and one panel of all. The width is in points."""
-    views = picture.flows
+    """Few flows: each panel for each of them. Many: a window and a timer each, and one panel of the bytes of all. The width is in
+    points."""
+    views, picture.first = picture.flows, panels[0]
     in_full = len(views) <= MOST_IN_FULL
-    across = len(views) if in_full else columns_of(len(views))
-    down = math.ceil(len(views) / across)
-    rows = flow_rows(panels, in_full, down)
+    across = columns_of(len(views)) if not in_full else 1 if len(panels) == 1 else len(views)
+    rows = flow_rows(panels, in_full, math.ceil(len(views) / across))
     grid = figure.add_gridspec(len(rows), across, height_ratios=[height for *_, height in rows])
     for at, (panel, row, _) in enumerate(rows):
         if panel == 'key':
@@ -80,34 +87,37 @@ def draw_flows(picture: Picture, figure: FigureBase, panels: Sequence[str], widt
             progress_panel(picture, axes, views, width)
             finish(picture, axes, True)
         else:
-            last = at == len(rows) - 1
             for place, number in enumerate(range(row * across, min(len(views), (row + 1) * across))):
                 axes, notes = figure.add_subplot(grid[at, place]), views[number].notes if panel == panels[0] else ()
                 flow_panel(picture, axes, panel, (views[number], notes), width / across - 30)
-                lowest = last or (panel == 'window' and not in_full and number + across >= len(views))
+                lowest = at == len(rows) - 1 or (not in_full and number + across >= len(views))
                 finish(picture, axes, lowest, small=across > 2)
 
 
 def flow_rows(panels: Sequence[str], in_full: bool, down: int) -> list[tuple[str, int | str, float]]:
-    """Each row's panel, its row among those of its kind (of a key whose key it is), and its height in that of a window.
-    Windows are `down` rows."""
+    """Each row's panel, its row among those of its kind (of a key whose key it is), and its height in that of a window. The panels
+    of flows are `down` rows."""
     rows = []
-    if 'window' in panels:
-        rows += [('key', 'window', KEY_HEIGHT * down)] + [('window', row, 1) for row in range(down)]
-    if 'sequence' in panels and in_full:
-        rows += [('key', 'sequence', KEY_HEIGHT)]
-    if 'sequence' in panels:
-        rows.append(('sequence', 0, 1 if in_full else max(1, .45 * down)))
+    for panel in panels:
+        if panel == 'sequence' and not in_full:
+            rows.append((panel, 0, max(1, .45 * down)))
+        else:
+            rows += [('key', panel, KEY_HEIGHT * down)] + [(panel, row, OF_FLOWS[panel][2]) for row in range(down)]
     return rows
 
 
 def flow_panel(picture: Picture, axes: Axes, panel: str, told: tuple, width: float) -> None:
-    """Draws a panel of a flow: its window or its sequence numbers. `told` is the flow and what is said of it."""
-    drawing, what = {'window': (window_panel, 'congestion window'),
-                     'sequence': (sequence_panel, 'sequence numbers')}[panel]
+    """Draws a panel of a flow. `told` is the flow and what is said of it."""
+    drawing, what, _ = OF_FLOWS[panel]
     view, notes = told
-    in_full, name = len(picture.flows) <= MOST_IN_FULL, view.name if picture.beside else f'flow {view.name}'
+    in_full, name = len(picture.flows) <= MOST_IN_FULL, name_of(picture, view)
     drawing(picture, axes, view, [f'{name}: {what}' if in_full else name, *notes], width, in_full)
+
+
+def name_of(picture: Picture, view: FlowView) -> str:
+    """A flow as its panel's title names it."""
+    name = view.name if picture.beside else f'flow {view.name}'
+    return f'{name}, {view.trip}' if view.trip else name
 
 
 def draw_key(axes: Axes, handles: Sequence[Artist], width: float) -> None:
@@ -123,6 +133,7 @@ def draw_links(picture: Picture, figure: FigureBase, panels: Sequence[str], widt
     """Draws the panels of links, those that all share or one for each."""
     parts = link_parts(picture, panels)
     all_axes = np.atleast_1d(figure.subplots(len(parts), 1))
+    picture.row = max(ROWS[0], ROWS[1] * len(parts))
     timed = [axes for (panel, _), axes in zip(parts, all_axes) if panel != 'delay-cdf']
     shared = [links for panel, links in parts if panel in LINK_PANELS and len(links) == len(picture.links)]
     for (panel, links), axes in zip(parts, all_axes):
@@ -130,7 +141,7 @@ def draw_links(picture: Picture, figure: FigureBase, panels: Sequence[str], widt
             progress_panel(picture, axes, picture.flows, width)
         elif len(links) < len(picture.links):
             view, = links
-            heading = [f'packets that wait at {view.name}', [view.note], link_words(view.run.link)]
+            heading = [f'packets that wait at {view.name}', [view.note, *link_words(view.run.link)]]
             queue_panel(picture, axes, links, width, heading)
         else:
             DRAWING[panel](picture, axes, links, width, len(links) > 1 and axes is all_axes[0])
@@ -172,7 +183,7 @@ def finish(picture: Picture, axes: Axes, lowest: bool, small: bool = False) -> N
     picture.clock.mark_cuts(axes)
     axes.tick_params(labelbottom=lowest)
     if lowest:
-        axes.set_xlabel(f'time, {picture.clock.unit}', fontsize=TITLE_SIZE)
+        axes.set_xlabel(f'time, {picture.clock.unit}{picture.part}', fontsize=TITLE_SIZE)
 
 
 def common_look(axes: Axes, small: bool = False) -> None:

@@ -7,46 +7,114 @@ import numpy as np
 from matplotlib.axes import Axes
 from matplotlib.axis import Axis
 from matplotlib.lines import Line2D
-from matplotlib.ticker import FixedLocator, FuncFormatter, MaxNLocator, NullLocator
-from numpy.typing import ArrayLike
+from matplotlib.patches import Patch
+from matplotlib.ticker import FixedLocator, FuncFormatter, Locator, MaxNLocator, NullLocator
 
 from tcpsim.curves import LinkRun
 from tcpsim.trace import ACK
 
-from .losses import Loss, links_of_losses, look_of
-from .picture import LinkView, Picture
+from .broken import draw_break
+from .losses import mark_row
+from .picture import FlowView, LinkView, Picture
 from .points import BANDS, bins, busy_parts, dots, envelope, is_dense
-from .style import NOTE, SIGNS, STEPS, TITLE_SIZE, delay_unit, key_above, series, sign_of
+from .style import (LINKS, NOTE, OF_ACKS, SIGNS, STEPS, TITLE_SIZE, delay_unit, key_above, pale, series, sign_look,
+                    sign_of)
+
+BREAK = .35, .65        # of a logarithmic axis that has 0 too, where it is broken
 
 
-def link_lines(links: Sequence[LinkView]) -> list[Line2D]:
+def link_lines(picture: Picture, links: Sequence[LinkView]) -> list[Line2D]:
     """The key's lines, one a link."""
-    return [Line2D([], [], label=view.name, **series(view.number)) for view in links]
+    return [Line2D([], [], label=view.name, **picture.look_of(view)) for view in links]
 
 
 # ---- the queue
 
 def queue_panel(picture: Picture, axes: Axes, links: Sequence[LinkView], width: float, named: bool | list) -> None:
-    """How many packets wait. `named` says whether the key names the links, or is the panel's own heading: its title and what is
-    said of the one link."""
+    """How many packets wait, and at a single link also whose. `named` says whether the key names the links, or is the panel's own
+    heading: its title and what is said of the one link."""
     heading = named if isinstance(named, list) else ['packets that wait in the queue']
     greatest = max([picture.tops.get('queue', 1), *(length for view in picture.links
                                                     for length in picture.seen(view.run.queue_times, view.run.queue))])
-    key = link_lines(links) if named and named is not heading else []
+    key = link_lines(picture, links) if named and named is not heading else []
+    by_flow = flows_at(picture, links)
+    parts = by_flow if by_flow and whole(links[0].run) else []
+    for flow in parts:
+        acks = 'acks of ' if flow.run.number in links[0].acks else ''
+        key.append(Patch(color=pale(picture.color_of(flow)), label=acks + flow.name))
+    if parts:
+        draw_parts(picture, axes, links[0], parts)
     for view in links:
-        link = view.run
+        link, look = view.run, series(0, LINKS) if parts else picture.look_of(view)
         if is_envelope(picture, view):
-            draw_envelope(picture, axes, view)
+            draw_envelope(picture, axes, view, look['color'], not parts)
         else:
-            picture.curve(axes, view, [0, *link.queue_times], [0, *link.queue], 1, **series(view.number))
+            picture.curve(axes, view, [0, *link.queue_times], [0, *link.queue], 1, **look)
     if any(is_envelope(picture, view) for view in links):
-        note = 'mean, with the least and the greatest'
-        heading = [*heading, [note] if len(heading) > 1 else note]
-    key += mark_drops(picture, axes, links)
-    axes.set_ylim(0, 1.12 * greatest + .5)
-    axes.yaxis.set_major_locator(MaxNLocator(6, integer=True, steps=STEPS))
+        note = 'mean' if parts else 'mean, with the least and the greatest'
+        heading = [heading[0], [*heading[1], note]] if len(heading) > 1 else [*heading, note]
+    drops, rows = mark_drops(picture, axes, links, by_flow, greatest, width)
+    if by_flow and not parts:
+        drops += drop_counts(picture, links[0], by_flow)
+    axes.set_ylim(0, greatest * (1.12 + picture.row * rows) + .5)
+    axes.yaxis.set_major_locator(Up(greatest, MaxNLocator(6, integer=True, steps=STEPS)))
     axes.set_ylabel('packets')
-    key_above(axes, heading[0], key, width, heading[1:])
+    key_above(axes, heading[0], key + drops, width, heading[1:])
+
+
+def flows_at(picture: Picture, links: Sequence[LinkView]) -> list[FlowView]:
+    """The flows that are told apart at a link: at a single one, of a single run, those of which packets came to it, if several."""
+    if len(links) > 1 or picture.beside:
+        return []
+    came = {*links[0].run.taken_of, *(flow for _, _, flow, *_ in links[0].run.drops)}
+    found = [view for view in picture.flows if view.run.number in came]
+    return found if len(found) > 1 else []
+
+
+def whole(link: LinkRun) -> bool:
+    """Whether of each packet that waited it is known how long: none was dropped out of the queue."""
+    return all(reason in ('full', 'lost') for _, reason, *_ in link.drops)
+
+
+def draw_parts(picture: Picture, axes: Axes, view: LinkView, flows: Sequence[FlowView]) -> None:
+    """Whose packets wait: an area for each flow, one on another."""
+    times, counts = waiting_of(view.run, [flow.run.number for flow in flows])
+    begin, end = picture.until(view)
+    dense = is_envelope(picture, view)
+    edges = np.array([edge for edge in picture.clock.edges(BANDS) if edge <= end], dtype=np.int64) if dense else \
+        np.unique(np.concatenate(([begin], times[(times > begin) & (times < end)], [end])))
+    if len(edges) < 2:
+        return
+    below, x = np.zeros(len(edges) - 1), picture.clock.x(edges)
+    for flow, count in zip(flows, counts):
+        top = below + envelope(times, count, edges)[2]
+        axes.stairs(top, x, baseline=below, fill=True, color=pale(picture.color_of(flow)), lw=0)
+        below = top
+
+
+def waiting_of(link: LinkRun, flows: Sequence[int]) -> tuple[np.ndarray, list[np.ndarray]]:
+    """When packets began to wait or to be sent, in ns, and of each flow how many wait from there on."""
+    left, waits, of = (np.asarray(values, dtype=np.int64) for values in (link.wait_times, link.waits, link.taken_of))
+    still = np.asarray([(stream.flow, entered) for _, stream, entered in link.waiting], dtype=np.int64).reshape(-1, 2)
+    entered, came = np.concatenate((left - waits, still[:, 1])), np.concatenate((of, still[:, 0]))
+    times = np.unique(np.concatenate(([0], entered, left)))
+    return times, [np.searchsorted(np.sort(entered[came == flow]), times, side='right') -
+                   np.searchsorted(np.sort(left[of == flow]), times, side='right') for flow in flows]
+
+
+class Up(Locator):
+    """Ticks up to a value and none above it."""
+
+    def __init__(self, greatest: float, inner: Locator):
+        super().__init__()
+        self.greatest, self.inner = greatest, inner
+
+    def __call__(self) -> np.ndarray:
+        return self.tick_values(*self.axis.get_view_interval())
+
+    def tick_values(self, vmin: float, vmax: float) -> np.ndarray:
+        ticks = np.asarray(self.inner.tick_values(vmin, vmax))
+        return ticks[ticks <= 1.05 * self.greatest + .5]
 
 
 def is_envelope(picture: Picture, view: LinkView) -> np.bool_:
@@ -54,41 +122,47 @@ def is_envelope(picture: Picture, view: LinkView) -> np.bool_:
     return is_dense(view.run.queue_times, picture.window)
 
 
-def draw_envelope(picture: Picture, axes: Axes, view: LinkView) -> None:
+def draw_envelope(picture: Picture, axes: Axes, view: LinkView, color: str, with_band: bool) -> None:
     """A queue that changes too often for a curve: a band from the least to the greatest, and the mean."""
     begin, end = picture.until(view)
     edges = [edge for edge in picture.clock.edges(BANDS) if edge <= end]
     if len(edges) < 2:
         return
     least, greatest, mean = envelope([0, *view.run.queue_times], [0, *view.run.queue], edges)
-    x, color = picture.clock.x(edges), series(view.number)['color']
-    axes.stairs(greatest, x, baseline=least, fill=True, color=color, alpha=.3, lw=0)
+    x = picture.clock.x(edges)
+    if with_band:
+        axes.stairs(greatest, x, baseline=least, fill=True, color=color, alpha=.3, lw=0)
     axes.stairs(mean, x, baseline=None, color=color, lw=1.2)
 
 
-def mark_drops(picture: Picture, axes: Axes, links: Sequence[LinkView]) -> list[Line2D]:
-    """A sign for each packet that was dropped in sight; answers the key's entries."""
-    several, shown, reasons = links_of_losses(picture), set(), list(SIGNS)
-    for view in links:
-        drops = {}
-        for time, reason, _, sort, _ in view.run.drops:
-            if picture.sees(time):
-                drops.setdefault(Loss(None, view.run.number, reason, None, sort == ACK), []).append(time)
-        for loss, times in drops.items():
-            (marker, color), size = look_of(loss, several), 7 if len(times) < 20 else 5 if len(times) < 60 else 3
-            picture.points(axes, times, drop_heights(view.run, times, loss.reason), 1, marker=marker, color=color, ms=size,
-                           mew=size / 5, zorder=3.6)
-            shown.add((reasons.index(loss.reason), loss.is_ack, color, view.name if several and len(links) > 1 else ''))
-    return [sign_of(reasons[at], 'ack' if is_ack else '', color, name) for at, is_ack, color, name in sorted(shown)]
+def mark_drops(picture: Picture, axes: Axes, links: Sequence[LinkView], flows: Sequence[FlowView], greatest: float,
+               width: float) -> tuple[list[Line2D], int]:
+    """Signs for the packets that were dropped in sight, in rows above the queue: one for each flow where flows are told apart,
+    else one for each link, in its colour where there are several. Answers the key's entries, and how many rows there are."""
+    several, reasons, found = len(links) > 1, list(SIGNS), {}
+    rows = [(view, flow) for view in links for flow in flows or [None]]
+    for view, flow in rows:
+        for time, reason, of, sort, _ in view.run.drops:
+            if picture.sees(time) and (flow is None or flow.run.number == of):
+                found.setdefault((view, flow), {}).setdefault((reasons.index(reason), sort == ACK), []).append(time)
+    rows, counts = [row for row in rows if row in found], {}
+    for at, (view, flow) in enumerate(rows):
+        for (reason, is_ack), times in found[view, flow].items():
+            own = picture.color_of(flow) if flow else picture.look_of(view)['color'] if several else None
+            color = own or (OF_ACKS if is_ack else SIGNS[reasons[reason]][1])
+            mark_row(picture, axes, times, greatest * (1.07 + picture.row * (at + .5)), width, color=color,
+                     **sign_look(reasons[reason], is_ack))
+            entry = reason, is_ack, '#000000' if flow else color, view.name if several else ''
+            counts[entry] = counts.get(entry, 0) + len(times)
+    return [sign_of(reasons[at], is_ack, color, name, None if picture.beside else count)
+            for (at, is_ack, color, name), count in sorted(counts.items())], len(rows)
 
 
-def drop_heights(link: LinkRun, times: ArrayLike, reason: str) -> np.ndarray:
-    """A drop for want of room is drawn at the capacity, another at the queue's length then (ns), both in packets."""
-    if reason == 'full':
-        return np.full(len(times), link.link.capacity)
-    at = np.searchsorted(np.asarray(link.queue_times), times, side='right') - 1
-    lengths = np.append(np.asarray(link.queue), 0)
-    return np.where(at < 0, 0, lengths[at])
+def drop_counts(picture: Picture, view: LinkView, flows: Sequence[FlowView]) -> list[Line2D]:
+    """The key's entries of whose packets were dropped in sight."""
+    counts = {flow: sum(of == flow.run.number and picture.sees(time) for time, _, of, *_ in view.run.drops) for flow in flows}
+    return [Line2D([], [], ls='none', marker='s', ms=7, color=picture.color_of(flow), label=f'{count:,} of {flow.name}')
+            for flow, count in counts.items() if count]
 
 
 # ---- the delay
@@ -112,18 +186,20 @@ def delay_panel(picture: Picture, axes: Axes, links: Sequence[LinkView], width: 
         times, values = dots(entered, waits, picture.window)
         if len(times):
             axes.plot(picture.clock.x(times), values / scale, marker='.', ms=6 if few else 3,
-                      rasterized=len(times) > 400, clip_on=False, **{**series(view.number), 'ls': 'none'})
+                      rasterized=len(times) > 400, clip_on=False, **{**picture.look_of(view), 'ls': 'none'})
     for target in {view.run.link.target for view in links if view.run.link.queue == 'codel'}:
         axes.axhline(target / scale, color='#000000', lw=.8, ls=':')
         axes.annotate('target', (1, target / scale), xycoords=('axes fraction', 'data'),
                       xytext=(2, 0), textcoords='offset points', va='center', fontsize=NOTE)
     if picture.log:
         log_axis(axes.set_yscale, axes.yaxis, greatest / scale)
-        axes.set_ylim(-.1, 1.5 * greatest / scale)
+        axes.set_ylim(-.3, 1.5 * greatest / scale)
+        draw_break(axes, *BREAK)
     else:
         axes.set_ylim(-.04 * greatest / scale, 1.12 * greatest / scale)
-    axes.set_ylabel(f'{unit}, logarithmic from 1 on' if picture.log else unit)
-    key_above(axes, 'delay in the queue of each packet sent', link_lines(links) if named else [], width,
+    axes.set_ylabel(f'{unit}, logarithmic' if picture.log else unit)
+    dotted = [Line2D([], [], label=view.name, marker='.', ms=9, **{**picture.look_of(view), 'ls': 'none'}) for view in links]
+    key_above(axes, 'delay in the queue of each packet sent', dotted if named else [], width,
               ['at the moment when it entered'])
 
 
@@ -144,14 +220,14 @@ def delay_cdf_panel(picture: Picture, axes: Axes, links: Sequence[LinkView], wid
     key = []
     for view, waits in zip(links, found):
         if not len(waits):
-            key.append(Line2D([], [], label=f'{view.name}: no packet', **series(view.number)))
+            key.append(Line2D([], [], label=f'{view.name}: no packet', **picture.look_of(view)))
             continue
         values, last = np.unique(waits, return_index=False, return_counts=True)
         axes.step(np.concatenate(([0], values)) / scale, np.concatenate(([0], np.cumsum(last))) * 100 / len(waits),
-                  where='post', lw=1.4, **series(view.number))
+                  where='post', lw=1.4, **picture.look_of(view))
         middle, tail = (waits[-(-len(waits) * percent // 100) - 1] / scale for percent in (50, 99))
         key.append(Line2D([], [], label=f'{view.name}: median {middle:,.4g}, 99th percentile {tail:,.4g} {unit}',
-                          **series(view.number)))
+                          **picture.look_of(view)))
     if picture.log:
         log_axis(axes.set_xscale, axes.xaxis, greatest / scale)
     axes.set_xlim(-.02 * greatest / scale if not picture.log else -.1, 1.03 * greatest / scale)
@@ -173,12 +249,12 @@ def utilization_panel(picture: Picture, axes: Axes, links: Sequence[LinkView], w
         if len(edges) < 2:
             continue
         _, parts = busy_parts(view.run, picture.window, np.asarray(edges))
-        axes.stairs(100 * parts, picture.clock.x(edges), lw=1.6, baseline=None, **series(view.number))
+        axes.stairs(100 * parts, picture.clock.x(edges), lw=1.6, baseline=None, **picture.look_of(view))
         if len(links) == 1:
-            axes.stairs(100 * parts, picture.clock.x(edges), fill=True, alpha=.2, **series(view.number))
+            axes.stairs(100 * parts, picture.clock.x(edges), fill=True, alpha=.2, **picture.look_of(view))
     bin_width = (whole[1] - whole[0]) / picture.clock.scale
     axes.set_ylim(0, 105)
     axes.set_yticks((0, 25, 50, 75, 100))
     axes.set_ylabel('%')
     key_above(axes, f'utilization, in steps of {bin_width:.3g} {picture.clock.unit}',
-              link_lines(links) if named else [], width)
+              link_lines(picture, links) if named else [], width)

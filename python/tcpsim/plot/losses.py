@@ -1,18 +1,20 @@
-"""Lost packets of flows: where they are drawn, by which sign, and under which name."""
+"""Lost packets of flows: where they are drawn, by which sign, how many, and under which name."""
 from __future__ import annotations
 
 from collections import namedtuple
-from collections.abc import Callable
+from collections.abc import Callable, Iterable, Sequence
 
 from matplotlib.axes import Axes
 
 from tcpsim.trace import ACK, DATA
 
 from .picture import FlowView, Picture
-from .style import NOTE, OF_ACKS, SIGNS, series, sign_of
+from .style import HALO, NOTE, OF_ACKS, ON_WHITE, SIGNS, sign_look, sign_of
 
 MOST_NAMED = 6          # so many lost packets are named beside their sign
 NEAR = .02, .06         # parts of a panel's width and height: signs that are nearer to each other have one name
+TOUCH, COUNTED = 6.5, 27        # points from sign to sign within which they are one with its count, and so wide it is with that
+COUNT_SIZE = 9          # points of the letters of a count
 
 # A packet that was lost: `link` is the link's number; `number` is a segment's first byte, or what an acknowledgement says.
 Loss = namedtuple('Loss', 'time link reason number is_ack')
@@ -34,39 +36,65 @@ def links_of_losses(picture: Picture) -> dict:
     return {view.run.number: view for view in picture.links if view.run.number in at}
 
 
-def look_of(loss: Loss, links: dict) -> tuple:
-    """A loss's sign and the colour of it: of acknowledgements theirs, of segments that of the link, or the reason's."""
-    marker, color, _ = SIGNS[loss.reason]
-    if loss.is_ack:
-        return marker, OF_ACKS
-    return marker, series(links[loss.link].number)['color'] if loss.link in links else color
+def color_of(picture: Picture, view: FlowView, reason: str, is_ack: bool = False) -> str:
+    """The colour of a loss's sign: of acknowledgements theirs, of segments the reason's, or with several flows the flow's."""
+    return OF_ACKS if is_ack else picture.color_of(view) if len(picture.flows) > 1 else SIGNS[reason][1]
 
 
-def mark_lost(picture: Picture, axes: Axes, losses: list[Loss], height: Callable, size: float) -> None:
+def mark_lost(picture: Picture, axes: Axes, view: FlowView, losses: list[Loss], height: Callable, size: float) -> None:
     """A sign for each loss, at the height that is said of it."""
-    links, found = links_of_losses(picture), {}
+    found = {}
     for loss in losses:
-        found.setdefault(look_of(loss, links), []).append((loss.time, height(loss)))
-    for (marker, color), points in found.items():
-        picture.points(axes, *zip(*points), 1, marker=marker, ms=size, mew=1.4 if size > 6 else 1.2, color=color, zorder=3.6)
+        look = loss.reason, loss.is_ack, color_of(picture, view, loss.reason, loss.is_ack)
+        found.setdefault(look, []).append((loss.time, height(loss)))
+    for (reason, is_ack, color), points in found.items():
+        picture.points(axes, *zip(*points), 1, ms=size * (1.4 if is_ack else 1), mew=1.4, color=color, zorder=3.8,
+                       path_effects=HALO, **sign_look(reason, is_ack))
+
+
+def mark_row(picture: Picture, axes: Axes, times: Iterable[int], height: float, width: float, **look: object) -> None:
+    """Signs in a row of a panel so wide (points), at a height. Those that would touch are one sign, where the first is, with their
+    count. Times are ns."""
+    for part in groups(picture.across(sorted(times), width), sorted(times)):
+        x = float(picture.clock.x(part[0]))
+        axes.plot([x], [height], ls='none', clip_on=False, **{'ms': 6, 'mew': 1.3, 'zorder': 3.8, 'path_effects': HALO, **look})
+        if len(part) > 1:
+            axes.annotate(f'×{len(part)}', (x, height), xytext=(4, 0), textcoords='offset points', va='center',
+                          fontsize=COUNT_SIZE, color='#222222', zorder=3.7, bbox={**ON_WHITE, 'boxstyle': 'square,pad=0'})
+
+
+def groups(places: Sequence[float], times: Sequence[int]) -> list[list[int]]:
+    """Moments in their order, those together whose places, in points, are so near that their signs would touch each other or
+    the count of the one before."""
+    found, at = [], []
+    for place, time in zip(places, times):
+        if at and (place - at[-1] < TOUCH or len(at) > 1) and place - at[0] < COUNTED:
+            at.append(place)
+            found[-1].append(time)
+        else:
+            at = [place]
+            found.append([time])
+    return found
+
+
+def loss_rows(picture: Picture, losses: Iterable[Loss]) -> list[tuple[str, list[Loss]]]:
+    """Lost segments by the link at which they were lost, where the picture has several of these: its name, and the losses."""
+    links = links_of_losses(picture)
+    rows = {links[number].name: [] for number in sorted(links)} or {'': []}
+    for loss in losses:
+        rows.setdefault(links[loss.link].name if loss.link in links else '', []).append(loss)
+    return list(rows.items())
 
 
 def loss_key(picture: Picture, acks: bool = False) -> list:
-    """The signs of the losses that a picture shows."""
-    links = links_of_losses(picture)
-    losses = [loss for view in picture.flows for loss in lost(picture, view)]
-    found = {(reason, links[loss.link].name if loss.link in links else ''): look_of(loss, links)[1]
-             for reason in SIGNS for loss in losses if loss.reason == reason}
-    key = [sign_of(reason, color=found[reason, name], at=name) for reason, name in sorted(found, key=place_of)]
-    if acks:
-        missing = {loss.reason for view in picture.flows for loss in lost(picture, view, acks=True)}
-        key += [sign_of(reason, 'ack', OF_ACKS) for reason in SIGNS if reason in missing]
+    """The signs of the losses that a picture shows, each with how many there are."""
+    key, color = [], picture.key_color() if len(picture.flows) > 1 else None
+    for is_ack in (False, True)[:1 + acks]:
+        losses = [loss for view in picture.flows for loss in lost(picture, view, is_ack)]
+        counts = {reason: sum(loss.reason == reason for loss in losses) for reason in SIGNS}
+        key += [sign_of(reason, is_ack, OF_ACKS if is_ack else color, count=None if picture.beside else count)
+                for reason, count in counts.items() if count]
     return key
-
-
-def place_of(sign: tuple) -> tuple:
-    """Where a sign comes in the key."""
-    return list(SIGNS).index(sign[0]), sign[1]
 
 
 # ---- names
@@ -77,18 +105,18 @@ def name_lost(picture: Picture, axes: Axes, losses: list[Loss], scale: int, heig
     if len(losses) > MOST_NAMED:
         return
     left, right = picture.clock.x(picture.window)
-    groups, seen = [], set()
+    named, seen = [], set()
     for loss in sorted(losses, key=lambda loss: (loss.is_ack, loss.time, loss.number)):
         x, y, again = float(picture.clock.x(loss.time)), loss.number / scale, (loss.is_ack, loss.number) in seen
         seen.add((loss.is_ack, loss.number))
         sort = 'ack {} lost' if loss.is_ack else '{} lost\nagain' if again else '{} lost'
-        last = groups[-1] if groups else None
+        last = named[-1] if named else None
         if last and last[0] == sort and x - last[1] < NEAR[0] * (right - left) and 0 < y - last[2] < NEAR[1] * height:
-            groups[-1] = (sort, x, y, [*last[3], loss.number])
+            named[-1] = (sort, x, y, [*last[3], loss.number])
         else:
-            groups.append((sort, x, y, [loss.number]))
-    for sort, x, y, numbers in groups:
+            named.append((sort, x, y, [loss.number]))
+    for sort, x, y, numbers in named:
         text = sort.format(', '.join(f'{number:,}' for number in numbers))
         picture.labels.setdefault(axes, []).append(axes.annotate(
             text, (x, y), xytext=(5, 5), textcoords='offset points', fontsize=NOTE, color='#000000', zorder=5, linespacing=1,
-            bbox={'boxstyle': 'square,pad=.1', 'fc': '#FFFFFF', 'ec': 'none', 'alpha': .8}))
+            bbox=ON_WHITE))

@@ -45,9 +45,14 @@ def differences(flows: Sequence[Flow]) -> list[list[str]]:
     return [[words[what] for what in unlike] for words in said]
 
 
-def flow_notes(scenario: Scenario, number: int, unlike: Sequence[str] = ()) -> tuple[str, ...]:
-    """What is said of a flow below its name."""
-    return (way_text(scenario, number), f'round trip ≥ {length_text(least_round_trip(scenario, number))}', *unlike)
+def trip_text(scenario: Scenario, number: int) -> str:
+    """The least round trip of a flow, in words."""
+    return f'round trip ≥ {length_text(least_round_trip(scenario, number))}'
+
+
+def flow_notes(scenario: Scenario, number: int, unlike: Sequence[str], trip: str | None) -> tuple[str, ...]:
+    """What is said of a flow below its name: its way, its round trip if that is not in the name, in what it is unlike others."""
+    return (way_text(scenario, number), *([trip] if trip else []), *unlike)
 
 
 # ---- links
@@ -72,3 +77,8 @@ def link_note(scenario: Scenario, number: int) -> str:
     """What is said of a link beside its rate, delay and queue."""
     used = carried(scenario, number)
     return f'{ends_text(scenario, number)}: {used}' if used else ends_text(scenario, number)
+
+
+def only_acks(scenario: Scenario, number: int) -> tuple[int, ...]:
+    """The flows of which a link carries the acknowledgements and no data."""
+    return tuple(flow for flow, (forth, back) in enumerate(scenario.ways) if number in back and number not in forth)

@@ -10,13 +10,15 @@ from numpy.typing import ArrayLike
 
 from .clock import Clock
 from .points import dots, steps
+from .style import LINKS, series
 
 DATA = 0
 
 # A flow or link as it is shown: what its run did with it, its name in the picture, its number there, the moment up to which
-# its run is known, and what is said of it.
-FlowView = namedtuple('FlowView', 'run name number until notes', defaults=((),))
-LinkView = namedtuple('LinkView', 'run name number until note', defaults=('',))
+# its run is known, and what is said of it. `trip` is the least that a flow's round trip can be, where that is not alike for
+# all; `acks` has the flows of which a link carries the acknowledgements and no data.
+FlowView = namedtuple('FlowView', 'run name number until notes trip', defaults=((), ''))
+LinkView = namedtuple('LinkView', 'run name number until note acks', defaults=('', ()))
 
 
 class Picture:
@@ -29,7 +31,30 @@ class Picture:
         self.beside, self.longer, self.log = beside, longer, log
         self.tops = {}                  # of some panels, by name, how high their axes go at least
         self.window = clock.window
-        self.labels = {}                # of each panel the annotations that get their place when all is laid out
+        self.labels = {}                # of each panel the annotations that get their place when all is laid out,
+        self.timers = {}                # and those at timeouts, which stay left of their lines
+        self.first = None               # the first panel of each flow, which says most of its timeouts
+        self.part = ''                  # what is said where a part of the run is shown
+        self.row = .09                  # how high a row of signs above a queue is, as a part of the queue's axis
+        self.wide = None                # points that a panel is wide, where that is another than panels are told
+
+    def look_of(self, view: FlowView | LinkView) -> dict:
+        """The look of a flow's curve or a link's. Where each run has one flow, its link has the flow's."""
+        alike = self.beside and len(self.flows) == len(self.links)
+        return series(view.number) if alike or isinstance(view, FlowView) else series(view.number, LINKS)
+
+    def color_of(self, view: FlowView) -> str:
+        """The colour of a flow."""
+        return series(view.number)['color']
+
+    def key_color(self) -> str:
+        """The colour in which a key shows what each flow has in its own."""
+        return series(0)['color'] if len(self.flows) == 1 else '#222222'
+
+    def across(self, times: ArrayLike, width: float) -> np.ndarray:
+        """Where moments (ns) are in a panel so wide, in points."""
+        left, right = self.clock.x(self.window)
+        return (self.clock.x(times) - left) / (right - left) * (self.wide or width)
 
     def until(self, view: FlowView | LinkView) -> tuple[int, int]:
         """The part of the window in which the view's run is known, in ns."""

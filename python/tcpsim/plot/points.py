@@ -112,3 +112,14 @@ def stalls(flow: FlowRun, longer: int, end: int) -> list[tuple[int, int]]:
     if flow.completed is None and end > moments[-1]:
         moments.append(end)
     return [(begin, end) for begin, end in zip(moments, moments[1:]) if end - begin > longer]
+
+
+def growth(flow: FlowRun, recovering: Iterable[tuple[int, int]], window: tuple[int, int]) -> float | None:
+    """By how many bytes a second a flow's window grows in congestion avoidance, on the mean of that time within the window; None
+    where there is none."""
+    times, cwnd, ssthresh = (np.asarray(values, dtype=np.int64) for values in (flow.times, flow.cwnd, flow.ssthresh))
+    calm = (cwnd >= ssthresh) & np.isfinite(outside(times, cwnd, recovering)) & (times >= window[0]) & (times <= window[1])
+    rises, lasts = np.diff(cwnd), np.diff(times)
+    counted = calm[:-1] & calm[1:] & (rises >= 0)
+    spent = int(lasts[counted].sum())
+    return float(rises[counted].sum()) * 10**9 / spent if spent else None

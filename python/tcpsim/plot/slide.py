@@ -17,33 +17,37 @@ from matplotlib.transforms import BboxBase
 from tcpsim.scenario.text import Unreadable
 
 from .flow_panels import progress_panel, sequence_key, sequence_panel, window_key, window_panel, windows_panel
-from .labels import drawn_points
+from .labels import drawn_points, turn_timers
 from .link_panels import delay_cdf_panel, delay_panel, queue_panel, utilization_panel
 from .picture import Picture
 from .style import link_words, new_figure, text_width
+from .timers import timer_key, timer_panel, timers_panel
 
 SIZE, POINTS, THICKER = (16, 9), 24, 2.4        # inches, points, times
-LINKS = {'queue': queue_panel, 'delay': delay_panel, 'delay-cdf': delay_cdf_panel, 'utilization': utilization_panel}
+OF_LINKS = {'queue': queue_panel, 'delay': delay_panel, 'delay-cdf': delay_cdf_panel, 'utilization': utilization_panel}
 TITLE_WIDTH = 1040                              # points, of the panel's 1,080 at least
 WIDE = 10_000                                   # points: a key that is not drawn needs no second row
 ALONG, AWAY = np.linspace(.04, .96, 24), (14, -14, 34, -34, 64, -64, 100, -100)     # where a label is tried
 DARKER, STEP = .6, 4                            # of a colour; pixels from point to point
+LEAST = 20                                      # pixels that an area is high in which its name is written
 
 
 def draw_slide(picture: Picture, panel: str, title: str) -> Figure:
     """The figure with this one panel; `Unreadable` where the picture has nothing for it."""
     figure = new_figure(figsize=SIZE, layout='constrained')
     axes = figure.subplots()
+    picture.wide = TITLE_WIDTH / THICKER
     key = draw_panel(picture, axes, panel)
     if panel != 'delay-cdf':
         picture.clock.set(axes, 7)
         picture.clock.mark_cuts(axes)
-        axes.set_xlabel(f'time, {picture.clock.unit}')
+        axes.set_xlabel(f'time, {picture.clock.unit}{picture.part}')
     axes.grid(True, color='#DDDDDD', lw=1)
     axes.set_axisbelow(True)
     enlarge(axes)
     figure.suptitle(title, fontsize=POINTS + 2, fontweight='bold')
     figure.draw_without_rendering()
+    turn_timers(axes, picture.timers.get(axes, ()), [right for _, _, right, _ in picture.clock.cut_boxes(axes)])
     label_key(axes, key)
     return figure
 
@@ -51,10 +55,10 @@ def draw_slide(picture: Picture, panel: str, title: str) -> Figure:
 def draw_panel(picture: Picture, axes: Axes, panel: str) -> list[Artist]:
     """Draws the panel; answers its key, which is not drawn."""
     views = picture.flows
-    if panel in LINKS:
+    if panel in OF_LINKS:
         if not picture.links:
             raise Unreadable('there is no link to draw')
-        LINKS[panel](picture, axes, picture.links, WIDE, len(picture.links) > 1)
+        OF_LINKS[panel](picture, axes, picture.links, WIDE, len(picture.links) > 1)
         if len(picture.links) == 1 and not picture.beside:
             view, = picture.links
             rate, _, queue, *_ = link_words(view.run.link)
@@ -67,6 +71,11 @@ def draw_panel(picture: Picture, axes: Axes, panel: str) -> list[Artist]:
     elif panel == 'sequence' and len(views) == 1:
         sequence_panel(picture, axes, views[0], [f'{views[0].name}: sequence numbers'], WIDE)
         return sequence_key(picture)
+    elif panel == 'timer' and len(views) == 1:
+        timer_panel(picture, axes, views[0], [f'{views[0].name}: retransmission timer'], WIDE)
+        return timer_key(picture)
+    elif panel == 'timer':
+        timers_panel(picture, axes, views, WIDE)
     else:
         progress_panel(picture, axes, views, WIDE)
     legend = axes.get_legend()
@@ -181,7 +190,7 @@ def names(handle: Artist, artist: Artist) -> bool:
         if not isinstance(artist, Line2D) or (artist.get_linestyle() == 'None') != alone:
             return False
         return same(artist.get_color(), handle.get_color()) and (not alone or artist.get_marker() == handle.get_marker())
-    if isinstance(artist, (Line2D, StepPatch)):
+    if isinstance(artist, Line2D) or (isinstance(artist, StepPatch) and not artist.get_fill()):
         return False
     colors = np.atleast_2d(artist.get_facecolor())
     return len(colors) > 0 and same(colors[0], handle.get_facecolor())
@@ -198,8 +207,13 @@ def points_of(axes: Axes, artist: Artist) -> np.ndarray:
         path = artist.get_transform().transform(artist.get_path().vertices)
         return path if artist.get_linestyle() == 'None' else dense(path)
     if isinstance(artist, StepPatch):
-        values, edges, _ = artist.get_data()
-        return axes.transData.transform(np.column_stack([(edges[:-1] + edges[1:]) / 2, values]))
+        values, edges, baseline = artist.get_data()
+        middles = (edges[:-1] + edges[1:]) / 2
+        if not artist.get_fill():
+            return axes.transData.transform(np.column_stack([middles, values]))
+        low, high = (axes.transData.transform(np.column_stack([middles, heights])) for heights in
+                     (np.broadcast_to(0 if baseline is None else baseline, len(values)), values))
+        return ((low + high) / 2)[high[:, 1] - low[:, 1] > LEAST]
     if isinstance(artist, Polygon):
         corners = artist.get_window_extent()
         return np.array([[(corners.x0 + corners.x1) / 2, axes.bbox.y0 + part * axes.bbox.height] for part in ALONG])

@@ -7,10 +7,12 @@ from collections.abc import Iterable, Sequence
 from matplotlib.artist import Artist
 from matplotlib.axes import Axes
 from matplotlib.backends.backend_agg import FigureCanvasAgg
+from matplotlib.colors import to_rgb
 from matplotlib.figure import Figure
 from matplotlib.font_manager import FontProperties
 from matplotlib.lines import Line2D
 from matplotlib.patches import Patch
+from matplotlib.patheffects import withStroke
 from matplotlib.textpath import text_to_path
 
 from tcpsim.scenario.text import Link
@@ -18,15 +20,25 @@ from tcpsim.scenario.text import Link
 # Those of series differ in lightness too, by 16 of 100 at least, for grey print and for who doesn't see red and green.
 BLUE, RUST, GREEN, AMBER = '#0B3C6F', '#9C4A1A', '#2FA08A', '#F2BE4A'
 ORANGE, RED, PURPLE, SKY = '#E69F00', '#D55E00', '#CC79A7', '#56B4E9'       # of Okabe and Ito
-GREY, IN_FLIGHT = '#777777', '#F3E6C4'
-SERIES = (BLUE, RUST, GREEN, AMBER)
+IN_FLIGHT = '#F3E6C4'
+SERIES = (BLUE, RUST, GREEN, AMBER)         # of flows
+LINKS = ('#3A3A3A', '#9715D8', '#2CB211', '#F2B5D3')       # of links, told apart as those are, and from them
+SSTHRESH, RECEIVER, TIMEOUT = '#000000', '#6A51A3', '#D6005A'       # none of a flow's or link's
+DARK_RED = '#A8003F'    # of a timeout, in which letters can be read
+# What is shaded in panels of flows. Where two of them are at once there is a look of its own.
+SHADES = {'stall': {'color': '#000000', 'alpha': .13, 'zorder': .8}, 'recovery': {'color': SKY, 'alpha': .3, 'zorder': .9},
+          'both': {'color': '#3E7CB1', 'alpha': .5, 'zorder': .9}}
+ON_WHITE = {'boxstyle': 'square,pad=.1', 'fc': '#FFFFFF', 'ec': 'none', 'alpha': .8}
 DASHES = ('-', (0, (5, 1.5)), (0, (1, 1)), (0, (5, 1, 1, 1)))  # one for each four series
 # One sign for one meaning, in every panel.
 SIGNS = {'full': ('x', RED, 'dropped: queue full'), 'codel': ('v', PURPLE, 'dropped by CoDel'),
          'lost': ('+', '#000000', 'lost by the scenario\'s list')}
-# A ring that is wider than the sign of a loss, which may lie on it.
-AGAIN = {'marker': 'o', 'ms': 8, 'mew': 1.3, 'mfc': 'none', 'color': ORANGE, 'label': 'sent again'}
-# Of packets that are acknowledgements: the colour of the curve of what is acknowledged.
+# Those of acknowledgements have three arms, or are hollow.
+OF_ACK = {'x': ('2', 'full'), '+': ('1', 'full'), 'v': ('v', 'none')}
+HALO = [withStroke(linewidth=3.2, foreground='#FFFFFF')]    # behind a sign, so that it is seen on dots and lines
+# A ring that is wider than the sign of a loss, which may lie in it.
+AGAIN = {'marker': 'o', 'ms': 10, 'mew': 1.4, 'mfc': 'none', 'color': ORANGE, 'label': 'sent again'}
+# Of signs of acknowledgements.
 OF_ACKS = '#555555'
 # Sizes of letters in points of a picture ten inches wide: 8.7 pixels and more where it is shown 600 wide.
 HEAD, TITLE_SIZE, KEY_SIZE, TICKS, NOTE = 12.5, 11, 10.5, 10.5, 10.5
@@ -38,7 +50,7 @@ HANDLE, BETWEEN, LINE = 31, 9.5, 12.9
 APART = 14                                # between two texts that stand side by side, in points
 STEPS = [1, 2, 2.5, 5, 10]                # between two ticks, in a power of ten
 WHOLE_STEPS = [1, 2, 5, 10]
-TIMEOUT_WIDTH = 1.3
+TIMEOUT_WIDTH = 1.5
 
 
 def new_figure(**given: object) -> Figure:
@@ -48,32 +60,47 @@ def new_figure(**given: object) -> Figure:
     return figure
 
 
-def series(number: int) -> dict:
-    """The look of a flow's or link's curve, by its number: from the fifth on the colours come again with dashes."""
-    return {'color': SERIES[number % len(SERIES)], 'ls': DASHES[number // len(SERIES) % len(DASHES)]}
+def series(number: int, colors: Sequence[str] = SERIES) -> dict:
+    """The look of a flow's curve, by its number: from the fifth on the colours come again with dashes."""
+    return {'color': colors[number % len(colors)], 'ls': DASHES[number // len(colors) % len(DASHES)]}
 
 
-def sign_of(reason: str, of: str = '', color: str | None = None, at: str = '') -> Line2D:
-    """The key's mark of a reason for which packets are dropped: of all, or of those that `of` says or at a link, in a colour of
-    theirs."""
-    marker, its_own, text = SIGNS[reason]
-    text = (f'{of} ' if of else '') + text + (f' at {at}' if at else '')
-    return Line2D([], [], color=color or its_own, marker=marker, ls='none', mew=1.3, label=text)
+def muted(color: str) -> tuple[float, ...]:
+    """A colour with half of grey in it."""
+    return tuple((part + .45) / 2 for part in to_rgb(color))
 
 
-def recovery_mark() -> Patch:
-    """The key's mark of a recovery."""
-    return Patch(color=SKY, alpha=.3, lw=0, label='recovery')
+def pale(color: str) -> tuple[float, ...]:
+    """A colour with much of white in it."""
+    return tuple(1 - .5 * (1 - part) for part in to_rgb(color))
 
 
-def stall_mark(longer: str) -> Patch:
-    """The key's mark of a span without a new acknowledgement, longer than this, in words."""
-    return Patch(color='#000000', alpha=.13, lw=0, label=f'no new ack for over {longer}')
+def sign_look(reason: str, is_ack: bool = False) -> dict:
+    """The marker of a reason for which packets are dropped, of segments or of acknowledgements."""
+    marker = SIGNS[reason][0]
+    if not is_ack:
+        return {'marker': marker}
+    marker, fill = OF_ACK.get(marker, (marker, 'none'))
+    return {'marker': marker, 'fillstyle': fill}
 
 
-def timeout_mark() -> Line2D:
-    """The key's mark of a timeout: no dashes, which ssthresh has."""
-    return Line2D([], [], color=RED, lw=TIMEOUT_WIDTH, label='timeout')
+def sign_of(reason: str, is_ack: bool = False, color: str | None = None, at: str = '', count: int | None = None) -> Line2D:
+    """The key's mark of a reason for which segments are dropped, or acknowledgements: of all, or of those at a link, in a colour
+    of theirs; with how many there were."""
+    _, its_own, text = SIGNS[reason]
+    text = (f'{"ack" if count in (None, 1) else "acks"} ' if is_ack else '') + text + (f' at {at}' if at else '')
+    text = text if count is None else f'{count:,} {text}'
+    return Line2D([], [], color=color or its_own, ls='none', mew=1.3, label=text, **sign_look(reason, is_ack))
+
+
+def band_mark(kind: str, label: str) -> Patch:
+    """The key's mark of spans of a kind, one of SHADES."""
+    return Patch(color=SHADES[kind]['color'], alpha=SHADES[kind]['alpha'], lw=0, label=label)
+
+
+def timeout_mark(more: str = '') -> Line2D:
+    """The key's mark of a timeout, with what else is said: no dashes, which ssthresh has."""
+    return Line2D([], [], color=TIMEOUT, lw=TIMEOUT_WIDTH, label='timeout' + more)
 
 
 def text_width(text: str, size: float = NOTE) -> float:
