@@ -142,9 +142,10 @@ class TestWhoWaits(Drawn):
 
 class TestSignsAreApart:
     def test_groups(self):
-        assert losses.groups([0, 10, 20], [1, 2, 3]) == [[1], [2], [3]]
+        assert losses.groups([0, 9, 18], [1, 2, 3]) == [[1], [2], [3]]
+        assert losses.groups([0, 7, 60], [1, 2, 3]) == [[1, 2], [3]]
         assert losses.groups([0, 3, 20, 40], [1, 2, 3, 4]) == [[1, 2, 3], [4]]        # the third would lie on the count
-        assert losses.groups([0, 3, 6, 9, 12, 15, 18, 21, 24, 28], range(10)) == [[*range(9)], [9]]
+        assert losses.groups([0, 3, 6, 9, 12, 15, 18, 21, 24, 31, 33], range(11)) == [[*range(10)], [10]]      # and a new one begins
         assert losses.groups([], []) == []
 
     @pytest.mark.parametrize('name', ['two_flows_share_fairly', 'four_flows_share_codel', 'four_flows_share_a_long_queue',
