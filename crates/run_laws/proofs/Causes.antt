@@ -1,9 +1,10 @@
 -- For which cause, and when, a queue drops packets that entered it.
-use Rattle.std.proofs.Common.{◌≡◌, ℕ, zero, suc, ◌+◌, ◌-◌, ◌<◌, ◌≤◌, true, false, cond, ◌||◌, not, ltb, List, [], ◌∷◌, ◌++◌, length, map, take, drop, refl, sym, ap, subst, ◌∙◌, Option, Some, None, arith, ⊎_elim, true≢false}
+use Rattle.std.proofs.Common.{min, ◌≡◌, ℕ, zero, suc, ◌+◌, ◌-◌, ◌<◌, ◌≤◌, true, false, cond, ◌||◌, not, ltb, List, [], ◌∷◌, ◌++◌, length, map, take, drop, refl, sym, ap, subst, ◌∙◌, Option, Some, None, arith, ⊎_elim, true≢false}
 use Rattle.std.specs.Prelude.{is_none, slice_get, IfSome, IsNone, IsSomeAnd}
 use Rattle.std.specs.List.{filter_map}
 use Rattle.std.proofs.lemmas.Bool.{cases_Bool, ltb-true, ltb-false, or_parts}
 use Rattle.std.proofs.lemmas.List.Elements.{filter_map-append}
+use Rattle.sim_time.specs.ControlLaw.{gap_of}
 use Rattle.packet_chain.specs.declared.packet.Packet.{Packet}
 use Rattle.packet_chain.specs.Stamped.{Stamped, bytes_of}
 use Rattle.aqm.specs.declared.drop_reason.TakeDrop.{TakeDrop}
@@ -28,7 +29,7 @@ use Rattle.port.specs.Laws.{queue_drop_in, NothingWaitsWhereIdle}
 use Rattle.port.proofs.CodelLaws.{every_codel_drop_has_a_cause}
 use Rattle.port.proofs.StepLaws.{idle_links_keep_nothing}
 use Rattle.run_laws.specs.Laws.{IsKept}
-use Rattle.run_laws.specs.Links.{AtEachLink, SendsAllThatEntered, DropsForCause, DropsOnTime}
+use Rattle.run_laws.specs.Links.{AtEachLink, SendsAllThatEntered, DropsForCause, due_behind, DropsOnTime}
 use Rattle.run_laws.proofs.Ports.{sends, counted, by_test}
 use Rattle.run_laws.proofs.Touched.{Touches, by_offers, by_offer, by_take}
 use Rattle.run_laws.proofs.Turns.{at_each_link, busy_sends_none, one_list}
@@ -201,6 +202,11 @@ all_leave now old (x ∷ packets) kept =
     let first = (offered_one now old x).port in
     schedule_on old.queue first.queue (offered_all now first packets).port.queue (one_leaves now old x kept) (all_leave now first packets (idle_after now old x kept))
 
+-- when drops are due is said in the queue's words
+due_is : (s : CodelState) (n : ℕ) → due_behind s n ≡ due s n
+due_is s zero = refl
+due_is s (suc n) = ap (λ m. m + gap_of s.interval (min (s.count + suc n) 4294967295)) (due_is s n)
+
 -- where nothing is dropped the schedule stays
 undropped : (now : ℕ) (old new : PortState) (acts : List Act) → drops_in acts ≡ [] → LeavesSchedule old.queue new.queue → (1 ≤ sends acts → waiting_in old.queue ≡ []) → DropsOnTime now old acts new
 undropped now old new acts none left alone_sent =
@@ -209,7 +215,7 @@ undropped now old new acts none left alone_sent =
       none_early = λ s j _ _ within. absurd (omega (arith, within, count));
       next = λ s q was _ is on.
           let x = left.leaves q is on in
-          x.3 ∙ ap (λ (y : CodelState). y.drop_next) (same_codel x.0 s (sym x.1 ∙ was)) ∙ ap (due s) (sym count);
+          x.3 ∙ ap (λ (y : CodelState). y.drop_next) (same_codel x.0 s (sym x.1 ∙ was)) ∙ ap (due_behind s) (sym count);
       none_left = λ s was _ one ok.
           let empty : s.fifo.waiting ≡ [] = ap waiting_in (sym was) ∙ alone_sent one in
           absurd (true≢false (sym ok ∙ ap (λ j. (judgement s now j).ok) count ∙ ap (λ ws. (judged s now (slice_get ws 0) (bytes_of (drop 1 ws)) s.first_above).ok) empty));
@@ -225,18 +231,20 @@ take_on_time now old = record {
   none_early = λ s j was on within.
       let few = goes s was on in
       let before = (drops_stop_at_the_first_stop s now).goes_on_before j (omega (arith, within, few)) in
-      ltb-false now (due s j) (or_parts (not (judgement s now j).ok) (ltb now (due s j)) before).1;
+      let on_time = ltb-false now (due s j) (or_parts (not (judgement s now j).ok) (ltb now (due s j)) before).1 in
+      subst (λ m. m ≤ now) (sym (due_is s j)) on_time;
   next = λ s q was on is still.
       let k = drops s now in
-      let taken : (codel_taken s now).queue ≡ after_drops s now k = ap (λ (x : CodelTaken). x.queue) (taken_in_drop_state s now on) in
-      let same : after_drops s now k ≡ q = same_codel (after_drops s now k) q (ap Codel (sym taken) ∙ ap (λ r. (taken_from r now).queue) (sym was) ∙ sym (queue_after now old) ∙ is) in
+      let took : (codel_taken s now).queue ≡ after_drops s now k = ap (λ (x : CodelTaken). x.queue) (taken_in_drop_state s now on) in
+      let same : after_drops s now k ≡ q = same_codel (after_drops s now k) q (ap Codel (sym took) ∙ ap (λ r. (taken_from r now).queue) (sym was) ∙ sym (queue_after now old) ∙ is) in
       let ok : (judgement s now k).ok ≡ true = ap (λ (x : CodelState). x.dropping) same ∙ still in
-      ap (λ (x : CodelState). x.drop_next) (sym same) ∙ ap (λ b. due s (cond b k (k - 1))) ok ∙ ap (due s) (sym (goes s was on));
+      let moved : q.drop_next ≡ due s (length (drops_in (taken now old).acts)) = ap (λ (x : CodelState). x.drop_next) (sym same) ∙ ap (λ b. due s (cond b k (k - 1))) ok ∙ ap (due s) (sym (goes s was on)) in
+      moved ∙ sym (due_is s (length (drops_in (taken now old).acts)));
   none_left = λ s was on _ ok.
       let k = goes s was on in
       let stops_here = (drops_stop_at_the_first_stop s now).stops_here in
       let ok_here : (judgement s now (drops s now)).ok ≡ true = ap (λ j. (judgement s now j).ok) (sym k) ∙ ok in
-      subst (λ j. now < due s j) (sym k) (ltb-true now (due s (drops s now)) (ap (λ b. not b || ltb now (due s (drops s now))) (sym ok_here) ∙ stops_here));
+      subst (λ m. now < m) (sym (due_is s (length (drops_in (taken now old).acts)))) (subst (λ j. now < due s j) (sym k) (ltb-true now (due s (drops s now)) (ap (λ b. not b || ltb now (due s (drops s now))) (sym ok_here) ∙ stops_here)));
 }
   where
     goes : (s : CodelState) → old.queue ≡ Codel s → s.dropping ≡ true → length (drops_in (taken now old).acts) ≡ drops s now

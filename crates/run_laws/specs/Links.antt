@@ -1,7 +1,8 @@
 -- What becomes of packets at each link of each run.
-use Rattle.std.specs.Prelude.{◌≡◌, ◌≢◌, ℕ, ◌+◌, ◌*◌, ◌==◌, ◌<◌, ◌≤◌, Bool, true, false, List, [], ◌++◌, length, map, drop, slice_get, filter, count_by, Option, Some, None, IfSome, IsSomeAnd}
+use Rattle.std.specs.Prelude.{◌≡◌, ◌≢◌, ℕ, zero, suc, ◌+◌, ◌*◌, ◌==◌, ◌<◌, ◌≤◌, min, Bool, true, false, List, [], ◌++◌, length, map, drop, slice_get, filter, count_by, Option, Some, None, IfSome, IsSomeAnd}
 use Rattle.std.specs.List.{AllByRecursion, flat_map, filter_map, sum_by, range_with_len}
 use Rattle.std.specs.FinMap as finmap
+use Rattle.sim_time.specs.ControlLaw.{gap_of}
 use Rattle.sim_time.specs.declared.key.Key.{Key}
 use Rattle.std.specs.Option.{unwrap_or}
 use Rattle.packet_chain.specs.declared.packet.Packet.{Packet}
@@ -9,7 +10,6 @@ use Rattle.packet_chain.specs.Stamped.{Stamped, bytes_of}
 use Rattle.aqm.specs.declared.queue.Queue.TheVariants.{DropTail, Codel}
 use Rattle.aqm.specs.DropTail.{DropTailState}
 use Rattle.aqm.specs.Codel.{CodelState}
-use Rattle.aqm.specs.Drops.{due}
 use Rattle.aqm.specs.Judgement.{judgement}
 use Rattle.aqm.specs.Laws.{IsForCause}
 use Rattle.aqm.specs.declared.drop_reason.DropReason.TheVariants.{Lost, Full, Take}
@@ -100,11 +100,16 @@ abbrev pub DropsForCause : ℕ → PortState → List Act → PortState → Type
 DropsForCause now old acts new = (s : CodelState) (i : ℕ) → old.queue ≡ Codel s →
     IfSome (slice_get (filter_map queue_drop_in acts) i) (λ x. IsSomeAnd (slice_get s.fifo.waiting i) (λ cell. (cell.0 ≡ x) × IsForCause s now (bytes_of (drop (i + 1) s.fifo.waiting)) cell))
 
+-- when the drop behind so many more is due: each moves it by a gap of the control law, interval / sqrt(count), for the count that it then has
+abbrev pub due_behind : CodelState → ℕ → ℕ
+due_behind s zero = s.drop_next
+due_behind s (suc n) = due_behind s n + gap_of s.interval (min (s.count + suc n) 4294967295)
+
 -- in drop state no drop is early, each moves the next by a gap of the control law, and none that is due is left where a packet is sent
 pub record DropsOnTime (now : ℕ) (old : PortState) (acts : List Act) (new : PortState) : Type 0 where
-  pub none_early : (s : CodelState) (j : ℕ) → old.queue ≡ Codel s → s.dropping ≡ true → j < length (filter_map queue_drop_in acts) → due s j ≤ now
-  pub next : (s q : CodelState) → old.queue ≡ Codel s → s.dropping ≡ true → new.queue ≡ Codel q → q.dropping ≡ true → q.drop_next ≡ due s (length (filter_map queue_drop_in acts))
-  pub none_left : (s : CodelState) → old.queue ≡ Codel s → s.dropping ≡ true → 1 ≤ count_by is_sent acts → (judgement s now (length (filter_map queue_drop_in acts))).ok ≡ true → now < due s (length (filter_map queue_drop_in acts))
+  pub none_early : (s : CodelState) (j : ℕ) → old.queue ≡ Codel s → s.dropping ≡ true → j < length (filter_map queue_drop_in acts) → due_behind s j ≤ now
+  pub next : (s q : CodelState) → old.queue ≡ Codel s → s.dropping ≡ true → new.queue ≡ Codel q → q.dropping ≡ true → q.drop_next ≡ due_behind s (length (filter_map queue_drop_in acts))
+  pub none_left : (s : CodelState) → old.queue ≡ Codel s → s.dropping ≡ true → 1 ≤ count_by is_sent acts → (judgement s now (length (filter_map queue_drop_in acts))).ok ≡ true → now < due_behind s (length (filter_map queue_drop_in acts))
 
 -- the bytes that an act tells to be sent
 abbrev pub bytes_by : Act → ℕ
