@@ -223,7 +223,7 @@ for n, link in enumerate(run.links):
     drops = {{f'dropped {{word}}': dropped_for(reason)(run, n) for word, reason in (('as lost', 'lost'), ('as full', 'full'), ('by CoDel', 'codel'))}}
     tell('link', n, engine.OF_A_LINK.items(), {{
         ('sent', 'packets'): link.sent(), ('sent', 'bytes'): size, 'sent packets': link.sent(), 'sent bytes': size,
-        'busy': link.sending(scenario.end), 'greatest queue': link.greatest_queue(),
+        'busy': link.sending(scenario.end), 'greatest queue': link.greatest,
         'waited': link.summed(scenario.end) - link.before, **drops, **waits}})
 last = int(lines[-2].split()[1])
 tell('run', '', engine.OF_THE_RUN.items(), {{'events': len(lines) - 1, 'end': last}})

@@ -347,7 +347,7 @@ class TestPictures(Folder):
         curves = [[None if y != y else y for y in line.get_ydata()] for line in panels['flow f: congestion window'].lines]
         assert [4, 5, 6, 7, 7, 7, None, 2.5, 2.5] in curves             # the recovery from 8.28 to 11.36 ms is left to
         assert [None] * 6 + [5.5, 2.5, None] in curves                  # a thinner curve, which ends with it
-        assert pytest.approx([-.35, -.35]) in curves     # two losses, below the curves
+        assert len([curve for curve in curves if len(curve) == 1 and curve[0] < 0]) == 2        # two losses, below the curves
         assert panels['flow f: sequence numbers'].get_xlabel() == 'time, ms'
 
     def test_panels_that_are_asked_for(self):

@@ -113,6 +113,7 @@ class Up(Locator):
         return self.tick_values(*self.axis.get_view_interval())
 
     def tick_values(self, vmin: float, vmax: float) -> np.ndarray:
+        """The inner locator's ticks between two values, but for those above the greatest."""
         ticks = np.asarray(self.inner.tick_values(vmin, vmax))
         return ticks[ticks <= 1.05 * self.greatest + .5]
 

@@ -121,7 +121,7 @@ LINK = {
                        lambda run, n: run.links[n].longest_wait if run.links[n].sent() else None),
     'queue_mean': Quantity('mean_packets', lambda run, n: run.over_span(n, WAITED),
                          lambda run, n: run.links[n].mean_queue(run.begin, run.end)),
-    'queue_max': Quantity('packets', of_link(('greatest queue', 'packets')), lambda run, n: run.links[n].greatest_queue()),
+    'queue_max': Quantity('packets', of_link(('greatest queue', 'packets')), lambda run, n: run.links[n].greatest),
     'sent': Quantity('packets', of_link(('sent packets', 'packets'), ('sent', 'packets')), lambda run, n: run.links[n].sent(), True),
     'bytes': Quantity('bytes', of_link(('sent bytes', 'bytes'), ('sent', 'bytes')),
                     lambda run, n: sum(count * stream.size for stream, count in run.links[n].count.items()), True),
