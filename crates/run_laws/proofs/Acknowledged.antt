@@ -1,5 +1,5 @@
 -- What is acknowledged at a sender its receiver has: an event raises una at most to the number of an acknowledgement that arrives.
-use Rattle.std.proofs.Common.{◌≡◌, ◌≢◌, ℕ, zero, suc, ◌≤◌, Bool, true, false, cond, List, [], refl, sym, ap, subst, ◌∙◌, Option, Some, None, arith, inl, inr, ◌⊎◌, ⊎_elim}
+use Rattle.std.proofs.Common.{◌≡◌, ◌≢◌, ℕ, zero, suc, ◌≤◌, List, [], refl, sym, ap, subst, ◌∙◌, Option, Some, None, arith, inl, inr, ◌⊎◌, ⊎_elim}
 use Rattle.std.specs.List.{slice_get}
 use Rattle.std.proofs.lemmas.Bool.{cases_eq}
 use Rattle.std.proofs.lemmas.List.{get_or-set_same, get_or-set_other}
@@ -13,6 +13,7 @@ use Rattle.reno_sender.specs.declared.fields.SenderFields.{SenderFields}
 use Rattle.reno_sender.specs.Sending.{Planned}
 use Rattle.reno_sender.specs.Table.{started, acknowledged, timed_out, may_send_new, partly}
 use Rattle.reno_sender.proofs.RowLaws.{by_rows}
+use Rattle.run_laws.proofs.Ports.{by_test}
 use Rattle.reno_receiver.specs.Received.{ReceiverState, next_of}
 use Rattle.scenario_image.specs.declared.parts.FlowPart.{FlowPart}
 use Rattle.scenario_image.specs.declared.parts.ScenarioParts.{ScenarioParts}
@@ -49,18 +50,14 @@ una_of (Routes table) = 0
 abbrev IsRaised : SenderFields → ℕ → Planned → Type 0
 IsRaised f ack q = (q.fields.una ≡ f.una) ⊎ (q.fields.una ≡ ack)
 
-either : (P : Planned → Type 0) (b : Bool) (x y : Planned) → P x → P y → P (cond b x y)
-either P true x y h k = h
-either P false x y h k = k
-
 acknowledged_raises : (f : SenderFields) (ack now : ℕ) → IsRaised f ack (acknowledged f ack now)
 acknowledged_raises f ack now =
     by_rows (IsRaised f ack) f ack now (λ _ _. inr refl)
-    (λ _ _. either (IsRaised f ack) (may_send_new (partly f ack now) _) _ _ (inr refl) (inr refl))
+    (λ _ _. by_test (IsRaised f ack) (may_send_new (partly f ack now) _) _ _ (λ _. inr refl) (λ _. inr refl))
     (inl refl)
-    (λ _. either (IsRaised f ack) (may_send_new f _) _ _ (inl refl) (inl refl))
+    (λ _. by_test (IsRaised f ack) (may_send_new f _) _ _ (λ _. inl refl) (λ _. inl refl))
     (λ _ _ _. inl refl) (λ _ _. inl refl)
-    (λ _ _. either (IsRaised f ack) (may_send_new f _) _ _ (inl refl) (inl refl))
+    (λ _ _. by_test (IsRaised f ack) (may_send_new f _) _ _ (λ _. inl refl) (λ _. inl refl))
     (λ _ _. inl refl)
 
 started_keeps_una : (f : SenderFields) (now : ℕ) → (started f now).fields.una ≡ f.una

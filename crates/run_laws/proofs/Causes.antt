@@ -23,14 +23,14 @@ use Rattle.aqm.proofs.Stays.{enters_last}
 use Rattle.aqm.proofs.TakenCases.{taken_in_drop_state, taken_at_first_drop, taken_undropped}
 use Rattle.port.specs.Losses as losses
 use Rattle.port.specs.declared.acts.Act.{Act}
-use Rattle.port.specs.Port.{PortState, PortStep, begun, dropped_for, taken, with_packet, offered_one, offered_all}
+use Rattle.port.specs.Port.{PortState, PortStep, taken, with_packet, offered_one, offered_all}
 use Rattle.port.specs.History.{Offer}
 use Rattle.port.specs.Laws.{queue_drop_in, NothingWaitsWhereIdle}
 use Rattle.port.proofs.CodelLaws.{every_codel_drop_has_a_cause}
 use Rattle.port.proofs.StepLaws.{idle_links_keep_nothing}
 use Rattle.run_laws.specs.Laws.{IsKept}
 use Rattle.run_laws.specs.Links.{AtEachLink, SendsAllThatEntered, DropsForCause, due_behind, DropsOnTime}
-use Rattle.run_laws.proofs.Ports.{sends, counted, by_test}
+use Rattle.run_laws.proofs.Ports.{sends, counted, by_test, to_none, took, queue_same}
 use Rattle.run_laws.proofs.Touched.{Touches, by_offers, by_offer, by_take}
 use Rattle.run_laws.proofs.Turns.{at_each_link, busy_sends_none, one_list}
 
@@ -39,14 +39,10 @@ drops_in acts = filter_map queue_drop_in acts
 
 -- what a take drops is told
 module _ (now : ℕ) (old : PortState) (queue : Queue) (reason : TakeDrop) where
-  told_by : (dropped : List Stamped) (given : Option Stamped) → let port = record old { queue = queue } in drops_in (map (dropped_for old.link reason) dropped ++ (begun now port given).acts) ≡ map (λ (cell : Stamped). cell.0) dropped
+  told_by : (dropped : List Stamped) (given : Option Stamped) → drops_in (took now old queue reason dropped given).acts ≡ map (λ (cell : Stamped). cell.0) dropped
   told_by [] None = refl
   told_by [] (Some cell) = refl
   told_by (x ∷ dropped) given = ap (λ ls. x.0 ∷ ls) (told_by dropped given)
-
-  queue_same : (given : Option Stamped) → (begun now (record old { queue = queue }) given).port.queue ≡ queue
-  queue_same None = refl
-  queue_same (Some cell) = refl
 
 take_drops : (now : ℕ) (old : PortState) → drops_in (taken now old).acts ≡ map (λ (cell : Stamped). cell.0) (taken_from old.queue now).dropped
 take_drops now old = let take = taken_from old.queue now in told_by now old take.queue (take_reason old.queue) take.dropped take.given
@@ -71,18 +67,14 @@ Idle port = NothingWaitsWhereIdle port
 idle : (port : PortState) → IsKept port → Idle port
 idle port kept none = kept.idle_empty (subst (λ (o : Option ℕ). IsNone o) (sym none) refl)
 
-to_none : (o : Option ℕ) → is_none o ≡ true → o ≡ None
-to_none None e = refl
-to_none (Some t) e = absurd (true≢false (sym e))
-
 alone : (now : ℕ) (old : PortState) (packet : Packet) → Idle old → is_none old.next_free ≡ true → is_full (fifo_of old.queue) ≡ false → waiting_in (with_packet now (counted old) packet).queue ≡ (packet, now) ∷ []
 alone now old packet kept free room = enters_last old.queue (packet, now) now room ∙ ap (λ ls. ls ++ (packet, now) ∷ []) (kept (to_none old.next_free free))
 
 one_drops_none : (now : ℕ) (old : PortState) (packet : Packet) → Idle old → drops_in (offered_one now old packet).acts ≡ []
 one_drops_none now old packet kept =
-    by_test (λ step. drops_in step.acts ≡ []) (losses.is_lost old.lose (old.offered + 1)) _ _ (λ _. refl)
-    (λ _. by_test (λ step. drops_in step.acts ≡ []) (is_full (fifo_of old.queue)) _ _ (λ _. refl)
-    (λ room. by_test (λ step. drops_in step.acts ≡ []) (is_none old.next_free) _ _
+    by_test (λ (step : PortStep). drops_in step.acts ≡ []) (losses.is_lost old.lose (old.offered + 1)) _ _ (λ _. refl)
+    (λ _. by_test (λ (step : PortStep). drops_in step.acts ≡ []) (is_full (fifo_of old.queue)) _ _ (λ _. refl)
+    (λ room. by_test (λ (step : PortStep). drops_in step.acts ≡ []) (is_none old.next_free) _ _
     (λ free. let waits = with_packet now (counted old) packet in take_drops now waits ∙ ap (map (λ (cell : Stamped). cell.0)) (none_dropped waits.queue now (packet, now) (alone now old packet kept free room)))
     (λ _. refl)))
 
@@ -187,9 +179,9 @@ taking_leaves (Codel s) now cell waits = record {
 
 one_leaves : (now : ℕ) (old : PortState) (packet : Packet) → Idle old → LeavesSchedule old.queue (offered_one now old packet).port.queue
 one_leaves now old packet kept =
-    by_test (λ step. LeavesSchedule old.queue step.port.queue) (losses.is_lost old.lose (old.offered + 1)) _ _ (λ _. schedule_same old.queue)
-    (λ _. by_test (λ step. LeavesSchedule old.queue step.port.queue) (is_full (fifo_of old.queue)) _ _ (λ _. schedule_same old.queue)
-    (λ room. by_test (λ step. LeavesSchedule old.queue step.port.queue) (is_none old.next_free) _ _
+    by_test (λ (step : PortStep). LeavesSchedule old.queue step.port.queue) (losses.is_lost old.lose (old.offered + 1)) _ _ (λ _. schedule_same old.queue)
+    (λ _. by_test (λ (step : PortStep). LeavesSchedule old.queue step.port.queue) (is_full (fifo_of old.queue)) _ _ (λ _. schedule_same old.queue)
+    (λ room. by_test (λ (step : PortStep). LeavesSchedule old.queue step.port.queue) (is_none old.next_free) _ _
     (λ free.
     let waits = with_packet now (counted old) packet in
     subst (LeavesSchedule old.queue) (sym (queue_after now waits))

@@ -1,7 +1,7 @@
 -- Each packet that was offered to a link is told to have left it, or it waits.
 use Rattle.std.proofs.Common.{◌≡◌, ℕ, ◌+◌, cond, List, [], ◌∷◌, ◌++◌, length, refl, sym, ap, subst, arith, length-append}
 use Rattle.std.specs.Prelude.{count_by}
-use Rattle.std.proofs.lemmas.List.Sums.{sum_by-append, sum_by-cons}
+use Rattle.std.proofs.lemmas.List.Sums.{sum_by-cons}
 use Rattle.aqm.proofs.Stays.{queues_open_empty}
 use Rattle.aqm.specs.declared.drop_reason.DropReason.TheVariants.{Lost, Full, Take}
 use Rattle.port.specs.declared.acts.Act.{Act}
@@ -9,7 +9,7 @@ use Rattle.port.specs.declared.acts.Act.TheVariants.{Tx, Dropped}
 use Rattle.port.specs.Port.{PortState, PortStep}
 use Rattle.run_laws.specs.Links.{port_at, acts_at, is_sent, is_lost, is_refused, by_queue, PacketsAreConserved}
 use Rattle.run_laws.proofs.Along.{LinkFact, IsKeptBy, in_every_state}
-use Rattle.run_laws.proofs.Ports.{Balances, sends, waiting, taken_balances, one_balances, all_balance}
+use Rattle.run_laws.proofs.Ports.{Balances, sends, sends_append, waiting, taken_balances, one_balances, all_balance}
 use Rattle.run_laws.proofs.Touched.{Touches, by_offers, by_offer, by_take}
 
 record IsBalanced (acts : List Act) (port : PortState) : Type 0 where
@@ -19,13 +19,10 @@ record IsBalanced (acts : List Act) (port : PortState) : Type 0 where
 abbrev Fact : LinkFact
 Fact _ acts port = IsBalanced acts port
 
-sends_more : (xs ys : List Act) → sends (xs ++ ys) ≡ sends xs + sends ys
-sends_more xs ys = sum_by-append (λ (act : Act). cond (is_sent act) 1 0) xs ys
-
 balance_goes_on : (n : ℕ) (acts : List Act) (old : PortState) (step : PortStep) → Balances n old step → IsBalanced acts old → IsBalanced (acts ++ step.acts) step.port
 balance_goes_on n acts old step b h = record {
   total = (let a = b.total in let c = b.offered in let d = h.total in let e = length-append acts step.acts in omega (arith, a, c, d, e));
-  sent = (let a = b.sent in let c = h.sent in let d = sends_more acts step.acts in omega (arith, a, c, d));
+  sent = (let a = b.sent in let c = h.sent in let d = sends_append acts step.acts in omega (arith, a, c, d));
 }
 
 done : (now : ℕ) (acts : List Act) (old : PortState) (step : PortStep) → Touches now old step → IsBalanced acts old → IsBalanced (acts ++ step.acts) step.port

@@ -1,5 +1,5 @@
 -- What is done at a link: where the packets are that it had and that were offered.
-use Rattle.std.proofs.Common.{◌≡◌, ℕ, suc, ◌+◌, Bool, true, false, cond, List, [], ◌∷◌, ◌++◌, length, map, refl, ap, subst, ◌∙◌, Option, Some, None, arith, length-append}
+use Rattle.std.proofs.Common.{◌≡◌, ℕ, suc, ◌+◌, Bool, true, false, cond, List, [], ◌∷◌, ◌++◌, length, map, refl, ap, subst, ◌∙◌, Option, Some, None, arith, length-append, true≢false, sym}
 use Rattle.std.specs.Prelude.{count_by, is_none}
 use Rattle.std.specs.List.{AllByRecursion}
 use Rattle.std.proofs.lemmas.List.Sums.{sum_by-append, sum_by-cons}
@@ -32,7 +32,7 @@ pub record Balances (n : ℕ) (old : PortState) (step : PortStep) : Type 0 where
   pub sent : step.port.sent ≡ old.sent + sends step.acts
   pub its : AllByRecursion (λ (act : Act). link_of act ≡ old.link) step.acts
 
-sends_append : (xs ys : List Act) → sends (xs ++ ys) ≡ sends xs + sends ys
+pub sends_append : (xs ys : List Act) → sends (xs ++ ys) ≡ sends xs + sends ys
 sends_append xs ys = sum_by-append (λ (act : Act). cond (is_sent act) 1 0) xs ys
 
 sends_cons : (act : Act) (acts : List Act) → sends (act ∷ acts) ≡ cond (is_sent act) 1 0 + sends acts
@@ -43,7 +43,7 @@ module _ (now : ℕ) (old : PortState) (queue : Queue) (reason : TakeDrop) where
   abbrev port : PortState
   port = record old { queue = queue }
 
-  abbrev took : List Stamped → Option Stamped → PortStep
+  abbrev pub took : List Stamped → Option Stamped → PortStep
   took dropped given = record (begun now port given) { acts = map (dropped_for old.link reason) dropped ++ (begun now port given).acts }
 
   its_acts : (dropped : List Stamped) (given : Option Stamped) → AllByRecursion (λ (act : Act). link_of act ≡ old.link) (took dropped given).acts
@@ -64,7 +64,7 @@ module _ (now : ℕ) (old : PortState) (queue : Queue) (reason : TakeDrop) where
   as_many [] (Some cell) = refl
   as_many (x ∷ dropped) given = ap suc (as_many dropped given)
 
-  queue_same : (given : Option Stamped) → (begun now port given).port.queue ≡ queue
+  pub queue_same : (given : Option Stamped) → (begun now port given).port.queue ≡ queue
   queue_same None = refl
   queue_same (Some cell) = refl
 
@@ -92,9 +92,13 @@ taken_balances now old =
       its = its_acts now old take.queue (take_reason old.queue) take.dropped take.given;
     }
 
-pub by_test : (P : PortStep → Type 0) (b : Bool) (x y : PortStep) → (b ≡ true → P x) → (b ≡ false → P y) → P (cond b x y)
+pub by_test : {A : Type 0} (P : A → Type 0) (b : Bool) (x y : A) → (b ≡ true → P x) → (b ≡ false → P y) → P (cond b x y)
 by_test P true x y h k = h refl
 by_test P false x y h k = k refl
+
+pub to_none : (o : Option ℕ) → is_none o ≡ true → o ≡ None
+to_none None e = refl
+to_none (Some t) e = absurd (true≢false (sym e))
 
 abbrev pub counted : PortState → PortState
 counted old = record old { offered = old.offered + 1 }

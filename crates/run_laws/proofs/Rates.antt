@@ -1,5 +1,5 @@
 -- A link sends no faster than its rate.
-use Rattle.std.proofs.Common.{◌≡◌, ℕ, ◌+◌, ◌*◌, ◌≤◌, true, List, [], ◌∷◌, ◌++◌, map, refl, sym, ap, subst, Option, Some, None, arith, true≢false, ◌∙◌}
+use Rattle.std.proofs.Common.{◌≡◌, ℕ, ◌+◌, ◌*◌, ◌≤◌, List, [], ◌∷◌, ◌++◌, refl, sym, ap, subst, Option, Some, None, arith, ◌∙◌}
 use Rattle.std.specs.Prelude.{is_none}
 use Rattle.std.specs.List.{sum_by}
 use Rattle.std.specs.Option.{unwrap_or}
@@ -16,12 +16,12 @@ use Rattle.aqm.specs.DropTail.{is_full}
 use Rattle.aqm.specs.Queue.{fifo_of, taken_from, take_reason}
 use Rattle.port.specs.Losses as losses
 use Rattle.port.specs.declared.acts.Act.{Act}
-use Rattle.port.specs.Port.{PortState, PortStep, begun, dropped_for, taken, with_packet, offered_one, offered_all}
+use Rattle.port.specs.Port.{PortState, PortStep, dropped_for, taken, with_packet, offered_one, offered_all}
 use Rattle.port.proofs.StepLaws.{one_counts}
 use Rattle.table_run.proofs.PortMoves.{IsLink}
 use Rattle.run_laws.specs.Links.{port_at, acts_at, bytes_by, IsWithinRate, RatesHold}
 use Rattle.run_laws.proofs.Along.{LinkFact, IsKeptBy, in_every_state}
-use Rattle.run_laws.proofs.Ports.{counted, by_test}
+use Rattle.run_laws.proofs.Ports.{counted, by_test, to_none, took}
 use Rattle.run_laws.proofs.Touched.{Touches, by_offers, by_offer, by_take}
 
 abbrev sent_bytes : List Act → ℕ
@@ -39,23 +39,16 @@ cell_fits now bytes rate range =
     omega (arith, enough, both)
 
 module _ (now : ℕ) (old : PortState) (queue : Queue) (reason : TakeDrop) (link : IsLink old) where
-  abbrev took : List Stamped → Option Stamped → PortStep
-  took dropped given = let port = record old { queue = queue } in record (begun now port given) { acts = map (dropped_for old.link reason) dropped ++ (begun now port given).acts }
-
-  took_fits : (dropped : List Stamped) (given : Option Stamped) → Fits now now old (took dropped given)
+  took_fits : (dropped : List Stamped) (given : Option Stamped) → Fits now now old (took now old queue reason dropped given)
   took_fits [] None = record { same_rate = refl; within = omega arith }
   took_fits [] (Some cell) = record { same_rate = refl; within = (let fits = cell_fits now cell.0.bytes old.rate link.rate_range in omega (arith, fits)) }
   took_fits (x ∷ dropped) given =
       let rest = took_fits dropped given in
-      let same = sum_by-cons bytes_by (dropped_for old.link reason x) (took dropped given).acts in
+      let same = sum_by-cons bytes_by (dropped_for old.link reason x) (took now old queue reason dropped given).acts in
       record { same_rate = rest.same_rate; within = (let a = rest.within in omega (arith, a, same)) }
 
 taken_fits : (now : ℕ) (old : PortState) → IsLink old → Fits now now old (taken now old)
 taken_fits now old link = let take = taken_from old.queue now in took_fits now old take.queue (take_reason old.queue) link take.dropped take.given
-
-to_none : (o : Option ℕ) → is_none o ≡ true → o ≡ None
-to_none None e = refl
-to_none (Some t) e = absurd (true≢false (sym e))
 
 abbrev since : ℕ → PortState → ℕ
 since now port = unwrap_or port.next_free now

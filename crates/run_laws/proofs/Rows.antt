@@ -1,6 +1,6 @@
 -- What each row of the sender's table does to what was sent, the timer and the rto.
 use Rattle.std.proofs.Common.{◌≡◌, ℕ, ◌+◌, ◌-◌, ◌*◌, ◌/◌, ◌<◌, ◌≤◌, min, max, Bool, true, false, cond, ◌&&◌, eqb, leb, ltb, List, [], ◌∷◌, refl, Option, Some, None, arith, inl, inr, ◌⊎◌, ⊎_elim}
-use Rattle.std.proofs.lemmas.Bool.{and_parts, eqb-true, leb-true, leb-false, le-ltb, or_right, eq-eqb}
+use Rattle.std.proofs.lemmas.Bool.{cases_lt, and_parts, eqb-true, leb-true, le-ltb, or_right, eq-eqb}
 use Rattle.std.proofs.Math.Nat.{div-add-mod'}
 use Rattle.std.specs.Option.{option_or}
 use Rattle.reno_sender.specs.declared.fields.SenderFields.{SenderFields}
@@ -11,17 +11,11 @@ use Rattle.reno_sender.specs.Sending.{Planned, spaced, fill_count, allowed_end, 
 use Rattle.reno_sender.specs.Table.{started, acknowledged, timed_out, nothing_sent, may_send_new, partly, advanced, measured_by, inflated, one_more, enlarged, with_estimate}
 use Rattle.reno_sender.specs.Timer.{sampled}
 use Rattle.reno_sender.proofs.RowLaws.{by_rows}
-
-by_test : (P : Planned → Type 0) (b : Bool) (x y : Planned) → (b ≡ true → P x) → (b ≡ false → P y) → P (cond b x y)
-by_test P true x y h k = h refl
-by_test P false x y h k = k refl
+use Rattle.run_laws.proofs.Ports.{by_test}
 
 -- new segments lie within the window
 abbrev pub FitsNew : SenderFields → Planned → Type 0
 FitsNew f q = let g = q.fields in (g.high ≡ f.high) ⊎ (g.high ≤ g.una + min (g.cwnd + 2 * g.mss) g.rwnd)
-
-le_cases : (a b : ℕ) → (a ≤ b) ⊎ (b < a)
-le_cases a b = elim (leb a b) as (λ t. leb a b ≡ t → (a ≤ b) ⊎ (b < a)) [ true ↦ λ e. inl (leb-true a b e) | false ↦ λ e. inr (leb-false a b e) ] refl
 
 fill_end : (nxt end mss : ℕ) → nxt + (end - nxt) / mss * mss ≤ max nxt end
 fill_end nxt end mss = let a = div-add-mod' (end - nxt) mss in omega (arith, a)
@@ -31,9 +25,9 @@ filling_fits f h now high within =
     let end = fill_end h.nxt (allowed_end h) h.mss in
     let nxt = h.nxt + fill_count h * h.mss in
     ⊎_elim
-    (λ (least : nxt ≤ h.high). inl (omega (arith, least, high)))
     (λ (more : h.high < nxt). inr (omega (arith, more, end, within)))
-    (le_cases nxt h.high)
+    (λ (least : nxt ≤ h.high). inl (omega (arith, least, high)))
+    (cases_lt h.high nxt)
 
 may_parts : (h : SenderFields) (end : ℕ) → may_send_new h end ≡ true → (h.nxt ≡ h.high) × (h.nxt + h.mss ≤ end)
 may_parts h end is =
@@ -54,9 +48,9 @@ unfolding timed_out
 timeout_fits f now sound =
     let least = sound.rwnd_least in
     ⊎_elim
-    (λ (a : f.una + f.mss ≤ f.high). inl (omega (arith, a)))
     (λ (a : f.high < f.una + f.mss). inr (omega (arith, a, least)))
-    (le_cases (f.una + f.mss) f.high)
+    (λ (a : f.una + f.mss ≤ f.high). inl (omega (arith, a)))
+    (cases_lt f.high (f.una + f.mss))
 
 pub ack_fits : (f : SenderFields) (ack now : ℕ) → IsSound f → IsAckFor f ack now → FitsNew f (acknowledged f ack now)
 ack_fits f ack now sound is_ack =

@@ -1,11 +1,10 @@
 -- In which order packets leave a link, how many at a time, and for which cause a queue drops.
-use Rattle.std.proofs.Common.{◌≡◌, ℕ, ◌+◌, ◌<◌, ◌≤◌, false, cond, List, [], ◌∷◌, ◌++◌, map, append_assoc, append-nil, refl, sym, ap, subst, ◌∙◌, Option, Some, None, arith, ⊎_elim}
+use Rattle.std.proofs.Common.{◌≡◌, ℕ, ◌+◌, ◌<◌, ◌≤◌, false, List, [], ◌∷◌, ◌++◌, map, append_assoc, append-nil, refl, sym, ap, subst, ◌∙◌, Option, Some, None, arith, ⊎_elim}
 use Rattle.std.specs.Prelude.{is_none}
 use Rattle.std.specs.List.{filter_map}
 use Rattle.std.specs.Option.{option_or}
 use Rattle.std.proofs.lemmas.List.{map-append}
 use Rattle.std.proofs.lemmas.List.Elements.{filter_map-append}
-use Rattle.std.proofs.lemmas.List.Sums.{sum_by-append}
 use Rattle.packet_chain.specs.declared.packet.Packet.{Packet}
 use Rattle.packet_chain.specs.Stamped.{Stamped}
 use Rattle.aqm.specs.declared.drop_reason.TakeDrop.{TakeDrop}
@@ -17,15 +16,15 @@ use Rattle.aqm.proofs.Front.{takes_the_front}
 use Rattle.aqm.proofs.Stays.{enters_last}
 use Rattle.port.specs.Losses as losses
 use Rattle.port.specs.declared.acts.Act.{Act}
-use Rattle.port.specs.Port.{PortState, PortStep, Departure, begun, dropped_for, taken, with_packet, offered_one, offered_all}
+use Rattle.port.specs.Port.{PortState, PortStep, Departure, begun, taken, with_packet, offered_one, offered_all}
 use Rattle.port.proofs.StepLaws.{taken_sends, one_sends, busy_link_begins_nothing, one_if, taken_counts, one_counts}
 use Rattle.ranking.proofs.Maps.{same_some}
 use Rattle.table_run.specs.State.{effect_of, stepped}
 use Rattle.table_run.proofs.RunLaws.{sound_run}
 use Rattle.run_laws.specs.Laws.{IsKept}
-use Rattle.run_laws.specs.Links.{port_at, is_sent, left_by, packets_of, AtEachLink, LeavesInTurn, SendsOneByOne}
+use Rattle.run_laws.specs.Links.{port_at, left_by, packets_of, AtEachLink, LeavesInTurn, SendsOneByOne}
 use Rattle.run_laws.proofs.Events.{its_own, IsLeft, IsDone, as_many, at_link}
-use Rattle.run_laws.proofs.Ports.{sends, counted, by_test, taken_balances, one_balances, all_balance}
+use Rattle.run_laws.proofs.Ports.{sends, counted, by_test, taken_balances, one_balances, all_balance, sends_append, took}
 use Rattle.run_laws.proofs.States.{idle_links_are_empty}
 use Rattle.run_laws.proofs.Touched.{Touches, by_offers, by_offer, by_take}
 
@@ -52,10 +51,7 @@ abbrev InTurn : ℕ → PortState → PortStep → Type 0
 InTurn now old step = LeavesInTurn now old step.acts step.port
 
 module _ (now : ℕ) (old : PortState) (queue : Queue) (reason : TakeDrop) where
-  abbrev took : List Stamped → Option Stamped → PortStep
-  took dropped given = let port = record old { queue = queue } in record (begun now port given) { acts = map (dropped_for old.link reason) dropped ++ (begun now port given).acts }
-
-  leave : (dropped : List Stamped) (given : Option Stamped) → filter_map left_by (took dropped given).acts ≡ map packet_in (dropped ++ listed given)
+  leave : (dropped : List Stamped) (given : Option Stamped) → filter_map left_by (took now old queue reason dropped given).acts ≡ map packet_in (dropped ++ listed given)
   leave [] None = refl
   leave [] (Some cell) = refl
   leave (x ∷ dropped) given = ap (λ ls. x.0 ∷ ls) (leave dropped given)
@@ -131,9 +127,6 @@ one_one now old packet = record {
 most_one : (d : Option Departure) → one_if d ≤ 1
 most_one None = omega arith
 most_one (Some d) = omega arith
-
-sends_append : (xs ys : List Act) → sends (xs ++ ys) ≡ sends xs + sends ys
-sends_append xs ys = sum_by-append (λ (act : Act). cond (is_sent act) 1 0) xs ys
 
 -- a busy link sends nothing of what is offered
 pub busy_sends_none : (now t : ℕ) (old : PortState) (packets : List Packet) → old.next_free ≡ Some t → (sends (offered_all now old packets).acts ≡ 0) × ((offered_all now old packets).port.next_free ≡ Some t)
