@@ -1,5 +1,5 @@
 -- The figures along a run.
-use Rattle.std.proofs.Common.{◌≡◌, ◌≢◌, ℕ, zero, suc, ◌+◌, ◌<◌, ◌≤◌, List, [], ◌∷◌, ◌++◌, length, length-append, get_or, refl, sym, ap, ap₂, subst, ◌∙◌, Option, Some, None, arith}
+use Rattle.std.proofs.Common.{◌≡◌, ◌≢◌, ℕ, zero, suc, ◌+◌, ◌<◌, ◌≤◌, List, [], ◌∷◌, ◌++◌, length, length-append, get_or, refl, sym, ap, subst, ◌∙◌, Option, Some, None, arith}
 use Rattle.std.proofs.lemmas.List.{append-nil, append_assoc}
 use Rattle.std.proofs.lemmas.List.Elements.{filter_map-append}
 use Rattle.std.proofs.lemmas.Option.{option_and_then_some, slice_get-get_or}
@@ -130,34 +130,6 @@ step_run p b old new line f g of stepped count last more = record {
 pub of_due : (s : State) (o : Option (Key × Event)) (line : TraceLine) (t : State) → option_map (step_at s) o ≡ Some (line, t) → o ≡ Some (line.key, line.event)
 of_due s None line t is = absurd (not_some is)
 of_due s (Some e) line t is = ap (λ (x : TraceLine × State). Some (x.0.key, x.0.event)) (same_some (step_at s e) (line, t) is)
-
--- a run ends at a moment
-pub end_is_moment : (f : Figures) (r : Reached) → AreOfSomeRun f r → IsMoment r.state.end
-end_is_moment f r some =
-    let sound = sound_run some.scenario r.position some.of.lines r.state some.is_scenario some.of.comes in
-    let most = some.is_scenario.in_limits.end_range in
-    let end_is = sound.sound.end_is in
-    omega (arith, end_is, most)
-
--- the event that is due under a key
-pub record IsDueUnder (s : State) (key : Key) : Type 0 where
-  pub event : Event
-  pub is : due s ≡ Some (key, event)
-
-due_as : (s : State) (o : Option (Key × Event)) (key : Key) → due s ≡ o → Some key ≡ option_map (λ (entry : Key × Event). entry.0) o → IsDueUnder s key
-due_as s None key same is = absurd (not_some (sym is))
-due_as s (Some entry) key same is = record { event = entry.1; is = same ∙ ap (λ (k : Key). Some (k, entry.1)) (sym (same_some key entry.0 is)) }
-
-pub due_under : (s : State) (key : Key) → Some key ≡ option_map (λ (entry : Key × Event). entry.0) (due s) → IsDueUnder s key
-due_under s key is = due_as s (due s) key refl is
-
--- the key of an event that is due is at a moment
-pub key_is_moment : (f : Figures) (r : Reached) → AreOfSomeRun f r → (key : Key) → Some key ≡ option_map (λ (entry : Key × Event). entry.0) (due r.state) → IsMoment key.time
-key_is_moment f r some key is =
-    let next = due_under r.state key is in
-    let early = (is_due r.state key next.event next.is).in_time in
-    let most = end_is_moment f r some in
-    omega (arith, early, most)
 
 module _ (f : Figures) (r : Reached) (line : TraceLine) (t : State) (some : AreOfSomeRun f r) (is : step r.state ≡ Some (line, t)) where
   abbrev sound : IsSoundRun some.scenario some.of.lines r.state

@@ -17,17 +17,17 @@ unfreed link (DelAck flow) none = refl
 unfreed link (Free number) none = absurd (true≢false none)
 unfreed link (Arrive packet) none = refl
 
-module _ (f g : LinkFigures) (port : PortState) (line : TraceLine) (given : Option ℕ) (acts : List Act) (are : acts ≡ line.acts) where
-  both : (wait : Option ℕ) → acts ≡ acts_between f.offered port line → wait ≡ wait_in f.offered port line given → IsLinkCounted f port line.key.time acts wait g → IsLinkAfter f port line given g
+module _ (f g : LinkFigures) (port : PortState) (line : TraceLine) (acts : List Act) (are : acts ≡ line.acts) where
+  both : (wait : Option ℕ) → acts ≡ acts_between f.offered port line → wait ≡ wait_in f.offered port line f.next_wait → IsLinkCounted f port line.key.time acts wait g → IsLinkAfter f port line g
   both wait acts_are wait_is is =
       subst (λ w. IsLinkCounted f port line.key.time (acts_between f.offered port line) w g) wait_is (subst (λ (xs : List Act). IsLinkCounted f port line.key.time xs wait g) acts_are is)
 
   -- the event frees the link
-  pub freed_after : frees port.link line.event ≡ true → IsLinkCounted f port line.key.time acts given g → IsLinkAfter f port line given g
+  pub freed_after : frees port.link line.event ≡ true → IsLinkCounted f port line.key.time acts f.next_wait g → IsLinkAfter f port line g
   freed_after freed is =
-      both given
+      both f.next_wait
       (are ∙ ap (λ b. cond (b || not (port.offered == f.offered)) line.acts []) (sym freed))
-      (ap (λ b. cond b given (cond (nat_lt 0 (tx_in (acts_between f.offered port line))) (Some 0) None)) (sym freed)) is
+      (ap (λ b. cond b f.next_wait (cond (nat_lt 0 (tx_in (acts_between f.offered port line))) (Some 0) None)) (sym freed)) is
 
   -- it frees none, and offers packets to the link
   module _ (none : is_free line.event ≡ false) (more : port.offered ≢ f.offered) where
@@ -36,11 +36,11 @@ module _ (f g : LinkFigures) (port : PortState) (line : TraceLine) (given : Opti
         are ∙ ap (λ b. cond (not b) line.acts []) (sym (test_no port.offered f.offered more))
         ∙ ap (λ b. cond (b || not (port.offered == f.offered)) line.acts []) (sym (unfreed port.link line.event none))
 
-    pub offered_after : (wait : Option ℕ) → wait ≡ cond (nat_lt 0 (tx_in acts)) (Some 0) None → IsLinkCounted f port line.key.time acts wait g → IsLinkAfter f port line given g
+    pub offered_after : (wait : Option ℕ) → wait ≡ cond (nat_lt 0 (tx_in acts)) (Some 0) None → IsLinkCounted f port line.key.time acts wait g → IsLinkAfter f port line g
     offered_after wait wait_is is =
         both wait at_it
         (wait_is ∙ ap (λ (xs : List Act). cond (nat_lt 0 (tx_in xs)) (Some 0) None) at_it
-        ∙ ap (λ b. cond b given (cond (nat_lt 0 (tx_in (acts_between f.offered port line))) (Some 0) None)) (sym (unfreed port.link line.event none))) is
+        ∙ ap (λ b. cond b f.next_wait (cond (nat_lt 0 (tx_in (acts_between f.offered port line))) (Some 0) None)) (sym (unfreed port.link line.event none))) is
 
-    pub sent_after : (bytes : ℕ) → IsSentAlone acts bytes → IsLinkCounted f port line.key.time acts (Some 0) g → IsLinkAfter f port line given g
+    pub sent_after : (bytes : ℕ) → IsSentAlone acts bytes → IsLinkCounted f port line.key.time acts (Some 0) g → IsLinkAfter f port line g
     sent_after bytes alone is = offered_after (Some 0) (sym (ap (λ n. cond (nat_lt 0 n) (Some 0) None) alone.sent)) is

@@ -5,7 +5,7 @@ use Rattle.std.specs.List.{AllByRecursion}
 use Rattle.std.specs.Option.{option_map}
 use Rattle.std.proofs.lemmas.Bool.{cases_eq, cases_lt, lt-ltb, le-ltb}
 use Rattle.std.proofs.lemmas.Option.{option_and_then_some, slice_get-get_or}
-use Rattle.aqm.specs.Queue.{waiting_in, take_reason, taken_from}
+use Rattle.aqm.specs.Queue.{take_reason, taken_from}
 use Rattle.aqm.proofs.Stays.{queues_open_empty}
 use Rattle.port.specs.declared.acts.Act.{Act}
 use Rattle.aqm.specs.declared.drop_reason.DropReason.TheVariants.{Lost, Full, Take}

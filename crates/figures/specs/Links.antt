@@ -1,5 +1,5 @@
 -- What is counted of a link, over the events of a run.
-use Rattle.std.specs.Prelude.{◌≡◌, ◌≢◌, ◌+◌, ◌-◌, ◌*◌, ◌==◌, ◌||◌, ◌≤◌, ◌<◌, ℕ, Bool, true, false, not, max, nat_lt, if◌then◌else◌, List, [], ◌∷◌, ◌++◌, length, map, count_by, is_some, slice_index_or, Option, Some, None, option_to_list}
+use Rattle.std.specs.Prelude.{◌≡◌, ◌≢◌, ◌+◌, ◌-◌, ◌*◌, ◌==◌, ◌||◌, ◌≤◌, ◌<◌, ℕ, Bool, true, false, not, max, nat_lt, nat_le, if◌then◌else◌, List, [], ◌∷◌, ◌++◌, length, map, count_by, is_some, slice_index_or, Option, Some, None, option_to_list}
 use Rattle.std.specs.List.{sum_by, filter_map}
 use Rattle.std.specs.Option.{option_map}
 use Rattle.packet_chain.specs.Stamped.{Stamped}
@@ -10,12 +10,11 @@ use Rattle.aqm.specs.declared.drop_reason.DropReason.{DropReason}
 use Rattle.aqm.specs.declared.drop_reason.DropReason.TheVariants.{Lost, Full, Take}
 use Rattle.aqm.specs.declared.drop_reason.TakeDrop.TheVariants.{Codel}
 use Rattle.port.specs.Port.{PortState}
-use Rattle.sim_time.specs.declared.key.Key.{Key}
 use Rattle.node_core.specs.declared.event.Event.{Event}
 use Rattle.node_core.specs.declared.event.Event.TheVariants.{Start, Rto, DelAck, Free, Arrive}
 use Rattle.node_core.specs.Part.{LinkState, link_at}
 use Rattle.node_core.specs.TraceLine.{TraceLine}
-use Rattle.table_run.specs.State.{State, part_at, due}
+use Rattle.table_run.specs.State.{State, part_at}
 use Rattle.figures.specs.Classes.{greatest}
 use Rattle.figures.specs.Moments.{Moment, Base}
 use Rattle.figures.specs.Tallied.{IsTallyOf}
@@ -94,6 +93,14 @@ bytes_of node index ms = sum_by (λ m. bytes_in (acts_at node index m)) ms
 abbrev pub wait_of_given : ℕ → PortState → Option ℕ
 wait_of_given now port = option_map (λ (cell : Stamped). now - cell.1) (taken_from port.queue now).given
 
+-- for how long the packet will have waited that a busy link is given once it is free, at a moment of a simulation, where its queue stays as it is
+abbrev pub wait_once_free : Option ℕ → PortState → Option ℕ
+wait_once_free None port = None
+wait_once_free (Some free) port = if nat_le free 1000000000000000 then wait_of_given free port else None
+
+abbrev pub next_wait : PortState → Option ℕ
+next_wait port = wait_once_free port.next_free port
+
 -- for how long the packet has waited that an event begins to send, if it does so: where the link is freed, so long as that which it is given; in any other event the packet is sent as it is offered
 abbrev pub wait_in : ℕ → PortState → TraceLine → Option ℕ → Option ℕ
 wait_in offered after line given = if frees after.link line.event then given else (if nat_lt 0 (tx_in (acts_between offered after line)) then Some 0 else None)
@@ -106,15 +113,10 @@ wait_at node index m =
 abbrev pub waits_of : ℕ → ℕ → List Moment → List ℕ
 waits_of node index ms = filter_map (wait_at node index) ms
 
--- where an event frees a link of its node, the packet that is sent has waited so long
-abbrev pub TellsWait : State → TraceLine → State → Option ℕ → Type 0
-TellsWait before line after given =
-    (i : ℕ) → i < length (part_at before line.key.node).links → frees (port_at after line.key.node i).link line.event ≡ true → given ≡ wait_of_given line.key.time (port_at before line.key.node i)
-
--- before an event, for how long the packet has waited that it begins to send, where it frees a link
-abbrev pub IsNextWait : State → Option ℕ → Type 0
-IsNextWait before given =
-    (k : Key) (v : Event) → due before ≡ Some (k, v) → k.source ≡ 0 → 3 ≤ k.number → given ≡ wait_of_given k.time (port_at before k.node (k.number - 3))
+-- an event that frees a link of its node comes when the link has sent its packet whole
+abbrev pub FreesInTime : State → TraceLine → State → Type 0
+FreesInTime before line after =
+    (i : ℕ) → i < length (part_at before line.key.node).links → frees (port_at after line.key.node i).link line.event ≡ true → (port_at before line.key.node i).next_free ≡ Some line.key.time
 
 -- the event is that some link has sent a packet whole
 abbrev pub is_free : Event → Bool
@@ -170,6 +172,7 @@ pub record IsLinkBegun (from : ℕ) (port : PortState) (f : LinkFigures) : Type 
   pub waited : f.waited ≡ 0
   pub busy_for : f.busy_for ≡ 0
   pub longest : f.longest ≡ waiting_at port
+  pub next_wait_is : f.next_wait ≡ next_wait port
   pub waits : IsTallyOf [] f.waits
   pub turns : f.turns ≡ 0
 
@@ -188,6 +191,7 @@ pub record AreOfLink (b : Base) (ms : List Moment) (s : State) (node index : ℕ
   pub waited : f.waited + f.waiting * (last_from b.since ms - f.since) ≡ waited_of node index b.since ms
   pub busy_for : f.busy_for + (if f.busy then last_from b.since ms - f.since else 0) ≡ busy_of node index b.since ms
   pub longest : f.longest ≡ longest_of node index ms s
+  pub next_wait_is : f.next_wait ≡ next_wait (port_at s node index)
   pub waits : IsTallyOf (waits_of node index ms) f.waits
   pub turns : f.turns ≤ length ms
 
@@ -201,6 +205,7 @@ pub record IsPassed (f : LinkFigures) (port : PortState) (now : ℕ) (g : LinkFi
   pub waited : g.waited ≡ f.waited + f.waiting * (now - f.since)
   pub busy_for : g.busy_for ≡ f.busy_for + (if f.busy then now - f.since else 0)
   pub longest : g.longest ≡ max f.longest (waiting_at port)
+  pub next_wait_is : g.next_wait ≡ next_wait port
   pub lost : g.lost ≡ f.lost
   pub full : g.full ≡ f.full
   pub codel : g.codel ≡ f.codel
@@ -225,6 +230,7 @@ pub record IsCountedOf (f : LinkFigures) (acts : List Act) (g : LinkFigures) : T
   pub waited : g.waited ≡ f.waited
   pub busy_for : g.busy_for ≡ f.busy_for
   pub longest : g.longest ≡ f.longest
+  pub next_wait_is : g.next_wait ≡ f.next_wait
   pub waits : g.waits ≡ f.waits
 
 -- an event at its node is counted at a moment: it did this at the link, where a packet that began to be sent has waited so long, and the link is now as it is
@@ -242,16 +248,17 @@ pub record IsLinkCounted (f : LinkFigures) (port : PortState) (now : ℕ) (acts 
   pub waited : g.waited ≡ f.waited + f.waiting * (now - f.since)
   pub busy_for : g.busy_for ≡ f.busy_for + (if f.busy then now - f.since else 0)
   pub longest : g.longest ≡ max f.longest (waiting_at port)
+  pub next_wait_is : g.next_wait ≡ next_wait port
   pub waits : (xs : List ℕ) → IsTallyOf xs f.waits → IsTallyOf (xs ++ option_to_list wait) g.waits
   pub turns : g.turns ≡ f.turns + 1
 
--- what a link's figures are after an event at its node; where the event frees a link, the packet that is sent has waited so long
-abbrev pub IsLinkAfter : LinkFigures → PortState → TraceLine → Option ℕ → LinkFigures → Type 0
-IsLinkAfter f port line given g = IsLinkCounted f port line.key.time (acts_between f.offered port line) (wait_in f.offered port line given) g
+-- what a link's figures are after an event at its node
+abbrev pub IsLinkAfter : LinkFigures → PortState → TraceLine → LinkFigures → Type 0
+IsLinkAfter f port line g = IsLinkCounted f port line.key.time (acts_between f.offered port line) (wait_in f.offered port line f.next_wait) g
 
 -- the same where the event is counted of the link; where it is not, the figures are as they were
-pub record IsLinkAfterIf (counts : Bool) (f : LinkFigures) (port : PortState) (line : TraceLine) (given : Option ℕ) (g : LinkFigures) : Type 0 where
-  pub counted : counts ≡ true → IsLinkAfter f port line given g
+pub record IsLinkAfterIf (counts : Bool) (f : LinkFigures) (port : PortState) (line : TraceLine) (g : LinkFigures) : Type 0 where
+  pub counted : counts ≡ true → IsLinkAfter f port line g
   pub kept : counts ≡ false → g ≡ f
 
 -- the links of a node, of each of which nothing is counted yet, from a moment on
@@ -260,9 +267,9 @@ pub record AreLinksBegun (from : ℕ) (links : List LinkState) (fs : List LinkFi
   pub each : (i : ℕ) (other : LinkFigures) → i < length links → IsLinkBegun from (link_at links i).port (slice_index_or fs i other)
 
 -- the links of a node, each after an event at it
-abbrev pub AreLinksAfter : List LinkFigures → List LinkState → TraceLine → Option ℕ → List LinkFigures → Type 0
-AreLinksAfter old links line given new =
-    (i : ℕ) (other : LinkFigures) → i < length old → IsLinkAfterIf (counts_link i (slice_index_or old i other).offered (link_at links i).port line) (slice_index_or old i other) (link_at links i).port line given (slice_index_or new i other)
+abbrev pub AreLinksAfter : List LinkFigures → List LinkState → TraceLine → List LinkFigures → Type 0
+AreLinksAfter old links line new =
+    (i : ℕ) (other : LinkFigures) → i < length old → IsLinkAfterIf (counts_link i (slice_index_or old i other).offered (link_at links i).port line) (slice_index_or old i other) (link_at links i).port line (slice_index_or new i other)
 
 -- packets were offered to one link of a node, of whose links this was counted before, or to none
 abbrev pub OffersToOne : List LinkFigures → List LinkState → Type 0
@@ -270,9 +277,9 @@ OffersToOne figures links =
     (i j : ℕ) (f g : LinkFigures) → i < length figures → j < length figures → (link_at links i).port.offered ≢ (slice_index_or figures i f).offered → (link_at links j).port.offered ≢ (slice_index_or figures j g).offered → i ≡ j
 
 -- the links of a node, each after an event at it that frees none of them
-abbrev pub AreOffersCounted : List LinkFigures → List LinkState → TraceLine → Option ℕ → List LinkFigures → Type 0
-AreOffersCounted old links line given new =
-    (i : ℕ) (other : LinkFigures) → i < length old → IsLinkAfterIf (not ((link_at links i).port.offered == (slice_index_or old i other).offered)) (slice_index_or old i other) (link_at links i).port line given (slice_index_or new i other)
+abbrev pub AreOffersCounted : List LinkFigures → List LinkState → TraceLine → List LinkFigures → Type 0
+AreOffersCounted old links line new =
+    (i : ℕ) (other : LinkFigures) → i < length old → IsLinkAfterIf (not ((link_at links i).port.offered == (slice_index_or old i other).offered)) (slice_index_or old i other) (link_at links i).port line (slice_index_or new i other)
 
 -- to the link of a node of this index as many packets were offered as was counted before, or others
 abbrev pub IsUnoffered : List LinkFigures → List LinkState → ℕ → Type 0

@@ -1,5 +1,5 @@
 //! The figures of a run, event by event.
-ghost use Rattle.std.specs.Prelude.{◌≡◌, ◌≢◌, ◌+◌, ◌<◌, ◌≤◌, ◌^◌, ◌++◌, ◌∷◌, [], ℕ, List, Some, None, Ok, Err, IfOk, IfErr, IfSome, OnOk, OnErr, if◌then◌else◌, false, length, slice_index_or};
+ghost use Rattle.std.specs.Prelude.{◌≡◌, ◌≢◌, ◌+◌, ◌<◌, ◌≤◌, ◌^◌, ◌++◌, ◌∷◌, [], ℕ, List, Some, None, Ok, Err, IfOk, IfErr, OnOk, OnErr, if◌then◌else◌, false, length, slice_index_or};
 ghost use Rattle.std.specs.Option.{option_map};
 ghost use Rattle.node_core.specs.Part.{sender_in};
 ghost use Rattle.net_machine.specs.Nodes.{node_at};
@@ -167,7 +167,7 @@ impl Figures {
     ghost use Rattle.table_run.specs.State.{State, opening, step};
     ghost use Rattle.figures.specs.Moments.{Moment, Base, turns_at};
     ghost use Rattle.figures.specs.Senders.{completed_of};
-    ghost use Rattle.figures.specs.Links.{TellsWait, KeepsLinks};
+    ghost use Rattle.figures.specs.Links.{FreesInTime, KeepsLinks};
     ghost use Rattle.figures.specs.Figures.{AreAfter, AreOfLinks, AreFigures, Follows, NoneBefore, base_at, whole, AreOfRun, AreOfSomeRun};
     ghost use Rattle.scenario_image.specs.declared.parts.ScenarioParts.{ScenarioParts};
     ghost use Rattle.scenario_image.specs.Scenario.{IsScenario};
@@ -210,17 +210,15 @@ impl Figures {
         Ok(figures)
     }
 
-    /// The net has run one more event, of which the line tells. Where it frees a link, the packet
-    /// that is sent then has waited for `given`.
+    /// The net has run one more event, of which the line tells.
     #[inline(always)]
-    pub(crate) fn after(&mut self, net: &Net, line: &Line, given: Option<Time>)
+    pub(crate) fn after(&mut self, net: &Net, line: &Line)
         requires few { self.old.events < 1000000000000000 }
         requires moment { IsMoment line.now.key.time }
         requires order { self.old.last ≤ line.now.key.time }
         requires follows { Follows self.old (shown line.now) net.now.state }
-        requires given { IfSome given (λ wait. wait < 2 ^ 50) }
         ensures senders { (b : Base) (ms : List Moment) (s : State) → AreAfter b ms s self.old → step s ≡ Some (shown line.now, net.now.state) → AreAfter b (ms ++ record { before = s; line = shown line.now; after = net.now.state } ∷ []) net.now.state self.new }
-        ensures links { (b : Base) (ms : List Moment) (s : State) → AreFigures b ms s self.old → step s ≡ Some (shown line.now, net.now.state) → TellsWait s (shown line.now) net.now.state given → KeepsLinks s (shown line.now) net.now.state → AreOfLinks b (ms ++ record { before = s; line = shown line.now; after = net.now.state } ∷ []) net.now.state self.new.links.items }
+        ensures links { (b : Base) (ms : List Moment) (s : State) → AreFigures b ms s self.old → step s ≡ Some (shown line.now, net.now.state) → FreesInTime s (shown line.now) net.now.state → KeepsLinks s (shown line.now) net.now.state → AreOfLinks b (ms ++ record { before = s; line = shown line.now; after = net.now.state } ∷ []) net.now.state self.new.links.items }
         ensures received { self.new.received.items ≡ self.old.received.items }
         ensures last { self.new.last ≡ line.now.key.time }
         ensures events { self.new.events ≡ self.old.events + 1 }
@@ -230,7 +228,7 @@ impl Figures {
         // Asked before the links are counted, so that the event is not read again.
         let freed = is_free(&line.event);
         let nodes = net.nodes();
-        count_links(&mut self.links, nodes, line, given);
+        count_links(&mut self.links, nodes, line);
         if freed {
             return;
         }

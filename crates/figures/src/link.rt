@@ -1,8 +1,10 @@
 //! What is counted of a link.
 ghost use Rattle.std.specs.Prelude.{◌≡◌, ◌≢◌, ◌+◌, ◌-◌, ◌*◌, ◌<◌, ◌≤◌, ◌^◌, [], List, false, max, IfOk, IfSome, if◌then◌else◌};
+ghost use Rattle.std.proofs.Props.{props};
 
 use crate::tally::Tally;
 use crate::told::{frees, is_at, sent_alone, told_by, wait_in};
+use crate::waits::next_wait;
 use node_core::{Act, Line};
 use port::Port;
 use sim_time::Time;
@@ -11,37 +13,40 @@ use std::alloc::{AllocError, Global};
 /// What is counted of a link.
 #[derive(Drop)]
 pub struct LinkFigures {
-    /// How many packets were offered to it before it was counted.
-    pub first: u128,
     /// How many packets were offered to it.
     pub offered: u128,
     /// How many packets wait at it.
     pub waiting: usize,
-    /// Whether it is busy.
-    pub busy: bool,
     /// When these were read last, in nanoseconds.
     pub since: Time,
+    /// How many packets waited, times for how many nanoseconds, up to then.
+    pub waited: u128,
+    /// For how many nanoseconds it was busy, up to then.
+    pub busy_for: u128,
+    /// For how long the packet will have waited, in nanoseconds, that it is given once it is free; none where it is
+    /// idle or will be given none.
+    pub next_wait: Option<Time>,
+    /// The longest queue so far, in packets.
+    pub longest: usize,
+    /// Whether it is busy.
+    pub busy: bool,
+    /// How many packets began to be sent.
+    pub sent: u128,
+    /// The bytes of the packets that began to be sent.
+    pub bytes: u128,
+    /// How many events were run at its node.
+    pub turns: u64,
+    /// For how long each packet waited that began to be sent, in nanoseconds: 0 where it was sent
+    /// as it was offered.
+    pub waits: Tally,
+    /// How many packets were offered to it before it was counted.
+    pub first: u128,
     /// How many packets were dropped, as the list of lost packets names them.
     pub lost: u128,
     /// How many packets were dropped as the queue was full.
     pub full: u128,
     /// How many packets CoDel dropped.
     pub codel: u128,
-    /// How many packets began to be sent.
-    pub sent: u128,
-    /// The bytes of the packets that began to be sent.
-    pub bytes: u128,
-    /// How many packets waited, times for how many nanoseconds, up to then.
-    pub waited: u128,
-    /// For how many nanoseconds it was busy, up to then.
-    pub busy_for: u128,
-    /// The longest queue so far, in packets.
-    pub longest: usize,
-    /// For how long each packet waited that began to be sent, in nanoseconds: 0 where it was sent
-    /// as it was offered.
-    pub waits: Tally,
-    /// How many events were run at its node.
-    pub turns: u64,
     ghost lost_most: { lost ≤ turns * 2 ^ 64 },
     ghost full_most: { full ≤ turns * 2 ^ 64 },
     ghost codel_most: { codel ≤ turns * 2 ^ 64 },
@@ -50,6 +55,7 @@ pub struct LinkFigures {
     ghost waited_most: { waited ≤ since * 2 ^ 64 },
     ghost busy_most: { busy_for ≤ since },
     ghost waits_most: { waits.count ≤ turns },
+    ghost next_wait_most: { IfSome next_wait (λ wait. wait < 2 ^ 50) } by { Prim.hlevel props },
 }
 
 // For how long a link was busy of so many nanoseconds: for all of them, or not at all.
@@ -89,21 +95,22 @@ impl LinkFigures {
         ensures { IfOk result (IsLinkBegun since port.now) }
     {
         Ok(LinkFigures {
-            first: port.offered(),
             offered: port.offered(),
             waiting: port.queue().len(),
-            busy: port.next_free().is_some(),
             since,
+            waited: 0,
+            busy_for: 0,
+            next_wait: next_wait(port),
+            longest: port.queue().len(),
+            busy: port.next_free().is_some(),
+            sent: 0,
+            bytes: 0,
+            turns: 0,
+            waits: Tally::new(alloc)?,
+            first: port.offered(),
             lost: 0,
             full: 0,
             codel: 0,
-            sent: 0,
-            bytes: 0,
-            waited: 0,
-            busy_for: 0,
-            longest: port.queue().len(),
-            waits: Tally::new(alloc)?,
-            turns: 0,
         })
     }
 
@@ -150,6 +157,7 @@ impl LinkFigures {
         self.offered = port.offered();
         self.waiting = port.queue().len();
         self.busy = port.next_free().is_some();
+        self.next_wait = next_wait(port);
         note_longest(&mut self.longest, self.waiting);
     }
 
@@ -183,19 +191,17 @@ impl LinkFigures {
         self.pass(port, now);
     }
 
-    /// An event was run at its node, of which the line tells, and it is `port` now. Where the event
-    /// frees a link, the packet that is sent then has waited for `given`.
+    /// An event was run at its node, of which the line tells, and it is `port` now.
     #[cold]
     #[inline(never)]
-    pub fn after(&mut self, port: &Port, line: &Line, given: Option<Time>)
+    pub fn after(&mut self, port: &Port, line: &Line)
         requires few { self.old.turns < 1000000000000000 }
         requires moment { IsMoment line.now.key.time }
         requires order { self.old.since ≤ line.now.key.time }
-        requires given { IfSome given (λ wait. wait < 2 ^ 50) }
-        ensures { IsLinkAfter self.old port.now (shown line.now) given self.new }
+        ensures { IsLinkAfter self.old port.now (shown line.now) self.new }
     {
         let sent = self.count_at(port, line);
-        let wait = wait_in(port, line, sent, given);
+        let wait = wait_in(port, line, sent, self.next_wait);
         self.waits.note_some(wait);
         self.pass(port, line.key.time);
     }
@@ -203,37 +209,35 @@ impl LinkFigures {
     /// The same where the event most likely frees this link. Rarely more happens then than that a packet
     /// begins to be sent.
     #[inline(never)]
-    pub fn after_free(&mut self, port: &Port, line: &Line, given: Option<Time>)
+    pub fn after_free(&mut self, port: &Port, line: &Line)
         requires few { self.old.turns < 1000000000000000 }
         requires moment { IsMoment line.now.key.time }
         requires order { self.old.since ≤ line.now.key.time }
-        requires given { IfSome given (λ wait. wait < 2 ^ 50) }
-        ensures { IsLinkAfter self.old port.now (shown line.now) given self.new }
+        ensures { IsLinkAfter self.old port.now (shown line.now) self.new }
     {
         if frees(&line.event, port.link()) {
             let acts = line.acts.as_slice();
             if acts.is_empty() {
-                self.count_none(port, line.key.time, given);
+                self.count_none(port, line.key.time, self.next_wait);
                 return;
             }
             if let Some(bytes) = sent_alone(acts) {
-                self.count_sent(port, line.key.time, bytes, given);
+                self.count_sent(port, line.key.time, bytes, self.next_wait);
                 return;
             }
         }
-        self.after(port, line, given);
+        self.after(port, line);
     }
 
     /// The same where the event frees no link and has offered packets to this one.
     #[inline(never)]
-    pub fn after_offers(&mut self, port: &Port, line: &Line, given: Option<Time>)
+    pub fn after_offers(&mut self, port: &Port, line: &Line)
         requires few { self.old.turns < 1000000000000000 }
         requires moment { IsMoment line.now.key.time }
         requires order { self.old.since ≤ line.now.key.time }
-        requires given { IfSome given (λ wait. wait < 2 ^ 50) }
         requires other { is_free line.now.event ≡ false }
         requires more { port.now.offered ≢ self.old.offered }
-        ensures { IsLinkAfter self.old port.now (shown line.now) given self.new }
+        ensures { IsLinkAfter self.old port.now (shown line.now) self.new }
     {
         let acts = line.acts.as_slice();
         if acts.is_empty() {
@@ -244,7 +248,7 @@ impl LinkFigures {
             self.count_sent(port, line.key.time, bytes, Some(0));
             return;
         }
-        self.after(port, line, given);
+        self.after(port, line);
     }
 
     /// How many packets waited, times for how many nanoseconds, up to a moment.

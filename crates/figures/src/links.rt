@@ -1,5 +1,5 @@
 //! What is counted of the links that leave a node.
-ghost use Rattle.std.specs.Prelude.{◌≡◌, ◌≢◌, ◌<◌, ◌≤◌, ◌-◌, ◌==◌, ◌^◌, ℕ, true, false, length, slice_index_or, IfOk, IfSome};
+ghost use Rattle.std.specs.Prelude.{◌≡◌, ◌≢◌, ◌<◌, ◌≤◌, ◌-◌, ◌==◌, ℕ, true, false, length, slice_index_or, IfOk};
 ghost use Rattle.sim_time.specs.Moment.{IsMoment};
 ghost use Rattle.node_core.specs.Part.{link_at};
 ghost use Rattle.node_core.specs.TraceLine.{shown};
@@ -47,19 +47,18 @@ pub(crate) fn is_free(event: &Event) -> bool
 
 // An event was run that frees one of these links: the others are as they were.
 #[inline(always)]
-fn freed_after(figures: &mut [LinkFigures], links: &[Link], line: &Line, given: Option<Time>)
+fn freed_after(figures: &mut [LinkFigures], links: &[Link], line: &Line)
     requires size { length figures.old ≡ length links.now }
     requires few { (i : ℕ) (other : LinkFigures) → i < length figures.old → (slice_index_or figures.old i other).turns < 1000000000000000 }
     requires moment { IsMoment line.now.key.time }
     requires order { (i : ℕ) (other : LinkFigures) → i < length figures.old → (slice_index_or figures.old i other).since ≤ line.now.key.time }
-    requires given { IfSome given (λ wait. wait < 2 ^ 50) }
     ensures size_stays { length figures.new ≡ length figures.old }
-    ensures figures { (i : ℕ) (other : LinkFigures) → i < length figures.old → IsLinkAfterIf (i == line.now.key.number - 3) (slice_index_or figures.old i other) (link_at links.now i).port (shown line.now) given (slice_index_or figures.new i other) }
+    ensures figures { (i : ℕ) (other : LinkFigures) → i < length figures.old → IsLinkAfterIf (i == line.now.key.number - 3) (slice_index_or figures.old i other) (link_at links.now i).port (shown line.now) (slice_index_or figures.new i other) }
 {
     let freed = line.key.number.saturating_sub(Alarm::Free(0).number()) as usize;
     if freed < figures.len() {
         let figures = &mut figures[freed];
-        figures.after_free(links[freed].port(), line, given);
+        figures.after_free(links[freed].port(), line);
     }
 }
 
@@ -137,64 +136,59 @@ impl NodeLinks {
 
     // An event was run that frees none of the links: those to which it offered nothing are as they were.
     #[inline(always)]
-    fn after_offers(&mut self, links: &[Link], line: &Line, given: Option<Time>)
+    fn after_offers(&mut self, links: &[Link], line: &Line)
         requires size { length self.old.figures.items ≡ length links.now }
         requires few { (i : ℕ) (other : LinkFigures) → i < length self.old.figures.items → (slice_index_or self.old.figures.items i other).turns < 1000000000000000 }
         requires moment { IsMoment line.now.key.time }
         requires order { (i : ℕ) (other : LinkFigures) → i < length self.old.figures.items → (slice_index_or self.old.figures.items i other).since ≤ line.now.key.time }
-        requires given { IfSome given (λ wait. wait < 2 ^ 50) }
         requires other { free_is line.now.event ≡ false }
         requires one { OffersToOne self.old.figures.items links.now }
         ensures size_stays { length self.new.figures.items ≡ length self.old.figures.items }
-        ensures figures { AreOffersCounted self.old.figures.items links.now (shown line.now) given self.new.figures.items }
+        ensures figures { AreOffersCounted self.old.figures.items links.now (shown line.now) self.new.figures.items }
     {
         let at = self.offered(links, &line.event);
         if at < self.figures.len() {
             let figures = &mut self.figures[at];
-            figures.after_offers(links[at].port(), line, given);
+            figures.after_offers(links[at].port(), line);
         }
     }
 
-    /// An event was run at the node of the links, of which the line tells, and they are so now. Where
-    /// it frees one of them, the packet that is sent then has waited for `given`.
+    /// An event was run at the node of the links, of which the line tells, and they are so now.
     #[inline(always)]
-    pub(crate) fn after(&mut self, links: &[Link], line: &Line, given: Option<Time>)
+    pub(crate) fn after(&mut self, links: &[Link], line: &Line)
         requires size { length self.old.figures.items ≡ length links.now }
         requires few { (i : ℕ) (other : LinkFigures) → i < length self.old.figures.items → (slice_index_or self.old.figures.items i other).turns < 1000000000000000 }
         requires moment { IsMoment line.now.key.time }
         requires order { (i : ℕ) (other : LinkFigures) → i < length self.old.figures.items → (slice_index_or self.old.figures.items i other).since ≤ line.now.key.time }
-        requires given { IfSome given (λ wait. wait < 2 ^ 50) }
         requires one { free_is line.now.event ≡ false → OffersToOne self.old.figures.items links.now }
         ensures size_stays { length self.new.figures.items ≡ length self.old.figures.items }
-        ensures figures { AreLinksAfter self.old.figures.items links.now (shown line.now) given self.new.figures.items }
+        ensures figures { AreLinksAfter self.old.figures.items links.now (shown line.now) self.new.figures.items }
     {
         if is_free(&line.event) {
-            freed_after(&mut self.figures, links, line, given);
+            freed_after(&mut self.figures, links, line);
         } else {
-            self.after_offers(links, line, given);
+            self.after_offers(links, line);
         }
     }
 }
 
-/// An event was run, of which the line tells, and the nodes are so now. Where it frees a link, the
-/// packet that is sent then has waited for `given`.
+/// An event was run, of which the line tells, and the nodes are so now.
 #[inline(always)]
-pub fn count_links(all: &mut Vec<NodeLinks>, nodes: &[Node], line: &Line, given: Option<Time>)
+pub fn count_links(all: &mut Vec<NodeLinks>, nodes: &[Node], line: &Line)
     requires size { length all.old.items ≡ length nodes.now }
     requires sizes { (node : ℕ) (other : NodeLinks) → node < length all.old.items → length (slice_index_or all.old.items node other).figures.items ≡ length (node_at nodes.now node).part.links }
     requires few { (node : ℕ) (other : NodeLinks) (i : ℕ) (link : LinkFigures) → node < length all.old.items → i < length (slice_index_or all.old.items node other).figures.items → (slice_index_or (slice_index_or all.old.items node other).figures.items i link).turns < 1000000000000000 }
     requires moment { IsMoment line.now.key.time }
     requires order { (node : ℕ) (other : NodeLinks) (i : ℕ) (link : LinkFigures) → node < length all.old.items → i < length (slice_index_or all.old.items node other).figures.items → (slice_index_or (slice_index_or all.old.items node other).figures.items i link).since ≤ line.now.key.time }
-    requires given { IfSome given (λ wait. wait < 2 ^ 50) }
     requires one { free_is line.now.event ≡ false → (other : NodeLinks) → line.now.key.node < length all.old.items → OffersToOne (slice_index_or all.old.items line.now.key.node other).figures.items (node_at nodes.now line.now.key.node).part.links }
     ensures size { length all.new.items ≡ length all.old.items }
     ensures sizes { (other : NodeLinks) → length (slice_index_or all.new.items line.now.key.node other).figures.items ≡ length (slice_index_or all.old.items line.now.key.node other).figures.items }
-    ensures here { (other : NodeLinks) → line.now.key.node < length all.old.items → AreLinksAfter (slice_index_or all.old.items line.now.key.node other).figures.items (node_at nodes.now line.now.key.node).part.links (shown line.now) given (slice_index_or all.new.items line.now.key.node other).figures.items }
+    ensures here { (other : NodeLinks) → line.now.key.node < length all.old.items → AreLinksAfter (slice_index_or all.old.items line.now.key.node other).figures.items (node_at nodes.now line.now.key.node).part.links (shown line.now) (slice_index_or all.new.items line.now.key.node other).figures.items }
     ensures elsewhere { (node : ℕ) (other : NodeLinks) → node ≢ line.now.key.node → slice_index_or all.new.items node other ≡ slice_index_or all.old.items node other }
 {
     let place = usize::from(line.key.node);
     if place < all.len() {
         let links = &mut all[place];
-        links.after(nodes[place].ports(), line, given);
+        links.after(nodes[place].ports(), line);
     }
 }

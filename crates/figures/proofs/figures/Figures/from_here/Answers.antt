@@ -3,7 +3,7 @@ use Rattle.table_run.specs.State.{opening}
 use Rattle.figures.specs.Moments.{moments, turns_at}
 use Rattle.figures.specs.Senders.{completed_in, completed_of}
 use Rattle.figures.specs.declared.sender.SenderFigures.{SenderFigures}
-use Rattle.figures.specs.Figures.{NoneBefore, base_at}
+use Rattle.figures.specs.Figures.{base_at}
 use Rattle.figures.proofs.Along.{begun_run, completed_now}
 use Rattle.figures.proofs.figures.Figures.from_here.Goals as goal
 

@@ -22,7 +22,7 @@ returns-then-at-len-clause-figures c =
     let inside : at < length links = omega (arith, within, c.requires.size) in
     let port : c.port.result.now ≡ (link_at links at).port = c.port.ensures.value ∙ ap (λ (l : LinkState). l.port) (get_or_read links at c.index-links-at.result inside c.index-links-at.is no_link) in
     let more : Offered f (link_at links at).port = λ equal. c.offered-at.ensures.found.some within f (equal ∙ ap (λ (x : LinkFigures). x.offered) read) in
-    let after : IsLinkAfter f (link_at links at).port (shown c.args.line.now) c.args.given g =
-    subst (λ (p : PortState). IsLinkAfter f p (shown c.args.line.now) c.args.given g) port c.after_offers.ensures in
-    subst (λ (fs : List LinkFigures). AreOffersCounted old links (shown c.args.line.now) c.args.given (set fs at g)) (sym same)
-    (one_after old links (shown c.args.line.now) c.args.given c.requires.one at within f g read more after)
+    let after : IsLinkAfter f (link_at links at).port (shown c.args.line.now) g =
+    subst (λ (p : PortState). IsLinkAfter f p (shown c.args.line.now) g) port c.after_offers.ensures in
+    subst (λ (fs : List LinkFigures). AreOffersCounted old links (shown c.args.line.now) (set fs at g)) (sym same)
+    (one_after old links (shown c.args.line.now) c.requires.one at within f g read more after)
