@@ -1,8 +1,7 @@
 -- The figures of all links, one event on.
-use Rattle.std.proofs.Common.{◌≡◌, ◌≢◌, ℕ, ◌<◌, ◌≤◌, List, [], ◌∷◌, ◌++◌, length, get_or, sym, ap, subst, ◌∙◌, Some, None, refl, arith, ⊎_elim, Bool, true, false, cond}
-use Rattle.std.proofs.lemmas.Bool.{cases_eq, le-leb}
+use Rattle.std.proofs.Common.{◌≡◌, ◌≢◌, ℕ, ◌<◌, ◌≤◌, List, [], ◌∷◌, ◌++◌, length, get_or, sym, ap, subst, ◌∙◌, Some, refl, arith, ⊎_elim, Bool, true, false}
+use Rattle.std.proofs.lemmas.Bool.{cases_eq}
 use Rattle.std.proofs.lemmas.List.{length-map}
-use Rattle.sim_time.specs.Moment.{IsMoment}
 use Rattle.node_core.specs.Part.{PartState, link_at}
 use Rattle.node_core.specs.Node.{NodeState}
 use Rattle.node_core.specs.TraceLine.{TraceLine}
@@ -11,7 +10,7 @@ use Rattle.net_machine.specs.Nodes.{parts_of, node_at}
 use Rattle.figures.specs.declared.link.LinkFigures.{LinkFigures}
 use Rattle.figures.specs.declared.links.NodeLinks.{NodeLinks}
 use Rattle.figures.specs.Moments.{Moment, Base}
-use Rattle.figures.specs.Links.{port_at, frees, wait_of_given, wait_once_free, FreesInTime, counts_link, KeepsLinks, last_from, AreOfLink, IsLinkAfterIf, AreLinksAfter, AreLinksBegun, AreOfNode}
+use Rattle.figures.specs.Links.{port_at, frees, wait_of_given, wait_by, IsNextEntry, TellsWait, counts_link, KeepsLinks, last_from, AreOfLink, IsLinkAfterIf, AreLinksAfter, AreLinksBegun, AreOfNode}
 use Rattle.figures.specs.Figures.{AreOfLinks}
 use Rattle.figures.proofs.Begun.{part_is}
 use Rattle.figures.proofs.Steps.{IsStep, is_step, size_stays, part_elsewhere, links_stay}
@@ -34,7 +33,7 @@ links_begun since before earlier nodes s fs parts size each =
     }
 
 module _ (base : Base) (ms : List Moment) (s : State) (line : TraceLine) (t : State) (is_next : step s ≡ Some (line, t)) (order : last_from base.since ms ≤ line.key.time) (nodes : List NodeState) (parts : parts_of nodes ≡ t.parts)
-    (moment : IsMoment line.key.time) (in_time : FreesInTime s line t) (keeps : KeepsLinks s line t) where
+    (tells : TellsWait s line t) (keeps : KeepsLinks s line t) where
   abbrev m : Moment
   m = record { before = s; line = line; after = t }
 
@@ -49,14 +48,13 @@ module _ (base : Base) (ms : List Moment) (s : State) (line : TraceLine) (t : St
         each = λ i link inside. link_elsewhere base ms s line t node i order apart same (get_or fs i link) (is.each i link inside);
       }
 
-  its_time : (node : ℕ) → line.key.node ≡ node → (i : ℕ) → i < length (part_at s node).links → frees (port_at t node i).link line.event ≡ true → (port_at s node i).next_free ≡ Some line.key.time
-  its_time node here = subst (λ n. (i : ℕ) → i < length (part_at s n).links → frees (port_at t n i).link line.event ≡ true → (port_at s n i).next_free ≡ Some line.key.time) here in_time
+  told_here : (node : ℕ) → line.key.node ≡ node → (i entered : ℕ) → i < length (part_at s node).links → IsNextEntry (port_at s node i) entered → frees (port_at t node i).link line.event ≡ true →
+      wait_by (port_at s node i).offered (port_at t node i) line entered ≡ wait_of_given line.key.time (port_at s node i)
+  told_here node here = subst (λ n. (i entered : ℕ) → i < length (part_at s n).links → IsNextEntry (port_at s n i) entered → frees (port_at t n i).link line.event ≡ true → wait_by (port_at s n i).offered (port_at t n i) line entered ≡ wait_of_given line.key.time (port_at s n i)) here tells
 
   -- what a link that is freed is given has waited as long as was counted before
-  told : (node : ℕ) → line.key.node ≡ node → (i : ℕ) → i < length (part_at s node).links → (f : LinkFigures) → AreOfLink base ms s node i f → frees (port_at t node i).link line.event ≡ true → f.next_wait ≡ wait_of_given line.key.time (port_at s node i)
-  told node here i inside f is freed =
-      is.next_wait_is ∙ ap (λ o. wait_once_free o (port_at s node i)) (its_time node here i inside freed)
-      ∙ ap (λ b. cond b (wait_of_given line.key.time (port_at s node i)) None) (le-leb line.key.time 1000000000000000 moment)
+  told : (node : ℕ) → line.key.node ≡ node → (i : ℕ) → i < length (part_at s node).links → (f : LinkFigures) → AreOfLink base ms s node i f → frees (port_at t node i).link line.event ≡ true → wait_by f.offered (port_at t node i) line f.next_entry ≡ wait_of_given line.key.time (port_at s node i)
+  told node here i inside f is freed = ap (λ n. wait_by n (port_at t node i) line f.next_entry) is.offered ∙ told_here node here i f.next_entry inside is.next_entry_is freed
 
   kept : (node : ℕ) → line.key.node ≡ node → (i : ℕ) → i < length (part_at s node).links → counts_link i (port_at s node i).offered (port_at t node i) line ≡ false →
       (port_at t node i ≡ port_at s node i) × (frees (port_at t node i).link line.event ≡ false)

@@ -16,10 +16,7 @@ use Rattle.table_run.proofs.Due.{IsDue, is_due}
 use Rattle.table_run.proofs.Links.{one_index}
 use Rattle.table_run.proofs.Moved.{node_there}
 use Rattle.table_run.proofs.RunLaws.{sound_run}
-use Rattle.figures.specs.Links.{port_at, frees, FreesInTime}
-use Rattle.net_machine.specs.Run.{Reached}
-use Rattle.figures.specs.declared.figures.Figures.{Figures}
-use Rattle.figures.specs.Figures.{AreOfSomeRun}
+use Rattle.figures.specs.Links.{port_at, frees}
 use Rattle.figures.proofs.Along.{of_due}
 
 -- the run goes on
@@ -76,8 +73,5 @@ module _ (p : ScenarioParts) (is_scenario : IsScenario p) (n : ℕ) (lines : Lis
   pub freed : (i : ℕ) → i < length (part_at s line.key.node).links → frees (port_at t line.key.node i).link line.event ≡ true → (line.key.source ≡ 0) × (line.key.number ≡ 3 + i)
   freed i inside is = (let one = freed_one line.event i inside belongs is in (one.source, one.number))
 
-  pub in_time : FreesInTime s line t
+  pub in_time : (i : ℕ) → i < length (part_at s line.key.node).links → frees (port_at t line.key.node i).link line.event ≡ true → (port_at s line.key.node i).next_free ≡ Some line.key.time
   in_time i inside is = (freed_one line.event i inside belongs is).in_time
-
-pub in_time_in_run : (f : Figures) (r : Reached) (line : TraceLine) (t : State) → AreOfSomeRun f r → step r.state ≡ Some (line, t) → FreesInTime r.state line t
-in_time_in_run f r line t some next = in_time some.scenario some.is_scenario r.position some.of.lines r.state some.of.comes line t next

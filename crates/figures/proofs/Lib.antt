@@ -21,6 +21,8 @@ pub mod Again
 pub mod Offerings
 pub mod Passages
 pub mod Kept
+pub mod Entries
+pub mod NextEntry
 pub mod Balance
 pub mod LinkLaws
 pub mod Delivered

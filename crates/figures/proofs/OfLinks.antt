@@ -14,7 +14,7 @@ use Rattle.figures.specs.declared.link.LinkFigures.{LinkFigures}
 use Rattle.figures.specs.Classes.{greatest}
 use Rattle.figures.specs.Moments.{Moment, Base}
 use Rattle.figures.specs.Tallied.{IsTallyOf}
-use Rattle.figures.specs.Links.{port_at, waiting_at, busy_at, frees, acts_between, wait_of_given, next_wait, wait_in, wait_at, waits_of, acts_at, dropped_in, tx_in, bytes_in, dropped_of, tx_of, bytes_of, last_from, summed_over, waited_of, busy_of, IsLinkBegun, AreOfLink, IsLinkAfter}
+use Rattle.figures.specs.Links.{port_at, waiting_at, busy_at, frees, acts_between, wait_of_given, wait_in, wait_by, IsNextEntry, wait_at, waits_of, acts_at, dropped_in, tx_in, bytes_in, dropped_of, tx_of, bytes_of, last_from, summed_over, waited_of, busy_of, IsLinkBegun, AreOfLink, IsLinkAfter}
 use Rattle.figures.proofs.Counts.{greatest_more, test_no}
 use Rattle.figures.proofs.Turns.{sum_more, given_more}
 
@@ -37,10 +37,10 @@ passed w a b c first second = sym (mul-add w (b - a) (c - b)) ∙ ap (λ n. w * 
 passed_on : (x w a b c : ℕ) → a ≤ b → b ≤ c → x + w * (c - a) ≡ x + w * (b - a) + w * (c - b)
 passed_on x w a b c first second = let both = passed w a b c first second in omega (arith, both)
 
--- what is told where a test is passed need be right there alone
-told_where : (b : Bool) (x y z : Option ℕ) → (b ≡ true → x ≡ y) → cond b y z ≡ cond b x z
-told_where true x y z is = sym (is refl)
-told_where false x y z is = refl
+-- a wait is known by the packets that are sent, where the link is freed and where it is not
+told_where : (sends freed : Bool) (given : Option ℕ) (wait : ℕ) → (freed ≡ true → cond sends (Some (cond freed wait 0)) None ≡ given) → cond freed given (cond sends (Some 0) None) ≡ cond sends (Some (cond freed wait 0)) None
+told_where sends true given wait is = sym (is refl)
+told_where sends false given wait is = refl
 
 chosen : (b : Bool) (n : ℕ) → cond b n 0 ≡ cond {A = ℕ} b 1 0 * n
 chosen true n = sym (one-mul n)
@@ -72,7 +72,7 @@ link_begun since before s earlier node index f is = record {
       omega (arith, none, zero_is, w);
   busy_for = ap (λ n. n + cond f.busy (since - f.since) 0) is.busy_for ∙ nothing f.busy f.since is.since;
   longest = let long = is.longest in omega (arith, long);
-  next_wait_is = is.next_wait_is;
+  next_entry_is = is.next_entry_is;
   waits = is.waits;
   turns = let none = is.turns in omega (arith, none);
 }
@@ -103,7 +103,7 @@ module _ (base : Base) (ms : List Moment) (s : State) (line : TraceLine) (t : St
       ∙ sym (summed_more (λ (u : State). busy_at (port_at u node index)) base.since ms m)
 
   -- an event at the link's node
-  module _ (here : line.key.node ≡ node) (f g : LinkFigures) (tells : frees (port_at t node index).link line.event ≡ true → f.next_wait ≡ wait_of_given line.key.time (port_at s node index))
+  module _ (here : line.key.node ≡ node) (f g : LinkFigures) (tells : frees (port_at t node index).link line.event ≡ true → wait_by f.offered (port_at t node index) line f.next_entry ≡ wait_of_given line.key.time (port_at s node index))
       (is : AreOfLink base ms s node index f) (after : IsLinkAfter f (port_at t node index) line g) where
     acts : acts_at node index m ≡ acts_between f.offered (port_at t node index) line
     acts = ap (λ b. cond b (acts_between (port_at s node index).offered (port_at t node index) line) []) (eq-eqb line.key.node node here) ∙ ap (λ n. acts_between n (port_at t node index) line) (sym is.offered)
@@ -114,11 +114,11 @@ module _ (base : Base) (ms : List Moment) (s : State) (line : TraceLine) (t : St
         ∙ ap (λ list. dropped_of reason node index ms + dropped_in reason list) (sym acts)
         ∙ sym (sum_more (λ (n : Moment). dropped_in reason (acts_at node index n)) ms m)
 
-    wait : wait_at node index m ≡ wait_in f.offered (port_at t node index) line f.next_wait
+    wait : wait_at node index m ≡ wait_by f.offered (port_at t node index) line f.next_entry
     wait =
         ap (λ b. cond b (wait_in (port_at s node index).offered (port_at t node index) line (wait_of_given line.key.time (port_at s node index))) None) (eq-eqb line.key.node node here)
         ∙ ap (λ n. wait_in n (port_at t node index) line (wait_of_given line.key.time (port_at s node index))) (sym is.offered)
-        ∙ told_where (frees (port_at t node index).link line.event) f.next_wait (wait_of_given line.key.time (port_at s node index)) _ tells
+        ∙ told_where (nat_lt 0 (tx_in (acts_between f.offered (port_at t node index) line))) (frees (port_at t node index).link line.event) (wait_of_given line.key.time (port_at s node index)) (line.key.time - f.next_entry) tells
 
     nothing_since : g.since ≡ last_from base.since (ms ++ m ∷ [])
     nothing_since = after.since ∙ sym (last_more base.since ms m)
@@ -140,7 +140,7 @@ module _ (base : Base) (ms : List Moment) (s : State) (line : TraceLine) (t : St
       waited = ap (λ n. g.waited + g.waiting * n) {x = last_from base.since (ms ++ m ∷ []) - g.since} {y = 0} (let at = nothing_since in omega (arith, at)) ∙ ap (λ n. g.waited + n) (mul-zero g.waiting) ∙ plus_none g.waited ∙ after.waited ∙ waited_more f is;
       busy_for = ap (λ n. g.busy_for + cond g.busy n 0) {x = last_from base.since (ms ++ m ∷ []) - g.since} {y = 0} (let at = nothing_since in omega (arith, at)) ∙ ap (λ n. g.busy_for + n) (either g.busy) ∙ plus_none g.busy_for ∙ after.busy_for ∙ busy_more f is;
       longest = after.longest ∙ ap (λ n. max n (waiting_at (port_at t node index))) (is.longest ∙ sym (greatest_before node index ms m));
-      next_wait_is = after.next_wait_is;
+      next_entry_is = after.next_entry_is;
       waits = subst (λ xs. IsTallyOf xs g.waits) (sym (given_more (wait_at node index) ms m ∙ ap (λ o. waits_of node index ms ++ option_to_list o) wait)) (after.waits (waits_of node index ms) is.waits);
       turns = let count = length-append ms (m ∷ []) in let before = is.turns in let more = after.turns in omega (arith, count, before, more);
     }
@@ -175,7 +175,7 @@ module _ (base : Base) (ms : List Moment) (s : State) (line : TraceLine) (t : St
       waited = ap (λ n. f.waited + f.waiting * (n - f.since)) (last_more base.since ms m) ∙ waited_more f is;
       busy_for = ap (λ n. f.busy_for + cond f.busy (n - f.since) 0) (last_more base.since ms m) ∙ busy_more f is;
       longest = (let before = greatest_before node index ms m in let long = is.longest in let still : waiting_at (port_at t node index) ≡ waiting_at (port_at s node index) = ap (λ (p : PortState). waiting_at p) port_same in omega (arith, before, long, still));
-      next_wait_is = is.next_wait_is ∙ ap (λ (p : PortState). next_wait p) (sym port_same);
+      next_entry_is = subst (λ (p : PortState). IsNextEntry p f.next_entry) (sym port_same) is.next_entry_is;
       waits = subst (λ xs. IsTallyOf xs f.waits)
           (sym (given_more (wait_at node index) ms m ∙ ap (λ o. waits_of node index ms ++ option_to_list o) no_wait ∙ append-nil (waits_of node index ms))) is.waits;
       turns = let count = length-append ms (m ∷ []) in let before = is.turns in omega (arith, count, before);

@@ -1,7 +1,8 @@
 -- What is counted of a link, over the events of a run.
-use Rattle.std.specs.Prelude.{◌≡◌, ◌≢◌, ◌+◌, ◌-◌, ◌*◌, ◌==◌, ◌||◌, ◌≤◌, ◌<◌, ℕ, Bool, true, false, not, max, nat_lt, nat_le, if◌then◌else◌, List, [], ◌∷◌, ◌++◌, length, map, count_by, is_some, slice_index_or, Option, Some, None, option_to_list}
+use Rattle.std.specs.Prelude.{◌≡◌, ◌≢◌, ◌+◌, ◌-◌, ◌*◌, ◌==◌, ◌||◌, ◌≤◌, ◌<◌, ℕ, Bool, true, false, not, max, nat_lt, if◌then◌else◌, List, [], ◌∷◌, ◌++◌, length, map, count_by, is_some, slice_index_or, Option, Some, None, IfSome, option_to_list}
 use Rattle.std.specs.List.{sum_by, filter_map}
 use Rattle.std.specs.Option.{option_map}
+use Rattle.sim_time.specs.Moment.{IsMoment}
 use Rattle.packet_chain.specs.Stamped.{Stamped}
 use Rattle.aqm.specs.Queue.{waiting_in, taken_from}
 use Rattle.port.specs.declared.acts.Act.{Act}
@@ -93,17 +94,17 @@ bytes_of node index ms = sum_by (λ m. bytes_in (acts_at node index m)) ms
 abbrev pub wait_of_given : ℕ → PortState → Option ℕ
 wait_of_given now port = option_map (λ (cell : Stamped). now - cell.1) (taken_from port.queue now).given
 
--- for how long the packet will have waited that a busy link is given once it is free, at a moment of a simulation, where its queue stays as it is
-abbrev pub wait_once_free : Option ℕ → PortState → Option ℕ
-wait_once_free None port = None
-wait_once_free (Some free) port = if nat_le free 1000000000000000 then wait_of_given free port else None
-
-abbrev pub next_wait : PortState → Option ℕ
-next_wait port = wait_once_free port.next_free port
+-- this is when the packet entered the queue that a busy link is given once it is free, at a moment of a simulation, if it is given one and the queue stays as it is
+abbrev pub IsNextEntry : PortState → ℕ → Type 0
+IsNextEntry port entered = (now : ℕ) → IsMoment now → port.next_free ≡ Some now → IfSome (taken_from port.queue now).given (λ (cell : Stamped). now - entered ≡ now - cell.1)
 
 -- for how long the packet has waited that an event begins to send, if it does so: where the link is freed, so long as that which it is given; in any other event the packet is sent as it is offered
 abbrev pub wait_in : ℕ → PortState → TraceLine → Option ℕ → Option ℕ
 wait_in offered after line given = if frees after.link line.event then given else (if nat_lt 0 (tx_in (acts_between offered after line)) then Some 0 else None)
+
+-- the same by the packets that the event sends, and by when the first of them entered the queue, where the link is freed
+abbrev pub wait_by : ℕ → PortState → TraceLine → ℕ → Option ℕ
+wait_by offered after line entered = if nat_lt 0 (tx_in (acts_between offered after line)) then Some (if frees after.link line.event then line.key.time - entered else 0) else None
 
 abbrev pub wait_at : ℕ → ℕ → Moment → Option ℕ
 wait_at node index m =
@@ -113,10 +114,11 @@ wait_at node index m =
 abbrev pub waits_of : ℕ → ℕ → List Moment → List ℕ
 waits_of node index ms = filter_map (wait_at node index) ms
 
--- an event that frees a link of its node comes when the link has sent its packet whole
-abbrev pub FreesInTime : State → TraceLine → State → Type 0
-FreesInTime before line after =
-    (i : ℕ) → i < length (part_at before line.key.node).links → frees (port_at after line.key.node i).link line.event ≡ true → (port_at before line.key.node i).next_free ≡ Some line.key.time
+-- where an event frees a link of its node, the wait is known by when the packet entered the queue
+abbrev pub TellsWait : State → TraceLine → State → Type 0
+TellsWait before line after =
+    (i entered : ℕ) → i < length (part_at before line.key.node).links → IsNextEntry (port_at before line.key.node i) entered → frees (port_at after line.key.node i).link line.event ≡ true →
+    wait_by (port_at before line.key.node i).offered (port_at after line.key.node i) line entered ≡ wait_of_given line.key.time (port_at before line.key.node i)
 
 -- the event is that some link has sent a packet whole
 abbrev pub is_free : Event → Bool
@@ -172,7 +174,7 @@ pub record IsLinkBegun (from : ℕ) (port : PortState) (f : LinkFigures) : Type 
   pub waited : f.waited ≡ 0
   pub busy_for : f.busy_for ≡ 0
   pub longest : f.longest ≡ waiting_at port
-  pub next_wait_is : f.next_wait ≡ next_wait port
+  pub next_entry_is : IsNextEntry port f.next_entry
   pub waits : IsTallyOf [] f.waits
   pub turns : f.turns ≡ 0
 
@@ -191,7 +193,7 @@ pub record AreOfLink (b : Base) (ms : List Moment) (s : State) (node index : ℕ
   pub waited : f.waited + f.waiting * (last_from b.since ms - f.since) ≡ waited_of node index b.since ms
   pub busy_for : f.busy_for + (if f.busy then last_from b.since ms - f.since else 0) ≡ busy_of node index b.since ms
   pub longest : f.longest ≡ longest_of node index ms s
-  pub next_wait_is : f.next_wait ≡ next_wait (port_at s node index)
+  pub next_entry_is : IsNextEntry (port_at s node index) f.next_entry
   pub waits : IsTallyOf (waits_of node index ms) f.waits
   pub turns : f.turns ≤ length ms
 
@@ -205,7 +207,7 @@ pub record IsPassed (f : LinkFigures) (port : PortState) (now : ℕ) (g : LinkFi
   pub waited : g.waited ≡ f.waited + f.waiting * (now - f.since)
   pub busy_for : g.busy_for ≡ f.busy_for + (if f.busy then now - f.since else 0)
   pub longest : g.longest ≡ max f.longest (waiting_at port)
-  pub next_wait_is : g.next_wait ≡ next_wait port
+  pub next_entry_is : IsNextEntry port g.next_entry
   pub lost : g.lost ≡ f.lost
   pub full : g.full ≡ f.full
   pub codel : g.codel ≡ f.codel
@@ -230,7 +232,7 @@ pub record IsCountedOf (f : LinkFigures) (acts : List Act) (g : LinkFigures) : T
   pub waited : g.waited ≡ f.waited
   pub busy_for : g.busy_for ≡ f.busy_for
   pub longest : g.longest ≡ f.longest
-  pub next_wait_is : g.next_wait ≡ f.next_wait
+  pub next_entry_is : g.next_entry ≡ f.next_entry
   pub waits : g.waits ≡ f.waits
 
 -- an event at its node is counted at a moment: it did this at the link, where a packet that began to be sent has waited so long, and the link is now as it is
@@ -248,13 +250,13 @@ pub record IsLinkCounted (f : LinkFigures) (port : PortState) (now : ℕ) (acts 
   pub waited : g.waited ≡ f.waited + f.waiting * (now - f.since)
   pub busy_for : g.busy_for ≡ f.busy_for + (if f.busy then now - f.since else 0)
   pub longest : g.longest ≡ max f.longest (waiting_at port)
-  pub next_wait_is : g.next_wait ≡ next_wait port
+  pub next_entry_is : IsNextEntry port g.next_entry
   pub waits : (xs : List ℕ) → IsTallyOf xs f.waits → IsTallyOf (xs ++ option_to_list wait) g.waits
   pub turns : g.turns ≡ f.turns + 1
 
 -- what a link's figures are after an event at its node
 abbrev pub IsLinkAfter : LinkFigures → PortState → TraceLine → LinkFigures → Type 0
-IsLinkAfter f port line g = IsLinkCounted f port line.key.time (acts_between f.offered port line) (wait_in f.offered port line f.next_wait) g
+IsLinkAfter f port line g = IsLinkCounted f port line.key.time (acts_between f.offered port line) (wait_by f.offered port line f.next_entry) g
 
 -- the same where the event is counted of the link; where it is not, the figures are as they were
 pub record IsLinkAfterIf (counts : Bool) (f : LinkFigures) (port : PortState) (line : TraceLine) (g : LinkFigures) : Type 0 where

@@ -167,7 +167,7 @@ impl Figures {
     ghost use Rattle.table_run.specs.State.{State, opening, step};
     ghost use Rattle.figures.specs.Moments.{Moment, Base, turns_at};
     ghost use Rattle.figures.specs.Senders.{completed_of};
-    ghost use Rattle.figures.specs.Links.{FreesInTime, KeepsLinks};
+    ghost use Rattle.figures.specs.Links.{TellsWait, KeepsLinks};
     ghost use Rattle.figures.specs.Figures.{AreAfter, AreOfLinks, AreFigures, Follows, NoneBefore, base_at, whole, AreOfRun, AreOfSomeRun};
     ghost use Rattle.scenario_image.specs.declared.parts.ScenarioParts.{ScenarioParts};
     ghost use Rattle.scenario_image.specs.Scenario.{IsScenario};
@@ -218,7 +218,7 @@ impl Figures {
         requires order { self.old.last ≤ line.now.key.time }
         requires follows { Follows self.old (shown line.now) net.now.state }
         ensures senders { (b : Base) (ms : List Moment) (s : State) → AreAfter b ms s self.old → step s ≡ Some (shown line.now, net.now.state) → AreAfter b (ms ++ record { before = s; line = shown line.now; after = net.now.state } ∷ []) net.now.state self.new }
-        ensures links { (b : Base) (ms : List Moment) (s : State) → AreFigures b ms s self.old → step s ≡ Some (shown line.now, net.now.state) → FreesInTime s (shown line.now) net.now.state → KeepsLinks s (shown line.now) net.now.state → AreOfLinks b (ms ++ record { before = s; line = shown line.now; after = net.now.state } ∷ []) net.now.state self.new.links.items }
+        ensures links { (b : Base) (ms : List Moment) (s : State) → AreFigures b ms s self.old → step s ≡ Some (shown line.now, net.now.state) → TellsWait s (shown line.now) net.now.state → KeepsLinks s (shown line.now) net.now.state → AreOfLinks b (ms ++ record { before = s; line = shown line.now; after = net.now.state } ∷ []) net.now.state self.new.links.items }
         ensures received { self.new.received.items ≡ self.old.received.items }
         ensures last { self.new.last ≡ line.now.key.time }
         ensures events { self.new.events ≡ self.old.events + 1 }

@@ -1,10 +1,9 @@
 //! What is counted of a link.
-ghost use Rattle.std.specs.Prelude.{◌≡◌, ◌≢◌, ◌+◌, ◌-◌, ◌*◌, ◌<◌, ◌≤◌, ◌^◌, [], List, false, max, IfOk, IfSome, if◌then◌else◌};
-ghost use Rattle.std.proofs.Props.{props};
+ghost use Rattle.std.specs.Prelude.{◌≡◌, ◌≢◌, ◌+◌, ◌-◌, ◌*◌, ◌<◌, ◌≤◌, ◌^◌, [], List, false, max, IfOk, Some, None, if◌then◌else◌};
 
 use crate::tally::Tally;
-use crate::told::{frees, is_at, sent_alone, told_by, wait_in};
-use crate::waits::next_wait;
+use crate::told::{frees, is_at, sent_alone, told_by, wait_by};
+use crate::waits::next_entry;
 use node_core::{Act, Line};
 use port::Port;
 use sim_time::Time;
@@ -23,9 +22,8 @@ pub struct LinkFigures {
     pub waited: u128,
     /// For how many nanoseconds it was busy, up to then.
     pub busy_for: u128,
-    /// For how long the packet will have waited, in nanoseconds, that it is given once it is free; none where it is
-    /// idle or will be given none.
-    pub next_wait: Option<Time>,
+    /// When the packet entered its queue, in nanoseconds, that it is given once it is free, if it is given one.
+    pub next_entry: Time,
     /// The longest queue so far, in packets.
     pub longest: usize,
     /// Whether it is busy.
@@ -55,7 +53,6 @@ pub struct LinkFigures {
     ghost waited_most: { waited ≤ since * 2 ^ 64 },
     ghost busy_most: { busy_for ≤ since },
     ghost waits_most: { waits.count ≤ turns },
-    ghost next_wait_most: { IfSome next_wait (λ wait. wait < 2 ^ 50) } by { Prim.hlevel props },
 }
 
 // For how long a link was busy of so many nanoseconds: for all of them, or not at all.
@@ -100,7 +97,7 @@ impl LinkFigures {
             since,
             waited: 0,
             busy_for: 0,
-            next_wait: next_wait(port),
+            next_entry: next_entry(port),
             longest: port.queue().len(),
             busy: port.next_free().is_some(),
             sent: 0,
@@ -157,37 +154,35 @@ impl LinkFigures {
         self.offered = port.offered();
         self.waiting = port.queue().len();
         self.busy = port.next_free().is_some();
-        self.next_wait = next_wait(port);
+        self.next_entry = next_entry(port);
         note_longest(&mut self.longest, self.waiting);
     }
 
     // One more event was run at its node at a moment, which did nothing at it, and it is `port` now.
     #[inline(always)]
-    fn count_none(&mut self, port: &Port, now: Time, wait: Option<Time>)
+    fn count_none(&mut self, port: &Port, now: Time)
         requires few { self.old.turns < 1000000000000000 }
         requires moment { IsMoment now }
         requires order { self.old.since ≤ now }
-        requires wait { IfSome wait (λ w. w < 2 ^ 50) }
-        ensures { IsLinkCounted self.old port.now now [] wait self.new }
+        ensures { IsLinkCounted self.old port.now now [] None self.new }
     {
         self.turns += 1;
-        self.waits.note_some(wait);
         self.pass(port, now);
     }
 
     // The same of an event at which a packet of so many bytes began to be sent, which is all that it did at it.
     #[inline(always)]
-    fn count_sent(&mut self, port: &Port, now: Time, bytes: u64, wait: Option<Time>)
+    fn count_sent(&mut self, port: &Port, now: Time, bytes: u64, wait: Time)
         requires few { self.old.turns < 1000000000000000 }
         requires moment { IsMoment now }
         requires order { self.old.since ≤ now }
-        requires wait { IfSome wait (λ w. w < 2 ^ 50) }
-        ensures { (acts : List Act) → IsSentAlone acts bytes → IsLinkCounted self.old port.now now acts wait self.new }
+        requires wait { wait < 2 ^ 50 }
+        ensures { (acts : List Act) → IsSentAlone acts bytes → IsLinkCounted self.old port.now now acts (Some wait) self.new }
     {
         self.turns += 1;
         self.sent += 1;
         self.bytes += u128::from(bytes);
-        self.waits.note_some(wait);
+        self.waits.note(wait);
         self.pass(port, now);
     }
 
@@ -201,7 +196,7 @@ impl LinkFigures {
         ensures { IsLinkAfter self.old port.now (shown line.now) self.new }
     {
         let sent = self.count_at(port, line);
-        let wait = wait_in(port, line, sent, self.next_wait);
+        let wait = wait_by(port, line, sent, self.next_entry);
         self.waits.note_some(wait);
         self.pass(port, line.key.time);
     }
@@ -218,11 +213,12 @@ impl LinkFigures {
         if frees(&line.event, port.link()) {
             let acts = line.acts.as_slice();
             if acts.is_empty() {
-                self.count_none(port, line.key.time, self.next_wait);
+                self.count_none(port, line.key.time);
                 return;
             }
             if let Some(bytes) = sent_alone(acts) {
-                self.count_sent(port, line.key.time, bytes, self.next_wait);
+                let wait = line.key.time.saturating_sub(self.next_entry);
+                self.count_sent(port, line.key.time, bytes, wait);
                 return;
             }
         }
@@ -241,11 +237,11 @@ impl LinkFigures {
     {
         let acts = line.acts.as_slice();
         if acts.is_empty() {
-            self.count_none(port, line.key.time, None);
+            self.count_none(port, line.key.time);
             return;
         }
         if let Some(bytes) = sent_alone(acts) {
-            self.count_sent(port, line.key.time, bytes, Some(0));
+            self.count_sent(port, line.key.time, bytes, 0);
             return;
         }
         self.after(port, line);

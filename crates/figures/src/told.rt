@@ -1,9 +1,9 @@
 //! What an event's acts tell of a link.
-ghost use Rattle.std.specs.Prelude.{◌≡◌, ◌*◌, ◌≤◌, ◌<◌, ◌^◌, ℕ, [], if◌then◌else◌, IfSome, length};
+ghost use Rattle.std.specs.Prelude.{◌≡◌, ◌*◌, ◌≤◌, ℕ, [], if◌then◌else◌, IfSome, length};
 ghost use Rattle.aqm.specs.declared.drop_reason.DropReason.TheVariants.{Lost, Full, Take};
 ghost use Rattle.aqm.specs.declared.drop_reason.TakeDrop.TheVariants.{Codel};
 ghost use Rattle.node_core.specs.TraceLine.{shown};
-ghost use Rattle.figures.specs.Links.{frees as frees_is, acts_between, dropped_in, tx_in, bytes_in, wait_in as wait_is, IsSentAlone};
+ghost use Rattle.figures.specs.Links.{frees as frees_is, acts_between, dropped_in, tx_in, bytes_in, wait_by as wait_is, IsSentAlone};
 
 use node_core::{Act, DropReason, Event, Line, TakeDrop};
 use port::Port;
@@ -88,17 +88,16 @@ pub fn sent_alone(acts: &[Act]) -> Option<u64>
 }
 
 /// For how long the packet has waited that an event begins to send over a link of its node, if it
-/// does so: where the link is freed, `given`, and where as many are sent of those that are offered, 0.
-pub fn wait_in(port: &Port, line: &Line, sent: u64, given: Option<Time>) -> Option<Time>
-    requires given { IfSome given (λ wait. wait < 2 ^ 50) }
-    ensures value { (offered : ℕ) → sent ≡ tx_in (acts_between offered port.now (shown line.now)) → result ≡ wait_is offered port.now (shown line.now) given }
-    ensures most { IfSome result (λ wait. wait < 2 ^ 50) }
+/// does so, by how many are sent: where the link is freed, since it entered the queue, and else 0.
+pub fn wait_by(port: &Port, line: &Line, sent: u64, entered: Time) -> Option<Time>
+    ensures value { (offered : ℕ) → sent ≡ tx_in (acts_between offered port.now (shown line.now)) → result ≡ wait_is offered port.now (shown line.now) entered }
+    ensures most { IfSome result (λ wait. wait ≤ line.now.key.time) }
 {
-    if frees(&line.event, port.link()) {
-        given
-    } else if sent > 0 {
-        Some(0)
-    } else {
+    if sent == 0 {
         None
+    } else if frees(&line.event, port.link()) {
+        Some(line.key.time.saturating_sub(entered))
+    } else {
+        Some(0)
     }
 }

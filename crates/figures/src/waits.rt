@@ -1,22 +1,62 @@
-//! How long packets wait at a link before they begin to be sent.
-ghost use Rattle.std.specs.Prelude.{◌≡◌, ◌<◌, ◌^◌, IfSome};
-ghost use Rattle.figures.specs.Links.{next_wait as next_wait_is};
+//! When the packets entered their queue that a link sends next.
+ghost use Rattle.std.specs.Prelude.{◌≡◌, ◌-◌, ℕ, false, IfSome};
+ghost use Rattle.sim_time.specs.Moment.{IsMoment};
+ghost use Rattle.packet_chain.specs.Stamped.{Stamped};
+ghost use Rattle.aqm.specs.Queue.{may_drop, taken_from};
+ghost use Rattle.figures.specs.Links.{IsNextEntry};
 
+use aqm::Queue;
 use port::Port;
 use sim_time::Time;
 
 /// The last moment at which a simulation can end, in nanoseconds.
 const LAST_MOMENT: Time = 1_000_000_000_000_000;
 
-/// For how long the packet will have waited that a busy link is given once it is free, if it is given one and its
-/// queue stays as it is.
-#[inline(always)]
-pub fn next_wait(port: &Port) -> Option<Time>
-    ensures value { result ≡ next_wait_is port.now }
-    ensures most { IfSome result (λ wait. wait < 2 ^ 50) }
+// When the packet entered a queue that it gives at a moment, or a moment after which it has waited for as long; 0 where
+// it gives none.
+fn entry_by_wait(queue: &Queue, now: Time) -> Time
+    requires { IsMoment now }
+    ensures { IfSome (taken_from queue.now now).given (λ (cell : Stamped). now - result ≡ now - cell.1) }
+{
+    match queue.wait_at(now) {
+        Some(wait) => now - wait,
+        None => 0,
+    }
+}
+
+// When the packet entered the queue that a busy link is given once it is free, whose queue may drop others before;
+// 0 where it is given none.
+#[inline(never)]
+fn entry_behind_drops(port: &Port) -> Time
+    ensures { IsNextEntry port.now result }
 {
     match port.next_free() {
-        Some(free) if free <= LAST_MOMENT => port.queue().wait_at(free),
-        _ => None,
+        Some(free) if free <= LAST_MOMENT => entry_by_wait(port.queue(), free),
+        _ => 0,
+    }
+}
+
+// When the packet at the head of a queue entered it; 0 where none waits.
+#[inline(always)]
+fn entry_at_head(queue: &Queue) -> Time
+    ensures { (now : ℕ) → may_drop queue.now ≡ false → IfSome (taken_from queue.now now).given (λ (cell : Stamped). result ≡ cell.1) }
+{
+    match queue.packets().next() {
+        Some((_, entered)) => entered,
+        None => 0,
+    }
+}
+
+/// When the packet entered the queue that a busy link is given once it is free, if it is given one and the queue
+/// stays as it is; else any moment.
+#[inline(always)]
+pub fn next_entry(port: &Port) -> Time
+    ensures { IsNextEntry port.now result }
+{
+    let queue = port.queue();
+    if queue.may_drop() {
+        entry_behind_drops(port)
+    } else {
+        entry_at_head(queue)
     }
 }

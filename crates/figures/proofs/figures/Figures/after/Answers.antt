@@ -55,18 +55,18 @@ count_links-requires-clause-one c = λ none other within.
     one_link R.before (shown c.args.line.now) c.args.net.now.state R.next R.base R.so_far c.nodes-nodes.result.now c.nodes-nodes.ensures.parts c.args.self.now.links.items c.args.self.now.links.items refl R.figures.links none other within
 
 pub returns-in-Some-sender_at-clause-links : goal.returns-in-Some-sender_at-clause-links
-returns-in-Some-sender_at-clause-links c = λ b ms s is next in_time keeps.
-    links_counted b ms s (shown c.args.line.now) c.args.net.now.state next (omega (arith, is.last, c.requires.order)) c.nodes-nodes.result.now c.nodes-nodes.ensures.parts c.requires.moment in_time keeps c.args.self.now.links.items c.count_links.new.all.items c.args.self.now.links.items refl is.links
+returns-in-Some-sender_at-clause-links c = λ b ms s is next tells keeps.
+    links_counted b ms s (shown c.args.line.now) c.args.net.now.state next (omega (arith, is.last, c.requires.order)) c.nodes-nodes.result.now c.nodes-nodes.ensures.parts tells keeps c.args.self.now.links.items c.count_links.new.all.items c.args.self.now.links.items refl is.links
     c.count_links.ensures.size c.count_links.ensures.sizes c.count_links.ensures.here c.count_links.ensures.elsewhere
 
 pub returns-in_default-sender_at-clause-links : goal.returns-in_default-sender_at-clause-links
-returns-in_default-sender_at-clause-links c = λ b ms s is next in_time keeps.
-    links_counted b ms s (shown c.args.line.now) c.args.net.now.state next (omega (arith, is.last, c.requires.order)) c.nodes-nodes.result.now c.nodes-nodes.ensures.parts c.requires.moment in_time keeps c.args.self.now.links.items c.count_links.new.all.items c.args.self.now.links.items refl is.links
+returns-in_default-sender_at-clause-links c = λ b ms s is next tells keeps.
+    links_counted b ms s (shown c.args.line.now) c.args.net.now.state next (omega (arith, is.last, c.requires.order)) c.nodes-nodes.result.now c.nodes-nodes.ensures.parts tells keeps c.args.self.now.links.items c.count_links.new.all.items c.args.self.now.links.items refl is.links
     c.count_links.ensures.size c.count_links.ensures.sizes c.count_links.ensures.here c.count_links.ensures.elsewhere
 
 pub returns-in_default-clause-links : goal.returns-in_default-clause-links
-returns-in_default-clause-links c = λ b ms s is next in_time keeps.
-    links_counted b ms s (shown c.args.line.now) c.args.net.now.state next (omega (arith, is.last, c.requires.order)) c.nodes-nodes.result.now c.nodes-nodes.ensures.parts c.requires.moment in_time keeps c.args.self.now.links.items c.count_links.new.all.items c.args.self.now.links.items refl is.links
+returns-in_default-clause-links c = λ b ms s is next tells keeps.
+    links_counted b ms s (shown c.args.line.now) c.args.net.now.state next (omega (arith, is.last, c.requires.order)) c.nodes-nodes.result.now c.nodes-nodes.ensures.parts tells keeps c.args.self.now.links.items c.count_links.new.all.items c.args.self.now.links.items refl is.links
     c.count_links.ensures.size c.count_links.ensures.sizes c.count_links.ensures.here c.count_links.ensures.elsewhere
 
 pub returns-then-freed-clause-senders : goal.returns-then-freed-clause-senders
@@ -74,6 +74,6 @@ returns-then-freed-clause-senders c = λ b ms s is next.
     quiet b ms s (shown c.args.line.now) c.args.net.now.state next c.args.self.now _ refl (inl (none_where_free (shown c.args.line.now).event (sym c.is_free-freed.ensures ∙ c.if-freed.true))) is
 
 pub returns-then-freed-clause-links : goal.returns-then-freed-clause-links
-returns-then-freed-clause-links c = λ b ms s is next in_time keeps.
-    links_counted b ms s (shown c.args.line.now) c.args.net.now.state next (omega (arith, is.last, c.requires.order)) c.nodes-nodes.result.now c.nodes-nodes.ensures.parts c.requires.moment in_time keeps c.args.self.now.links.items c.count_links.new.all.items c.args.self.now.links.items refl is.links
+returns-then-freed-clause-links c = λ b ms s is next tells keeps.
+    links_counted b ms s (shown c.args.line.now) c.args.net.now.state next (omega (arith, is.last, c.requires.order)) c.nodes-nodes.result.now c.nodes-nodes.ensures.parts tells keeps c.args.self.now.links.items c.count_links.new.all.items c.args.self.now.links.items refl is.links
     c.count_links.ensures.size c.count_links.ensures.sizes c.count_links.ensures.here c.count_links.ensures.elsewhere

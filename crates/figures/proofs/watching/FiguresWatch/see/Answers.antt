@@ -7,7 +7,7 @@ use Rattle.figures.specs.declared.figures.Figures.{Figures}
 use Rattle.figures.specs.Moments.{Moment, Base}
 use Rattle.figures.specs.Figures.{AreFigures}
 use Rattle.figures.proofs.Along.{step_run, together, is_moment, is_later, none_earlier}
-use Rattle.figures.proofs.Freed.{in_time_in_run}
+use Rattle.figures.proofs.Entries.{tells_in_run}
 use Rattle.figures.proofs.Kept.{keeps_in_run}
 use Rattle.figures.proofs.watching.FiguresWatch.see.Goals as goal
 
@@ -37,7 +37,7 @@ returns-clause-has c began from runs was =
     let f : Figures = c.args.self.now in
     let more : (b : Base) (ms : List Moment) → AreFigures b ms before.state f → step before.state ≡ Some (line, t) → AreFigures b (ms ++ record { before = before.state; line = line; after = t } ∷ []) t c.after.new.self =
     λ b ms is next. together b ms before.state line t f c.after.new.self is (c.after.ensures.senders b ms before.state is.senders next)
-    (c.after.ensures.links b ms before.state is next (in_time_in_run f before line t c.requires.fits next) (keeps_in_run f before line t c.requires.fits next)) c.after.ensures.received c.after.ensures.events c.after.ensures.last in
+    (c.after.ensures.links b ms before.state is next (tells_in_run f before line t c.requires.fits next) (keeps_in_run f before line t c.requires.fits next)) c.after.ensures.received c.after.ensures.events c.after.ensures.last in
     (refl, λ p b of. step_run p b before c.args.after.now line f c.after.new.self (was.1 p b of) c.requires.stepped c.after.ensures.events c.after.ensures.last (more b))
 
 pub returns-clause-fits : goal.returns-clause-fits
