@@ -23,6 +23,8 @@ pub mod Passages
 pub mod Kept
 pub mod Entries
 pub mod NextEntry
+pub mod Doublings
+pub mod Below
 pub mod Balance
 pub mod LinkLaws
 pub mod Delivered

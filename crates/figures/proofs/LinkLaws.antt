@@ -113,7 +113,7 @@ module _ (p : ScenarioParts) (is_scenario : IsScenario p) (n : ℕ) (lines : Lis
       counted_more ms m node index upto
       (⊎_elim (λ (at : line.key.node ≡ node). here node index at inside) (λ (apart : line.key.node ≢ node). there node index apart) (cases_eq line.key.node node))
 
-  moments_more : moments (opening p) (suc n) ≡ moments (opening p) n ++ m ∷ []
+  pub moments_more : moments (opening p) (suc n) ≡ moments (opening p) n ++ m ∷ []
   moments_more =
       ap (λ o. moments (opening p) n ++ following o) comes
       ∙ ap (λ o. moments (opening p) n ++ option_to_list (option_map {U = Moment} (λ (x : TraceLine × State). record { before = s; line = x.0; after = x.1 }) o)) next

@@ -1,5 +1,5 @@
 -- What is said of percentiles, and of what is counted of every run.
-use Rattle.std.specs.Prelude.{◌≡◌, ◌≤◌, ◌<◌, ◌+◌, ◌*◌, ◌^◌, ℕ, nat_lt, nat_le, false, List, length, count_by, All, Contains, IfSome, Some, None}
+use Rattle.std.specs.Prelude.{◌≡◌, ◌≤◌, ◌<◌, ◌+◌, ◌*◌, ◌/◌, ◌^◌, ℕ, nat_lt, nat_le, false, List, length, count_by, All, Contains, IfSome, Some, None}
 use Rattle.std.specs.List.{slice_get}
 use Rattle.packet_chain.specs.declared.packet.Packet.{Packet}
 use Rattle.aqm.specs.DropTail.{is_full}
@@ -15,11 +15,11 @@ use Rattle.node_core.specs.TraceLine.{TraceLine}
 use Rattle.table_run.specs.State.{State, part_at, opening}
 use Rattle.table_run.specs.Flow.{received_next}
 use Rattle.table_run.specs.Laws.{ComesTo}
-use Rattle.figures.specs.Moments.{moments}
+use Rattle.figures.specs.Moments.{moments, turns_at}
 use Rattle.figures.specs.Links.{port_at, waiting_at, dropped_of, tx_of, wait_of_given, waits_of}
 use Rattle.figures.specs.Turns.{Turn}
-use Rattle.figures.specs.Senders.{sent_of, again_in_recovery_of, again_otherwise_of}
-use Rattle.figures.specs.Classes.{rank_of, percentile, least_of, greatest_of}
+use Rattle.figures.specs.Senders.{sent_of, again_in_recovery_of, again_otherwise_of, trips_of}
+use Rattle.figures.specs.Classes.{class_of, rank_of, percentile, least_of, greatest_of}
 
 -- the value is one of these, and the nearest rank of a percentile is its: fewer than the rank are below it, and at least as many are at most it
 pub record IsExact (percent : ℕ) (xs : List ℕ) (v : ℕ) : Type 0 where
@@ -37,6 +37,12 @@ abbrev pub PercentilesRise : Type 0
 PercentilesRise =
     (p q : ℕ) (xs : List ℕ) → 1 ≤ p → p ≤ q → All (λ x. x < 2 ^ 50) xs
     → IfSome (least_of xs) (λ least. IfSome (percentile p xs) (λ a. IfSome (percentile q xs) (λ b. IfSome (greatest_of xs) (λ most. (least ≤ a) × ((a ≤ b) × (b ≤ most))))))
+
+-- a value below 64 is a class of its own; from there on each doubling of values has 32 classes, one behind another, each of as many values
+abbrev pub EachDoublingHas32Classes : Type 0
+EachDoublingHas32Classes =
+    ((v : ℕ) → v < 64 → class_of v ≡ v)
+    × ((d v : ℕ) → v < 2 ^ 64 → 32 * 2 ^ d ≤ v → v < 64 * 2 ^ d → class_of v ≡ 32 * d + v / 2 ^ d)
 
 -- no more is sent again than is sent
 abbrev pub SentAgainIsSent : Type 0
@@ -65,3 +71,9 @@ SentAsOffered =
 abbrev pub DeliveredIsOfTheFlow : Type 0
 DeliveredIsOfTheFlow =
     (p : ScenarioParts) (n : ℕ) (lines : List TraceLine) (s : State) → IsScenario p → ComesTo p n lines s → (number : ℕ) (flow : FlowPart) → slice_get p.flows number ≡ Some flow → received_next s flow ≤ flow.segments * flow.mss
+
+-- what is counted of a run are values below 2^50: each wait at a link, and each sample of a sender's round trip
+abbrev pub CountedLieBelow : Type 0
+CountedLieBelow =
+    (p : ScenarioParts) (n : ℕ) (lines : List TraceLine) (s : State) → IsScenario p → ComesTo p n lines s →
+    ((node index : ℕ) → All (λ x. x < 2 ^ 50) (waits_of node index (moments (opening p) n))) × ((node : ℕ) → All (λ x. x < 2 ^ 50) (trips_of (turns_at node (moments (opening p) n))))

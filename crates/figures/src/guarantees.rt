@@ -1,6 +1,6 @@
 //! What holds of all figures. Each function is a law: its contract is the statement, and its body is
 //! empty.
-ghost use Rattle.figures.specs.Laws.{PercentilesAreNear, PercentilesRise, SentAgainIsSent, OfferedArePlaced, EachSentHasItsWait, SentAsOffered, DeliveredIsOfTheFlow};
+ghost use Rattle.figures.specs.Laws.{PercentilesAreNear, PercentilesRise, SentAgainIsSent, OfferedArePlaced, EachSentHasItsWait, SentAsOffered, DeliveredIsOfTheFlow, EachDoublingHas32Classes, CountedLieBelow};
 
 /// A percentile that is answered is no less than the exact one, and at most a 32nd above it.
 #[tactic(auto, using(crate::proofs::Near::percentiles_near))]
@@ -46,4 +46,18 @@ pub fn a_packet_sent_as_offered_has_not_waited()
 #[tactic(auto, using(crate::proofs::Delivered::delivered_is_of_the_flow))]
 pub fn no_more_is_delivered_than_the_flow()
     ensures { DeliveredIsOfTheFlow }
+{}
+
+/// A value below 64 is a class of its own. From there on each doubling of values has 32 classes, each of as
+/// many values: leading zeros, by which a class is counted, give them.
+#[tactic(auto, using(crate::proofs::Doublings::each_doubling))]
+pub fn each_doubling_has_32_classes()
+    ensures { EachDoublingHas32Classes }
+{}
+
+/// In each run of a scenario each wait at a link and each sample of a round trip is below 2^50
+/// nanoseconds, for which there are classes.
+#[tactic(auto, using(crate::proofs::Below::counted_lie_below))]
+pub fn what_is_counted_lies_below_2_to_the_50th()
+    ensures { CountedLieBelow }
 {}
