@@ -20,7 +20,7 @@ use Rattle.figures.proofs.Offerings.{Offering, start_offers, rto_offers, delack_
 use Rattle.figures.proofs.Passages.{grows, changed_elsewhere, offering, free_links}
 
 -- where as many were offered, nothing was done
-none_offered : (now : ℕ) (old new : PortState) (packets : List Packet) → new ≡ (offered_all now old packets).port → new.offered ≡ old.offered → new ≡ old
+pub none_offered : (now : ℕ) (old new : PortState) (packets : List Packet) → new ≡ (offered_all now old packets).port → new.offered ≡ old.offered → new ≡ old
 none_offered now old new [] is same = is
 none_offered now old new (packet ∷ packets) is same =
     let more = grows now old (packet ∷ packets) in

@@ -25,6 +25,7 @@ pub mod Entries
 pub mod NextEntry
 pub mod Doublings
 pub mod Below
+pub mod OwnActs
 pub mod Balance
 pub mod LinkLaws
 pub mod Delivered

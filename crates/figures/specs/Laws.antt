@@ -1,5 +1,5 @@
 -- What is said of percentiles, and of what is counted of every run.
-use Rattle.std.specs.Prelude.{◌≡◌, ◌≤◌, ◌<◌, ◌+◌, ◌*◌, ◌/◌, ◌^◌, ℕ, nat_lt, nat_le, false, List, length, count_by, All, Contains, IfSome, Some, None}
+use Rattle.std.specs.Prelude.{◌≡◌, ◌≤◌, ◌<◌, ◌+◌, ◌*◌, ◌/◌, ◌^◌, ◌==◌, ℕ, nat_lt, nat_le, false, List, length, filter, count_by, All, Contains, IfSome, Some, None}
 use Rattle.std.specs.List.{slice_get}
 use Rattle.packet_chain.specs.declared.packet.Packet.{Packet}
 use Rattle.aqm.specs.DropTail.{is_full}
@@ -12,11 +12,12 @@ use Rattle.scenario_image.specs.declared.parts.FlowPart.{FlowPart}
 use Rattle.scenario_image.specs.declared.parts.ScenarioParts.{ScenarioParts}
 use Rattle.scenario_image.specs.Scenario.{IsScenario}
 use Rattle.node_core.specs.TraceLine.{TraceLine}
-use Rattle.table_run.specs.State.{State, part_at, opening}
+use Rattle.table_run.specs.State.{State, part_at, opening, step}
 use Rattle.table_run.specs.Flow.{received_next}
 use Rattle.table_run.specs.Laws.{ComesTo}
 use Rattle.figures.specs.Moments.{moments, turns_at}
-use Rattle.figures.specs.Links.{port_at, waiting_at, dropped_of, tx_of, wait_of_given, waits_of}
+use Rattle.run_laws.specs.Links.{link_of}
+use Rattle.figures.specs.Links.{port_at, acts_at, waiting_at, dropped_of, tx_of, wait_of_given, waits_of}
 use Rattle.figures.specs.Turns.{Turn}
 use Rattle.figures.specs.Senders.{sent_of, again_in_recovery_of, again_otherwise_of, trips_of}
 use Rattle.figures.specs.Classes.{class_of, rank_of, percentile, least_of, greatest_of}
@@ -77,3 +78,9 @@ abbrev pub CountedLieBelow : Type 0
 CountedLieBelow =
     (p : ScenarioParts) (n : ℕ) (lines : List TraceLine) (s : State) → IsScenario p → ComesTo p n lines s →
     ((node index : ℕ) → All (λ x. x < 2 ^ 50) (waits_of node index (moments (opening p) n))) × ((node : ℕ) → All (λ x. x < 2 ^ 50) (trips_of (turns_at node (moments (opening p) n))))
+
+-- the acts that are counted of a link at an event of a run are those of the event's acts whose own link it is
+abbrev pub ActsAreOfTheirLink : Type 0
+ActsAreOfTheirLink =
+    (p : ScenarioParts) (n : ℕ) (lines : List TraceLine) (s : State) → IsScenario p → ComesTo p n lines s → (line : TraceLine) (t : State) → step s ≡ Some (line, t) →
+    (node index : ℕ) → index < length (part_at s node).links → acts_at node index (record { before = s; line = line; after = t }) ≡ filter (λ act. link_of act == (port_at s node index).link) line.acts

@@ -1,6 +1,6 @@
 //! What holds of all figures. Each function is a law: its contract is the statement, and its body is
 //! empty.
-ghost use Rattle.figures.specs.Laws.{PercentilesAreNear, PercentilesRise, SentAgainIsSent, OfferedArePlaced, EachSentHasItsWait, SentAsOffered, DeliveredIsOfTheFlow, EachDoublingHas32Classes, CountedLieBelow};
+ghost use Rattle.figures.specs.Laws.{PercentilesAreNear, PercentilesRise, SentAgainIsSent, OfferedArePlaced, EachSentHasItsWait, SentAsOffered, DeliveredIsOfTheFlow, EachDoublingHas32Classes, CountedLieBelow, ActsAreOfTheirLink};
 
 /// A percentile that is answered is no less than the exact one, and at most a 32nd above it.
 #[tactic(auto, using(crate::proofs::Near::percentiles_near))]
@@ -60,4 +60,11 @@ pub fn each_doubling_has_32_classes()
 #[tactic(auto, using(crate::proofs::Below::counted_lie_below))]
 pub fn what_is_counted_lies_below_2_to_the_50th()
     ensures { CountedLieBelow }
+{}
+
+/// At each event of each run of a scenario, and at each link: the acts that are counted of the link are those
+/// of the event's acts whose own link it is.
+#[tactic(auto, using(crate::proofs::OwnActs::acts_are_of_their_link))]
+pub fn acts_are_counted_of_their_link()
+    ensures { ActsAreOfTheirLink }
 {}
