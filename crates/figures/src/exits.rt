@@ -31,11 +31,14 @@ fn exit_place(event: &Event) -> usize {
 }
 
 impl Exits {
-    /// Nothing was seen yet.
-    pub(crate) fn new(alloc: Global) -> Result<Exits, AllocError> {
-        Ok(Exits {
-            places: vec![in alloc; 0; EXITS]?,
-        })
+    /// Nothing was seen yet at a node with so many links. Where there is one, nothing is kept.
+    pub(crate) fn new(alloc: Global, links: usize) -> Result<Exits, AllocError> {
+        let places = if links > 1 {
+            vec![in alloc; 0; EXITS]?
+        } else {
+            Vec::new(alloc)
+        };
+        Ok(Exits { places })
     }
 
     /// The index of the link to which the last packet was offered like that of an event.

@@ -21,7 +21,7 @@ pub struct LinkFigures {
     /// How many packets waited, times for how many nanoseconds, up to then.
     pub waited: u128,
     /// For how many nanoseconds it was busy, up to then.
-    pub busy_for: u128,
+    pub busy_for: u64,
     /// When the packet entered its queue, in nanoseconds, that it is given once it is free, if it is given one.
     pub next_entry: Time,
     /// The longest queue so far, in packets.
@@ -79,6 +79,31 @@ fn area(waiting: usize, passed: Time) -> u128
     ensures most { result ≤ passed * 2 ^ 64 }
 {
     waiting as u128 * u128::from(passed)
+}
+
+// For how many nanoseconds a link was busy, with so many more in which it was or was not.
+#[inline(always)]
+fn note_busy(busy_for: &mut u64, busy: bool, passed: Time)
+    requires { busy_for.old + passed < 2 ^ 63 }
+    ensures value { busy_for.new ≡ busy_for.old + (if busy then passed else 0) }
+    ensures most { busy_for.new ≤ busy_for.old + passed }
+{
+    if busy {
+        *busy_for += passed;
+    }
+}
+
+// How many packets waited, times for how many nanoseconds, with so many more for so many more. Most often
+// none waits.
+#[inline(always)]
+fn note_waiting(waited: &mut u128, waiting: usize, passed: Time)
+    requires { waited.old + passed * 2 ^ 64 < 2 ^ 127 }
+    ensures value { waited.new ≡ waited.old + waiting * passed }
+    ensures most { waited.new ≤ waited.old + passed * 2 ^ 64 }
+{
+    if waiting != 0 {
+        *waited += area(waiting, passed);
+    }
 }
 
 impl LinkFigures {
@@ -149,8 +174,8 @@ impl LinkFigures {
     {
         let passed = now - self.since;
         self.since = now;
-        self.waited += area(self.waiting, passed);
-        self.busy_for += u128::from(busy_for(self.busy, passed));
+        note_waiting(&mut self.waited, self.waiting, passed);
+        note_busy(&mut self.busy_for, self.busy, passed);
         self.offered = port.offered();
         self.waiting = port.queue().len();
         self.busy = port.next_free().is_some();
@@ -262,6 +287,6 @@ impl LinkFigures {
         requires order { self.now.since ≤ end }
         ensures { result ≡ self.now.busy_for + (if self.now.busy then end - self.now.since else 0) }
     {
-        self.busy_for + u128::from(busy_for(self.busy, end - self.since))
+        u128::from(self.busy_for + busy_for(self.busy, end - self.since))
     }
 }

@@ -95,7 +95,7 @@ impl NodeLinks {
     {
         Ok(NodeLinks {
             figures: links_begun(alloc, links, since)?,
-            exits: Exits::new(alloc)?,
+            exits: Exits::new(alloc, links.len())?,
         })
     }
 
