@@ -51,6 +51,13 @@ BARS = (
     ('few_islands', 'four parts of three flows each, of which one goes over to the next', 830),
     ('four_islands', 'four parts of twelve flows each, of which two go over to the next', 830),
 )
+# Large nets, whose figures are counted beside their runs without text: each scenario, and what it is.
+LARGE = (
+    ('busy_islands', '96 flows in four parts with a bottleneck each that is never idle, 432 links'),
+    ('busy_ring', 'the same parts, and all flows of each go over to the next'),
+    ('largest', '64 flows among 256 nodes and 1,024 links, each with 64 losses'),
+)
+ROWS = (*BARS, *((name, what, None) for name, what in LARGE))
 # The most data references and mispredicted branches that an event of this scenario is to cost.
 GUESSED, REFERENCES, MISPREDICTED = 'four_islands', 330, 6
 # The sections of bench/RESULTS.md that other files of bench/ make, behind this one's.
@@ -215,20 +222,20 @@ def without_text(path):
 def costs(names, jobs):
     """What an event of each scenario costs: the instructions of its run less those of a run that ends
     where its last flow starts, divided by the events that lie between both; and the same of its figures,
-    and of its run without the text."""
-    bars = [bar for bar in BARS if bar[0] in names]
+    and of its run without the text. Of a large net the run with its text is not counted."""
+    bars = [bar for bar in ROWS if bar[0] in names]
     paths = [saved(name + ' started', disassemble(started(SCENARIOS[name]())).decode()) for name, *_ in bars]
     paths += [saved(name, disassemble(SCENARIOS[name]()).decode()) for name, *_ in bars]
     events = [watch(path)[0] for path in paths]
     with ThreadPoolExecutor(jobs) as pool:
-        counts = [list(pool.map(lambda path: collected(run(path, SIMULATED)), paths)),
+        counts = [list(pool.map(lambda at: collected(run(paths[at], SIMULATED)) if bars[at % len(bars)][2] else None, range(len(paths)))),
                   list(pool.map(lambda path: (instructions(run(path, CALLGRIND, 'figures')),), paths)),
                   list(pool.map(lambda path: (without_text(path),), paths))]
     for at, (name, what, bar) in enumerate(bars):
         few, many = events[at::len(bars)]
-        whole, figures, bare = ([(more - less) / (many - few) for less, more in zip(*kind[at::len(bars)])]
+        whole, figures, bare = ([(more - less) / (many - few) for less, more in zip(*kind[at::len(bars)])] if kind[at] else None
                                 for kind in counts)
-        yield Cost(name, what, many, Count(*whole), bar, *figures, *bare)
+        yield Cost(name, what, many, Count(*whole) if whole else None, bar, *figures, *bare)
 
 
 def within(count, bar):
@@ -241,7 +248,7 @@ def cost_table(rows):
                       'Misses of the nearest cache', 'Mispredicted branches'),
                      [(f'`{r.name}`: {r.what}', f'{r.events:,}', f'{r.run.instructions:,.0f}', f'{r.bar:,}',
                        within(r.run.instructions, r.bar), f'{r.run.references:,.0f}', f'{r.run.misses:,.1f}',
-                       f'{r.run.mispredicted:,.1f}') for r in rows])
+                       f'{r.run.mispredicted:,.1f}') for r in rows if r.run])
     yield ('Data references, misses of the nearest cache (48 kB, of 12 ways) and mispredicted branches are those of an event. '
            f'Callgrind simulates the machine. `{GUESSED}` has a bound of {REFERENCES} data references and of {MISPREDICTED} '
            'mispredicted branches.\n')
@@ -249,7 +256,7 @@ def cost_table(rows):
     yield ('An event without its text: the calls that make text are subtracted, with the loop that makes these calls. '
            f'`figures` makes no text, and may take {ABOVE} instructions more.\n')
     yield from table(('Scenario', '`run` without text', '`figures`', 'At most', 'Within'),
-                     [(f'`{r.name}`', f'{r.bare:,.0f}', f'{r.figures:,.0f}', f'{r.bare + ABOVE:,.0f}',
+                     [(f'`{r.name}`' if r.run else f'`{r.name}`: {r.what}', f'{r.bare:,.0f}', f'{r.figures:,.0f}', f'{r.bare + ABOVE:,.0f}',
                        within(r.figures, r.bare + ABOVE)) for r in rows])
 
 
@@ -320,7 +327,7 @@ def build():
 
 
 def scenario_name(word):
-    if word not in (name for name, *_ in BARS):
+    if word not in (name for name, *_ in ROWS):
         raise argparse.ArgumentTypeError(f'no scenario {word}')
     return word
 
@@ -328,7 +335,7 @@ def scenario_name(word):
 def words_of():
     words = argparse.ArgumentParser(description='Measures the built program and writes bench/RESULTS.md.')
     words.add_argument('names', nargs='*', metavar='NAME', type=scenario_name,
-                       help='count these scenarios only, and write nothing: ' + ', '.join(name for name, *_ in BARS))
+                       help='count these scenarios only, and write nothing: ' + ', '.join(name for name, *_ in ROWS))
     words.add_argument('--jobs', type=int, default=os.cpu_count(), help='counts that run side by side')
     words.add_argument('--program', help='else the built one, which is built where it is not there')
     words.add_argument('--priority', type=int, help='the real-time priority of the timed runs, 1 to 99')
@@ -361,7 +368,7 @@ def main():
         + [case(f'{w} under way', FEW, text(FEW, link='10000000000 100000000 droptail 65535', window=w))
            for w in UNDER_WAY], given.jobs, before)
     crowded = runs[-len(UNDER_WAY):]
-    networks = list(costs([name for name, *_ in BARS], given.jobs))
+    networks = list(costs([name for name, *_ in ROWS], given.jobs))
     results = '\n'.join(report(start, runs[:-len(UNDER_WAY)], crowded, networks, longest(before))).rstrip('\n') + '\n'
     with open(RESULTS) as file:
         made_by_others = OTHERS.search(file.read())
